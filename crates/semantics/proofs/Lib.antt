@@ -1,2 +1,16 @@
 pub mod Integers
 pub mod Words
+pub mod Steps
+pub mod Runs
+pub mod Updates
+pub mod Groups
+pub mod Turns
+pub mod Basics
+pub mod Arrivals
+pub mod Events
+pub mod MoreAnswers
+pub mod Deciding
+pub mod MemoryKinds
+pub mod Places
+pub mod Logs
+pub mod Standing

@@ -1,1 +1,17 @@
 pub mod Word
+pub mod Core
+pub mod Launch
+pub mod Setup
+pub mod Memory
+pub mod Evaluation
+pub mod Item
+pub mod Ask
+pub mod Solo
+pub mod World
+pub mod Safety
+pub mod Tests
+pub mod Rounds
+pub mod Headline
+pub mod Conditions
+pub mod Linear
+pub mod Candidates

@@ -1,9 +1,8 @@
-//! What kernels mean: definitions in `specs/`, and their laws, each the contract of a function with an empty body.
+//! What kernels mean: definitions alone, in `specs/`, for the whole language. What a reader has to believe of kverify's
+//! promises is written there. The functions of this crate do nothing: the contract of each is a law of the definitions,
+//! and the crates above cite the laws and the lemmas in `proofs/`.
 #![tactic(auto)]
 
-ghost use Rattle.std.specs.Prelude.{◌≡◌, ◌≤ℤ◌, ◌+ℤ◌, ◌*ℤ◌, ℤ};
-
-/// Products of whole numbers distribute over sums.
-pub fn products_distribute()
-    ensures { (a b c : ℤ) → a *ℤ (b +ℤ c) ≡ a *ℤ b +ℤ a *ℤ c }
-{}
+pub mod numbers;
+pub mod solo_runs;
+pub mod worlds;

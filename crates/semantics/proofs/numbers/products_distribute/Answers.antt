@@ -1,5 +1,5 @@
 use Rattle.semantics.proofs.Integers.{mul-add}
-use Rattle.semantics.proofs.products_distribute.Goals as goal
+use Rattle.semantics.proofs.numbers.products_distribute.Goals as goal
 
 pub returns : goal.returns
 returns c = mul-add

@@ -1,0 +1,75 @@
+-- Items of one group that have passed equally many barriers have equal epochs.
+use Rattle.std.proofs.Common.{◌≡◌, ℕ, ◌+◌, ◌<◌, ℤ, List, [], ◌∷◌, get_or, refl, sym, ap, ap₂, ◌∙◌, arith}
+use Rattle.semantics.specs.Setup.{Setup, group_of, item_count}
+use Rattle.semantics.specs.Item.{Item}
+use Rattle.semantics.specs.Solo.{after, opening, passed}
+use Rattle.semantics.specs.Safety.{IsPairSafe}
+use Rattle.semantics.proofs.Steps.{Passed, over-not_waiting}
+use Rattle.semantics.proofs.Turns.{Turn, Steps, Passes, Stays, turn}
+
+pub record Level (a b : Item) : Type 0 where
+  pub local : a.local_epoch ≡ b.local_epoch
+  pub global : a.global_epoch ≡ b.global_epoch
+
+-- a move that passes nothing changes no epoch; one that passes a barrier raises both by its flags
+pub data Moved (s : Setup) (i : ℕ) (z : ℤ) (ws : List ℤ) : Type 0 where
+  Keeps : passed s i (z ∷ ws) ≡ passed s i ws → Level (after s i (z ∷ ws)) (after s i ws) → Moved s i z ws
+  Raises : Passed (after s i ws) (after s i (z ∷ ws)) → passed s i (z ∷ ws) ≡ passed s i ws + 1 → Moved s i z ws
+
+pub moved_on : (s : Setup) (i : ℕ) (z : ℤ) (ws : List ℤ) → Moved s i z ws
+moved_on s i z ws = go (turn s i (after s i ws) z)
+  where
+    go : Turn (after s i ws) (after s i (z ∷ ws)) → Moved s i z ws
+    go (Steps n) = Keeps (rw n.was (omega arith)) (record { local = n.local; global = n.global })
+    go (Passes q) = Raises q (rw q.was refl)
+    go (Stays o e) = Keeps (rw (over-not_waiting (after s i ws).status o) (omega arith)) (record { local = ap (λ (it : Item). it.local_epoch) e; global = ap (λ (it : Item). it.global_epoch) e })
+
+none_on : (s : Setup) (i j : ℕ) (y : ℤ) (vs : List ℤ) → 0 ≡ passed s j (y ∷ vs) → (0 ≡ passed s j vs → Level (after s i []) (after s j vs)) → Moved s j y vs → Level (after s i []) (after s j (y ∷ vs))
+none_on s i j y vs h before (Keeps e l) =
+    let r = before (h ∙ e) in
+    record { local = r.local ∙ sym l.local; global = r.global ∙ sym l.global }
+none_on s i j y vs h before (Raises q e) = absurd (omega arith)
+
+none_passed : (s : Setup) (i j : ℕ) (vs : List ℤ) → 0 ≡ passed s j vs → Level (after s i []) (after s j vs)
+unfolding opening
+none_passed s i j [] h = record { local = refl; global = refl }
+none_passed s i j (y ∷ vs) h = none_on s i j y vs h (none_passed s i j vs) (moved_on s j y vs)
+
+-- the pair of items that the rest is about
+pub record Pair (s : Setup) (bound : ℕ) (i j : ℕ) : Type 0 where
+  pub safe : IsPairSafe s bound
+  pub first : i < item_count s
+  pub second : j < item_count s
+  pub group : group_of s i ≡ group_of s j
+
+-- both have just passed a barrier
+both_raised : (s : Setup) (bound : ℕ) (i j : ℕ) (p : Pair s bound i j) (z y : ℤ) (ws vs : List ℤ) → Passed (after s i ws) (after s i (z ∷ ws)) → Passed (after s j vs) (after s j (y ∷ vs)) → passed s i ws ≡ passed s j vs → Level (after s i ws) (after s j vs) → Level (after s i (z ∷ ws)) (after s j (y ∷ vs))
+both_raised s bound i j p z y ws vs a b e l =
+    let t = p.safe.agree i j p.first p.second p.group ws vs a.was b.was e in
+    record {
+      local = a.local ∙ ap₂ (λ m n. m + n) l.local (ap (λ k. get_or k 2 0) t) ∙ sym b.local;
+      global = a.global ∙ ap₂ (λ m n. m + n) l.global (ap (λ k. get_or k 3 0) t) ∙ sym b.global;
+    }
+
+second_on : (s : Setup) (bound : ℕ) (i j : ℕ) (p : Pair s bound i j) (z y : ℤ) (ws vs : List ℤ) → Passed (after s i ws) (after s i (z ∷ ws)) → passed s i ws + 1 ≡ passed s j (y ∷ vs) → (passed s i ws ≡ passed s j vs → Level (after s i ws) (after s j vs)) → (passed s i ws + 1 ≡ passed s j vs → Level (after s i (z ∷ ws)) (after s j vs)) → Moved s j y vs → Level (after s i (z ∷ ws)) (after s j (y ∷ vs))
+second_on s bound i j p z y ws vs a h earlier before (Keeps e l) =
+    let r = before (h ∙ e) in
+    record { local = r.local ∙ sym l.local; global = r.global ∙ sym l.global }
+second_on s bound i j p z y ws vs a h earlier before (Raises b e) =
+    let same : passed s i ws ≡ passed s j vs = omega arith in
+    both_raised s bound i j p z y ws vs a b same (earlier same)
+
+second : (s : Setup) (bound : ℕ) (i j : ℕ) (p : Pair s bound i j) (z : ℤ) (ws : List ℤ) → Passed (after s i ws) (after s i (z ∷ ws)) → ((vs : List ℤ) → passed s i ws ≡ passed s j vs → Level (after s i ws) (after s j vs)) → (vs : List ℤ) → passed s i ws + 1 ≡ passed s j vs → Level (after s i (z ∷ ws)) (after s j vs)
+second s bound i j p z ws a earlier [] h = absurd (omega arith)
+second s bound i j p z ws a earlier (y ∷ vs) h =
+    second_on s bound i j p z y ws vs a h (earlier vs) (second s bound i j p z ws a earlier vs) (moved_on s j y vs)
+
+first_on : (s : Setup) (bound : ℕ) (i j : ℕ) (p : Pair s bound i j) (z : ℤ) (ws vs : List ℤ) → ((us : List ℤ) → passed s i ws ≡ passed s j us → Level (after s i ws) (after s j us)) → passed s i (z ∷ ws) ≡ passed s j vs → Moved s i z ws → Level (after s i (z ∷ ws)) (after s j vs)
+first_on s bound i j p z ws vs earlier h (Keeps e l) =
+    let r = earlier vs (sym e ∙ h) in
+    record { local = l.local ∙ r.local; global = l.global ∙ r.global }
+first_on s bound i j p z ws vs earlier h (Raises a e) = second s bound i j p z ws a earlier vs (sym e ∙ h)
+
+pub epochs : (s : Setup) (bound : ℕ) (i j : ℕ) (p : Pair s bound i j) (ws vs : List ℤ) → passed s i ws ≡ passed s j vs → Level (after s i ws) (after s j vs)
+epochs s bound i j p [] vs h = none_passed s i j vs h
+epochs s bound i j p (z ∷ ws) vs h = first_on s bound i j p z ws vs (epochs s bound i j p ws) h (moved_on s i z ws)

@@ -1,0 +1,53 @@
+//! Laws of events, runs, memory and results.
+
+ghost use Rattle.std.specs.Prelude.{◌≡◌, ◌≢◌, ◌⊎◌, ◌↔◌, ℕ, ℤ, List, ◌++◌, true, Option, Some, None};
+ghost use Rattle.std.specs.Bool.{Decides};
+ghost use Rattle.semantics.specs.Word.{Fault, Word, in_kind};
+ghost use Rattle.semantics.specs.Core.{Site, Term};
+ghost use Rattle.semantics.specs.Launch.{Fits};
+ghost use Rattle.semantics.specs.Setup.{Setup};
+ghost use Rattle.semantics.specs.Memory.{Cell, Memory, kind_at};
+ghost use Rattle.semantics.specs.Item.{Ended, Stopped};
+ghost use Rattle.semantics.specs.Solo.{Access};
+ghost use Rattle.semantics.specs.World.{World, Event, Step, happens, run, then_run, opening_world};
+ghost use Rattle.semantics.specs.Safety.{Clash, Divergent};
+ghost use Rattle.semantics.specs.Tests.{clashes, diverges};
+ghost use Rattle.semantics.specs.Rounds.{applied, log_of, logged};
+ghost use Rattle.semantics.specs.Candidates.{Supports, Candidates, Stands, IsInGreatest};
+
+/// A run of two lists of events is the one after the other; so a prefix of a run is a run.
+pub fn runs_go_on()
+    ensures joined { (s : Setup) (es fs : List Event) (w : World) → run s (es ++ fs) w ≡ then_run (run s es w) (run s fs) }
+    ensures prefix { (s : Setup) (es fs : List Event) (w v : World) → run s (es ++ fs) w ≡ Some v → (u : World) × (run s es w ≡ Some u) × (run s fs u ≡ Some v) }
+{}
+
+/// A step changes no other item.
+pub fn steps_change_one_item()
+    ensures { (s : Setup) (w v : World) (i j : ℕ) → j ≢ i → happens s w (Step i) ≡ Some v → v.items j ≡ w.items j }
+{}
+
+/// What has ended, and what a fault has stopped, stays as it is.
+pub fn the_ended_stay()
+    ensures { (s : Setup) (w v : World) (e : Event) (i : ℕ) → happens s w e ≡ Some v → ((w.items i).status ≡ Ended) ⊎ ((f : Fault) × (site : Site) × ((w.items i).status ≡ Stopped f site)) → v.items i ≡ w.items i }
+{}
+
+/// Along every run the numbers in memory stay in their array's kind.
+pub fn memory_keeps_kinds()
+    ensures { (s : Setup) (es : List Event) (w : World) (c : Cell) → Fits s.kernel s.launch → run s es (opening_world s) ≡ Some w → in_kind (kind_at s c) (w.memory c) ≡ true }
+{}
+
+/// The tests decide data races and barrier divergence.
+pub fn tests_decide()
+    ensures clash { (s : Setup) (a b : Access) → Decides (clashes s a b) (Clash s a b) }
+    ensures divergence { (s : Setup) (w : World) (i j : ℕ) → Decides (diverges s w i j) (Divergent s w i j) }
+{}
+
+/// To apply stores in order is to apply their log.
+pub fn logs_are_applied()
+    ensures { (xs : List (Cell × ℤ)) (m : Memory) (c : Cell) → applied xs m c ≡ logged (log_of xs c None) (m c) }
+{}
+
+/// The union of all sets of candidates that stand is one that stands.
+pub fn the_greatest_stands()
+    ensures { (supports : Supports) (set : Candidates) → ((c : ℕ) → (set c ≡ true) ↔ IsInGreatest supports c) → Stands supports set }
+{}

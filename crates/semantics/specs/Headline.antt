@@ -3,7 +3,7 @@ use Rattle.std.specs.Prelude.{ℕ, ◌*◌, ◌<◌, ◌≤◌, ◌≡◌, List,
 use Rattle.semantics.specs.Setup.{Setup, item_count, group_size}
 use Rattle.semantics.specs.Item.{Ended}
 use Rattle.semantics.specs.World.{World, Event, opening_world, happens, run}
-use Rattle.semantics.specs.Rounds.{result}
+use Rattle.semantics.specs.Rounds.{result_by_rounds}
 use Rattle.semantics.specs.Safety.{IsSafe}
 
 -- no event is possible
@@ -17,7 +17,7 @@ pub record Holds (s : Setup) (bound : ℕ) (es : List Event) (w : World) : Type 
   pub is_bounded : length es ≤ 2 * bound * item_count s
   pub can_go_on : (more : List Event) × (v : World) × (run s more w ≡ Some v) × IsOver s v
   pub all_ended : IsOver s w → (i : ℕ) → i < item_count s → (w.items i).status ≡ Ended
-  pub ends_with_the_result : IsOver s w → w.memory ≡ result s bound
+  pub ends_with_the_result : IsOver s w → w.memory ≡ result_by_rounds s bound
 
 -- that holds of every run from the launch's opening world, where a group has an item
 abbrev pub Headline : Setup → ℕ → Type 0

@@ -69,5 +69,5 @@ abbrev pub result_of : Setup → ℕ → ℕ → Memory
 result_of s bound zero = opening_memory s
 result_of s bound (suc n) = applied (group_stores s bound n) (result_of s bound n)
 
-abbrev pub result : Setup → ℕ → Memory
-result s bound = result_of s bound (group_count s)
+abbrev pub result_by_rounds : Setup → ℕ → Memory
+result_by_rounds s bound = result_of s bound (group_count s)

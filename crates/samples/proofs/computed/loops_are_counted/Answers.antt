@@ -1,0 +1,13 @@
+use Rattle.std.proofs.Common.{refl}
+use Rattle.samples.proofs.Endless.{races}
+use Rattle.semantics.specs.Memory.{put}
+use Rattle.semantics.specs.Setup.{group_size, group_count}
+use Rattle.semantics.specs.Evaluation.{evaluate}
+use Rattle.semantics.specs.Ask.{ask}
+use Rattle.semantics.specs.Solo.{opening}
+use Rattle.semantics.specs.World.{opening_world, put_item, may_go, released, happens}
+use Rattle.samples.proofs.computed.loops_are_counted.Goals as goal
+
+pub returns : goal.returns
+unfolding opening_world happens ask evaluate opening put_item put group_size group_count may_go released
+returns c = record { breaks = refl; continues = refl; again = refl; endless = races }

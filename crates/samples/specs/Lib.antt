@@ -1,0 +1,3 @@
+pub mod Terms
+pub mod Kernels
+pub mod OneStore

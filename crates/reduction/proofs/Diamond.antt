@@ -96,6 +96,13 @@ pub let_items-other : (s : Setup) (g j : ℕ) (items : ℕ → Item) → group_o
 unfolding let_items
 let_items-other s g j items ne = grind (arith, nat_tests)
 
+-- items of a group stand at equal epochs
+pub along-level : (s : Setup) (bound : ℕ) (p : IsPairSafe s bound) (w : World) (al : Along s w) (i j : ℕ) → i < item_count s → j < item_count s → group_of s i ≡ group_of s j → Level (after s i (al.words i)) (after s j (al.words j))
+along-level s bound p w al i j hi hj same = elim (cases_eq i j) [
+  | inl e ↦ record { local = ap (λ k. (after s k (al.words k)).local_epoch) e; global = ap (λ k. (after s k (al.words k)).global_epoch) e }
+  | inr ne ↦ epochs s bound i j (record { safe = p; first = hi; second = hj; distinct = ne; group = same }) (al.words i) (al.words j) (al.level i j hi hj same)
+]
+
 module _ (s : Setup) (bound : ℕ) (full : 0 < group_size s) (p : IsPairSafe s bound) (w : World) (al : Along s w) where
   here : ℕ → Ask
   here i = ask s i (w.items i)
@@ -105,7 +112,7 @@ module _ (s : Setup) (bound : ℕ) (full : 0 < group_size s) (p : IsPairSafe s b
 
   unordered-here : (i j : ℕ) (a b : Access) → i < item_count s → j < item_count s → a.item ≡ i → b.item ≡ j → a.epoch ≡ epoch (w.items i) a.at.owner → b.epoch ≡ epoch (w.items j) b.at.owner → a.at ≡ b.at → (group_of s a.item ≢ group_of s b.item) ⊎ (a.epoch ≡ b.epoch)
   unordered-here i j a b hi hj ea eb pa pb e = elim (cases_eq (group_of s i) (group_of s j)) [
-    | inl same ↦ let l = epochs s bound i j (record { safe = p; first = hi; second = hj; group = same }) (al.words i) (al.words j) (al.level i j hi hj same) in
+    | inl same ↦ let l = along-level s bound p w al i j hi hj same in
         inr (pa ∙ ap (λ it. epoch it a.at.owner) (al.stands i) ∙ epoch-level (after s i (al.words i)) (after s j (al.words j)) a.at.owner l ∙ ap (λ it. epoch it a.at.owner) (sym (al.stands j)) ∙ ap (λ (c : Cell). epoch (w.items j) c.owner) e ∙ sym pb)
     | inr ne ↦ inl (λ q. ne (sym (ap (group_of s) ea) ∙ q ∙ ap (group_of s) eb))
   ]

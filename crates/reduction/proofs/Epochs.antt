@@ -1,5 +1,5 @@
 -- Items of one group that have passed equally many barriers have equal epochs.
-use Rattle.std.proofs.Common.{◌≡◌, ℕ, ◌+◌, ◌<◌, ℤ, List, [], ◌∷◌, get_or, refl, sym, ap, ap₂, ◌∙◌, arith}
+use Rattle.std.proofs.Common.{◌≡◌, ◌≢◌, ℕ, ◌+◌, ◌<◌, ℤ, List, [], ◌∷◌, get_or, refl, sym, ap, ap₂, ◌∙◌, arith}
 use Rattle.semantics.specs.Setup.{Setup, group_of, item_count}
 use Rattle.semantics.specs.Item.{Item}
 use Rattle.semantics.specs.Solo.{after, opening, passed}
@@ -40,12 +40,13 @@ pub record Pair (s : Setup) (bound : ℕ) (i j : ℕ) : Type 0 where
   pub safe : IsPairSafe s bound
   pub first : i < item_count s
   pub second : j < item_count s
+  pub distinct : i ≢ j
   pub group : group_of s i ≡ group_of s j
 
 -- both have just passed a barrier
 both_raised : (s : Setup) (bound : ℕ) (i j : ℕ) (p : Pair s bound i j) (z y : ℤ) (ws vs : List ℤ) → Passed (after s i ws) (after s i (z ∷ ws)) → Passed (after s j vs) (after s j (y ∷ vs)) → passed s i ws ≡ passed s j vs → Level (after s i ws) (after s j vs) → Level (after s i (z ∷ ws)) (after s j (y ∷ vs))
 both_raised s bound i j p z y ws vs a b e l =
-    let t = p.safe.agree i j p.first p.second p.group ws vs a.was b.was e in
+    let t = p.safe.agree i j p.first p.second p.distinct p.group ws vs a.was b.was e in
     record {
       local = a.local ∙ ap₂ (λ m n. m + n) l.local (ap (λ k. get_or k 2 0) t) ∙ sym b.local;
       global = a.global ∙ ap₂ (λ m n. m + n) l.global (ap (λ k. get_or k 3 0) t) ∙ sym b.global;

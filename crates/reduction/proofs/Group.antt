@@ -91,7 +91,7 @@ module _ (s : Setup) (bound : ℕ) (full : 0 < group_size s) (p : IsPairSafe s b
     unfolding st1
     at1 k lt = advanced-at s g (bound + 1) st.items m (group_size s) k lt
 
-    after1 : (k : ℕ) → k < group_size s → st1.items (member s g k) ≡ after_round s g (bound + 1) its m (member s g k)
+    after1 : (k : ℕ) → k < group_size s → st1.items (member s g k) ≡ after_round s (bound + 1) its m (member s g k)
     after1 k lt = at1 k lt ∙ ap (λ it. (alone s (member s g k) (bound + 1) it m).item) (sym (b.agree k lt))
 
     other1 : (j : ℕ) → group_of s j ≢ g → st1.items j ≡ st.items j
@@ -124,14 +124,14 @@ module _ (s : Setup) (bound : ℕ) (full : 0 < group_size s) (p : IsPairSafe s b
     each1 = subst (Each (Own s g)) xs-same (Each-map (From s g st (group_size s)) (Own s g) (round_stores s g (bound + 1) st.items m (group_size s))
         (λ c f. record { other = member s g f.place; when = _; stored = f.stored; group = group_of-member s g f.place f.below }) upto.each)
 
-    may-same : may_go s (after_round s g (bound + 1) its m) g ≡ may_go s st1.items g
-    may-same = go (cases_Bool (may_go s (after_round s g (bound + 1) its m) g)) (cases_Bool (may_go s st1.items g))
+    may-same : may_go s (after_round s (bound + 1) its m) g ≡ may_go s st1.items g
+    may-same = go (cases_Bool (may_go s (after_round s (bound + 1) its m) g)) (cases_Bool (may_go s st1.items g))
       where
-        go : (may_go s (after_round s g (bound + 1) its m) g ≡ true) ⊎ (may_go s (after_round s g (bound + 1) its m) g ≡ false) → (may_go s st1.items g ≡ true) ⊎ (may_go s st1.items g ≡ false) → may_go s (after_round s g (bound + 1) its m) g ≡ may_go s st1.items g
+        go : (may_go s (after_round s (bound + 1) its m) g ≡ true) ⊎ (may_go s (after_round s (bound + 1) its m) g ≡ false) → (may_go s st1.items g ≡ true) ⊎ (may_go s st1.items g ≡ false) → may_go s (after_round s (bound + 1) its m) g ≡ may_go s st1.items g
         go (inl x) (inl y) = x ∙ sym y
         go (inr x) (inr y) = x ∙ sym y
-        go (inl x) (inr y) = let q = may_go-same s (after_round s g (bound + 1) its m) st1.items g full after1 x in x ∙ sym q
-        go (inr x) (inl y) = let q = may_go-same s st1.items (after_round s g (bound + 1) its m) g full (λ k lt. sym (after1 k lt)) y in q ∙ sym y
+        go (inl x) (inr y) = let q = may_go-same s (after_round s (bound + 1) its m) st1.items g full after1 x in x ∙ sym q
+        go (inr x) (inl y) = let q = may_go-same s st1.items (after_round s (bound + 1) its m) g full (λ k lt. sym (after1 k lt)) y in q ∙ sym y
 
     -- the group is let go
     module _ (may : may_go s st1.items g ≡ true) where
@@ -139,7 +139,7 @@ module _ (s : Setup) (bound : ℕ) (full : 0 < group_size s) (p : IsPairSafe s b
       can = (hg, may)
 
       its2 : ℕ → Item
-      its2 = λ i. past s i (after_round s g (bound + 1) its m i)
+      its2 = λ i. past s i (after_round s (bound + 1) its m i)
 
       waits1 : (k : ℕ) → k < group_size s → (st1.items (member s g k)).status ≡ Waiting
       waits1 k lt = may_go-waits s st1.items g (member s g k) may (member-below s g k hg lt) (group_of-member s g k lt)
@@ -148,7 +148,7 @@ module _ (s : Setup) (bound : ℕ) (full : 0 < group_size s) (p : IsPairSafe s b
       unfolding let_items
       at2 k lt = rw (eq-eqb (group_of s (member s g k)) g (group_of-member s g k lt)) refl
 
-      start2 : Start (λ i. past s i (after_round s g (bound + 1) its m i)) (applied (round_stores s g (bound + 1) its m (group_size s)) m) (next s st1 (Release g))
+      start2 : Start (λ i. past s i (after_round s (bound + 1) its m i)) (applied (round_stores s g (bound + 1) its m (group_size s)) m) (next s st1 (Release g))
       unfolding st1
       start2 = record {
         good = good-next s st1 (Release g) good1 can;
@@ -190,11 +190,11 @@ module _ (s : Setup) (bound : ℕ) (full : 0 < group_size s) (p : IsPairSafe s b
       each = each1;
     })
 
-    next_by : (n : ℕ) → (may_go s st1.items g ≡ true → Done s g (next s st1 (Release g)) (rounds s g (bound + 1) n (λ i. past s i (after_round s g (bound + 1) its m i)) (applied (round_stores s g (bound + 1) its m (group_size s)) m))) → (may_go s st1.items g ≡ true) ⊎ (may_go s st1.items g ≡ false) → Done s g st (rounds s g (bound + 1) (suc n) its m)
+    next_by : (n : ℕ) → (may_go s st1.items g ≡ true → Done s g (next s st1 (Release g)) (rounds s g (bound + 1) n (λ i. past s i (after_round s (bound + 1) its m i)) (applied (round_stores s g (bound + 1) its m (group_size s)) m))) → (may_go s st1.items g ≡ true) ⊎ (may_go s st1.items g ≡ false) → Done s g st (rounds s g (bound + 1) (suc n) its m)
     next_by n later (inl y) = rw (may-same, y) (done2 y _ (later y))
     next_by n later (inr y) = rw (may-same, y) (done1 y)
 
   pub group-way : (n : ℕ) (its : ℕ → Item) (m : Memory) (st : State) → Start its m st → bound + 1 ≤ n + (st.items (member s g 0)).steps → Done s g st (rounds s g (bound + 1) n its m)
   group-way zero its m st b h = absurd (let q = good-short s bound p st b.good (member s g 0) (member-below s g 0 hg full) in omega (arith, q))
   group-way (suc n) its m st b h =
-      next_by its m st b n (λ y. group-way n (λ i. past s i (after_round s g (bound + 1) its m i)) _ (next s (st1 its m st b) (Release g)) (start2 its m st b y) (let q = more2 its m st b y in omega (arith, q))) (cases_Bool (may_go s (st1 its m st b).items g))
+      next_by its m st b n (λ y. group-way n (λ i. past s i (after_round s (bound + 1) its m i)) _ (next s (st1 its m st b) (Release g)) (start2 its m st b y) (let q = more2 its m st b y in omega (arith, q))) (cases_Bool (may_go s (st1 its m st b).items g))

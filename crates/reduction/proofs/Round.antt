@@ -10,9 +10,9 @@ use Rattle.semantics.specs.Rounds.{Part, applied, alone, round_stores}
 use Rattle.semantics.specs.Safety.{IsPairSafe}
 use Rattle.semantics.proofs.Updates.{put_item-same, put_item-other, same_cell-is}
 use Rattle.semantics.proofs.Groups.{group_of-member, member-below}
-use Rattle.reduction.proofs.Epochs.{Level, epochs}
+use Rattle.reduction.proofs.Epochs.{Level}
 use Rattle.reduction.proofs.States.{State}
-use Rattle.reduction.proofs.Diamond.{epoch-level, state-is}
+use Rattle.reduction.proofs.Diamond.{along-level, epoch-level, state-is}
 use Rattle.reduction.proofs.Confluence.{Good, Onward, onward-here, onward-trans, good-onward}
 use Rattle.reduction.proofs.Alone.{Stored, Tainted, Matches, Each, Each-map, Each-append, alone-way, left_by, put-either}
 
@@ -45,7 +45,7 @@ member-inj s g k l e = omega arith
 pub good-level : (s : Setup) (bound : ℕ) (p : IsPairSafe s bound) (st : State) → Good s st → (i j : ℕ) → i < item_count s → j < item_count s → group_of s i ≡ group_of s j → Level (st.items i) (st.items j)
 good-level s bound p st g i j hi hj e =
     let al = g.along in
-    let l = epochs s bound i j (record { safe = p; first = hi; second = hj; group = e }) (al.words i) (al.words j) (al.level i j hi hj e) in
+    let l = along-level s bound p g.world al i j hi hj e in
     let a = sym (ap (λ (x : State). x.items i) g.is) ∙ al.stands i in
     let b = sym (ap (λ (x : State). x.items j) g.is) ∙ al.stands j in
     record {

@@ -1,5 +1,6 @@
 -- What follows for each world of a run.
 use Rattle.std.proofs.Common.{◌≡◌, ◌≢◌, ℕ, ◌<◌, ◌≤◌, ◌⊎◌, true, None, refl, ap, ◌∙◌, sym, subst, inl, inr, arith, lt-ltb}
+use Rattle.std.proofs.lemmas.Bool.{cases_eq}
 use Rattle.std.proofs.lemmas.Slice.Eq.{bytes_eq-Decides}
 use Rattle.semantics.specs.Word.{Fault}
 use Rattle.semantics.specs.Core.{Site}
@@ -39,12 +40,15 @@ module _ (s : Setup) (bound : ℕ) (p : IsPairSafe s bound) (w : World) (al : Al
   quiet-here i f site lt h = p.quiet i (al.words i) f site lt (status-after i (Stopped f site) h)
 
   agree-here : (i j : ℕ) → i < item_count s → j < item_count s → group_of s i ≡ group_of s j → (w.items i).status ≡ Waiting → (w.items j).status ≡ Waiting → trail (w.items i).left ≡ trail (w.items j).left
-  agree-here i j hi hj g a b =
-      ap (λ (it : Item). trail it.left) (al.stands i) ∙ p.agree i j hi hj g (al.words i) (al.words j) (status-after i Waiting a) (status-after j Waiting b) (al.level i j hi hj g) ∙ ap (λ (it : Item). trail it.left) (sym (al.stands j))
+  agree-here i j hi hj g a b = elim (cases_eq i j) [
+    | inl e ↦ ap (λ k. trail (w.items k).left) e
+    | inr ne ↦ ap (λ (it : Item). trail it.left) (al.stands i) ∙ p.agree i j hi hj ne g (al.words i) (al.words j) (status-after i Waiting a) (status-after j Waiting b) (al.level i j hi hj g) ∙ ap (λ (it : Item). trail it.left) (sym (al.stands j))
+  ]
 
   ends-here : (i j : ℕ) → i < item_count s → j < item_count s → group_of s i ≡ group_of s j → (w.items i).status ≡ Waiting → (w.items j).status ≡ Ended → ⊥
   ends-here i j hi hj g a b =
-      let e = p.ends j i hj hi (sym g) (al.words j) (al.words i) (status-after j Ended b) in
+      let ne = λ (e : j ≡ i). let q : Ended ≡ Waiting = sym b ∙ ap (λ k. (w.items k).status) e ∙ a in let x : ⊥ = cc in x in
+      let e = p.ends j i hj hi ne (sym g) (al.words j) (al.words i) (status-after j Ended b) in
       let x : is_waiting (after s i (al.words i)).status ≡ 1 = ap is_waiting (status-after i Waiting a) in
       let y : is_waiting (after s j (al.words j)).status ≡ 0 = ap is_waiting (status-after j Ended b) in
       let z = al.level i j hi hj g in

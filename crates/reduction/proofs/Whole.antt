@@ -115,8 +115,8 @@ module _ (s : Setup) (bound : ℕ) (full : 0 < group_size s) (p : IsPairSafe s b
       go None h = h
       go (Some v) h = absurd (stuck e (follows s w v e h).can)
 
-pub headline_lem : (s : Setup) (bound : ℕ) → IsPairSafe s bound → Headline s bound
-headline_lem s bound p full es w h =
+pub headline_lem : (s : Setup) (bound : ℕ) → 0 < group_size s → IsPairSafe s bound → Headline s bound
+headline_lem s bound full p es w h =
     let al = run-along s es (opening_world s) w (opening-along s) h in
     let k = run-counted s es (opening_world s) w 0 full (opening-counted s) h in
     let sf = safe s bound p w al in

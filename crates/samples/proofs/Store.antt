@@ -27,6 +27,10 @@ module _ (size groups : ℕ) (a : List ℤ) (full : 0 < size) (room : size * gro
   unfolding group_size group_count
   count = omega arith
 
+  pub one_store-filled : 0 < group_size s
+  unfolding group_size
+  one_store-filled = omega arith
+
   gid : (i : ℕ) → i < item_count s → identity s i GlobalId 0 ≡ i
   unfolding group_size group_count
   gid i lt = by_place i size groups (size * 1 * 1) (omega arith) full (omega arith)
@@ -92,6 +96,6 @@ module _ (size groups : ℕ) (a : List ℤ) (full : 0 < size) (room : size * gro
     quiet = λ i ws f site lt h. elim (status i (after s i ws) (place i lt ws)) [ inl e ↦ let q : Stopped f site ≡ Running = sym h ∙ e in cc | inr e ↦ let q : Stopped f site ≡ Ended = sym h ∙ e in cc ];
     short = λ i ws lt. steps i (after s i ws) (place i lt ws);
     apart = λ i j ws vs x y hi hj ne tx ty c. ne (sym (touched-index i hi ws x tx) ∙ ap (λ (d : Cell). d.index) c.element ∙ touched-index j hj vs y ty);
-    agree = λ i j hi hj g ws vs a b e. absurd (let q = never i hi ws in let w = ap is_waiting a in omega (arith, q, w));
-    ends = λ i j hi hj g ws vs e. let a = never j hj vs in let b = none_passed j hj vs in omega (arith, a, b);
+    agree = λ i j hi hj ne g ws vs a b e. absurd (let q = never i hi ws in let w = ap is_waiting a in omega (arith, q, w));
+    ends = λ i j hi hj ne g ws vs e. let a = never j hj vs in let b = none_passed j hj vs in omega (arith, a, b);
   }

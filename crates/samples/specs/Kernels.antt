@@ -10,14 +10,14 @@ use Rattle.samples.specs.Terms.{at, uint, lid, buffer, array, body, setup}
 
 -- if (get_local_id(0) < 32u) barrier(CLK_LOCAL_MEM_FENCE);
 abbrev pub half_waits : Setup
-half_waits = setup 64 1 [] [] [] (If 1 (Compare Less lid (uint 32)) (body (Barrier 2 true false ∷ [])) (body []) ∷ [])
+half_waits = setup 64 1 [] [] [] (If 1 (Compare Less Uint lid (uint 32)) (body (Barrier 2 true false ∷ [])) (body []) ∷ [])
 
 -- uint lid = get_local_id(0); for (uint i = 0u; i < 2u; i += 1u) if (i == (lid & 1u)) barrier(CLK_LOCAL_MEM_FENCE);
 abbrev pub other_turns : Setup
 other_turns = setup 4 1 [] [] (Uint ∷ Uint ∷ []) (
     Set 1 0 lid ∷ Set 3 1 (uint 0) ∷
-    Loop 2 (Compare Less (Variable 1) (uint 2))
-    (body (If 5 (Compare Equal (Variable 1) (Binary BitAnd Uint (at 1) (Variable 0) (uint 1))) (body (Barrier 6 true false ∷ [])) (body []) ∷ []))
+    Loop 2 (Compare Less Uint (Variable 1) (uint 2))
+    (body (If 5 (Compare Equal Uint (Variable 1) (Binary BitAnd Uint (at 1) (Variable 0) (uint 1))) (body (Barrier 6 true false ∷ [])) (body []) ∷ []))
     (body (Set 4 1 (Binary Add Uint (at 2) (Variable 1) (uint 1)) ∷ [])) ∷ [])
 
 abbrev pub steps : ℕ → ℕ → List Event
@@ -65,14 +65,14 @@ broken = setup 1 1 ((pos 0 ∷ []) ∷ []) [] [] (
 abbrev pub continued : Setup
 continued = setup 1 1 [] [] (Uint ∷ []) (
     Set 2 0 (uint 0) ∷
-    Loop 1 (Compare Less (Variable 0) (uint 2)) (body (Continue 4 1 ∷ Loop 5 (uint 1) (body []) (body []) ∷ []))
+    Loop 1 (Compare Less Uint (Variable 0) (uint 2)) (body (Continue 4 1 ∷ Loop 5 (uint 1) (body []) (body []) ∷ []))
     (body (Set 3 0 (Binary Add Uint (at 1) (Variable 0) (uint 1)) ∷ [])) ∷ [])
 
 -- while (1u) { x = 0u; while (x < 1u) { x = x + 1u; } }
 abbrev pub nested : Setup
 nested = setup 1 1 [] [] (Uint ∷ []) (
     Loop 1 (uint 1) (body (Set 2 0 (uint 0) ∷
-    Loop 3 (Compare Less (Variable 0) (uint 1)) (body (Set 4 0 (Binary Add Uint (at 1) (Variable 0) (uint 1)) ∷ [])) (body []) ∷ [])) (body []) ∷ [])
+    Loop 3 (Compare Less Uint (Variable 0) (uint 1)) (body (Set 4 0 (Binary Add Uint (at 1) (Variable 0) (uint 1)) ∷ [])) (body []) ∷ [])) (body []) ∷ [])
 
 -- while (1u) { a[0] = 1u; } of two items
 abbrev pub for_ever : Setup

@@ -22,7 +22,7 @@ pub fn words_are_exact()
     ensures zero { calculate Remainder Uint (pos 1) (pos 0) ≡ Err DivisionByZero }
     ensures wraps { calculate Subtract Uint (pos 0) (pos 1) ≡ Ok (word Uint (pos 4294967295)) }
     ensures converts { convert Int (pos 2147483648) ≡ Err Overflow }
-    ensures mixed { evaluate half_waits 0 (Compare Less (Convert Uint (at 1) (Unary Negate Int (at 2) (Literal Int (pos 1)))) (uint 0)) [] [] ≡ Gives (word Int (pos 0)) [] }
+    ensures mixed { evaluate half_waits 0 (Compare Less Uint (Unary Negate Int (at 1) (Literal Int (pos 1))) (uint 0)) [] [] ≡ Gives (word Int (pos 0)) [] }
 {}
 
 /// `&&`, `||` and `?:` evaluate only what decides, operands go from left to right, an index before the value, and the

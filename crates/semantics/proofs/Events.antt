@@ -1,13 +1,14 @@
 -- What an event leaves: a step changes its own item alone, and what has ended or was stopped stays.
-use Rattle.std.proofs.Common.{◌≡◌, ◌≢◌, ℕ, ◌<◌, ℤ, pos, Bool, true, false, cond, ◌&&◌, ◌⊎◌, Option, Some, refl, sym, ap, ◌∙◌, inl, inr, ltb-true, nat_eq, nat_lt}
+use Rattle.std.proofs.Common.{◌≡◌, ◌≢◌, ℕ, ◌<◌, ℤ, pos, Bool, true, false, cond, ◌&&◌, ◌⊎◌, Option, Some, refl, sym, ap, ◌∙◌, inl, inr, subst, lt-ltb, ltb-true, nat_eq, nat_lt}
 use Rattle.std.proofs.lemmas.Bool.{cases_eq}
 use Rattle.semantics.specs.Word.{Fault}
 use Rattle.semantics.specs.Core.{Site}
 use Rattle.semantics.specs.Setup.{Setup, group_of, group_count, item_count}
-use Rattle.semantics.specs.Item.{Item, Ended, Stopped}
+use Rattle.semantics.specs.Item.{Item, Running, Waiting, Ended, Stopped}
 use Rattle.semantics.specs.Ask.{Ask, Loads, Stores, Goes, Waits, Rests, ask}
 use Rattle.semantics.specs.Solo.{moved, move}
 use Rattle.semantics.specs.World.{World, Event, Step, Release, stepped, released, may_go, guarded, happens, past}
+use Rattle.semantics.proofs.Steps.{Over, Fair, ask-fair}
 use Rattle.semantics.proofs.Groups.{both-true}
 use Rattle.semantics.proofs.Updates.{put_item-other}
 
@@ -71,3 +72,28 @@ event-rests s w v (Step j) i h r = by (cases_eq i j)
         absurd (let e = ap (stepped w j) (sym q) ∙ g.1 in cc)
 event-rests s w v (Release g) i h r =
     ap (λ (x : World). x.items i) (let_go s g w v h).after ∙ let_by (nat_eq (group_of s i) g) (w.items i) (past s i (w.items i)) (move-rests s i (w.items i) (pos 0) r)
+
+running-goes : (w : World) (i : ℕ) (k : Ask) → Fair (w.items i) k → (w.items i).status ≡ Running → (v : World) × (stepped w i k ≡ Some v)
+running-goes w i (Loads at kind site) f h = (_, refl)
+running-goes w i (Stores at site value next) f h = (_, refl)
+running-goes w i (Goes next) f h = (_, refl)
+running-goes w i (Waits next) f h = absurd (let q : Waiting ≡ Running = sym f.was ∙ h in cc)
+running-goes w i Rests f h = elim (subst Over h f) [ ]
+
+goes-running : (w v : World) (i : ℕ) (k : Ask) → Fair (w.items i) k → stepped w i k ≡ Some v → (w.items i).status ≡ Running
+goes-running w v i (Loads at kind site) f h = f
+goes-running w v i (Stores at site value next) f h = f.was
+goes-running w v i (Goes next) f h = f.was
+goes-running w v i (Waits next) f h = cc
+goes-running w v i Rests f h = cc
+
+pub step-possible : (s : Setup) (w : World) (i : ℕ) → i < item_count s → (w.items i).status ≡ Running → (v : World) × (happens s w (Step i) ≡ Some v)
+unfolding happens
+step-possible s w i lt h =
+    let q = running-goes w i (ask s i (w.items i)) (ask-fair s i (w.items i)) h in
+    (q.0, rw (lt-ltb i (item_count s) lt) q.1)
+
+pub step-running : (s : Setup) (w v : World) (i : ℕ) → happens s w (Step i) ≡ Some v → (w.items i).status ≡ Running
+unfolding happens
+step-running s w v i h =
+    goes-running w v i (ask s i (w.items i)) (ask-fair s i (w.items i)) (guarded-is (nat_lt i (item_count s)) (stepped w i (ask s i (w.items i))) v h).1

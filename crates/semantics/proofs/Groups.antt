@@ -49,3 +49,9 @@ every-at (suc n) test k h lt =
 pub every-by : (n : ℕ) (test : ℕ → Bool) → ((k : ℕ) → k < n → test k ≡ true) → every n test ≡ true
 every-by zero test h = refl
 every-by (suc n) test h = rw (h n (omega arith), every-by n test (λ k lt. h k (omega arith))) refl
+
+remainder : (g k n : ℕ) → k < n → (g * n + k) % n ≡ k
+remainder g k n h = grind arith
+
+pub place-member : (s : Setup) (g k : ℕ) → k < group_size s → member s g k % group_size s ≡ k
+place-member s g k h = remainder g k (group_size s) h

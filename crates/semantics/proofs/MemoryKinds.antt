@@ -1,10 +1,10 @@
 -- The numbers in memory stay in their array's kind.
 use Rattle.std.proofs.Common.{◌≡◌, ◌<◌, ◌^◌, ℕ, zero, suc, ℤ, pos, List, [], ◌∷◌, get_or, Bool, true, false, cond, Option, Some, None, refl, sym, ap, ◌∙◌, arith, lt-ltb, nat_lt}
-use Rattle.std.specs.List.{All}
+use Rattle.std.specs.List.{All, AllZip}
 use Rattle.std.proofs.lemmas.List.Elements.{All-head, All-tail}
 use Rattle.semantics.specs.Word.{Kind, Int, Uint, Word, in_kind}
 use Rattle.semantics.specs.Core.{Site, Array, Statement, Set, Store, If, Loop, Barrier, Return, Break, Continue}
-use Rattle.semantics.specs.Launch.{BuffersFit, Fits}
+use Rattle.semantics.specs.Launch.{IsBuffer, Fits}
 use Rattle.semantics.specs.Setup.{Setup, item_count}
 use Rattle.semantics.specs.Memory.{Cell, Memory, cell, extent, kind_at, kind_in, opening_at, put, same_cell}
 use Rattle.semantics.specs.Evaluation.{Outcome, Gives, Needs, Faults, evaluate, Index, At, Outside, within}
@@ -102,12 +102,12 @@ buffer-kind Uint [] n h = refl
 buffer-kind k (z ∷ zs) zero h = All-head (λ x. in_kind k x ≡ true) z zs h
 buffer-kind k (z ∷ zs) (suc n) h = buffer-kind k zs n (All-tail (λ x. in_kind k x ≡ true) z zs h)
 
-buffers-kind : (ks : List Kind) (bs : List (List ℤ)) (a n : ℕ) → BuffersFit ks bs → in_kind (get_or ks a Int) (get_or (get_or bs a []) n (pos 0)) ≡ true
+buffers-kind : (ks : List Kind) (bs : List (List ℤ)) (a n : ℕ) → AllZip IsBuffer ks bs → in_kind (get_or ks a Int) (get_or (get_or bs a []) n (pos 0)) ≡ true
 buffers-kind [] [] a n h = refl
 buffers-kind [] (b ∷ bs) a n h = elim h [ ]
 buffers-kind (k ∷ ks) [] a n h = elim h [ ]
-buffers-kind (k ∷ ks) (b ∷ bs) zero n h = buffer-kind k b n h.1
-buffers-kind (k ∷ ks) (b ∷ bs) (suc a) n h = buffers-kind ks bs a n h.2
+buffers-kind (k ∷ ks) (b ∷ bs) zero n h = buffer-kind k b n h.0.1
+buffers-kind (k ∷ ks) (b ∷ bs) (suc a) n h = buffers-kind ks bs a n h.1
 
 fill-kind : (k : Kind) (n : ℕ) → n < 2 ^ 31 → in_kind k (pos n) ≡ true
 fill-kind Int n h = lt-ltb n (2 ^ 31) h

@@ -1,10 +1,10 @@
 -- More answers change nothing once a value is given.
 use Rattle.std.proofs.Common.{◌≡◌, ℕ, ℤ, List, [], ◌∷◌, ◌++◌, Bool, true, false, not, Result, Ok, Err, refl}
-use Rattle.semantics.specs.Word.{Word, Fault, calculate, calculate_unary, convert, is_zero, smaller, larger, truth, holds}
+use Rattle.semantics.specs.Word.{Word, Fault, calculate_unary, convert, is_zero, smaller, larger, truth}
 use Rattle.semantics.specs.Core.{Site, Array, Term, Literal, Variable, Id, Load, Unary, Binary, Convert, Compare, Not, And, Or, Select, Minimum, Maximum}
 use Rattle.semantics.specs.Setup.{Setup}
 use Rattle.semantics.specs.Memory.{extent}
-use Rattle.semantics.specs.Evaluation.{Outcome, Gives, Needs, Faults, and_then, settled, Index, At, Outside, within, asks, load, decide, evaluate}
+use Rattle.semantics.specs.Evaluation.{Outcome, Gives, Needs, Faults, and_then, settled, operate, compare, Index, At, Outside, within, asks, load, decide, evaluate}
 
 -- a reader of answers that hands on what it did not use
 record Grows (f : List Word → Outcome) : Type 0 where
@@ -62,9 +62,9 @@ grows s i vars (Variable x) = value-grows _
 grows s i vars (Id f d) = value-grows _
 grows s i vars (Load a site index) = then-grows (reads s i vars index) (λ k rest. load s a site k.value rest) (grows s i vars index) (λ k. load-grows s a site k.value)
 grows s i vars (Unary op kind site e) = then-grows (reads s i vars e) (λ a rest. settled (calculate_unary op kind a.value) site rest) (grows s i vars e) (λ a. settled-grows (calculate_unary op kind a.value) site)
-grows s i vars (Binary op kind site l r) = both-grow s i vars l r (λ a b rest. settled (calculate op kind a.value b.value) site rest) (grows s i vars l) (grows s i vars r) (λ a b. settled-grows (calculate op kind a.value b.value) site)
+grows s i vars (Binary op kind site l r) = both-grow s i vars l r (λ a b rest. settled (operate op kind a b) site rest) (grows s i vars l) (grows s i vars r) (λ a b. settled-grows (operate op kind a b) site)
 grows s i vars (Convert kind site e) = then-grows (reads s i vars e) (λ a rest. settled (convert kind a.value) site rest) (grows s i vars e) (λ a. settled-grows (convert kind a.value) site)
-grows s i vars (Compare c l r) = both-grow s i vars l r (λ a b rest. Gives (truth (holds c a.value b.value)) rest) (grows s i vars l) (grows s i vars r) (λ a b. value-grows _)
+grows s i vars (Compare c kind l r) = both-grow s i vars l r (λ a b rest. Gives (truth (compare c kind a b)) rest) (grows s i vars l) (grows s i vars r) (λ a b. value-grows _)
 grows s i vars (Not e) = then-grows (reads s i vars e) (λ a rest. Gives (truth (is_zero a.value)) rest) (grows s i vars e) (λ a. value-grows _)
 grows s i vars (And l r) =
     then-grows (reads s i vars l) (λ a rest. decide (is_zero a.value) (Gives (truth false) rest) (and_then (evaluate s i r vars rest) (λ b rest'. Gives (truth (not (is_zero b.value))) rest'))) (grows s i vars l)

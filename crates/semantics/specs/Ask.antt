@@ -27,16 +27,17 @@ on_value s i it (Faults f site) go = Goes (stands it (Stopped f site))
 abbrev pub writes : Setup → Cell → Site → ℤ → Item → Ask
 writes s c site value next = Stores c site (as_kind (kind_at s c) value) next
 
--- a store's index is tested when its value is known; an element takes a number of its array's kind
+-- a store's index is tested when its value is known (ours). The value has the array's kind already, since elaboration writes
+-- conversions out; `as_kind` leaves such a number as it is
 abbrev pub stores : Setup → ℕ → Item → Array → Site → Index → ℤ → List Entry → Ask
 stores s i it a site (At k) value rest = writes s (cell s i a k) site value (finished it rest it.variables)
 stores s i it a site Outside value rest = Goes (stands it (Stopped OutOfBounds site))
 
 abbrev pub choose : Bool → List Entry → List Entry → List Entry
-choose true skipped taken = skipped
-choose false skipped taken = taken
+choose true if_true if_false = if_true
+choose false if_true if_false = if_false
 
--- by the statement in front, its turns and what is left behind it
+-- by the statement in front, its turns and what is left behind it (C99 6.8.4, 6.8.5 and 6.8.6)
 abbrev pub act : Setup → ℕ → Item → Statement → ℕ → List Entry → Ask
 act s i it (Set n x e) turns rest =
     on_value s i it (evaluate s i e it.variables it.answers) (λ v _. Goes (finished it rest (slice_set it.variables x v)))

@@ -1,10 +1,9 @@
 -- Launch conditions, and the launches that meet them (ours). All sums are taken over whole numbers, without wrapping.
-use Rattle.std.specs.Prelude.{ℕ, ℤ, pos, ◌≤ℤ◌, ◌+ℤ◌, ◌*ℤ◌, List, [], ◌∷◌, length, slice_index_or}
-use Rattle.std.specs.List.{All}
-use Rattle.semantics.specs.Word.{Word}
-use Rattle.semantics.specs.Launch.{Three, Launch}
+use Rattle.std.specs.Prelude.{◌≡◌, ◌<◌, ℕ, ℤ, pos, ◌≤ℤ◌, ◌+ℤ◌, ◌*ℤ◌, List, [], ◌∷◌, length, slice_index_or}
+use Rattle.std.specs.List.{All, AllZip}
+use Rattle.semantics.specs.Word.{Word, zero_word}
+use Rattle.semantics.specs.Launch.{Three, Kernel, Launch}
 use Rattle.semantics.specs.Setup.{along}
-use Rattle.semantics.specs.Evaluation.{zero_word}
 
 -- both ends belong to a range
 pub record Range : Type 0 where
@@ -41,20 +40,29 @@ sum_value l (x ∷ xs) = summand_value l x +ℤ sum_value l xs
 abbrev pub IsIn : Range → ℤ → Type 0
 IsIn r z = (r.low ≤ℤ z) × (z ≤ℤ r.high)
 
-abbrev pub ArgumentsMeet : List Range → List Word → Type 0
-ArgumentsMeet [] ws = Unit {0}
-ArgumentsMeet (r ∷ rs) [] = ⊥
-ArgumentsMeet (r ∷ rs) (w ∷ ws) = IsIn r w.value × ArgumentsMeet rs ws
+-- a buffer has at least as many elements as its sum
+abbrev pub IsLongEnough : Launch → List Summand → List ℤ → Type 0
+IsLongEnough l sum b = sum_value l sum ≤ℤ pos (length b)
 
-abbrev pub LengthsMeet : Launch → List (List Summand) → List (List ℤ) → Type 0
-LengthsMeet l [] bs = Unit {0}
-LengthsMeet l (xs ∷ sums) [] = ⊥
-LengthsMeet l (xs ∷ sums) (b ∷ bs) = (sum_value l xs ≤ℤ pos (length b)) × LengthsMeet l sums bs
+abbrev pub IsRequired : Launch → Requirement → Type 0
+IsRequired l r = sum_value l r.right ≤ℤ sum_value l r.left
 
 pub record Meets (c : Conditions) (l : Launch) : Type 0 where
   pub groups_x : IsIn c.groups.x (pos l.groups.x)
   pub groups_y : IsIn c.groups.y (pos l.groups.y)
   pub groups_z : IsIn c.groups.z (pos l.groups.z)
-  pub arguments : ArgumentsMeet c.arguments l.arguments
-  pub lengths : LengthsMeet l c.lengths l.buffers
-  pub requires : All (λ (r : Requirement). sum_value l r.right ≤ℤ sum_value l r.left) c.requires
+  pub arguments : AllZip (λ (r : Range) (w : Word). IsIn r w.value) c.arguments l.arguments
+  pub lengths : AllZip (IsLongEnough l) c.lengths l.buffers
+  pub requires : All (IsRequired l) c.requires
+
+-- the conditions are of this kernel: a range for each value parameter, a sum for each buffer parameter, and no other names
+abbrev pub IsNamed : Kernel → Summand → Type 0
+IsNamed k (Constant n) = Unit {0}
+IsNamed k (Argument c p) = p < length k.arguments
+IsNamed k (Groups c d) = d < 3
+
+pub record ConditionsFit (kernel : Kernel) (c : Conditions) : Type 0 where
+  pub arguments : length c.arguments ≡ length kernel.arguments
+  pub lengths : length c.lengths ≡ length kernel.buffers
+  pub sums : All (All (IsNamed kernel)) c.lengths
+  pub requires : All (λ (r : Requirement). All (IsNamed kernel) r.left × All (IsNamed kernel) r.right) c.requires

@@ -1,4 +1,4 @@
--- The elaborated kernel: a declaration is a slot, conversions are written out, blocks and `for` have become statements
+-- The elaborated kernel: a declaration is a slot, conversions to a declared type are written out, blocks and `for` have become statements
 -- and loops, and each statement keeps the number that it has in the source.
 use Rattle.std.specs.Prelude.{ℕ, ℤ, Bool}
 use Rattle.semantics.specs.Word.{Kind, Operator, UnaryOperator, Relation}
@@ -27,7 +27,7 @@ pub data Function : Type 0 where
   LocalSize : Function
   NumGroups : Function
 
--- an expression; an operator has the kind of its operands, and the site at which a fault of it is told
+-- an expression; an operator has the kind to which it brings its operands, and the site at which a fault of it is told
 pub data Term : Type 0 where
   Literal : (kind : Kind) (value : ℤ) → Term
   Variable : (slot : ℕ) → Term
@@ -36,7 +36,7 @@ pub data Term : Type 0 where
   Unary : (operator : UnaryOperator) (kind : Kind) (site : Site) (of : Term) → Term
   Binary : (operator : Operator) (kind : Kind) (site : Site) (left right : Term) → Term
   Convert : (kind : Kind) (site : Site) (of : Term) → Term
-  Compare : (relation : Relation) (left right : Term) → Term
+  Compare : (relation : Relation) (kind : Kind) (left right : Term) → Term
   Not : (of : Term) → Term
   And : (left right : Term) → Term
   Or : (left right : Term) → Term

@@ -1,6 +1,6 @@
 -- The value of a term, given the answers to its loads so far, from left to right (C99 6.5; the order of operands is ours).
 use Rattle.std.specs.Prelude.{ℕ, ℤ, pos, negsuc, List, [], ◌∷◌, Bool, true, false, cond, not, slice_index_or, nat_lt, Result, Ok, Err}
-use Rattle.semantics.specs.Word.{Word, word, Fault, OutOfBounds, Int, Uint, calculate, calculate_unary, convert, holds, truth, is_zero, smaller, larger}
+use Rattle.semantics.specs.Word.{Word, word, zero_word, Fault, OutOfBounds, Uint, Kind, Operator, Relation, calculate, calculate_unary, convert, as_kind, holds, truth, is_zero, smaller, larger}
 use Rattle.semantics.specs.Core.{Site, Array, Term, Literal, Variable, Id, Load, Unary, Binary, Convert, Compare, Not, And, Or, Select, Minimum, Maximum}
 use Rattle.semantics.specs.Setup.{Setup, identity}
 use Rattle.semantics.specs.Memory.{extent}
@@ -40,11 +40,16 @@ load s a site index [] = asks a (within (extent s a) index) site
 load s a site index (v ∷ rest) = Gives v rest
 
 abbrev pub decide : Bool → Outcome → Outcome → Outcome
-decide true taken skipped = taken
-decide false taken skipped = skipped
+decide true if_true if_false = if_true
+decide false if_true if_false = if_false
 
-abbrev pub zero_word : Word
-zero_word = word Int (pos 0)
+-- the usual conversions (C99 6.3.1.8): both operands are brought to one kind, which never fails, since it is `uint` where
+-- they differ
+abbrev pub operate : Operator → Kind → Word → Word → Result Word Fault
+operate op k a b = calculate op k (as_kind k a.value) (as_kind k b.value)
+
+abbrev pub compare : Relation → Kind → Word → Word → Bool
+compare r k a b = holds r (as_kind k a.value) (as_kind k b.value)
 
 -- 6.5.13, 6.5.14 and 6.5.15: `&&`, `||` and `?:` evaluate only what decides
 unfoldable pub evaluate : Setup → ℕ → Term → List Word → List Word → Outcome
@@ -57,12 +62,12 @@ evaluate s i (Unary op kind site e) vars answers =
     and_then (evaluate s i e vars answers) (λ a rest. settled (calculate_unary op kind a.value) site rest)
 evaluate s i (Binary op kind site left right) vars answers =
     and_then (evaluate s i left vars answers) (λ a rest.
-    and_then (evaluate s i right vars rest) (λ b rest'. settled (calculate op kind a.value b.value) site rest'))
+    and_then (evaluate s i right vars rest) (λ b rest'. settled (operate op kind a b) site rest'))
 evaluate s i (Convert kind site e) vars answers =
     and_then (evaluate s i e vars answers) (λ a rest. settled (convert kind a.value) site rest)
-evaluate s i (Compare r left right) vars answers =
+evaluate s i (Compare r kind left right) vars answers =
     and_then (evaluate s i left vars answers) (λ a rest.
-    and_then (evaluate s i right vars rest) (λ b rest'. Gives (truth (holds r a.value b.value)) rest'))
+    and_then (evaluate s i right vars rest) (λ b rest'. Gives (truth (compare r kind a b)) rest'))
 evaluate s i (Not e) vars answers =
     and_then (evaluate s i e vars answers) (λ a rest. Gives (truth (is_zero a.value)) rest)
 evaluate s i (And left right) vars answers =

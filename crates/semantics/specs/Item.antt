@@ -14,7 +14,7 @@ pub data Status : Type 0 where
   Ended : Status
   Stopped : (fault : Fault) (site : Site) → Status
 
--- the answers are those to the loads of the statement in front; an epoch counts the barriers that were released with
+-- the answers are those to the loads of the statement in front; an epoch counts the barriers that were passed with
 -- the flag of its space
 pub record Item : Type 0 where
   pub left : List Entry
@@ -72,7 +72,7 @@ abbrev pub global_flag : Statement → ℕ
 global_flag (Barrier n local global) = cond global 1 0
 global_flag s = 0
 
--- what tells two lists left apart: of each entry the statement's number, the turns and the fence flags
+-- what tells two lists left apart, since statement numbers are unique in a kernel: of each entry the statement's number, the turns and the fence flags
 abbrev pub trail : List Entry → List ℕ
 trail [] = []
 trail (e ∷ rest) = number e.statement ∷ e.turns ∷ local_flag e.statement ∷ global_flag e.statement ∷ trail rest

@@ -1,6 +1,6 @@
 -- A kernel's outer form, and what a launch gives it (OpenCL 1.2, 3.2 and 5.8).
-use Rattle.std.specs.Prelude.{ℕ, ◌≤◌, ◌<◌, ◌^◌, ◌*◌, ◌≡◌, ℤ, List, [], ◌∷◌, length, true}
-use Rattle.std.specs.List.{All}
+use Rattle.std.specs.Prelude.{ℕ, ◌≤◌, ◌<◌, ◌^◌, ◌*◌, ◌≡◌, ℤ, List, length, true}
+use Rattle.std.specs.List.{All, AllZip}
 use Rattle.semantics.specs.Word.{Kind, Word, in_kind}
 use Rattle.semantics.specs.Core.{Statements}
 
@@ -38,23 +38,19 @@ pub record Launch : Type 0 where
 abbrev pub IsCount : ℕ → Type 0
 IsCount n = (1 ≤ n) × (n ≤ 65536)
 
-abbrev pub ArgumentsFit : List Kind → List Word → Type 0
-ArgumentsFit [] [] = Unit {0}
-ArgumentsFit [] (w ∷ ws) = ⊥
-ArgumentsFit (k ∷ ks) [] = ⊥
-ArgumentsFit (k ∷ ks) (w ∷ ws) = (w.kind ≡ k) × (in_kind k w.value ≡ true) × ArgumentsFit ks ws
+-- an argument is a number of its parameter's kind
+abbrev pub IsArgument : Kind → Word → Type 0
+IsArgument k w = (w.kind ≡ k) × (in_kind k w.value ≡ true)
 
-abbrev pub BuffersFit : List Kind → List (List ℤ) → Type 0
-BuffersFit [] [] = Unit {0}
-BuffersFit [] (b ∷ bs) = ⊥
-BuffersFit (k ∷ ks) [] = ⊥
-BuffersFit (k ∷ ks) (b ∷ bs) = (length b ≤ 4294967295) × All (λ z. in_kind k z ≡ true) b × BuffersFit ks bs
+-- a buffer has numbers of its parameter's kind, at most as many as a `uint` counts
+abbrev pub IsBuffer : Kind → List ℤ → Type 0
+IsBuffer k b = (length b ≤ 4294967295) × All (λ z. in_kind k z ≡ true) b
 
--- the launch is one of this kernel
+-- the launch is one of this kernel: one argument a value parameter, one buffer a buffer parameter
 pub record Fits (kernel : Kernel) (launch : Launch) : Type 0 where
   pub count_x : IsCount launch.groups.x
   pub count_y : IsCount launch.groups.y
   pub count_z : IsCount launch.groups.z
-  pub arguments : ArgumentsFit kernel.arguments launch.arguments
-  pub buffers : BuffersFit kernel.buffers launch.buffers
+  pub arguments : AllZip IsArgument kernel.arguments launch.arguments
+  pub buffers : AllZip IsBuffer kernel.buffers launch.buffers
   pub fill : launch.fill < 2 ^ 31

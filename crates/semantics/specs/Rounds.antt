@@ -37,8 +37,8 @@ abbrev pub round_stores : Setup → ℕ → ℕ → (ℕ → Item) → Memory �
 round_stores s g fuel items m zero = []
 round_stores s g fuel items m (suc n) = round_stores s g fuel items m n ++ (alone s (member s g n) fuel (items (member s g n)) m).stores
 
-abbrev pub after_round : Setup → ℕ → ℕ → (ℕ → Item) → Memory → ℕ → Item
-after_round s g fuel items m i = (alone s i fuel (items i) m).item
+abbrev pub after_round : Setup → ℕ → (ℕ → Item) → Memory → ℕ → Item
+after_round s fuel items m i = (alone s i fuel (items i) m).item
 
 abbrev pub next_round : Bool → List (Cell × ℤ) → List (Cell × ℤ)
 next_round true later = later
@@ -48,14 +48,14 @@ next_round false later = []
 abbrev pub rounds : Setup → ℕ → ℕ → ℕ → (ℕ → Item) → Memory → List (Cell × ℤ)
 rounds s g fuel zero items m = []
 rounds s g fuel (suc n) items m =
-    round_stores s g fuel items m (group_size s) ++ next_round (may_go s (after_round s g fuel items m) g)
-    (rounds s g fuel n (λ i. past s i (after_round s g fuel items m i)) (applied (round_stores s g fuel items m (group_size s)) m))
+    round_stores s g fuel items m (group_size s) ++ next_round (may_go s (after_round s fuel items m) g)
+    (rounds s g fuel n (λ i. past s i (after_round s fuel items m i)) (applied (round_stores s g fuel items m (group_size s)) m))
 
 -- every group starts from the launch's memory
 abbrev pub group_stores : Setup → ℕ → ℕ → List (Cell × ℤ)
 group_stores s bound g = rounds s g (bound + 1) (bound + 1) (opening s) (opening_memory s)
 
--- a group's log: the last number stored to an element, if any was
+-- a log: the last number stored to an element, if any was; else what came before
 abbrev pub log_of : List (Cell × ℤ) → Cell → Option ℤ → Option ℤ
 log_of [] c before = before
 log_of (x ∷ xs) c before = log_of xs c (cond (same_cell c x.0) (Some x.1) before)
@@ -63,6 +63,10 @@ log_of (x ∷ xs) c before = log_of xs c (cond (same_cell c x.0) (Some x.1) befo
 abbrev pub logged : Option ℤ → ℤ → ℤ
 logged None before = before
 logged (Some z) before = z
+
+-- a group's log has the last number that it stored to each element of a buffer
+abbrev pub group_log : Setup → ℕ → ℕ → (array index : ℕ) → Option ℤ
+group_log s bound g array index = log_of (group_stores s bound g) (record { owner = 0; array = array; index = index }) None
 
 -- the launch's memory with the stores of the first n groups in order
 abbrev pub result_of : Setup → ℕ → ℕ → Memory

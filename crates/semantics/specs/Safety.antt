@@ -39,10 +39,10 @@ WaitAlike s i j = (ws vs : List ℤ) → (after s i ws).status ≡ Waiting → (
 abbrev pub EndsLast : Setup → ℕ → ℕ → Type 0
 EndsLast s i j = (ws vs : List ℤ) → (after s i ws).status ≡ Ended → arrived s j vs ≤ arrived s i ws
 
--- the two-thread reduction (GPUVerify): what one item alone, and two items side by side, keep in all their solo runs
+-- the two-thread reduction (GPUVerify): what one item alone, and any two distinct items, keep in all their solo runs
 pub record IsPairSafe (s : Setup) (bound : ℕ) : Type 0 where
   pub quiet : (i : ℕ) (ws : List ℤ) (f : Fault) (site : Site) → i < item_count s → (after s i ws).status ≢ Stopped f site
   pub short : (i : ℕ) (ws : List ℤ) → i < item_count s → (after s i ws).steps ≤ bound
   pub apart : (i j : ℕ) (ws vs : List ℤ) (a b : Access) → i < item_count s → j < item_count s → i ≢ j → Touched s i ws a → Touched s j vs b → Clash s a b → ⊥
-  pub agree : (i j : ℕ) → i < item_count s → j < item_count s → group_of s i ≡ group_of s j → WaitAlike s i j
-  pub ends : (i j : ℕ) → i < item_count s → j < item_count s → group_of s i ≡ group_of s j → EndsLast s i j
+  pub agree : (i j : ℕ) → i < item_count s → j < item_count s → i ≢ j → group_of s i ≡ group_of s j → WaitAlike s i j
+  pub ends : (i j : ℕ) → i < item_count s → j < item_count s → i ≢ j → group_of s i ≡ group_of s j → EndsLast s i j

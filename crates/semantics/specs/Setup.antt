@@ -47,7 +47,7 @@ local_id s i d = along (place s.kernel.sizes (i % group_size s)) d 0
 abbrev pub group_id : Setup → ℕ → ℕ → ℕ
 group_id s i d = along (place s.launch.groups (group_of s i)) d 0
 
--- what a work-item function gives at a dimension (6.12.1; no offset)
+-- what a work-item function gives at a dimension (6.12.1; no offset); it is a `uint`, as on a device of 32 address bits (ours)
 abbrev pub identity : Setup → ℕ → Function → ℕ → ℕ
 identity s i GlobalId d = group_id s i d * along s.kernel.sizes d 1 + local_id s i d
 identity s i LocalId d = local_id s i d

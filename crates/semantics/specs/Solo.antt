@@ -1,5 +1,5 @@
 -- A solo run: one work-item alone, each load answered by any number of the element's kind, each barrier passed at once
--- (the adversarial reads of GPUVerify). It is a list of answers, one for each move, the newest first; so without its newest
+-- (the adversarial reads of GPUVerify). It is a list of answers, one for each move (only a load heeds its own), the newest first; so without its newest
 -- moves it is a solo run too.
 use Rattle.std.specs.Prelude.{ℕ, zero, suc, ◌+◌, ◌++◌, ℤ, pos, List, [], ◌∷◌, map, Bool, true, false, ◌⊎◌, ◌≡◌, Option, Some, None}
 use Rattle.semantics.specs.Core.{Site}
@@ -67,7 +67,7 @@ passed s i (answer ∷ ws) = passed s i ws + is_waiting (after s i ws).status
 abbrev pub arrived : Setup → ℕ → List ℤ → ℕ
 arrived s i ws = passed s i ws + is_waiting (after s i ws).status
 
--- the lists left with which it arrived, the first first
+-- the lists left with which it arrived, the oldest first
 abbrev pub noted_trail : Status → List ℕ → List (List ℕ) → List (List ℕ)
 noted_trail Running t ts = ts
 noted_trail Waiting t ts = ts ++ t ∷ []

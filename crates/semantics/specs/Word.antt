@@ -7,7 +7,9 @@ pub data Kind : Type 0 where
   Int : Kind
   Uint : Kind
 
--- what no step may do: undefined in C99 (6.5.5; 6.5p5; 6.5.6p8), faults here
+-- what no step may do; that these are faults is ours. C99 leaves a division by zero (6.5.5p5), other `int` results out of range
+-- (6.5p5) and an access outside an array (6.5.6p8) undefined, and a conversion to an `int` out of range to the compiler
+-- (6.3.1.3p3); OpenCL 1.2, 6.3 leaves an integer division by zero or out of range unspecified
 pub data Fault : Type 0 where
   DivisionByZero : Fault
   Overflow : Fault
@@ -20,6 +22,9 @@ pub record Word : Type 0 where
 
 abbrev pub word : Kind → ℤ → Word
 word k z = record { kind = k; value = z }
+
+abbrev pub zero_word : Word
+zero_word = word Int (pos 0)
 
 -- the range of a kind (C99 6.2.5; OpenCL 1.2, 6.1.1)
 abbrev pub in_kind : Kind → ℤ → Bool
@@ -38,7 +43,7 @@ abbrev pub read_bits : Kind → ℕ → ℤ
 read_bits Uint n = pos n
 read_bits Int n = cond (nat_lt n (2 ^ 31)) (pos n) (pos n -ℤ pos (2 ^ 32))
 
--- an exact result in its kind: `uint` is modulo 2^32 (C99 6.2.5p9), an `int` out of range is a fault (6.5p5)
+-- an exact result in its kind: `uint` is modulo 2^32 (C99 6.2.5p9), an `int` out of range is a fault (ours)
 abbrev pub settle : Kind → ℤ → Result Word Fault
 settle Uint z = Ok (word Uint (pos (bits_of z)))
 settle Int z = cond (in_kind Int z) (Ok (word Int z)) (Err Overflow)
@@ -108,7 +113,7 @@ truth b = word Int (cond b (pos 1) (pos 0))
 abbrev pub is_zero : ℤ → Bool
 is_zero z = int_eq z (pos 0)
 
--- 6.3.1.3: to `uint` modulo 2^32; to `int` the same number, or a fault where it has none
+-- 6.3.1.3: to `uint` modulo 2^32; to `int` the same number, or a fault where it has none (ours)
 abbrev pub convert : Kind → ℤ → Result Word Fault
 convert k z = settle k z
 

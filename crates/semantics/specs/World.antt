@@ -6,7 +6,7 @@ use Rattle.semantics.specs.Item.{Item, Status, Running, Waiting, Ended, Stopped,
 use Rattle.semantics.specs.Ask.{Ask, Loads, Stores, Goes, Waits, Rests, ask}
 use Rattle.semantics.specs.Solo.{opening, Access, touch, moved}
 
--- memory, the items by their numbers, and the accesses so far, the first first
+-- memory, the items by their numbers, and the accesses so far, the oldest first
 pub record World : Type 0 where
   pub memory : Memory
   pub items : ℕ → Item

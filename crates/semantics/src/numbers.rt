@@ -1,6 +1,6 @@
 //! Laws of whole numbers, of words and of the numbers of work-items.
 
-ghost use Rattle.std.specs.Prelude.{◌≡◌, ℕ, ◌+◌, ◌*◌, ◌/◌, ◌%◌, ◌<◌, ◌≤ℤ◌, ◌+ℤ◌, ◌*ℤ◌, ℤ, pos, true};
+ghost use Rattle.std.specs.Prelude.{◌≡◌, ℕ, ◌+◌, ◌*◌, ◌%◌, ◌<◌, ◌≤ℤ◌, ◌+ℤ◌, ◌*ℤ◌, ℤ, pos, true};
 ghost use Rattle.std.specs.Int.{int_div_euclid};
 ghost use Rattle.semantics.specs.Word.{Kind, in_kind, as_kind};
 ghost use Rattle.semantics.specs.Launch.{Three, product};
@@ -36,5 +36,5 @@ pub fn places_are_numbered()
 /// An item is a group and a number in it.
 pub fn items_are_members()
     ensures member_of { (s : Setup) (i : ℕ) → i < item_count s → (group_of s i < group_count s) × (i % group_size s < group_size s) × (member s (group_of s i) (i % group_size s) ≡ i) }
-    ensures group_of { (s : Setup) (g k : ℕ) → g < group_count s → k < group_size s → (member s g k < item_count s) × (group_of s (member s g k) ≡ g) }
+    ensures group_of { (s : Setup) (g k : ℕ) → g < group_count s → k < group_size s → (member s g k < item_count s) × (group_of s (member s g k) ≡ g) × (member s g k % group_size s ≡ k) }
 {}

@@ -1,13 +1,13 @@
-//! Laws of events, runs, memory and results.
+//! Laws of events, runs, memory and results; and of candidates.
 
-ghost use Rattle.std.specs.Prelude.{◌≡◌, ◌≢◌, ◌⊎◌, ◌↔◌, ℕ, ℤ, List, ◌++◌, true, Option, Some, None};
+ghost use Rattle.std.specs.Prelude.{◌≡◌, ◌≢◌, ◌<◌, ◌⊎◌, ◌↔◌, ℕ, ℤ, List, ◌++◌, true, Some, None};
 ghost use Rattle.std.specs.Bool.{Decides};
-ghost use Rattle.semantics.specs.Word.{Fault, Word, in_kind};
-ghost use Rattle.semantics.specs.Core.{Site, Term};
+ghost use Rattle.semantics.specs.Word.{Fault, in_kind};
+ghost use Rattle.semantics.specs.Core.{Site};
 ghost use Rattle.semantics.specs.Launch.{Fits};
-ghost use Rattle.semantics.specs.Setup.{Setup};
+ghost use Rattle.semantics.specs.Setup.{Setup, item_count};
 ghost use Rattle.semantics.specs.Memory.{Cell, Memory, kind_at};
-ghost use Rattle.semantics.specs.Item.{Ended, Stopped};
+ghost use Rattle.semantics.specs.Item.{Running, Ended, Stopped};
 ghost use Rattle.semantics.specs.Solo.{Access};
 ghost use Rattle.semantics.specs.World.{World, Event, Step, happens, run, then_run, opening_world};
 ghost use Rattle.semantics.specs.Safety.{Clash, Divergent};
@@ -19,6 +19,12 @@ ghost use Rattle.semantics.specs.Candidates.{Supports, Candidates, Stands, IsInG
 pub fn runs_go_on()
     ensures joined { (s : Setup) (es fs : List Event) (w : World) → run s (es ++ fs) w ≡ then_run (run s es w) (run s fs) }
     ensures prefix { (s : Setup) (es fs : List Event) (w v : World) → run s (es ++ fs) w ≡ Some v → (u : World) × (run s es w ≡ Some u) × (run s fs u ≡ Some v) }
+{}
+
+/// A step is possible exactly of an item that runs.
+pub fn running_items_step()
+    ensures possible { (s : Setup) (w : World) (i : ℕ) → i < item_count s → (w.items i).status ≡ Running → (v : World) × (happens s w (Step i) ≡ Some v) }
+    ensures only { (s : Setup) (w v : World) (i : ℕ) → happens s w (Step i) ≡ Some v → (w.items i).status ≡ Running }
 {}
 
 /// A step changes no other item.
@@ -47,7 +53,7 @@ pub fn logs_are_applied()
     ensures { (xs : List (Cell × ℤ)) (m : Memory) (c : Cell) → applied xs m c ≡ logged (log_of xs c None) (m c) }
 {}
 
-/// The union of all sets of candidates that stand is one that stands.
+/// A set that has just the members of all sets that stand is one that stands.
 pub fn the_greatest_stands()
     ensures { (supports : Supports) (set : Candidates) → ((c : ℕ) → (set c ≡ true) ↔ IsInGreatest supports c) → Stands supports set }
 {}

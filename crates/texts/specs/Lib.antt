@@ -1,0 +1,4 @@
+pub mod Surface
+pub mod Scope
+pub mod Typing
+pub mod Elaboration

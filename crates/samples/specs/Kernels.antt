@@ -35,6 +35,12 @@ crossing between = setup 2 1 ((pos 0 ∷ pos 0 ∷ []) ∷ (pos 7 ∷ pos 7 ∷ 
 abbrev pub crossed : List Event
 crossed = Step 0 ∷ Step 1 ∷ Step 1 ∷ Step 0 ∷ Release 0 ∷ Step 0 ∷ Step 0 ∷ []
 
+-- __local uint t[2]; t[lid] = 1u; barrier(..); a[lid] = t[1u - lid]; of two items, with the flags of its barrier
+abbrev pub crossing_local : (local global : Bool) → Setup
+crossing_local l g = setup 2 1 ((pos 7 ∷ pos 7 ∷ []) ∷ []) (record { kind = Uint; length = 2 } ∷ []) [] (
+    Store 1 (array 0) (at 1) lid (uint 1) ∷ Barrier 2 l g ∷
+    Store 3 (buffer 0) (at 3) lid (Load (array 0) (at 4) (Binary Subtract Uint (at 5) (uint 1) lid)) ∷ [])
+
 -- two accesses of a list clash
 abbrev pub clash_with : Setup → Access → List Access → Bool
 clash_with s a [] = false

@@ -12,7 +12,7 @@ ghost use Rattle.semantics.specs.Tests.{diverges};
 ghost use Rattle.semantics.specs.Rounds.{result_by_rounds};
 ghost use Rattle.semantics.specs.Safety.{IsPairSafe};
 ghost use Rattle.samples.specs.Terms.{at, uint, buffer, after_run, is_possible, number_at, front_is};
-ghost use Rattle.samples.specs.Kernels.{half_waits, other_turns, turned, steps, crossing, crossed, has_clash, two_groups, own_array, broken, continued, nested, for_ever, indexed, converted};
+ghost use Rattle.samples.specs.Kernels.{half_waits, other_turns, turned, steps, crossing, crossing_local, crossed, has_clash, two_groups, own_array, broken, continued, nested, for_ever, indexed, converted};
 
 /// C99 6.5.5 and 6.3.1.3 at the edges; `-1 < 0u` is 0.
 pub fn words_are_exact()
@@ -60,6 +60,8 @@ pub fn stores_are_ordered()
     ensures next_round { result_by_rounds (crossing (Barrier 2 false true ∷ [])) 5 (record { owner = 0; array = 1; index = 0 }) ≡ pos 1 }
     ensures local_fence { after_run (crossing (Barrier 2 true false ∷ [])) crossed (λ w. has_clash (crossing []) w.history) ≡ true }
     ensures global_fence { after_run (crossing (Barrier 2 false true ∷ [])) crossed (λ w. not (has_clash (crossing []) w.history)) ≡ true }
+    ensures local_fence_of_arrays { after_run (crossing_local true false) crossed (λ w. not (has_clash (crossing_local true false) w.history)) ≡ true }
+    ensures global_fence_of_arrays { after_run (crossing_local false true) crossed (λ w. has_clash (crossing_local false true) w.history) ≡ true }
     ensures groups { after_run two_groups (Step 1 ∷ Step 0 ∷ []) (λ w. has_clash two_groups w.history) ≡ true }
     ensures filled { after_run own_array (steps 2 0 ++ steps 2 1) (λ w. int_eq (w.memory (record { owner = 0; array = 0; index = 1 })) (pos 9)) ≡ true }
     ensures own { after_run own_array (steps 3 0 ++ steps 3 1 ++ steps 2 0 ++ steps 2 1) (λ w. int_eq (w.memory (record { owner = 0; array = 0; index = 0 })) (pos 0) && not (has_clash own_array w.history)) ≡ true }

@@ -66,3 +66,37 @@ pub record Kernel : Type 0 where
   pub sizes : Three ℕ
   pub parameters : List Parameter
   pub body : Statements
+
+-- the site that an expression keeps
+abbrev pub site_of : Expression → Site
+site_of (Number site kind n) = site
+site_of (Name site name) = site
+site_of (Element site name index) = site
+site_of (Call site name arguments) = site
+site_of (Prefix site sign e) = site
+site_of (Cast site kind e) = site
+site_of (Infix site sign l r) = site
+site_of (Conditional site test a b) = site
+
+-- where a statement begins, and its number
+abbrev pub begins_at : Statement → Site
+begins_at (Declare n site kind name_site name e) = site
+begins_at (DeclareArray n site kind name_site name size) = site
+begins_at (Assign n site name sign sign_site e) = site
+begins_at (AssignElement n site name index sign sign_site e) = site
+begins_at (If n site test a b) = site
+begins_at (While n site test body) = site
+begins_at (For n site first test update body) = site
+begins_at (Barrier n site flags) = site
+begins_at (Block n site body) = site
+
+abbrev pub number_of : Statement → ℕ
+number_of (Declare n site kind name_site name e) = n
+number_of (DeclareArray n site kind name_site name size) = n
+number_of (Assign n site name sign sign_site e) = n
+number_of (AssignElement n site name index sign sign_site e) = n
+number_of (If n site test a b) = n
+number_of (While n site test body) = n
+number_of (For n site first test update body) = n
+number_of (Barrier n site flags) = n
+number_of (Block n site body) = n

@@ -1,0 +1,212 @@
+// Words, and the operations on them.
+ghost use Rattle.std.specs.Prelude.{◌≡◌, ◌≤◌, Ok};
+ghost use Rattle.semantics.specs.Word as semantics;
+ghost use Rattle.words.specs.View.{kind, kind_of, value_of, word, number_of, seen};
+
+/// A 32-bit integer type (C99 6.2.5; OpenCL 1.2, 6.1.1).
+#[derive(Debug, Clone, Copy, PartialEq, Eq)]
+pub enum Kind {
+    /// Signed: -2147483648 to 2147483647.
+    Int,
+    /// Unsigned: 0 to 4294967295.
+    Uint,
+}
+
+/// A number of a kind.
+#[derive(Debug, Clone, Copy, PartialEq, Eq)]
+pub enum Word {
+    Int(i32),
+    Uint(u32),
+}
+
+/// What no step of a kernel may do. C99 leaves each undefined, but for the conversion, which is up to the compiler.
+#[derive(Debug, Clone, Copy, PartialEq, Eq)]
+pub enum Fault {
+    /// A quotient or a remainder by zero (C99 6.5.5).
+    DivisionByZero = 1,
+    /// A signed result out of range (C99 6.5), or a number converted to `int` that `int` lacks (6.3.1.3).
+    Overflow = 2,
+    /// An index outside its buffer (C99 6.5.6). No operation on words answers it.
+    OutOfBounds = 3,
+}
+
+impl Fault {
+    /// The number by which the fault is printed: 2 for `F2`.
+    pub fn number(self) -> u8
+        ensures { result ≡ number_of self }
+    {
+        self as u8
+    }
+}
+
+impl Word {
+    pub fn kind(self) -> Kind
+        ensures { kind result ≡ kind_of self }
+    {
+        match self {
+            Word::Int(_) => Kind::Int,
+            Word::Uint(_) => Kind::Uint,
+        }
+    }
+
+    /// The number itself, whatever the kind.
+    pub fn value(self) -> i64
+        ensures { result ≡ value_of self }
+    {
+        match self {
+            Word::Int(value) => value as i64,
+            Word::Uint(value) => value as i64,
+        }
+    }
+
+    // Its 32 bits, in two's complement (C99 6.2.6.2).
+    fn bits(self) -> u32
+        ensures { result ≡ semantics.bits_of (value_of self) }
+    {
+        match self {
+            Word::Int(value) => value.cast_unsigned(),
+            Word::Uint(value) => value,
+        }
+    }
+
+    // The word that has these bits.
+    fn from_bits(to: Kind, bits: u32) -> Word
+        ensures { word result ≡ semantics.word (kind to) (semantics.read_bits (kind to) bits) }
+    {
+        match to {
+            Kind::Int => Word::Int(bits.cast_signed()),
+            Kind::Uint => Word::Uint(bits),
+        }
+    }
+}
+
+// An exact result in its kind: modulo 2^32 (C99 6.2.5), or an overflow where `int` lacks it (6.5).
+fn settle(to: Kind, exact: i64) -> Result<Word, Fault>
+    ensures { seen result ≡ semantics.settle (kind to) exact }
+{
+    match to {
+        Kind::Int => i32::try_from(exact)
+            .map(Word::Int)
+            .map_err(|_| Fault::Overflow),
+        Kind::Uint => Ok(Word::Uint(exact.rem_euclid(1 << 32) as u32)),
+    }
+}
+
+/// The sum (C99 6.5.6).
+pub fn add(a: Word, b: Word) -> Result<Word, Fault>
+    requires { kind_of a ≡ kind_of b }
+    ensures { seen result ≡ semantics.calculate semantics.Add (kind_of a) (value_of a) (value_of b) }
+{
+    settle(a.kind(), a.value() + b.value())
+}
+
+/// The difference (C99 6.5.6).
+pub fn sub(a: Word, b: Word) -> Result<Word, Fault>
+    requires { kind_of a ≡ kind_of b }
+    ensures { seen result ≡ semantics.calculate semantics.Subtract (kind_of a) (value_of a) (value_of b) }
+{
+    settle(a.kind(), a.value() - b.value())
+}
+
+/// The product (C99 6.5.5).
+pub fn mul(a: Word, b: Word) -> Result<Word, Fault>
+    requires { kind_of a ≡ kind_of b }
+    ensures { seen result ≡ semantics.calculate semantics.Multiply (kind_of a) (value_of a) (value_of b) }
+{
+    match (a, b) {
+        (Word::Int(a), Word::Int(b)) => settle(Kind::Int, a as i64 * b as i64),
+        (Word::Uint(a), Word::Uint(b)) => Ok(Word::Uint(a.wrapping_mul(b))),
+        _ => unreachable!(),
+    }
+}
+
+/// The quotient, rounded toward zero (C99 6.5.5).
+pub fn div(a: Word, b: Word) -> Result<Word, Fault>
+    requires { kind_of a ≡ kind_of b }
+    ensures { seen result ≡ semantics.calculate semantics.Divide (kind_of a) (value_of a) (value_of b) }
+{
+    if b.value() == 0 {
+        return Err(Fault::DivisionByZero);
+    }
+    settle(a.kind(), a.value() / b.value())
+}
+
+/// The remainder, with the sign of `a`; an overflow where the quotient is one (C99 6.5.5).
+pub fn rem(a: Word, b: Word) -> Result<Word, Fault>
+    requires { kind_of a ≡ kind_of b }
+    ensures { seen result ≡ semantics.calculate semantics.Remainder (kind_of a) (value_of a) (value_of b) }
+{
+    let _quotient = div(a, b)?;
+    settle(a.kind(), a.value() % b.value())
+}
+
+/// The bits that both have (C99 6.5.10).
+pub fn bit_and(a: Word, b: Word) -> Result<Word, Fault>
+    requires { kind_of a ≡ kind_of b }
+    ensures { seen result ≡ semantics.calculate semantics.BitAnd (kind_of a) (value_of a) (value_of b) }
+{
+    Ok(Word::from_bits(a.kind(), a.bits() & b.bits()))
+}
+
+/// The bits that either has (C99 6.5.12).
+pub fn bit_or(a: Word, b: Word) -> Result<Word, Fault>
+    requires { kind_of a ≡ kind_of b }
+    ensures { seen result ≡ semantics.calculate semantics.BitOr (kind_of a) (value_of a) (value_of b) }
+{
+    Ok(Word::from_bits(a.kind(), a.bits() | b.bits()))
+}
+
+/// The bits that just one has (C99 6.5.11).
+pub fn bit_xor(a: Word, b: Word) -> Result<Word, Fault>
+    requires { kind_of a ≡ kind_of b }
+    ensures { seen result ≡ semantics.calculate semantics.BitXor (kind_of a) (value_of a) (value_of b) }
+{
+    Ok(Word::from_bits(a.kind(), a.bits() ^ b.bits()))
+}
+
+/// The `int` 1 where `a` is less than `b`, otherwise 0 (C99 6.5.8).
+pub fn less(a: Word, b: Word) -> Result<Word, Fault>
+    requires { kind_of a ≡ kind_of b }
+    ensures { seen result ≡ Ok (semantics.truth (semantics.holds semantics.Less (value_of a) (value_of b))) }
+{
+    Ok(Word::Int((a.value() < b.value()) as i32))
+}
+
+/// The negative (C99 6.5.3.3).
+pub fn neg(w: Word) -> Result<Word, Fault>
+    ensures { seen result ≡ semantics.calculate_unary semantics.Negate (kind_of w) (value_of w) }
+{
+    settle(w.kind(), -w.value())
+}
+
+/// The complement of each bit (C99 6.5.3.3).
+pub fn not(w: Word) -> Result<Word, Fault>
+    ensures { seen result ≡ semantics.calculate_unary semantics.Complement (kind_of w) (value_of w) }
+{
+    Ok(Word::from_bits(w.kind(), !w.bits()))
+}
+
+/// `w` times 2^k (C99 6.5.7; OpenCL 1.2, 6.3).
+pub fn shl(w: Word, k: u32) -> Result<Word, Fault>
+    requires unsigned { kind_of w ≡ semantics.Uint }
+    requires count { k ≤ 31 }
+    ensures { seen result ≡ semantics.calculate_unary (semantics.ShiftLeft k) (kind_of w) (value_of w) }
+{
+    Ok(Word::Uint(w.bits() << k))
+}
+
+/// `w` divided by 2^k, rounded down (C99 6.5.7; OpenCL 1.2, 6.3).
+pub fn shr(w: Word, k: u32) -> Result<Word, Fault>
+    requires unsigned { kind_of w ≡ semantics.Uint }
+    requires count { k ≤ 31 }
+    ensures { seen result ≡ semantics.calculate_unary (semantics.ShiftRight k) (kind_of w) (value_of w) }
+{
+    Ok(Word::Uint(w.bits() >> k))
+}
+
+/// The word's number in a kind: modulo 2^32 in `Uint`, an overflow where `Int` lacks it (C99 6.3.1.3).
+pub fn convert(w: Word, to: Kind) -> Result<Word, Fault>
+    ensures { seen result ≡ semantics.convert (kind to) (value_of w) }
+{
+    settle(to, w.value())
+}

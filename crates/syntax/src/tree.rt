@@ -1,0 +1,260 @@
+//! The tree's types.
+
+ghost use Rattle.std.specs.Prelude.{◌≡◌};
+ghost use Rattle.texts.specs.Surface as surface;
+ghost use Rattle.syntax.specs.View.{site, expression, statement};
+
+use words::Kind;
+
+/// Where a token begins: line and column from 1, the column in bytes.
+#[derive(Debug, Clone, Copy, PartialEq, Eq)]
+pub struct Site {
+    pub line: u32,
+    pub column: u32,
+}
+
+/// An arithmetic or bitwise operator on two numbers (C99 6.5.5, 6.5.6, 6.5.10 to 6.5.12).
+#[derive(Debug, Clone, Copy, PartialEq, Eq)]
+pub enum Operator {
+    Add,
+    Subtract,
+    Multiply,
+    Divide,
+    Remainder,
+    BitAnd,
+    BitOr,
+    BitXor,
+}
+
+/// A comparison (C99 6.5.8, 6.5.9).
+#[derive(Debug, Clone, Copy, PartialEq, Eq)]
+pub enum Relation {
+    Less,
+    AtMost,
+    More,
+    AtLeast,
+    Equal,
+    Unequal,
+}
+
+/// A sign between two operands.
+#[derive(Debug, Clone, Copy, PartialEq, Eq)]
+pub enum InfixSign {
+    Arithmetic(Operator),
+    LeftShift,
+    RightShift,
+    Comparison(Relation),
+    LogicalAnd,
+    LogicalOr,
+}
+
+/// A sign in front of an operand.
+#[derive(Debug, Clone, Copy, PartialEq, Eq)]
+pub enum PrefixSign {
+    Minus,
+    LogicalNot,
+    BitNot,
+}
+
+/// The sign of an assignment: `=`, or `op=` with its operator.
+#[derive(Debug, Clone, Copy, PartialEq, Eq)]
+pub enum AssignSign {
+    Plain,
+    With(InfixSign),
+}
+
+/// An expression. Parentheses leave no node.
+#[derive(Debug, PartialEq, Eq, Drop)]
+pub enum Expr {
+    Number {
+        site: Site,
+        kind: Kind,
+        value: u32,
+    },
+    Name {
+        site: Site,
+        name: String,
+    },
+    Element {
+        site: Site,
+        name: String,
+        index: Box<Expr>,
+    },
+    Call {
+        site: Site,
+        name: String,
+        arguments: Vec<Expr>,
+    },
+    Prefix {
+        site: Site,
+        sign: PrefixSign,
+        of: Box<Expr>,
+    },
+    /// The site is that of the parenthesis.
+    Cast {
+        site: Site,
+        kind: Kind,
+        of: Box<Expr>,
+    },
+    Infix {
+        site: Site,
+        sign: InfixSign,
+        left: Box<Expr>,
+        right: Box<Expr>,
+    },
+    /// The site is that of the `?`.
+    Conditional {
+        site: Site,
+        test: Box<Expr>,
+        taken: Box<Expr>,
+        skipped: Box<Expr>,
+    },
+}
+
+/// A statement with its number in the source.
+#[derive(Debug, PartialEq, Eq, Drop)]
+pub enum Stmt {
+    Declare {
+        number: u32,
+        site: Site,
+        kind: Kind,
+        name_site: Site,
+        name: String,
+        value: Expr,
+    },
+    DeclareArray {
+        number: u32,
+        site: Site,
+        kind: Kind,
+        name_site: Site,
+        name: String,
+        length: u32,
+    },
+    Assign {
+        number: u32,
+        site: Site,
+        name: String,
+        sign: AssignSign,
+        sign_site: Site,
+        value: Expr,
+    },
+    AssignElement {
+        number: u32,
+        site: Site,
+        name: String,
+        index: Expr,
+        sign: AssignSign,
+        sign_site: Site,
+        value: Expr,
+    },
+    If {
+        number: u32,
+        site: Site,
+        test: Expr,
+        taken: Vec<Stmt>,
+        skipped: Vec<Stmt>,
+    },
+    While {
+        number: u32,
+        site: Site,
+        test: Expr,
+        body: Vec<Stmt>,
+    },
+    For {
+        number: u32,
+        site: Site,
+        first: Box<Stmt>,
+        test: Expr,
+        update: Box<Stmt>,
+        body: Vec<Stmt>,
+    },
+    Barrier {
+        number: u32,
+        site: Site,
+        flags: Expr,
+    },
+    Block {
+        number: u32,
+        site: Site,
+        body: Vec<Stmt>,
+    },
+}
+
+/// A parameter, with the site of its name.
+#[derive(Debug, PartialEq, Eq, Drop)]
+pub enum Parameter {
+    Buffer {
+        site: Site,
+        constant: bool,
+        kind: Kind,
+        name: String,
+    },
+    Value {
+        site: Site,
+        kind: Kind,
+        name: String,
+    },
+}
+
+/// A kernel: its name, its work-group size in three dimensions, its parameters and its body.
+#[derive(Debug, PartialEq, Eq, Drop)]
+pub struct Kernel {
+    pub name: String,
+    pub sizes: [u32; 3],
+    pub parameters: Vec<Parameter>,
+    pub body: Vec<Stmt>,
+}
+
+impl Expr {
+    /// The site that the node keeps: of a name, a number or a call where it begins, else of its sign or parenthesis.
+    pub fn site(&self) -> Site
+        ensures { site result ≡ surface.site_of (expression self.now) }
+    {
+        match self {
+            Expr::Number { site, .. }
+            | Expr::Name { site, .. }
+            | Expr::Element { site, .. }
+            | Expr::Call { site, .. }
+            | Expr::Prefix { site, .. }
+            | Expr::Cast { site, .. }
+            | Expr::Infix { site, .. }
+            | Expr::Conditional { site, .. } => *site,
+        }
+    }
+}
+
+impl Stmt {
+    /// Where the statement begins.
+    pub fn site(&self) -> Site
+        ensures { site result ≡ surface.begins_at (statement self.now) }
+    {
+        match self {
+            Stmt::Declare { site, .. }
+            | Stmt::DeclareArray { site, .. }
+            | Stmt::Assign { site, .. }
+            | Stmt::AssignElement { site, .. }
+            | Stmt::If { site, .. }
+            | Stmt::While { site, .. }
+            | Stmt::For { site, .. }
+            | Stmt::Barrier { site, .. }
+            | Stmt::Block { site, .. } => *site,
+        }
+    }
+
+    /// The statement's number in the source, from 1.
+    pub fn number(&self) -> u32
+        ensures { result ≡ surface.number_of (statement self.now) }
+    {
+        match self {
+            Stmt::Declare { number, .. }
+            | Stmt::DeclareArray { number, .. }
+            | Stmt::Assign { number, .. }
+            | Stmt::AssignElement { number, .. }
+            | Stmt::If { number, .. }
+            | Stmt::While { number, .. }
+            | Stmt::For { number, .. }
+            | Stmt::Barrier { number, .. }
+            | Stmt::Block { number, .. } => *number,
+        }
+    }
+}

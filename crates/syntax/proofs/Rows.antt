@@ -3,11 +3,13 @@ use Rattle.std.proofs.Common.{◌≡◌, ℕ, refl, ap, ◌∙◌}
 use Rattle.std.specs.Prelude.{Vec, String, string_bytes}
 use Rattle.std.specs.declared.alloc.Global.{Global}
 use Rattle.texts.specs.Surface as surface
-use Rattle.syntax.specs.View.{site, expression, argument_row, expressions, statement, body_row, statements}
+use Rattle.syntax.specs.View.{site, expression, argument_row, expressions, first, assignment, statement, body_row, statements}
 use Rattle.syntax.specs.declared.tree.Site.{Site}
 use Rattle.syntax.specs.declared.tree.Expr.{Expr, Call, Row_of-Expr, end_of-Expr, more_of-Expr, items-the_row-Expr, items_hidden-the_row-Expr-0}
 use Rattle.syntax.specs.declared.tree.Expr.TheBlock.{hidden-the_row-Expr-0}
-use Rattle.syntax.specs.declared.tree.Stmt.{Stmt, If, While, Block, Row_of-Stmt, end_of-Stmt, more_of-Stmt, items-the_row-Stmt, items_hidden-the_row-Stmt-0}
+use Rattle.syntax.specs.declared.tree.Stmt.{Stmt, If, While, For, Block, Row_of-Stmt, end_of-Stmt, more_of-Stmt, items-the_row-Stmt, items_hidden-the_row-Stmt-0}
+use Rattle.syntax.specs.declared.tree.First.{First}
+use Rattle.syntax.specs.declared.tree.Assignment.{Assignment}
 use Rattle.syntax.specs.declared.tree.Stmt.TheBlock.{hidden-the_row-Stmt-0}
 
 argument_row-items : {m : _} → (r : Row_of-Expr m) → argument_row r ≡ expressions (items-the_row-Expr m r)
@@ -36,3 +38,6 @@ seen_while n s test body = ap (surface.While n (site s) (expression test)) (body
 
 pub seen_block : (n : ℕ) (s : Site) (body : Vec Stmt Global) → statement (Block n s body) ≡ surface.Block n (site s) (statements body.items)
 seen_block n s body = ap (surface.Block n (site s)) (body_row-vec body)
+
+pub seen_for : (n : ℕ) (s : Site) (begin : First) (test : Expr) (update : Assignment) (body : Vec Stmt Global) → statement (For n s begin test update body) ≡ surface.For n (site s) (first begin) (expression test) (assignment update) (statements body.items)
+seen_for n s begin test update body = ap (surface.For n (site s) (first begin) (expression test) (assignment update)) (body_row-vec body)

@@ -1,5 +1,5 @@
 -- What the code's trees stand for: the same trees, without where they lie in memory.
-use Rattle.std.specs.Prelude.{List, [], ◌∷◌, map, slice_index, string_bytes}
+use Rattle.std.specs.Prelude.{List, [], ◌∷◌, Option, Some, None, map, slice_index, string_bytes}
 use Rattle.semantics.specs.Core as core
 use Rattle.semantics.specs.Word as word
 use Rattle.texts.specs.Surface as surface
@@ -16,7 +16,11 @@ use Rattle.syntax.specs.declared.tree.PrefixSign.TheVariants as prefixes
 use Rattle.syntax.specs.declared.tree.AssignSign.{AssignSign}
 use Rattle.syntax.specs.declared.tree.AssignSign.TheVariants as assigns
 use Rattle.syntax.specs.declared.tree.Expr.{Expr, Number, Name, Element', Call', Prefix', Cast', Infix', Conditional', Row_of-Expr, end_of-Expr, more_of-Expr}
-use Rattle.syntax.specs.declared.tree.Stmt.{Stmt, Declare, DeclareArray, Assign, AssignElement, If', While', For', Barrier, Block', Row_of-Stmt, end_of-Stmt, more_of-Stmt}
+use Rattle.syntax.specs.declared.tree.Declaration.{Declaration}
+use Rattle.syntax.specs.declared.tree.Assignment.{Assignment}
+use Rattle.syntax.specs.declared.tree.First.{First}
+use Rattle.syntax.specs.declared.tree.First.TheVariants as firsts
+use Rattle.syntax.specs.declared.tree.Stmt.{Stmt, Declare, DeclareArray, Assign, If', While', For', Barrier, Block', Row_of-Stmt, end_of-Stmt, more_of-Stmt}
 use Rattle.syntax.specs.declared.tree.Parameter.{Parameter}
 use Rattle.syntax.specs.declared.tree.Parameter.TheVariants as parameters
 use Rattle.syntax.specs.declared.tree.Kernel.{Kernel}
@@ -57,7 +61,9 @@ prefix_sign prefixes.BitNot = surface.BitNot
 
 abbrev pub assign_sign : AssignSign → surface.AssignSign
 assign_sign assigns.Plain = surface.Plain
-assign_sign (assigns.With sign) = surface.With (infix_sign sign)
+assign_sign (assigns.With op) = surface.With (operator op)
+assign_sign assigns.WithLeftShift = surface.WithLeftShift
+assign_sign assigns.WithRightShift = surface.WithRightShift
 
 abbrev mutual
   pub expression : Expr → surface.Expression
@@ -79,15 +85,28 @@ abbrev pub expressions : List Expr → surface.Expressions
 expressions [] = surface.nothing
 expressions (e ∷ es) = surface.also (expression e) (expressions es)
 
+abbrev pub declaration : Declaration → surface.Declaration
+declaration d = record { number = d.number; site = site d.site; kind = kind d.kind; name_site = site d.name_site; name = string_bytes d.name; value = expression d.value }
+
+abbrev pub index_of : Option Expr → Option surface.Expression
+index_of None = None
+index_of (Some e) = Some (expression e)
+
+abbrev pub assignment : Assignment → surface.Assignment
+assignment a = record { number = a.number; site = site a.site; name = string_bytes a.name; index = index_of a.index; sign = assign_sign a.sign; sign_site = site a.sign_site; value = expression a.value }
+
+abbrev pub first : First → surface.First
+first (firsts.Declares d) = surface.FirstDeclares (declaration d)
+first (firsts.Assigns a) = surface.FirstAssigns (assignment a)
+
 abbrev mutual
   pub statement : Stmt → surface.Statement
-  statement (Declare n s k t name e) = surface.Declare n (site s) (kind k) (site t) (string_bytes name) (expression e)
+  statement (Declare d) = surface.Declare (declaration d)
   statement (DeclareArray n s k t name size) = surface.DeclareArray n (site s) (kind k) (site t) (string_bytes name) size
-  statement (Assign n s name sign t e) = surface.Assign n (site s) (string_bytes name) (assign_sign sign) (site t) (expression e)
-  statement (AssignElement n s name index sign t e) = surface.AssignElement n (site s) (string_bytes name) (expression index) (assign_sign sign) (site t) (expression e)
+  statement (Assign a) = surface.Assign (assignment a)
   statement (If' n s test m taken k skipped) = surface.If n (site s) (expression test) (body_row taken) (body_row skipped)
   statement (While' n s test m body) = surface.While n (site s) (expression test) (body_row body)
-  statement (For' n s p first test q update m body) = surface.For n (site s) (statement first) (expression test) (statement update) (body_row body)
+  statement (For' n s begin test update m body) = surface.For n (site s) (first begin) (expression test) (assignment update) (body_row body)
   statement (Barrier n s flags) = surface.Barrier n (site s) (expression flags)
   statement (Block' n s m body) = surface.Block n (site s) (body_row body)
 
@@ -101,8 +120,8 @@ statements [] = surface.none
 statements (s ∷ ss) = surface.one (statement s) (statements ss)
 
 abbrev pub parameter : Parameter → surface.Parameter
-parameter (parameters.Buffer s constant k name) = surface.Buffer (site s) constant (kind k) (string_bytes name)
-parameter (parameters.Value s k name) = surface.Value (site s) (kind k) (string_bytes name)
+parameter (parameters.Buffer constant k s name) = surface.Buffer constant (kind k) (site s) (string_bytes name)
+parameter (parameters.Value k s name) = surface.Value (kind k) (site s) (string_bytes name)
 
 abbrev pub kernel : Kernel → surface.Kernel
 kernel k = record {

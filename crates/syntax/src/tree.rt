@@ -60,7 +60,9 @@ pub enum PrefixSign {
 #[derive(Debug, Clone, Copy, PartialEq, Eq)]
 pub enum AssignSign {
     Plain,
-    With(InfixSign),
+    With(Operator),
+    WithLeftShift,
+    WithRightShift,
 }
 
 /// An expression. Parentheses leave no node.
@@ -111,17 +113,40 @@ pub enum Expr {
     },
 }
 
-/// A statement with its number in the source.
+/// A private variable with its initialiser.
+#[derive(Debug, PartialEq, Eq, Drop)]
+pub struct Declaration {
+    pub number: u32,
+    pub site: Site,
+    pub kind: Kind,
+    pub name_site: Site,
+    pub name: String,
+    pub value: Expr,
+}
+
+/// To a variable, or with an index to an element; the site is that of the name.
+#[derive(Debug, PartialEq, Eq, Drop)]
+pub struct Assignment {
+    pub number: u32,
+    pub site: Site,
+    pub name: String,
+    pub index: Option<Expr>,
+    pub sign: AssignSign,
+    pub sign_site: Site,
+    pub value: Expr,
+}
+
+/// The first part of a `for`.
+#[derive(Debug, PartialEq, Eq, Drop)]
+pub enum First {
+    Declares(Declaration),
+    Assigns(Assignment),
+}
+
+/// A statement with its number in the source, from 1.
 #[derive(Debug, PartialEq, Eq, Drop)]
 pub enum Stmt {
-    Declare {
-        number: u32,
-        site: Site,
-        kind: Kind,
-        name_site: Site,
-        name: String,
-        value: Expr,
-    },
+    Declare(Declaration),
     DeclareArray {
         number: u32,
         site: Site,
@@ -130,23 +155,7 @@ pub enum Stmt {
         name: String,
         length: u32,
     },
-    Assign {
-        number: u32,
-        site: Site,
-        name: String,
-        sign: AssignSign,
-        sign_site: Site,
-        value: Expr,
-    },
-    AssignElement {
-        number: u32,
-        site: Site,
-        name: String,
-        index: Expr,
-        sign: AssignSign,
-        sign_site: Site,
-        value: Expr,
-    },
+    Assign(Assignment),
     If {
         number: u32,
         site: Site,
@@ -163,9 +172,9 @@ pub enum Stmt {
     For {
         number: u32,
         site: Site,
-        first: Box<Stmt>,
+        first: First,
         test: Expr,
-        update: Box<Stmt>,
+        update: Assignment,
         body: Vec<Stmt>,
     },
     Barrier {
@@ -180,18 +189,18 @@ pub enum Stmt {
     },
 }
 
-/// A parameter, with the site of its name.
+/// A parameter.
 #[derive(Debug, PartialEq, Eq, Drop)]
 pub enum Parameter {
     Buffer {
-        site: Site,
         constant: bool,
         kind: Kind,
+        name_site: Site,
         name: String,
     },
     Value {
-        site: Site,
         kind: Kind,
+        name_site: Site,
         name: String,
     },
 }
@@ -229,10 +238,9 @@ impl Stmt {
         ensures { site result ≡ surface.begins_at (statement self.now) }
     {
         match self {
-            Stmt::Declare { site, .. }
-            | Stmt::DeclareArray { site, .. }
-            | Stmt::Assign { site, .. }
-            | Stmt::AssignElement { site, .. }
+            Stmt::Declare(declaration) => declaration.site,
+            Stmt::Assign(assignment) => assignment.site,
+            Stmt::DeclareArray { site, .. }
             | Stmt::If { site, .. }
             | Stmt::While { site, .. }
             | Stmt::For { site, .. }
@@ -246,10 +254,9 @@ impl Stmt {
         ensures { result ≡ surface.number_of (statement self.now) }
     {
         match self {
-            Stmt::Declare { number, .. }
-            | Stmt::DeclareArray { number, .. }
-            | Stmt::Assign { number, .. }
-            | Stmt::AssignElement { number, .. }
+            Stmt::Declare(declaration) => declaration.number,
+            Stmt::Assign(assignment) => assignment.number,
+            Stmt::DeclareArray { number, .. }
             | Stmt::If { number, .. }
             | Stmt::While { number, .. }
             | Stmt::For { number, .. }

@@ -1,14 +1,16 @@
--- The typing rules of statements and kernels, and the elaborated kernel that each stands for.
+-- The typing rules of statements and kernels, and the elaborated kernel that each stands for. A declaration's value is typed before
+-- its name is visible; the parts of an `if` and of a loop are blocks (C99 6.8.4p3, 6.8.5p5); local arrays stand directly in the
+-- kernel's body (OpenCL 1.2, 6.5.2).
 use Rattle.std.specs.Prelude.{ℕ, List, [], ◌∷◌, length, drop, Bool, true, false, cond, not, ◌&&◌, ◌||◌, Option, Some, None, bytes_eq, codes}
 use Rattle.semantics.specs.Word.{BitOr}
 use Rattle.semantics.specs.Core as core
-use Rattle.semantics.specs.Core.{Site, Array, Term}
+use Rattle.semantics.specs.Core.{Site}
 use Rattle.semantics.specs.Launch as launch
-use Rattle.texts.specs.Surface.{Arithmetic, AssignSign, Plain, With, Expression, Number, Name, Element, Call, Prefix, Cast, Infix, Conditional, Expressions, nothing, also, Statement, Declare, DeclareArray, Assign, AssignElement, If, While, For, Barrier, Block, Statements, none, one, Parameter, Buffer, Value, Kernel}
-use Rattle.texts.specs.Scope.{Meaning, IsVariable, IsArray, Scope, empty_scope, leave_block, meaning_of, declare_variable, declare_buffer, declare_array, when}
-use Rattle.texts.specs.Typing.{Typed, typed, then, bring, infix_term, type_of}
+use Rattle.texts.specs.Surface.{Arithmetic, LeftShift, RightShift, AssignSign, Plain, With, WithLeftShift, WithRightShift, Expression, Number, Name, Element, Call, Prefix, Cast, Infix, Conditional, Expressions, nothing, also, Declaration, Assignment, First, FirstDeclares, FirstAssigns, Statement, Declare, DeclareArray, Assign, If, While, For, Barrier, Block, Statements, none, one, Parameter, Buffer, Value, Kernel}
+use Rattle.texts.specs.Scope.{Meaning, VariableAt, ArrayAt, Scope, empty_scope, leave_block, meaning_of, declare_variable, declare_buffer, declare_array, when, then}
+use Rattle.texts.specs.Typing.{TypedTerm, typed, bring, infix_term, type_of}
 
--- core statements, and the scope behind them
+-- core statements, and the scope after them
 pub record Elaborated : Type 0 where
   pub statements : core.Statements
   pub scope : Scope
@@ -23,17 +25,14 @@ abbrev pub join : core.Statements → core.Statements → core.Statements
 join core.none others = others
 join (core.one s ss) others = core.one s (join ss others)
 
--- the value of `x op= e` is that of `x op (e)`
-abbrev pub assigned : AssignSign → Site → Expression → (old new : Typed) → Option Typed
+-- the value of `x op= e` is that of `x op (e)` (C99 6.5.16.2)
+abbrev pub assigned : AssignSign → Site → Expression → (old new : TypedTerm) → Option TypedTerm
 assigned Plain site e old new = Some new
-assigned (With sign) site e old new = infix_term sign site e old new
+assigned (With op) site e old new = infix_term (Arithmetic op) site e old new
+assigned WithLeftShift site e old new = infix_term LeftShift site e old new
+assigned WithRightShift site e old new = infix_term RightShift site e old new
 
-abbrev pub set_variable : (number : ℕ) → Site → AssignSign → Site → Expression → Typed → Meaning → Option core.Statement
-set_variable n site sign sign_site e value (IsArray array kind writable) = None
-set_variable n site sign sign_site e value (IsVariable slot kind) =
-    then (assigned sign sign_site e (typed kind (core.Variable slot)) value) (λ v. Some (core.Set n slot (bring kind site v)))
-
--- the index of a compound assignment has no load, since it is evaluated twice
+-- the index of a compound assignment has no load (ours): C evaluates it once (C99 6.5.16.2p3), here it is written twice
 abbrev mutual
   pub has_load : Expression → Bool
   has_load (Number site kind n) = false
@@ -51,16 +50,42 @@ abbrev mutual
 
 abbrev pub is_compound : AssignSign → Bool
 is_compound Plain = false
-is_compound (With sign) = true
+is_compound (With op) = true
+is_compound WithLeftShift = true
+is_compound WithRightShift = true
+
+abbrev pub set_variable : Assignment → TypedTerm → Meaning → Option core.Statement
+set_variable a value (ArrayAt array kind writable) = None
+set_variable a value (VariableAt slot kind) =
+    then (assigned a.sign a.sign_site a.value (typed kind (core.Variable slot)) value) (λ v. Some (core.Set a.number slot (bring kind a.site v)))
 
 -- a store to what is `const` is refused
-abbrev pub set_element : (number : ℕ) → Site → AssignSign → Site → Expression → Typed → Typed → Meaning → Option core.Statement
-set_element n site sign sign_site e index value (IsVariable slot kind) = None
-set_element n site sign sign_site e index value (IsArray array kind false) = None
-set_element n site sign sign_site e index value (IsArray array kind true) =
-    then (assigned sign sign_site e (typed kind (core.Load array site index.term)) value) (λ v. Some (core.Store n array site index.term (bring kind site v)))
+abbrev pub set_element : Assignment → TypedTerm → TypedTerm → Meaning → Option core.Statement
+set_element a index value (VariableAt slot kind) = None
+set_element a index value (ArrayAt array kind false) = None
+set_element a index value (ArrayAt array kind true) =
+    then (assigned a.sign a.sign_site a.value (typed kind (core.Load array a.site index.term)) value) (λ v.
+    Some (core.Store a.number array a.site index.term (bring kind a.site v)))
 
--- one fence flag, or both joined by `|` (OpenCL 1.2, 6.12.8): whether it is the local one
+abbrev pub assign_to : Scope → Assignment → TypedTerm → Meaning → Option Expression → Option core.Statement
+assign_to scope a value m None = set_variable a value m
+assign_to scope a value m (Some index) =
+    cond (is_compound a.sign && has_load index) None (then (type_of scope.visible index) (λ i. set_element a i value m))
+
+unfoldable pub elaborate_assignment : Scope → Assignment → Option core.Statement
+elaborate_assignment scope a =
+    then (type_of scope.visible a.value) (λ v. then (meaning_of scope.visible a.name) (λ m. assign_to scope a v m a.index))
+
+unfoldable pub elaborate_declaration : Scope → Declaration → Option Elaborated
+elaborate_declaration scope d =
+    then (type_of scope.visible d.value) (λ v. then (declare_variable scope d.name d.kind) (λ inner.
+    Some (elaborated (single (core.Set d.number (length scope.slots) (bring d.kind d.name_site v))) inner)))
+
+abbrev pub elaborate_first : Scope → First → Option Elaborated
+elaborate_first scope (FirstDeclares d) = elaborate_declaration scope d
+elaborate_first scope (FirstAssigns a) = then (elaborate_assignment scope a) (λ s. Some (elaborated (single s) scope))
+
+-- a fence flag: whether it is the local one
 abbrev pub flag_named : List ℕ → Option Bool
 flag_named name =
     cond (bytes_eq name (codes "CLK_LOCAL_MEM_FENCE")) (Some true) (cond (bytes_eq name (codes "CLK_GLOBAL_MEM_FENCE")) (Some false) None)
@@ -78,6 +103,7 @@ one_flag (Conditional site test a b) = None
 abbrev pub barrier_with : (number : ℕ) → Bool → core.Statement
 barrier_with n local = core.Barrier n local (not local)
 
+-- one flag, or both joined by `|`, in either order (OpenCL 1.2, 6.12.8)
 abbrev pub barrier_of : (number : ℕ) → Expression → Option core.Statement
 barrier_of n (Infix site (Arithmetic BitOr) left right) =
     then (one_flag left) (λ a. then (one_flag right) (λ b. when ((a && not b) || (not a && b)) (core.Barrier n true true)))
@@ -86,18 +112,10 @@ barrier_of n flags = then (one_flag flags) (λ local. Some (barrier_with n local
 -- a statement's core statements; `top` says that it stands directly in the kernel's body, where local arrays may
 unfoldable mutual
   pub elaborate_statement : (top : Bool) → Scope → Statement → Option Elaborated
-  elaborate_statement top scope (Declare n site kind name_site name e) =
-      then (type_of scope.visible e) (λ v. then (declare_variable scope name kind) (λ inner.
-      Some (elaborated (single (core.Set n (length scope.slots) (bring kind name_site v))) inner)))
+  elaborate_statement top scope (Declare d) = elaborate_declaration scope d
   elaborate_statement top scope (DeclareArray n site kind name_site name size) =
       cond top (then (declare_array scope name kind size) (λ inner. Some (elaborated core.none inner))) None
-  elaborate_statement top scope (Assign n site name sign sign_site e) =
-      then (type_of scope.visible e) (λ v. then (meaning_of scope.visible name) (λ m.
-      then (set_variable n site sign sign_site e v m) (λ s. Some (elaborated (single s) scope))))
-  elaborate_statement top scope (AssignElement n site name index sign sign_site e) =
-      cond (is_compound sign && has_load index) None (
-      then (type_of scope.visible index) (λ i. then (type_of scope.visible e) (λ v. then (meaning_of scope.visible name) (λ m.
-      then (set_element n site sign sign_site e i v m) (λ s. Some (elaborated (single s) scope))))))
+  elaborate_statement top scope (Assign a) = then (elaborate_assignment scope a) (λ s. Some (elaborated (single s) scope))
   elaborate_statement top scope (If n site test taken skipped) =
       then (type_of scope.visible test) (λ t. then (elaborate_all false scope taken) (λ a.
       then (elaborate_all false (leave_block scope a.scope) skipped) (λ b.
@@ -106,9 +124,9 @@ unfoldable mutual
       then (type_of scope.visible test) (λ t. then (elaborate_all false scope body) (λ b.
       Some (elaborated (single (core.Loop n t.term b.statements core.none)) (leave_block scope b.scope))))
   elaborate_statement top scope (For n site first test update body) =
-      then (elaborate_statement false scope first) (λ f. then (type_of f.scope.visible test) (λ t.
-      then (elaborate_statement false f.scope update) (λ u. then (elaborate_all false f.scope body) (λ b.
-      Some (elaborated (join f.statements (single (core.Loop n t.term b.statements u.statements))) (leave_block scope b.scope))))))
+      then (elaborate_first scope first) (λ f. then (type_of f.scope.visible test) (λ t.
+      then (elaborate_assignment f.scope update) (λ u. then (elaborate_all false f.scope body) (λ b.
+      Some (elaborated (join f.statements (single (core.Loop n t.term b.statements (single u)))) (leave_block scope b.scope))))))
   elaborate_statement top scope (Barrier n site flags) =
       then (barrier_of n flags) (λ s. Some (elaborated (single s) scope))
   elaborate_statement top scope (Block n site body) =
@@ -121,8 +139,8 @@ unfoldable mutual
       Some (elaborated (join a.statements b.statements) b.scope)))
 
 abbrev pub declare_parameter : Scope → Parameter → Option Scope
-declare_parameter scope (Buffer site constant kind name) = declare_buffer scope name kind constant
-declare_parameter scope (Value site kind name) = declare_variable scope name kind
+declare_parameter scope (Buffer constant kind site name) = declare_buffer scope name kind constant
+declare_parameter scope (Value kind site name) = declare_variable scope name kind
 
 abbrev pub declare_parameters : Scope → List Parameter → Option Scope
 declare_parameters scope [] = Some scope

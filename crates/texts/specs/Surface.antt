@@ -1,6 +1,7 @@
--- The tree of a kernel text. Each name, operator, cast and statement has the site at which it begins; statements are
--- numbered from 1 in the order of the source, a `for` before its first part, its update and its body.
-use Rattle.std.specs.Prelude.{ℕ, Bool, List}
+-- The tree of a kernel text. A name, number, call, prefix sign, cast and statement has the site at which it begins, an operator
+-- between operands its own, `?:` that of its `?`. Statements are numbered from 1 in the order of the source, a `for` before its
+-- first part, its update and its body.
+use Rattle.std.specs.Prelude.{ℕ, Bool, List, Option}
 use Rattle.semantics.specs.Word.{Kind, Operator, Relation}
 use Rattle.semantics.specs.Core.{Site}
 use Rattle.semantics.specs.Launch.{Three}
@@ -20,10 +21,12 @@ pub data InfixSign : Type 0 where
   LogicalAnd : InfixSign
   LogicalOr : InfixSign
 
--- = or the sign of an `op=`
+-- = or an `op=`
 pub data AssignSign : Type 0 where
   Plain : AssignSign
-  With : (sign : InfixSign) → AssignSign
+  With : (operator : Operator) → AssignSign
+  WithLeftShift : AssignSign
+  WithRightShift : AssignSign
 
 mutual
   pub data Expression : Type 0 where
@@ -40,16 +43,38 @@ mutual
     nothing : Expressions
     also : (first : Expression) (others : Expressions) → Expressions
 
--- an assignment begins with its target's name; its operator has a site too
+-- a private variable with its initialiser
+pub record Declaration : Type 0 where
+  pub number : ℕ
+  pub site : Site
+  pub kind : Kind
+  pub name_site : Site
+  pub name : List ℕ
+  pub value : Expression
+
+-- to a variable, or with an index to an element; the site is that of the name
+pub record Assignment : Type 0 where
+  pub number : ℕ
+  pub site : Site
+  pub name : List ℕ
+  pub index : Option Expression
+  pub sign : AssignSign
+  pub sign_site : Site
+  pub value : Expression
+
+-- the first part of a `for`
+pub data First : Type 0 where
+  FirstDeclares : (declaration : Declaration) → First
+  FirstAssigns : (assignment : Assignment) → First
+
 mutual
   pub data Statement : Type 0 where
-    Declare : (number : ℕ) (site : Site) (kind : Kind) (name_site : Site) (name : List ℕ) (value : Expression) → Statement
+    Declare : (declaration : Declaration) → Statement
     DeclareArray : (number : ℕ) (site : Site) (kind : Kind) (name_site : Site) (name : List ℕ) (length : ℕ) → Statement
-    Assign : (number : ℕ) (site : Site) (name : List ℕ) (sign : AssignSign) (sign_site : Site) (value : Expression) → Statement
-    AssignElement : (number : ℕ) (site : Site) (name : List ℕ) (index : Expression) (sign : AssignSign) (sign_site : Site) (value : Expression) → Statement
+    Assign : (assignment : Assignment) → Statement
     If : (number : ℕ) (site : Site) (test : Expression) (taken skipped : Statements) → Statement
     While : (number : ℕ) (site : Site) (test : Expression) (body : Statements) → Statement
-    For : (number : ℕ) (site : Site) (first : Statement) (test : Expression) (update : Statement) (body : Statements) → Statement
+    For : (number : ℕ) (site : Site) (first : First) (test : Expression) (update : Assignment) (body : Statements) → Statement
     Barrier : (number : ℕ) (site : Site) (flags : Expression) → Statement
     Block : (number : ℕ) (site : Site) (body : Statements) → Statement
 
@@ -58,8 +83,8 @@ mutual
     one : (first : Statement) (others : Statements) → Statements
 
 pub data Parameter : Type 0 where
-  Buffer : (site : Site) (constant : Bool) (kind : Kind) (name : List ℕ) → Parameter
-  Value : (site : Site) (kind : Kind) (name : List ℕ) → Parameter
+  Buffer : (constant : Bool) (kind : Kind) (name_site : Site) (name : List ℕ) → Parameter
+  Value : (kind : Kind) (name_site : Site) (name : List ℕ) → Parameter
 
 pub record Kernel : Type 0 where
   pub name : List ℕ
@@ -80,10 +105,9 @@ site_of (Conditional site test a b) = site
 
 -- where a statement begins, and its number
 abbrev pub begins_at : Statement → Site
-begins_at (Declare n site kind name_site name e) = site
+begins_at (Declare d) = d.site
 begins_at (DeclareArray n site kind name_site name size) = site
-begins_at (Assign n site name sign sign_site e) = site
-begins_at (AssignElement n site name index sign sign_site e) = site
+begins_at (Assign a) = a.site
 begins_at (If n site test a b) = site
 begins_at (While n site test body) = site
 begins_at (For n site first test update body) = site
@@ -91,10 +115,9 @@ begins_at (Barrier n site flags) = site
 begins_at (Block n site body) = site
 
 abbrev pub number_of : Statement → ℕ
-number_of (Declare n site kind name_site name e) = n
+number_of (Declare d) = d.number
 number_of (DeclareArray n site kind name_site name size) = n
-number_of (Assign n site name sign sign_site e) = n
-number_of (AssignElement n site name index sign sign_site e) = n
+number_of (Assign a) = a.number
 number_of (If n site test a b) = n
 number_of (While n site test body) = n
 number_of (For n site first test update body) = n

@@ -1,3 +1,4 @@
 pub mod Terms
 pub mod Kernels
 pub mod OneStore
+pub mod Surface

@@ -4,3 +4,4 @@
 
 pub mod computed;
 pub mod one_store;
+pub mod typing;

@@ -1,0 +1,25 @@
+//! What typing says of small trees, by computation.
+
+ghost use Rattle.std.specs.Prelude.{◌≡◌, [], ◌∷◌, pos, true, None};
+ghost use Rattle.semantics.specs.Word.{Int, Uint, Add, Multiply};
+ghost use Rattle.semantics.specs.Core as core;
+ghost use Rattle.texts.specs.Elaboration.{elaborate};
+ghost use Rattle.samples.specs.Terms.{at, buffer};
+ghost use Rattle.samples.specs.Surface.{mixed, siblings, own_initialiser, shadowed, constant, loaded_index, inner_array, body_of, variables_of};
+
+/// `b[n] += a[m] * n` is `b[n] = b[n] + a[m] * n`: operators bring operands to `uint`, the store converts to `int`. Sibling blocks
+/// declare one name twice, each a slot of its own.
+pub fn kernels_are_elaborated()
+    ensures mixed { body_of (elaborate mixed) ≡ core.one (core.Store 1 (buffer 1) (at 1) (core.Variable 0) (core.Convert Int (at 1) (core.Binary Add Uint (at 3) (core.Load (buffer 1) (at 1) (core.Variable 0)) (core.Binary Multiply Uint (at 5) (core.Load (buffer 0) (at 4) (core.Variable 1)) (core.Variable 0))))) core.none }
+    ensures siblings { variables_of (elaborate siblings) ≡ Uint ∷ Int ∷ [] }
+{}
+
+/// A name in its own initialiser, a visible name declared again, a store to `const`, a load in the index of a compound assignment,
+/// and a local array in a block are no kernels.
+pub fn others_are_refused()
+    ensures own_initialiser { elaborate own_initialiser ≡ None }
+    ensures shadowed { elaborate shadowed ≡ None }
+    ensures constant { elaborate constant ≡ None }
+    ensures loaded_index { elaborate loaded_index ≡ None }
+    ensures inner_array { elaborate inner_array ≡ None }
+{}

@@ -1,14 +1,14 @@
 -- All rounds of a group.
-use Rattle.std.proofs.Common.{◌≡◌, ◌≢◌, ℕ, zero, suc, ◌+◌, ◌%◌, ◌<◌, ◌≤◌, ◌⊎◌, ℤ, List, [], ◌++◌, true, false, refl, sym, ap, ap₂, ◌∙◌, inl, inr, subst, arith, append-nil, eq-eqb}
+use Rattle.std.proofs.Common.{Bool, ◌&&◌, ◌||◌, ◌≡◌, ◌≢◌, ℕ, zero, suc, ◌+◌, ◌%◌, ◌<◌, ◌≤◌, ◌⊎◌, ℤ, List, [], ◌++◌, true, false, refl, sym, ap, ap₂, ◌∙◌, inl, inr, subst, arith, append-nil, eq-eqb}
 use Rattle.std.proofs.lemmas.Bool.{cases_Bool}
 use Rattle.semantics.specs.Setup.{Setup, group_of, group_size, item_count, group_count, member}
 use Rattle.semantics.specs.Memory.{Cell, Memory}
-use Rattle.semantics.specs.Item.{Item, Status, Running, Waiting, Ended, Stopped}
+use Rattle.semantics.specs.Item.{Item, Status, Running, Waiting, Ended, Stopped, has_ended}
 use Rattle.semantics.specs.Solo.{is_waiting}
-use Rattle.semantics.specs.World.{Release, past, may_go}
-use Rattle.semantics.specs.Rounds.{applied, alone, round_stores, after_round, rounds}
+use Rattle.semantics.specs.World.{Release, past, may_go, every}
+use Rattle.semantics.specs.Rounds.{applied, alone, round_stores, after_round, rounds, rounds_end}
 use Rattle.semantics.specs.Safety.{IsPairSafe}
-use Rattle.semantics.proofs.Groups.{group_of-member, member-below, member-of, place-below, group_size-pos}
+use Rattle.semantics.proofs.Groups.{every-by, group_of-member, member-below, member-of, place-below, group_size-pos}
 use Rattle.reduction.proofs.Along.{may_go-waits}
 use Rattle.reduction.proofs.Counts.{past-is}
 use Rattle.reduction.proofs.Safe.{safe, group_goes}
@@ -55,6 +55,17 @@ in-group s P g h j hj e =
     let full = group_size-pos s j hj in
     let q : member s g (j % group_size s) ≡ j = sym (ap (λ n. member s n (j % group_size s)) e) ∙ member-of s j full in
     subst P q (h (j % group_size s) (place-below s j full))
+
+or_left : (a b : Bool) → a ≡ true → (a || b) ≡ true
+or_left true b h = refl
+or_left false b h = cc
+
+or_right : (a b : Bool) → b ≡ true → (a || b) ≡ true
+or_right true b h = refl
+or_right false b h = h
+
+both_true : (a b : Bool) → a ≡ true → b ≡ true → (a && b) ≡ true
+both_true a b h k = rw (h, k) refl
 
 module _ (s : Setup) (bound : ℕ) (full : 0 < group_size s) (p : IsPairSafe s bound) (g : ℕ) (hg : g < group_count s) where
   fuel : ℕ
@@ -190,6 +201,14 @@ module _ (s : Setup) (bound : ℕ) (full : 0 < group_size s) (p : IsPairSafe s b
       each = each1;
     })
 
+    all_ended1 : may_go s st1.items g ≡ false → every (group_size s) (λ k. has_ended (after_round s (bound + 1) its m (member s g k)).status) ≡ true
+    all_ended1 no_go = every-by (group_size s) _ (λ k lt.
+        ap (λ (it : Item). has_ended it.status) (sym (after1 k lt)) ∙ ap has_ended (ended1 no_go (member s g k) (member-below s g k hg lt) (group_of-member s g k lt)))
+
+    ends_by : (n : ℕ) → (may_go s st1.items g ≡ true → rounds_end s g (bound + 1) n (λ i. past s i (after_round s (bound + 1) its m i)) (applied (round_stores s g (bound + 1) its m (group_size s)) m) ≡ true) → (may_go s st1.items g ≡ true) ⊎ (may_go s st1.items g ≡ false) → rounds_end s g (bound + 1) (suc n) its m ≡ true
+    ends_by n later (inl y) = or_right _ _ (both_true _ _ (may-same ∙ y) (later y))
+    ends_by n later (inr y) = or_left _ _ (all_ended1 y)
+
     next_by : (n : ℕ) → (may_go s st1.items g ≡ true → Done s g (next s st1 (Release g)) (rounds s g (bound + 1) n (λ i. past s i (after_round s (bound + 1) its m i)) (applied (round_stores s g (bound + 1) its m (group_size s)) m))) → (may_go s st1.items g ≡ true) ⊎ (may_go s st1.items g ≡ false) → Done s g st (rounds s g (bound + 1) (suc n) its m)
     next_by n later (inl y) = rw (may-same, y) (done2 y _ (later y))
     next_by n later (inr y) = rw (may-same, y) (done1 y)
@@ -198,3 +217,9 @@ module _ (s : Setup) (bound : ℕ) (full : 0 < group_size s) (p : IsPairSafe s b
   group-way zero its m st b h = absurd (let q = good-short s bound p st b.good (member s g 0) (member-below s g 0 hg full) in omega (arith, q))
   group-way (suc n) its m st b h =
       next_by its m st b n (λ y. group-way n (λ i. past s i (after_round s (bound + 1) its m i)) _ (next s (st1 its m st b) (Release g)) (start2 its m st b y) (let q = more2 its m st b y in omega (arith, q))) (cases_Bool (may_go s (st1 its m st b).items g))
+
+  -- the rounds of the group come to an end
+  pub ends-way : (n : ℕ) (its : ℕ → Item) (m : Memory) (st : State) → Start its m st → bound + 1 ≤ n + (st.items (member s g 0)).steps → rounds_end s g (bound + 1) n its m ≡ true
+  ends-way zero its m st b h = absurd (let q = good-short s bound p st b.good (member s g 0) (member-below s g 0 hg full) in omega (arith, q))
+  ends-way (suc n) its m st b h =
+      ends_by its m st b n (λ y. ends-way n (λ i. past s i (after_round s (bound + 1) its m i)) _ (next s (st1 its m st b) (Release g)) (start2 its m st b y) (let q = more2 its m st b y in omega (arith, q))) (cases_Bool (may_go s (st1 its m st b).items g))

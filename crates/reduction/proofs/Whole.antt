@@ -6,7 +6,7 @@ use Rattle.semantics.specs.Memory.{Cell, Memory, opening_memory}
 use Rattle.semantics.specs.Item.{Item, Running, Waiting, Ended}
 use Rattle.semantics.specs.Solo.{opening, is_waiting}
 use Rattle.semantics.specs.World.{World, Step, Release, opening_world, happens}
-use Rattle.semantics.specs.Rounds.{applied, group_stores, result_of}
+use Rattle.semantics.specs.Rounds.{applied, group_stores, result_of, IsDefined}
 use Rattle.semantics.specs.Safety.{IsPairSafe}
 use Rattle.semantics.specs.Headline.{IsOver, Headline}
 use Rattle.semantics.proofs.Groups.{group_of-member, member-below, group-below}
@@ -19,7 +19,7 @@ use Rattle.reduction.proofs.States.{State, state, follows, can-happen, can_runni
 use Rattle.reduction.proofs.Confluence.{Good, Onward, onward-here, onward-trans, good-onward, Stuck, run-onward, onward-stuck, onward-run}
 use Rattle.reduction.proofs.Alone.{Stored}
 use Rattle.reduction.proofs.Round.{applied-cases}
-use Rattle.reduction.proofs.Group.{Own, Done, Start, group-way}
+use Rattle.reduction.proofs.Group.{Own, Done, Start, group-way, ends-way}
 
 -- stored by an item of one of the first groups
 pub record Before (s : Setup) (k : ℕ) (c : Cell) : Type 0 where
@@ -91,6 +91,11 @@ module _ (s : Setup) (bound : ℕ) (full : 0 < group_size s) (p : IsPairSafe s b
       let u = groups-way k (omega arith) in
       one_group k h u (group-way s bound full p k h (bound + 1) (opening s) (opening_memory s) u.st (start k h u) (omega arith))
 
+  defined : IsDefined s bound
+  defined k hk =
+      let u = groups-way k (omega arith) in
+      ends-way s bound full p k hk (bound + 1) (opening s) (opening_memory s) u.st (start k hk u) (omega arith)
+
   last : Groups s bound (group_count s)
   last = groups-way (group_count s) (omega arith)
 
@@ -131,3 +136,6 @@ headline_lem s bound full p es w h =
       ends_with_the_result = λ over. ap (λ (x : State). x.memory) (onward-stuck s bound full p (state w) end.st o (over-stuck s bound full p w over)) ∙ end.memory;
       can_go_on = (o.events, r.0, r.1, stuck-over s bound full p r.0 (subst (Stuck s) (sym (r.2 ∙ o.leads)) (stuck-last s bound full p)));
     }
+
+pub defined_lem : (s : Setup) (bound : ℕ) → 0 < group_size s → IsPairSafe s bound → IsDefined s bound
+defined_lem s bound full p = defined s bound full p

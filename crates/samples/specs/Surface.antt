@@ -1,9 +1,10 @@
 -- Surface trees whose typing is computed.
-use Rattle.std.specs.Prelude.{ℕ, List, [], ◌∷◌, true, false, Option, Some, None, codes}
+use Rattle.std.specs.Prelude.{ℕ, List, [], ◌∷◌, true, false, Option, Some, Ok, Err, codes}
 use Rattle.semantics.specs.Word.{Kind, Int, Uint, Add, Multiply}
 use Rattle.semantics.specs.Core as core
 use Rattle.semantics.specs.Launch as launch
 use Rattle.texts.specs.Surface.{Arithmetic, AssignSign, Plain, With, Expression, Number, Name, Element, Infix, Statement, Declare, DeclareArray, Assign, Block, Statements, none, one, Parameter, Buffer, Value, Kernel}
+use Rattle.texts.specs.TypeFaults.{Checked}
 use Rattle.samples.specs.Terms.{at}
 
 abbrev pub name : List ℕ → Expression
@@ -36,7 +37,7 @@ siblings = kernel [] (Block 1 (at 0) (statements (declare 2 Uint (codes "x") (nu
 
 -- uint x = x;
 abbrev pub own_initialiser : Kernel
-own_initialiser = kernel [] (declare 1 Uint (codes "x") (name (codes "x")) ∷ [])
+own_initialiser = kernel [] (declare 1 Uint (codes "x") (Name (at 4) (codes "x")) ∷ [])
 
 -- uint x = 1u; { uint x = 2u; }
 abbrev pub shadowed : Kernel
@@ -48,16 +49,16 @@ constant = kernel (Buffer true Uint (at 0) (codes "a") ∷ []) (assign 1 (codes 
 
 -- void k(__global uint *a) { a[a[0u]] += 1u; }
 abbrev pub loaded_index : Kernel
-loaded_index = kernel (Buffer false Uint (at 0) (codes "a") ∷ []) (assign 1 (codes "a") (Some (Element (at 0) (codes "a") (number 0))) (With Add) (number 1) ∷ [])
+loaded_index = kernel (Buffer false Uint (at 0) (codes "a") ∷ []) (assign 1 (codes "a") (Some (Element (at 4) (codes "a") (number 0))) (With Add) (number 1) ∷ [])
 
 -- { __local uint t[4]; }
 abbrev pub inner_array : Kernel
-inner_array = kernel [] (Block 1 (at 0) (statements (DeclareArray 2 (at 0) Uint (at 0) (codes "t") 4 ∷ [])) ∷ [])
+inner_array = kernel [] (Block 1 (at 0) (statements (DeclareArray 2 (at 6) Uint (at 0) (codes "t") 4 ∷ [])) ∷ [])
 
-abbrev pub body_of : Option launch.Kernel → core.Statements
-body_of None = core.none
-body_of (Some k) = k.body
+abbrev pub body_of : Checked launch.Kernel → core.Statements
+body_of (Ok k) = k.body
+body_of (Err e) = core.none
 
-abbrev pub variables_of : Option launch.Kernel → List Kind
-variables_of None = []
-variables_of (Some k) = k.variables
+abbrev pub variables_of : Checked launch.Kernel → List Kind
+variables_of (Ok k) = k.variables
+variables_of (Err e) = []

@@ -1,8 +1,9 @@
 //! What typing says of small trees, by computation.
 
-ghost use Rattle.std.specs.Prelude.{◌≡◌, [], ◌∷◌, pos, true, None};
+ghost use Rattle.std.specs.Prelude.{◌≡◌, [], ◌∷◌, pos};
 ghost use Rattle.semantics.specs.Word.{Int, Uint, Add, Multiply};
 ghost use Rattle.semantics.specs.Core as core;
+ghost use Rattle.texts.specs.TypeFaults.{UnknownName, NameTwice, WriteToConst, LoadInCompoundIndex, ArrayInBlock, refused};
 ghost use Rattle.texts.specs.Elaboration.{elaborate};
 ghost use Rattle.samples.specs.Terms.{at, buffer};
 ghost use Rattle.samples.specs.Surface.{mixed, siblings, own_initialiser, shadowed, constant, loaded_index, inner_array, body_of, variables_of};
@@ -17,9 +18,9 @@ pub fn kernels_are_elaborated()
 /// A name in its own initialiser, a visible name declared again, a store to `const`, a load in the index of a compound assignment,
 /// and a local array in a block are no kernels.
 pub fn others_are_refused()
-    ensures own_initialiser { elaborate own_initialiser ≡ None }
-    ensures shadowed { elaborate shadowed ≡ None }
-    ensures constant { elaborate constant ≡ None }
-    ensures loaded_index { elaborate loaded_index ≡ None }
-    ensures inner_array { elaborate inner_array ≡ None }
+    ensures own_initialiser { elaborate own_initialiser ≡ refused UnknownName (at 4) }
+    ensures shadowed { elaborate shadowed ≡ refused NameTwice (at 2) }
+    ensures constant { elaborate constant ≡ refused WriteToConst (at 1) }
+    ensures loaded_index { elaborate loaded_index ≡ refused LoadInCompoundIndex (at 4) }
+    ensures inner_array { elaborate inner_array ≡ refused ArrayInBlock (at 6) }
 {}

@@ -5,11 +5,11 @@ use Rattle.std.proofs.lemmas.Bool.Decides.{Decides-eqb, Decides-not, Decides-and
 use Rattle.std.proofs.lemmas.Slice.Eq.{bytes_eq-Decides}
 use Rattle.semantics.specs.Setup.{Setup, group_of}
 use Rattle.semantics.specs.Memory.{same_cell}
-use Rattle.semantics.specs.Item.{Status, Running, Waiting, Ended, Stopped, trail}
+use Rattle.semantics.specs.Item.{Status, Running, Waiting, Ended, Stopped, has_ended, trail}
 use Rattle.semantics.specs.Solo.{Access}
 use Rattle.semantics.specs.World.{World, waits}
 use Rattle.semantics.specs.Safety.{Clash, Divergent}
-use Rattle.semantics.specs.Tests.{has_ended, clashes, diverges}
+use Rattle.semantics.specs.Tests.{clashes, diverges}
 use Rattle.semantics.proofs.Updates.{same_cell-is, same_cell-refl}
 
 true-Decides : (b : Bool) → Decides b (b ≡ true)

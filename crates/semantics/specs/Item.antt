@@ -1,5 +1,5 @@
 -- A work-item: what is left of its statements, its private variables, and how it stands.
-use Rattle.std.specs.Prelude.{ℕ, ◌+◌, List, [], ◌∷◌, ◌++◌, cond, nat_eq}
+use Rattle.std.specs.Prelude.{Bool, true, false, ℕ, ◌+◌, List, [], ◌∷◌, ◌++◌, cond, nat_eq}
 use Rattle.semantics.specs.Word.{Word, Fault}
 use Rattle.semantics.specs.Core.{Site, Statement, Loop, Barrier, Statements, none, one, number}
 
@@ -13,6 +13,12 @@ pub data Status : Type 0 where
   Waiting : Status
   Ended : Status
   Stopped : (fault : Fault) (site : Site) → Status
+
+abbrev pub has_ended : Status → Bool
+has_ended Running = false
+has_ended Waiting = false
+has_ended Ended = true
+has_ended (Stopped f site) = false
 
 -- the answers are those to the loads of the statement in front; an epoch counts the barriers that were passed with
 -- the flag of its space

@@ -1,12 +1,12 @@
 -- The result of a launch (synchronous, delayed visibility): each group in rounds from barrier to barrier, where an item
 -- sees the round's opening memory with its own stores alone.
-use Rattle.std.specs.Prelude.{ℕ, zero, suc, ◌+◌, ℤ, List, [], ◌∷◌, ◌++◌, Bool, true, false, Option, Some, None, cond}
+use Rattle.std.specs.Prelude.{ℕ, zero, suc, ◌+◌, ℤ, List, [], ◌∷◌, ◌++◌, ◌<◌, ◌≡◌, Bool, true, false, ◌&&◌, ◌||◌, Option, Some, None, cond}
 use Rattle.semantics.specs.Setup.{Setup, group_size, group_count, member}
 use Rattle.semantics.specs.Memory.{Cell, Memory, put, opening_memory, same_cell}
-use Rattle.semantics.specs.Item.{Item}
+use Rattle.semantics.specs.Item.{Item, has_ended}
 use Rattle.semantics.specs.Ask.{Ask, Loads, Stores, Goes, Waits, Rests, ask}
 use Rattle.semantics.specs.Solo.{opening, moved}
-use Rattle.semantics.specs.World.{past, may_go}
+use Rattle.semantics.specs.World.{past, may_go, every}
 
 -- an item, and its stores in order
 pub record Part : Type 0 where
@@ -54,6 +54,17 @@ rounds s g fuel (suc n) items m =
 -- every group starts from the launch's memory
 abbrev pub group_stores : Setup → ℕ → ℕ → List (Cell × ℤ)
 group_stores s bound g = rounds s g (bound + 1) (bound + 1) (opening s) (opening_memory s)
+
+-- the rounds of a group come to an end: in each its items all arrive with equal lists left, or all end
+abbrev pub rounds_end : Setup → ℕ → ℕ → ℕ → (ℕ → Item) → Memory → Bool
+rounds_end s g fuel zero items m = false
+rounds_end s g fuel (suc n) items m =
+    every (group_size s) (λ k. has_ended (after_round s fuel items m (member s g k)).status)
+    || (may_go s (after_round s fuel items m) g && rounds_end s g fuel n (λ i. past s i (after_round s fuel items m i)) (applied (round_stores s g fuel items m (group_size s)) m))
+
+-- the result is defined within a budget where the rounds of each group come to an end
+abbrev pub IsDefined : Setup → ℕ → Type 0
+IsDefined s bound = (g : ℕ) → g < group_count s → rounds_end s g (bound + 1) (bound + 1) (opening s) (opening_memory s) ≡ true
 
 -- a log: the last number stored to an element, if any was; else what came before
 abbrev pub log_of : List (Cell × ℤ) → Cell → Option ℤ → Option ℤ

@@ -1,16 +1,10 @@
 -- The tests that decide data races and barrier divergence.
-use Rattle.std.specs.Prelude.{ℕ, Bool, true, false, not, ◌&&◌, ◌||◌, nat_eq, bytes_eq}
+use Rattle.std.specs.Prelude.{ℕ, Bool, not, ◌&&◌, ◌||◌, nat_eq, bytes_eq}
 use Rattle.semantics.specs.Setup.{Setup, group_of}
 use Rattle.semantics.specs.Memory.{same_cell}
-use Rattle.semantics.specs.Item.{Status, Running, Waiting, Ended, Stopped, trail}
+use Rattle.semantics.specs.Item.{has_ended, trail}
 use Rattle.semantics.specs.Solo.{Access}
 use Rattle.semantics.specs.World.{World, waits}
-
-abbrev pub has_ended : Status → Bool
-has_ended Running = false
-has_ended Waiting = false
-has_ended Ended = true
-has_ended (Stopped f site) = false
 
 abbrev pub clashes : Setup → Access → Access → Bool
 clashes s a b =

@@ -1,4 +1,5 @@
 pub mod Surface
+pub mod TypeFaults
 pub mod Scope
 pub mod Typing
 pub mod Elaboration

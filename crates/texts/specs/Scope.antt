@@ -2,8 +2,9 @@
 -- in its own initialiser.
 use Rattle.std.specs.Prelude.{ℕ, List, [], ◌∷◌, ◌++◌, length, Bool, true, false, not, cond, ◌||◌, Option, Some, None, is_some, bytes_eq, codes}
 use Rattle.semantics.specs.Word.{Kind}
-use Rattle.semantics.specs.Core.{Array, Global, Local}
+use Rattle.semantics.specs.Core.{Site, Array, Global, Local}
 use Rattle.semantics.specs.Launch.{LocalArray}
+use Rattle.texts.specs.TypeFaults.{NameTwice, Checked, when}
 
 -- a private variable or value parameter, or a buffer parameter or local array
 pub data Meaning : Type 0 where
@@ -51,25 +52,16 @@ may_declare scope name = not (is_some (meaning_of scope.visible name) || is_one_
 abbrev pub bind : Scope → List ℕ → Meaning → Scope
 bind scope name meaning = record scope { visible = record { name = name; meaning = meaning } ∷ scope.visible }
 
--- a value under a condition; and what goes on from a value
-abbrev pub when : {A : Type 0} → Bool → A → Option A
-when true a = Some a
-when false a = None
+abbrev pub declare_variable : Scope → Site → List ℕ → Kind → Checked Scope
+declare_variable scope site name kind =
+    when (may_declare scope name) NameTwice site (bind (record scope { slots = scope.slots ++ kind ∷ [] }) name (VariableAt (length scope.slots) kind))
 
-abbrev pub then : {A B : Type 0} → Option A → (A → Option B) → Option B
-then None go = None
-then (Some a) go = go a
-
-abbrev pub declare_variable : Scope → List ℕ → Kind → Option Scope
-declare_variable scope name kind =
-    when (may_declare scope name) (bind (record scope { slots = scope.slots ++ kind ∷ [] }) name (VariableAt (length scope.slots) kind))
-
-abbrev pub declare_buffer : Scope → List ℕ → Kind → (constant : Bool) → Option Scope
-declare_buffer scope name kind constant =
-    when (may_declare scope name) (bind (record scope { buffers = scope.buffers ++ kind ∷ [] }) name
+abbrev pub declare_buffer : Scope → Site → List ℕ → Kind → (constant : Bool) → Checked Scope
+declare_buffer scope site name kind constant =
+    when (may_declare scope name) NameTwice site (bind (record scope { buffers = scope.buffers ++ kind ∷ [] }) name
     (ArrayAt (record { space = Global; number = length scope.buffers }) kind (not constant)))
 
-abbrev pub declare_array : Scope → List ℕ → Kind → (size : ℕ) → Option Scope
-declare_array scope name kind size =
-    when (may_declare scope name) (bind (record scope { arrays = scope.arrays ++ record { kind = kind; length = size } ∷ [] }) name
+abbrev pub declare_array : Scope → Site → List ℕ → Kind → (size : ℕ) → Checked Scope
+declare_array scope site name kind size =
+    when (may_declare scope name) NameTwice site (bind (record scope { arrays = scope.arrays ++ record { kind = kind; length = size } ∷ [] }) name
     (ArrayAt (record { space = Local; number = length scope.arrays }) kind true))

@@ -1,0 +1,6 @@
+pub mod Fits
+pub mod Steps
+pub mod Reading
+pub mod Order
+pub mod Unique
+pub mod Sites

@@ -1,3 +1,9 @@
+pub mod Faults
+pub mod Signs
+pub mod Reserved
+pub mod Numbers
+pub mod Tokens
+pub mod Reading
 pub mod Surface
 pub mod TypeFaults
 pub mod Scope

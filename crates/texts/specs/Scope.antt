@@ -50,7 +50,7 @@ abbrev pub may_declare : Scope → List ℕ → Bool
 may_declare scope name = not (is_some (meaning_of scope.visible name) || is_one_of reserved_names name)
 
 abbrev pub bind : Scope → List ℕ → Meaning → Scope
-bind scope name meaning = record scope { visible = record { name = name; meaning = meaning } ∷ scope.visible }
+bind scope name meaning = record scope { visible = scope.visible ++ record { name = name; meaning = meaning } ∷ [] }
 
 abbrev pub declare_variable : Scope → Site → List ℕ → Kind → Checked Scope
 declare_variable scope site name kind =

@@ -113,13 +113,17 @@ abbrev pub pick_named : List ℕ → Option (Term → Term → Term)
 pick_named name = cond (bytes_eq name (codes "min")) (Some core.Minimum) (cond (bytes_eq name (codes "max")) (Some core.Maximum) None)
 
 -- by the name: a work-item function, `min` or `max`, or no function of the language
-abbrev pub call_other : Site → Checked (List TypedTerm) → Option (Term → Term → Term) → Checked TypedTerm
-call_other site terms (Some pick) = then terms (pick_term site pick)
-call_other site terms None = refused UnknownName site
+abbrev pub are_two : Expressions → Bool
+are_two (also a (also b nothing)) = true
+are_two arguments = false
+
+abbrev pub call_other : Site → Expressions → Checked (List TypedTerm) → Option (Term → Term → Term) → Checked TypedTerm
+call_other site arguments terms (Some pick) = cond (are_two arguments) (then terms (pick_term site pick)) (refused WrongType site)
+call_other site arguments terms None = refused UnknownName site
 
 abbrev pub call_term : Site → List ℕ → Expressions → Checked (List TypedTerm) → Option Function → Checked TypedTerm
 call_term site name arguments terms (Some function) = id_term site function arguments
-call_term site name arguments terms None = call_other site terms (pick_named name)
+call_term site name arguments terms None = call_other site arguments terms (pick_named name)
 
 -- an expression's term and kind, where it is well typed among these names; else its first fault, from left to right
 unfoldable mutual

@@ -1,0 +1,9 @@
+use Rattle.std.proofs.Common.{◌∙◌, sym}
+use Rattle.lexer.proofs.Pieces.{word_piece}
+use Rattle.lexer.specs.Seen.{kind}
+use Rattle.lexer.proofs.piece_at.Goals as goal
+
+pub returns-then-is_letter : goal.returns-then-is_letter
+returns-then-is_letter c =
+    word_piece c.args.first c.args.bytes.now (kind c.kind_of_word.result) c.word_len-count.result
+    (sym c.is_blank.ensures ∙ c.if-is_blank.false) (sym c.is_letter.ensures ∙ c.if-is_letter.true) c.word_len-count.ensures.word c.kind_of_word.ensures

@@ -1,0 +1,312 @@
+//! Text to tokens. `lex` answers exactly the tokens that the grammar gives a text, each with its kind, its span and
+//! the line and column of its first byte, or the grammar's first fault and where that begins. It copies none of the
+//! text. No contract says that its work grows no faster than the text, though it does, or that there is memory enough:
+//! where an allocation is refused the answer is `Memory`.
+#![tactic(auto)]
+
+ghost use Rattle.std.specs.Prelude.{◌≡◌, ℕ, ◌<◌, ◌≤◌, ◌+◌, ◌-◌, ◌^◌, drop, length};
+ghost use Rattle.std.specs.List.{prefix_len, position_or_len, find};
+ghost use Rattle.std.specs.Str.{bytes_eq};
+ghost use Rattle.texts.specs.Numbers.{is_decimal_digit};
+ghost use Rattle.texts.specs.Reserved.{reserved_words};
+ghost use Rattle.texts.specs.Signs.{signs};
+ghost use Rattle.texts.specs.Tokens.{is_blank, is_letter, is_word_byte, is_line_feed, begins_with, comment_piece, comment_end, word_kind, sign_piece, piece, past, tokens_of};
+ghost use Rattle.lexer.specs.Seen.{kind, piece_seen, site, Gives};
+
+mod number;
+mod spelling;
+
+use number::{is_decimal_digit, literal_of};
+pub use spelling::{Reserved, Sign};
+use spelling::{reserved_words, signs};
+use std::alloc::{AllocError, AllocFailed, Global};
+use thiserror::Error;
+
+/// The longest text that is read, in bytes.
+pub const LIMIT: usize = 65_536;
+
+/// A number with the kind that it is written in.
+#[derive(Clone, Copy, Debug, PartialEq, Eq)]
+pub enum Literal {
+    Int(u32),
+    Uint(u32),
+}
+
+/// What a token is.
+#[derive(Clone, Copy, Debug, PartialEq, Eq)]
+pub enum TokenKind {
+    Name,
+    Reserved(Reserved),
+    Number(Literal),
+    Sign(Sign),
+    End,
+}
+
+/// A token: its text is `start..stop`, and its first byte stands at the line and column, each counted from 1.
+#[derive(Clone, Copy, Debug, PartialEq, Eq)]
+pub struct Token {
+    pub kind: TokenKind,
+    pub start: usize,
+    pub stop: usize,
+    pub line: u32,
+    pub column: u32,
+}
+
+/// Why a text has no tokens.
+#[derive(Clone, Copy, Debug, PartialEq, Eq)]
+pub enum TextFault {
+    BadByte,
+    OpenComment,
+    NumberTooLarge,
+    BadNumber,
+    TextTooLong,
+}
+
+/// The first fault of a text and where it begins, or want of memory.
+#[derive(Debug, Drop, Error)]
+pub enum TextError {
+    #[error("{} {line}:{column}", .fault.number())]
+    At {
+        fault: TextFault,
+        line: u32,
+        column: u32,
+    },
+    #[error("90")]
+    Memory,
+}
+
+impl TextFault {
+    ghost use Rattle.texts.specs.Faults.{fault_number};
+    ghost use Rattle.lexer.specs.Seen.{fault};
+
+    /// The number that it is printed under.
+    pub fn number(self) -> u8
+        ensures { result ≡ fault_number (fault self) }
+    {
+        match self {
+            TextFault::BadByte => 1,
+            TextFault::OpenComment => 2,
+            TextFault::NumberTooLarge => 3,
+            TextFault::BadNumber => 4,
+            TextFault::TextTooLong => 5,
+        }
+    }
+}
+
+impl TextError {
+    ghost use Rattle.lexer.specs.Seen.{error_number};
+
+    /// The number that it is printed under.
+    pub fn number(&self) -> u8
+        ensures { result ≡ error_number self.now }
+    {
+        match self {
+            TextError::At { fault, .. } => fault.number(),
+            TextError::Memory => 90,
+        }
+    }
+}
+
+impl From<AllocError> for TextError {
+    ghost use Rattle.lexer.specs.declared.TextError.TheVariants.{Memory};
+
+    ghost from_gives = { λ _ e. e ≡ Memory };
+
+    fn from(_: AllocError) -> TextError {
+        TextError::Memory
+    }
+}
+
+impl<T: Drop> From<AllocFailed<T>> for TextError {
+    ghost use Rattle.lexer.specs.declared.TextError.TheVariants.{Memory};
+
+    ghost from_gives = { λ _ e. e ≡ Memory };
+
+    fn from(_: AllocFailed<T>) -> TextError {
+        TextError::Memory
+    }
+}
+
+enum Piece {
+    Gap(usize),
+    Has(TokenKind, usize),
+    Bad(TextFault),
+}
+
+#[derive(Clone, Copy)]
+struct Site {
+    line: u32,
+    column: u32,
+}
+
+/// The tokens of a text, the last one `End`, or its first fault.
+pub fn lex(alloc: Global, text: &[u8]) -> Result<Vec<Token>, TextError>
+    ensures { Gives result (tokens_of text.now) }
+{
+    if text.len() > LIMIT {
+        return Err(TextError::At {
+            fault: TextFault::TextTooLong,
+            line: 1,
+            column: 1,
+        });
+    }
+    let mut tokens = Vec::new(alloc);
+    let mut next = Site { line: 1, column: 1 };
+    // How many bytes of the piece that was read last are still to pass.
+    let mut skip = 0;
+    for (at, byte) in text.iter().enumerate() {
+        let Site { line, column } = next;
+        next = past_byte(next, *byte);
+        if skip > 0 {
+            skip -= 1;
+            continue;
+        }
+        match piece_at(*byte, &text[at..]) {
+            Piece::Gap(count) => skip = count.saturating_sub(1),
+            Piece::Has(kind, count) => {
+                let token = Token {
+                    kind,
+                    start: at,
+                    stop: at + count,
+                    line,
+                    column,
+                };
+                tokens.push(token)?;
+                skip = count.saturating_sub(1);
+            }
+            Piece::Bad(fault) => return Err(TextError::At {
+                fault,
+                line,
+                column,
+            }),
+        }
+    }
+    let end = Token {
+        kind: TokenKind::End,
+        start: text.len(),
+        stop: text.len(),
+        line: next.line,
+        column: next.column,
+    };
+    tokens.push(end)?;
+    Ok(tokens)
+}
+
+fn past_byte(before: Site, byte: u8) -> Site
+    requires line { before.line < 2 ^ 32 - 1 }
+    requires column { before.column < 2 ^ 32 - 1 }
+    ensures site { site result ≡ past (site before) byte }
+    ensures line { result.line ≤ before.line + 1 }
+    ensures column { result.column ≤ before.column + 1 }
+{
+    if byte == b'\n' {
+        Site {
+            line: before.line + 1,
+            column: 1,
+        }
+    } else {
+        Site {
+            line: before.line,
+            column: before.column + 1,
+        }
+    }
+}
+
+/// What stands at the front of bytes, of which `first` is the first.
+fn piece_at(first: u8, bytes: &[u8]) -> Piece
+    ensures { piece_seen result ≡ piece first bytes.now }
+{
+    if is_blank(first) {
+        Piece::Gap(1)
+    } else if is_letter(first) {
+        let count = word_len(bytes);
+        Piece::Has(kind_of_word(&bytes[..count]), count)
+    } else if is_decimal_digit(first) {
+        let count = word_len(bytes);
+        match literal_of(&bytes[..count]) {
+            Ok(literal) => Piece::Has(TokenKind::Number(literal), count),
+            Err(fault) => Piece::Bad(fault),
+        }
+    } else if bytes.starts_with(b"//") {
+        Piece::Gap(line_len(bytes))
+    } else if bytes.starts_with(b"/*") {
+        comment_at(bytes)
+    } else {
+        sign_at(bytes)
+    }
+}
+
+fn is_blank(b: u8) -> bool
+    ensures { result ≡ is_blank b }
+{
+    b == b' ' || b == b'\t' || (b == b'\n' || b == b'\r')
+}
+
+fn is_letter(b: u8) -> bool
+    ensures { result ≡ is_letter b }
+{
+    97 <= b && b <= 122 || (65 <= b && b <= 90 || b == b'_')
+}
+
+/// How many bytes a word has.
+fn word_len(bytes: &[u8]) -> usize
+    ensures word { result ≡ prefix_len is_word_byte bytes.now }
+    ensures within { result ≤ length bytes.now }
+{
+    for (i, b) in bytes.iter().enumerate() {
+        if !(is_letter(*b) || is_decimal_digit(*b)) {
+            return i;
+        }
+    }
+    bytes.len()
+}
+
+fn kind_of_word(word: &[u8]) -> TokenKind
+    ensures { kind result ≡ word_kind (find (λ entry. bytes_eq entry.0 word.now) reserved_words) }
+{
+    for (text, reserved) in reserved_words() {
+        if *text == word {
+            return TokenKind::Reserved(*reserved);
+        }
+    }
+    TokenKind::Name
+}
+
+fn sign_at(bytes: &[u8]) -> Piece
+    ensures { piece_seen result ≡ sign_piece (find (λ entry. begins_with bytes.now entry.0) signs) }
+{
+    for (text, sign) in signs() {
+        if bytes.starts_with(text) {
+            return Piece::Has(TokenKind::Sign(*sign), text.len());
+        }
+    }
+    Piece::Bad(TextFault::BadByte)
+}
+
+/// How many bytes stand before the line feed.
+fn line_len(bytes: &[u8]) -> usize
+    ensures { result ≡ position_or_len is_line_feed bytes.now }
+{
+    for (i, b) in bytes.iter().enumerate() {
+        if *b == b'\n' {
+            return i;
+        }
+    }
+    bytes.len()
+}
+
+/// The comment that begins with these bytes.
+fn comment_at(bytes: &[u8]) -> Piece
+    requires { 2 ≤ length bytes.now }
+    ensures { piece_seen result ≡ comment_piece (comment_end 2 (drop 2 bytes.now)) }
+{
+    for i in 2..bytes.len() {
+        if bytes[i..].starts_with(b"*/") {
+            return Piece::Gap(i + 2);
+        }
+    }
+    Piece::Bad(TextFault::OpenComment)
+}
+
+#[cfg(test)]
+mod tests;

@@ -1,0 +1,24 @@
+-- The signs (C99 6.4.6, those of this profile), named by what they look like.
+use Rattle.std.specs.Prelude.{ℕ, List, [], ◌∷◌, codes}
+
+pub data Sign : Type 0 where
+  LeftShiftEqual RightShiftEqual LeftShift RightShift : Sign
+  LessEqual GreaterEqual EqualEqual NotEqual AndAnd OrOr : Sign
+  PlusEqual MinusEqual StarEqual SlashEqual PercentEqual AndEqual OrEqual CaretEqual PlusPlus MinusMinus : Sign
+  LeftParenthesis RightParenthesis LeftBrace RightBrace LeftBracket RightBracket Semicolon Comma : Sign
+  Star Plus Minus Slash Percent And Or Caret Tilde Not Less Greater Equal Question Colon : Sign
+
+-- how each is written, longer ones first
+unfoldable pub signs : List (List ℕ × Sign)
+signs =
+    (codes "<<=", LeftShiftEqual) ∷ (codes ">>=", RightShiftEqual)
+    ∷ (codes "<<", LeftShift) ∷ (codes ">>", RightShift) ∷ (codes "<=", LessEqual) ∷ (codes ">=", GreaterEqual)
+    ∷ (codes "==", EqualEqual) ∷ (codes "!=", NotEqual) ∷ (codes "&&", AndAnd) ∷ (codes "||", OrOr)
+    ∷ (codes "+=", PlusEqual) ∷ (codes "-=", MinusEqual) ∷ (codes "*=", StarEqual) ∷ (codes "/=", SlashEqual)
+    ∷ (codes "%=", PercentEqual) ∷ (codes "&=", AndEqual) ∷ (codes "|=", OrEqual) ∷ (codes "^=", CaretEqual)
+    ∷ (codes "++", PlusPlus) ∷ (codes "--", MinusMinus)
+    ∷ (codes "(", LeftParenthesis) ∷ (codes ")", RightParenthesis) ∷ (codes "{", LeftBrace) ∷ (codes "}", RightBrace)
+    ∷ (codes "[", LeftBracket) ∷ (codes "]", RightBracket) ∷ (codes ";", Semicolon) ∷ (codes ",", Comma)
+    ∷ (codes "*", Star) ∷ (codes "+", Plus) ∷ (codes "-", Minus) ∷ (codes "/", Slash) ∷ (codes "%", Percent)
+    ∷ (codes "&", And) ∷ (codes "|", Or) ∷ (codes "^", Caret) ∷ (codes "~", Tilde) ∷ (codes "!", Not)
+    ∷ (codes "<", Less) ∷ (codes ">", Greater) ∷ (codes "=", Equal) ∷ (codes "?", Question) ∷ (codes ":", Colon) ∷ []

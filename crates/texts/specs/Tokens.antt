@@ -1,0 +1,128 @@
+-- The tokens of a text: one definition reads every list of bytes, as tokens or as the first fault in it
+-- (C99 6.4 with the tokens of OpenCL 1.2 that this profile keeps; the limit and the faults are ours).
+use Rattle.std.specs.Prelude.{ℕ, zero, suc, ◌+◌, ◌-◌, List, [], ◌∷◌, ◌++◌, length, take, drop, Bool, cond, nat_eq, nat_lt, nat_le, ◌&&◌, ◌||◌, Option, Some, None, Result, Ok, Err, fold, codes}
+use Rattle.std.specs.List.{prefix_len, position_or_len, take_while, starts_with, find}
+use Rattle.std.specs.Str.{bytes_eq}
+pub use Rattle.semantics.specs.Core.{Site}
+use Rattle.texts.specs.Signs.{Sign, signs}
+use Rattle.texts.specs.Reserved.{Reserved, reserved_words}
+use Rattle.texts.specs.Faults.{TextFault, BadByte, OpenComment, TextTooLong}
+use Rattle.texts.specs.Numbers.{Literal, is_decimal_digit, number_of}
+
+-- what a token is; `End` stands at the end of each text
+pub data TokenKind : Type 0 where
+  Name End : TokenKind
+  Word : (word : Reserved) → TokenKind
+  Number : (literal : Literal) → TokenKind
+  Mark : (sign : Sign) → TokenKind
+
+-- a token, the offsets of its first byte and of the byte after it, and where it begins
+pub record Token : Type 0 where
+  pub kind : TokenKind
+  pub start : ℕ
+  pub stop : ℕ
+  pub site : Site
+
+-- the tokens, or the first fault and where that begins
+abbrev pub Lexed : Type 0
+Lexed = Result (List Token) (TextFault × Site)
+
+-- where the next byte stands: after a line feed at the head of a line, else one column on
+abbrev pub past : Site → ℕ → Site
+past site b = cond (nat_eq b 10) (record { line = site.line + 1; column = 1 }) (record { line = site.line; column = site.column + 1 })
+
+-- where a text begins
+abbrev pub first_site : Site
+first_site = record { line = 1; column = 1 }
+
+-- line and column of an offset
+abbrev pub site_of : List ℕ → ℕ → Site
+site_of text at = fold past first_site (take at text)
+
+-- space, tab, line feed, carriage return
+abbrev pub is_blank : ℕ → Bool
+is_blank b = (nat_eq b 32 || nat_eq b 9) || (nat_eq b 10 || nat_eq b 13)
+
+-- what ends a line
+abbrev pub is_line_feed : ℕ → Bool
+is_line_feed b = nat_eq b 10
+
+-- a letter or `_` begins a name or a reserved word (C99 6.4.2.1)
+abbrev pub is_letter : ℕ → Bool
+is_letter b = (nat_le 97 b && nat_le b 122) || ((nat_le 65 b && nat_le b 90) || nat_eq b 95)
+
+-- what a name, a reserved word or a number goes on with (C99 6.4.2.1, 6.4.8)
+abbrev pub is_word_byte : ℕ → Bool
+is_word_byte b = is_letter b || is_decimal_digit b
+
+-- whether these bytes stand at the front
+abbrev pub begins_with : (bytes front : List ℕ) → Bool
+begins_with bytes front = starts_with nat_eq bytes front
+
+-- the offset after the first `*/`, where the bytes begin at the offset `at`
+abbrev pub comment_end : (at : ℕ) → List ℕ → Option ℕ
+comment_end at [] = None
+comment_end at (b ∷ bytes) = cond (begins_with (b ∷ bytes) (codes "*/")) (Some (at + 2)) (comment_end (at + 1) bytes)
+
+-- what stands at the front of a text, with the number of its bytes
+pub data Piece : Type 0 where
+  Gap : (count : ℕ) → Piece
+  Has : (kind : TokenKind) (count : ℕ) → Piece
+  Bad : (fault : TextFault) → Piece
+
+-- a comment that nothing ends is a fault (C99 6.4.9)
+abbrev pub comment_piece : Option ℕ → Piece
+comment_piece None = Bad OpenComment
+comment_piece (Some count) = Gap count
+
+-- a word is reserved where it is in the table
+abbrev pub word_kind : Option (List ℕ × Reserved) → TokenKind
+word_kind None = Name
+word_kind (Some entry) = Word entry.1
+
+-- a word that is no number is a fault
+abbrev pub number_piece : Result Literal TextFault → (count : ℕ) → Piece
+number_piece (Ok literal) count = Has (Number literal) count
+number_piece (Err fault) count = Bad fault
+
+-- what is nothing else is a sign or a fault
+abbrev pub sign_piece : Option (List ℕ × Sign) → Piece
+sign_piece None = Bad BadByte
+sign_piece (Some entry) = Has (Mark entry.1) (length entry.0)
+
+-- the piece at the front of bytes of which b is the first (C99 6.4p4: the longest). Names, reserved words and numbers
+-- take all word bytes that follow, so a digit followed by letters is one number, well spelt or not; a line comment ends
+-- before its line feed (6.4.9); of the signs the first in the table is taken, which is the longest
+abbrev pub piece : ℕ → List ℕ → Piece
+piece b bytes =
+    cond (is_blank b) (Gap 1) (
+    cond (is_letter b) (Has (word_kind (find (λ entry. bytes_eq entry.0 (take_while is_word_byte bytes)) reserved_words)) (prefix_len is_word_byte bytes)) (
+    cond (is_decimal_digit b) (number_piece (number_of (take_while is_word_byte bytes)) (prefix_len is_word_byte bytes)) (
+    cond (begins_with bytes (codes "//")) (Gap (position_or_len is_line_feed bytes)) (
+    cond (begins_with bytes (codes "/*")) (comment_piece (comment_end 2 (drop 2 bytes))) (
+    sign_piece (find (λ entry. begins_with bytes entry.0) signs))))))
+
+-- tokens before all that was read
+abbrev pub in_front : List Token → Lexed → Lexed
+in_front front (Ok tokens) = Ok (front ++ tokens)
+in_front front (Err e) = Err e
+
+-- a token of `count` bytes at an offset
+abbrev pub token_at : (text : List ℕ) → TokenKind → (at count : ℕ) → Token
+token_at text kind at count = record { kind = kind; start = at; stop = at + count; site = site_of text at }
+
+-- a piece, and then what `go` reads after that many more bytes are passed over
+abbrev pub next : (text : List ℕ) → Piece → (at : ℕ) → (ℕ → Lexed) → Lexed
+next text (Gap count) at go = go (count - 1)
+next text (Has kind count) at go = in_front (token_at text kind at count ∷ []) (go (count - 1))
+next text (Bad fault) at go = Err (fault, site_of text at)
+
+-- piece after piece: `skip` bytes belong to the piece before, and the bytes left begin at the offset `at` of the text
+abbrev pub tokens : (text : List ℕ) (skip at : ℕ) → List ℕ → Lexed
+tokens text skip at [] = Ok (token_at text End at 0 ∷ [])
+tokens text zero at (b ∷ bytes) = next text (piece b (b ∷ bytes)) at (λ skip. tokens text skip (at + 1) bytes)
+tokens text (suc skip) at (b ∷ bytes) = tokens text skip (at + 1) bytes
+
+-- what a text says: a text over 65,536 bytes is refused before all else
+abbrev pub tokens_of : List ℕ → Lexed
+tokens_of text = cond (nat_lt 65536 (length text)) (Err (TextTooLong, first_site)) (tokens text 0 0 text)

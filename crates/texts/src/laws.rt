@@ -1,0 +1,30 @@
+//! Tokens: `tokens_of` is a function, so a text has one reading. These laws say what that reading is.
+
+ghost use Rattle.std.specs.Prelude.{◌≡◌, ◌≤◌, ℕ, List, length, Ok};
+ghost use Rattle.texts.specs.Tokens.{Token, tokens_of};
+ghost use Rattle.texts.specs.Reading.{Reads, IsInOrder, IsCounted};
+
+/// The tokens of a text stand in it one after another, each as long as it can be, with nothing between them but
+/// blanks and comments.
+#[tactic(auto, using(crate::proofs::Reading::tokens_read))]
+pub fn tokens_are_a_reading()
+    ensures { (text : List ℕ) (tokens : List Token) → tokens_of text ≡ Ok tokens → (length text ≤ 65536) × Reads text 0 text tokens }
+{}
+
+/// Their spans are in order and within the text, and the last one, and no other, is `End`, empty, at the text's end.
+#[tactic(auto, using(crate::proofs::Order::tokens_ordered))]
+pub fn tokens_are_in_order()
+    ensures { (text : List ℕ) (tokens : List Token) → tokens_of text ≡ Ok tokens → IsInOrder (length text) 0 tokens }
+{}
+
+/// A text has no other reading, and none where a fault is answered.
+#[tactic(auto, using(crate::proofs::Unique::reading_is_tokens))]
+pub fn a_text_has_one_reading()
+    ensures { (text : List ℕ) (tokens : List Token) → length text ≤ 65536 → Reads text 0 text tokens → tokens_of text ≡ Ok tokens }
+{}
+
+/// Lines are counted by line feeds, columns by bytes.
+#[tactic(auto, using(crate::proofs::Sites::counted))]
+pub fn sites_are_counted()
+    ensures { (text : List ℕ) (at : ℕ) → at ≤ length text → IsCounted text at }
+{}

@@ -35,7 +35,7 @@ meaning_of (b ∷ bs) name = cond (bytes_eq b.name name) (Some b.meaning) (meani
 
 abbrev pub is_one_of : List (List ℕ) → List ℕ → Bool
 is_one_of [] name = false
-is_one_of (n ∷ ns) name = bytes_eq n name || is_one_of ns name
+is_one_of (n ∷ ns) name = bytes_eq name n || is_one_of ns name
 
 -- names that no declaration may take (ours): the functions and flags that stand in kernels. Other built-in functions may be
 -- declared, but then not called

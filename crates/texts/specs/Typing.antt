@@ -54,9 +54,9 @@ prefix_term LogicalNot site t = typed Int (core.Not t.term)
 prefix_term BitNot site t = typed t.kind (core.Unary Complement t.kind site t.term)
 
 -- a shift has a `uint` on its left, and on its right a number in the text, 0 to 31 (ours)
-abbrev pub is_count : TypedTerm → Expression → Option ℕ
-is_count l (Number site kind n) = cond (is_uint l.kind && nat_le n 31) (Some n) None
-is_count l e = None
+abbrev pub shift_count : Kind → Expression → Option ℕ
+shift_count left (Number site kind n) = cond (is_uint left && nat_le n 31) (Some n) None
+shift_count left e = None
 
 abbrev pub shift_term : Site → (ℕ → UnaryOperator) → TypedTerm → Option ℕ → Checked TypedTerm
 shift_term site operator l (Some n) = Ok (typed Uint (core.Unary (operator n) Uint site l.term))
@@ -64,8 +64,8 @@ shift_term site operator l None = refused WrongType site
 
 abbrev pub infix_term : InfixSign → Site → Expression → TypedTerm → TypedTerm → Checked TypedTerm
 infix_term (Arithmetic op) site right l r = Ok (typed (common l.kind r.kind) (core.Binary op (common l.kind r.kind) site l.term r.term))
-infix_term LeftShift site right l r = shift_term site ShiftLeft l (is_count l right)
-infix_term RightShift site right l r = shift_term site ShiftRight l (is_count l right)
+infix_term LeftShift site right l r = shift_term site ShiftLeft l (shift_count l.kind right)
+infix_term RightShift site right l r = shift_term site ShiftRight l (shift_count l.kind right)
 infix_term (Comparison relation) site right l r = Ok (typed Int (core.Compare relation (common l.kind r.kind) l.term r.term))
 infix_term LogicalAnd site right l r = Ok (typed Int (core.And l.term r.term))
 infix_term LogicalOr site right l r = Ok (typed Int (core.Or l.term r.term))
@@ -93,7 +93,7 @@ left_out_names =
     ∷ codes "prefetch" ∷ []
 
 unfoldable pub is_left_out : List ℕ → Bool
-is_left_out name = starts_with nat_eq name (codes "atomic_") || starts_with nat_eq name (codes "atom_") || is_one_of left_out_names name
+is_left_out name = (starts_with nat_eq name (codes "atomic_") || starts_with nat_eq name (codes "atom_")) || is_one_of left_out_names name
 
 -- their argument is one number in the text (ours), and they give `uint` (ours: 32 address bits)
 abbrev pub id_term : Site → Function → Expressions → Checked TypedTerm
@@ -145,3 +145,7 @@ unfoldable mutual
   pub types_of : List Binding → Expressions → Checked (List TypedTerm)
   types_of names nothing = Ok []
   types_of names (also e es) = then (type_of names e) (λ t. then (types_of names es) (λ ts. Ok (t ∷ ts)))
+
+-- a call, by its parts
+abbrev pub call_by : List Binding → Site → List ℕ → Expressions → Checked TypedTerm
+call_by names site name arguments = type_of names (Call site name arguments)

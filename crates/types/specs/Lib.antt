@@ -1,0 +1,4 @@
+pub mod View
+pub mod Names
+pub mod Functions
+pub mod Answers

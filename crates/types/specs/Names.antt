@@ -1,0 +1,18 @@
+-- What the code's scope stands for.
+use Rattle.std.specs.Prelude.{List, map}
+use Rattle.texts.specs.Scope as scope
+use Rattle.words.specs.View.{kind}
+use Rattle.types.specs.View.{array}
+use Rattle.types.specs.declared.scope.Meaning.{Meaning}
+use Rattle.types.specs.declared.scope.Meaning.TheVariants as meanings
+use Rattle.types.specs.declared.scope.Binding.{Binding}
+
+abbrev pub meaning_seen : Meaning → scope.Meaning
+meaning_seen (meanings.Variable slot k) = scope.VariableAt slot (kind k)
+meaning_seen (meanings.Array a k writable) = scope.ArrayAt (array a) (kind k) writable
+
+abbrev pub binding : Binding → scope.Binding
+binding b = record { name = b.name.now; meaning = meaning_seen b.meaning }
+
+abbrev pub names : List Binding → List scope.Binding
+names bs = map binding bs

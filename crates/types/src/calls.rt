@@ -1,0 +1,79 @@
+//! The functions that a kernel may call.
+
+ghost use Rattle.std.specs.Prelude.{◌≡◌};
+ghost use Rattle.texts.specs.Scope as scope;
+ghost use Rattle.texts.specs.Typing as typing;
+ghost use Rattle.types.specs.Functions.{function_seen, pick_seen};
+
+use crate::core_tree::Function;
+
+/// The work-item function of a name.
+#[tactic(auto, unfolding(texts::specs::Typing::function_named))]
+pub fn function_named(name: &str) -> Option<Function>
+    ensures { function_seen result ≡ typing.function_named name.now }
+{
+    if name == "get_global_id" {
+        Some(Function::GlobalId)
+    } else if name == "get_local_id" {
+        Some(Function::LocalId)
+    } else if name == "get_group_id" {
+        Some(Function::GroupId)
+    } else if name == "get_global_size" {
+        Some(Function::GlobalSize)
+    } else if name == "get_local_size" {
+        Some(Function::LocalSize)
+    } else if name == "get_num_groups" {
+        Some(Function::NumGroups)
+    } else {
+        None
+    }
+}
+
+/// `min` or `max`.
+#[derive(Debug, Clone, Copy, PartialEq, Eq)]
+pub enum Pick {
+    Minimum,
+    Maximum,
+}
+
+/// `min` or `max`, by its name.
+pub fn pick_named(name: &str) -> Option<Pick>
+    ensures { pick_seen result ≡ typing.pick_named name.now }
+{
+    if name == "min" {
+        Some(Pick::Minimum)
+    } else if name == "max" {
+        Some(Pick::Maximum)
+    } else {
+        None
+    }
+}
+
+// Of the names below, those that are not atomic.
+#[tactic(auto, unfolding(texts::specs::Typing::left_out_names))]
+fn is_left_out_name(name: &str) -> bool
+    ensures { result ≡ scope.is_one_of typing.left_out_names name.now }
+{
+    name == "get_work_dim"
+        || name == "get_global_offset"
+        || name == "mem_fence"
+        || name == "read_mem_fence"
+        || name == "write_mem_fence"
+        || name == "mul24"
+        || name == "mad24"
+        || name == "abs"
+        || name == "clamp"
+        || name == "async_work_group_copy"
+        || name == "wait_group_events"
+        || name == "prefetch"
+}
+
+/// Whether OpenCL C has a function of that name that this language leaves out.
+#[tactic(auto, unfolding(texts::specs::Typing::is_left_out))]
+pub fn is_left_out(name: &str) -> bool
+    ensures { result ≡ typing.is_left_out name.now }
+{
+    name.as_bytes().starts_with(b"atomic_")
+        || name.as_bytes().starts_with(b"atom_")
+        || is_left_out_name(name)
+}

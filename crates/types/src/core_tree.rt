@@ -1,0 +1,171 @@
+//! The core tree's types.
+
+use syntax::tree::{Operator, Relation, Site};
+use words::Kind;
+
+/// Where an array lies: a buffer parameter in global memory, a local array in local memory (OpenCL 1.2, 3.3).
+#[derive(Debug, Clone, Copy, PartialEq, Eq)]
+pub enum Space {
+    Global,
+    Local,
+}
+
+/// A buffer parameter or a local array, by its number among its like, from 0.
+#[derive(Debug, Clone, Copy, PartialEq, Eq)]
+pub struct Array {
+    pub space: Space,
+    pub number: u32,
+}
+
+/// A work-item function (OpenCL 1.2, 6.12.1).
+#[derive(Debug, Clone, Copy, PartialEq, Eq)]
+pub enum Function {
+    GlobalId,
+    LocalId,
+    GroupId,
+    GlobalSize,
+    LocalSize,
+    NumGroups,
+}
+
+/// An operator with one operand; a shift has its count, 0 to 31.
+#[derive(Debug, Clone, Copy, PartialEq, Eq)]
+pub enum UnaryOperator {
+    Negate,
+    Complement,
+    ShiftLeft(u32),
+    ShiftRight(u32),
+}
+
+/// An expression; an operator has the kind to which it brings its operands.
+#[derive(Debug, PartialEq, Eq, Drop)]
+pub enum Term {
+    Literal {
+        kind: Kind,
+        value: u32,
+    },
+    Variable {
+        slot: u32,
+    },
+    Id {
+        function: Function,
+        dimension: u32,
+    },
+    Load {
+        array: Array,
+        site: Site,
+        index: Box<Term>,
+    },
+    Unary {
+        operator: UnaryOperator,
+        kind: Kind,
+        site: Site,
+        of: Box<Term>,
+    },
+    Binary {
+        operator: Operator,
+        kind: Kind,
+        site: Site,
+        left: Box<Term>,
+        right: Box<Term>,
+    },
+    Convert {
+        kind: Kind,
+        site: Site,
+        of: Box<Term>,
+    },
+    Compare {
+        relation: Relation,
+        kind: Kind,
+        left: Box<Term>,
+        right: Box<Term>,
+    },
+    Not {
+        of: Box<Term>,
+    },
+    And {
+        left: Box<Term>,
+        right: Box<Term>,
+    },
+    Or {
+        left: Box<Term>,
+        right: Box<Term>,
+    },
+    Select {
+        test: Box<Term>,
+        taken: Box<Term>,
+        skipped: Box<Term>,
+    },
+    Minimum {
+        left: Box<Term>,
+        right: Box<Term>,
+    },
+    Maximum {
+        left: Box<Term>,
+        right: Box<Term>,
+    },
+}
+
+/// A statement with its number in the source. `Break` and `Continue` name their loop by its number.
+#[derive(Debug, PartialEq, Eq, Drop)]
+pub enum Statement {
+    Set {
+        number: u32,
+        slot: u32,
+        value: Term,
+    },
+    Store {
+        number: u32,
+        array: Array,
+        site: Site,
+        index: Term,
+        value: Term,
+    },
+    If {
+        number: u32,
+        test: Term,
+        taken: Vec<Statement>,
+        skipped: Vec<Statement>,
+    },
+    Loop {
+        number: u32,
+        test: Term,
+        body: Vec<Statement>,
+        update: Vec<Statement>,
+    },
+    Barrier {
+        number: u32,
+        local: bool,
+        global: bool,
+    },
+    Return {
+        number: u32,
+    },
+    Break {
+        number: u32,
+        of: u32,
+    },
+    Continue {
+        number: u32,
+        of: u32,
+    },
+}
+
+/// A local array of the kernel.
+#[derive(Debug, Clone, Copy, PartialEq, Eq)]
+pub struct LocalArray {
+    pub kind: Kind,
+    pub length: u32,
+}
+
+/// An elaborated kernel: local sizes, element kinds of the buffer parameters, kinds of the value parameters, which take the first
+/// slots, local arrays, kinds of the private variables, which take the slots that follow, and the body.
+#[derive(Debug, PartialEq, Eq, Drop)]
+pub struct Core {
+    pub sizes: [u32; 3],
+    pub buffers: Vec<Kind>,
+    pub arguments: Vec<Kind>,
+    pub arrays: Vec<LocalArray>,
+    pub variables: Vec<Kind>,
+    pub body: Vec<Statement>,
+}

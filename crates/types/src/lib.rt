@@ -1,0 +1,11 @@
+//! The elaborated kernel of the code, with its view into the definitions' core: each declaration has a slot, conversions to a declared
+//! type are written out, and each statement keeps its number in the source. And the typing of expressions.
+#![tactic(auto)]
+
+pub mod calls;
+pub mod core_tree;
+pub mod error;
+pub mod scope;
+#[cfg(test)]
+mod tests;
+pub mod typing;

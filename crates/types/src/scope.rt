@@ -1,0 +1,42 @@
+//! Which names are visible, and what they stand for.
+
+ghost use Rattle.std.specs.Prelude.{◌≡◌};
+ghost use Rattle.std.specs.Option.{option_map};
+ghost use Rattle.texts.specs.Scope as scope;
+ghost use Rattle.types.specs.Names.{meaning_seen, names};
+
+use crate::core_tree::Array;
+use words::Kind;
+
+/// A private variable or value parameter, or a buffer parameter or local array.
+#[derive(Debug, Clone, Copy, PartialEq, Eq)]
+pub enum Meaning {
+    Variable {
+        slot: u32,
+        kind: Kind,
+    },
+    Array {
+        array: Array,
+        kind: Kind,
+        writable: bool,
+    },
+}
+
+/// A visible name.
+#[derive(Debug, Clone, Copy)]
+pub struct Binding<'a> {
+    pub name: &'a str,
+    pub meaning: Meaning,
+}
+
+/// What a name stands for, where it is visible.
+pub fn meaning_of(visible: &[Binding], name: &str) -> Option<Meaning>
+    ensures { option_map meaning_seen result ≡ scope.meaning_of (names visible.now) name.now }
+{
+    for binding in visible {
+        if binding.name == name {
+            return Some(binding.meaning);
+        }
+    }
+    None
+}

@@ -1,0 +1,412 @@
+//! The kinds and terms of expressions.
+
+ghost use Rattle.std.specs.Prelude.{◌≡◌, [], ◌∷◌, length, IfOk};
+ghost use Rattle.std.specs.Option.{option_map};
+ghost use Rattle.semantics.specs.Core as core;
+ghost use Rattle.semantics.specs.Word as word;
+ghost use Rattle.texts.specs.TypeFaults as rules;
+ghost use Rattle.texts.specs.Typing as typing;
+ghost use Rattle.words.specs.View.{kind};
+ghost use Rattle.syntax.specs.View.{site, expression, expressions, infix_sign, prefix_sign};
+ghost use Rattle.types.specs.View.{term, unary_operator, function as function_of};
+ghost use Rattle.types.specs.Functions.{pick as pick_of};
+ghost use Rattle.types.specs.Names.{names, meaning_seen};
+ghost use Rattle.types.specs.Answers.{typed_term, IsTyped, IsArrayOf};
+
+use crate::calls::{Pick, function_named, is_left_out, pick_named};
+use crate::core_tree::{Array, Function, Term, UnaryOperator};
+use crate::error::{TypeError, TypeFault};
+use crate::scope::{Binding, Meaning, meaning_of};
+use std::alloc::{AllocError, Global};
+use syntax::tree::{Expr, InfixSign, PrefixSign, Site};
+use words::Kind;
+
+/// A term with its kind.
+#[derive(Debug, PartialEq, Eq, Drop)]
+pub struct TypedTerm {
+    pub kind: Kind,
+    pub term: Term,
+}
+
+/// The kind to which two operands are brought (C99 6.3.1.8).
+pub fn common(left: Kind, right: Kind) -> Kind
+    ensures { kind result ≡ typing.common (kind left) (kind right) }
+{
+    match left {
+        Kind::Uint => Kind::Uint,
+        Kind::Int => right,
+    }
+}
+
+/// The term brought to a kind: itself where it has that kind.
+pub fn bring(alloc: Global, to: Kind, at: Site, from: TypedTerm) -> Result<Term, AllocError>
+    ensures { IfOk result (λ t. term t ≡ typing.bring (kind to) (site at) (typed_term from)) }
+{
+    match (from.kind, to) {
+        (Kind::Int, Kind::Int) | (Kind::Uint, Kind::Uint) => Ok(from.term),
+        (Kind::Int, Kind::Uint) | (Kind::Uint, Kind::Int) => Ok(Term::Convert {
+            kind: to,
+            site: at,
+            of: Box::new(alloc, from.term)?,
+        }),
+    }
+}
+
+fn prefix_term(
+    alloc: Global,
+    sign: PrefixSign,
+    at: Site,
+    of: TypedTerm,
+) -> Result<TypedTerm, AllocError>
+    ensures { IfOk result (λ t. typed_term t ≡ typing.prefix_term (prefix_sign sign) (site at) (typed_term of)) }
+{
+    let kind = of.kind;
+    let of = Box::new(alloc, of.term)?;
+    match sign {
+        PrefixSign::Minus => Ok(TypedTerm {
+            kind,
+            term: Term::Unary {
+                operator: UnaryOperator::Negate,
+                kind,
+                site: at,
+                of,
+            },
+        }),
+        PrefixSign::LogicalNot => Ok(TypedTerm {
+            kind: Kind::Int,
+            term: Term::Not { of },
+        }),
+        PrefixSign::BitNot => Ok(TypedTerm {
+            kind,
+            term: Term::Unary {
+                operator: UnaryOperator::Complement,
+                kind,
+                site: at,
+                of,
+            },
+        }),
+    }
+}
+
+// The count of a shift: a number in the text, 0 to 31, beside a `uint`.
+fn shift_count(left: Kind, right: &Expr) -> Option<u32>
+    ensures { result ≡ typing.shift_count (kind left) (expression right.now) }
+{
+    match (left, right) {
+        (Kind::Uint, Expr::Number { value, .. }) if *value <= 31 => Some(*value),
+        _ => None,
+    }
+}
+
+fn shift_term(
+    alloc: Global,
+    operator: UnaryOperator,
+    at: Site,
+    of: TypedTerm,
+) -> Result<TypedTerm, AllocError>
+    ensures { IfOk result (λ t. typed_term t ≡ typing.typed word.Uint (core.Unary (unary_operator operator) word.Uint (site at) (term of.term))) }
+{
+    Ok(TypedTerm {
+        kind: Kind::Uint,
+        term: Term::Unary {
+            operator,
+            kind: Kind::Uint,
+            site: at,
+            of: Box::new(alloc, of.term)?,
+        },
+    })
+}
+
+fn infix_term(
+    alloc: Global,
+    sign: InfixSign,
+    at: Site,
+    operand: &Expr,
+    left: TypedTerm,
+    right: TypedTerm,
+) -> Result<TypedTerm, TypeError>
+    ensures { IsTyped result (typing.infix_term (infix_sign sign) (site at) (expression operand.now) (typed_term left) (typed_term right)) }
+{
+    let kind = common(left.kind, right.kind);
+    match sign {
+        InfixSign::Arithmetic(operator) => Ok(TypedTerm {
+            kind,
+            term: Term::Binary {
+                operator,
+                kind,
+                site: at,
+                left: Box::new(alloc, left.term)?,
+                right: Box::new(alloc, right.term)?,
+            },
+        }),
+        InfixSign::LeftShift => match shift_count(left.kind, operand) {
+            Some(count) => Ok(shift_term(alloc, UnaryOperator::ShiftLeft(count), at, left)?),
+            None => Err(TypeError::At {
+                fault: TypeFault::WrongType,
+                site: at,
+            }),
+        },
+        InfixSign::RightShift => match shift_count(left.kind, operand) {
+            Some(count) => Ok(shift_term(alloc, UnaryOperator::ShiftRight(count), at, left)?),
+            None => Err(TypeError::At {
+                fault: TypeFault::WrongType,
+                site: at,
+            }),
+        },
+        InfixSign::Comparison(relation) => Ok(TypedTerm {
+            kind: Kind::Int,
+            term: Term::Compare {
+                relation,
+                kind,
+                left: Box::new(alloc, left.term)?,
+                right: Box::new(alloc, right.term)?,
+            },
+        }),
+        InfixSign::LogicalAnd => Ok(TypedTerm {
+            kind: Kind::Int,
+            term: Term::And {
+                left: Box::new(alloc, left.term)?,
+                right: Box::new(alloc, right.term)?,
+            },
+        }),
+        InfixSign::LogicalOr => Ok(TypedTerm {
+            kind: Kind::Int,
+            term: Term::Or {
+                left: Box::new(alloc, left.term)?,
+                right: Box::new(alloc, right.term)?,
+            },
+        }),
+    }
+}
+
+fn conditional_term(
+    alloc: Global,
+    at: Site,
+    test: TypedTerm,
+    taken: TypedTerm,
+    skipped: TypedTerm,
+) -> Result<TypedTerm, AllocError>
+    ensures { IfOk result (λ t. typed_term t ≡ typing.conditional_term (site at) (typed_term test) (typed_term taken) (typed_term skipped)) }
+{
+    let kind = common(taken.kind, skipped.kind);
+    let taken = bring(alloc, kind, at, taken)?;
+    let skipped = bring(alloc, kind, at, skipped)?;
+    Ok(TypedTerm {
+        kind,
+        term: Term::Select {
+            test: Box::new(alloc, test.term)?,
+            taken: Box::new(alloc, taken)?,
+            skipped: Box::new(alloc, skipped)?,
+        },
+    })
+}
+
+#[tactic(auto, using(crate::proofs::Arguments::arguments))]
+fn id_term(function: Function, at: Site, arguments: &[Expr]) -> Result<TypedTerm, TypeError>
+    ensures { IsTyped result (typing.id_term (site at) (function_of function) (expressions arguments.now)) }
+{
+    if arguments.len() != 1 {
+        return Err(TypeError::At {
+            fault: TypeFault::WrongType,
+            site: at,
+        });
+    }
+    match &arguments[0] {
+        Expr::Number { value, .. } => Ok(TypedTerm {
+            kind: Kind::Uint,
+            term: Term::Id {
+                function,
+                dimension: *value,
+            },
+        }),
+        _ => Err(TypeError::At {
+            fault: TypeFault::WrongType,
+            site: at,
+        }),
+    }
+}
+
+fn pick_term(
+    alloc: Global,
+    pick: Pick,
+    at: Site,
+    left: TypedTerm,
+    right: TypedTerm,
+) -> Result<TypedTerm, TypeError>
+    ensures { IsTyped result (typing.pick_term (site at) (pick_of pick) (typed_term left ∷ typed_term right ∷ [])) }
+{
+    if left.kind != right.kind {
+        return Err(TypeError::At {
+            fault: TypeFault::WrongType,
+            site: at,
+        });
+    }
+    let kind = left.kind;
+    let left = Box::new(alloc, left.term)?;
+    let right = Box::new(alloc, right.term)?;
+    match pick {
+        Pick::Minimum => Ok(TypedTerm {
+            kind,
+            term: Term::Minimum { left, right },
+        }),
+        Pick::Maximum => Ok(TypedTerm {
+            kind,
+            term: Term::Maximum { left, right },
+        }),
+    }
+}
+
+fn variable_term(at: Site, meaning: Option<Meaning>) -> Result<TypedTerm, TypeError>
+    ensures { IsTyped result (rules.then (rules.found (option_map meaning_seen meaning) rules.UnknownName (site at)) (typing.variable_term (site at))) }
+{
+    match meaning {
+        None => Err(TypeError::At {
+            fault: TypeFault::UnknownName,
+            site: at,
+        }),
+        Some(Meaning::Array { .. }) => Err(TypeError::At {
+            fault: TypeFault::WrongType,
+            site: at,
+        }),
+        Some(Meaning::Variable { slot, kind }) => Ok(TypedTerm {
+            kind,
+            term: Term::Variable { slot },
+        }),
+    }
+}
+
+fn array_of(at: Site, meaning: Option<Meaning>) -> Result<(Array, Kind), TypeError>
+    ensures { IsArrayOf result (rules.then (rules.found (option_map meaning_seen meaning) rules.UnknownName (site at)) (typing.array_of (site at))) }
+{
+    match meaning {
+        None => Err(TypeError::At {
+            fault: TypeFault::UnknownName,
+            site: at,
+        }),
+        Some(Meaning::Variable { .. }) => Err(TypeError::At {
+            fault: TypeFault::WrongType,
+            site: at,
+        }),
+        Some(Meaning::Array { array, kind, .. }) => Ok((array, kind)),
+    }
+}
+
+#[cycle(typing)]
+#[tactic(auto, using(crate::proofs::Arguments::both_typed))]
+fn pick_of_two(
+    alloc: Global,
+    visible: &[Binding],
+    pick: Pick,
+    at: Site,
+    arguments: &[Expr],
+) -> Result<TypedTerm, TypeError>
+    requires { length arguments.now ≡ 2 }
+    ensures { IsTyped result (rules.then (typing.types_of (names visible.now) (expressions arguments.now)) (typing.pick_term (site at) (pick_of pick))) }
+{
+    let left = type_of(alloc, visible, &arguments[0])?;
+    let right = type_of(alloc, visible, &arguments[1])?;
+    pick_term(alloc, pick, at, left, right)
+}
+
+#[cycle(typing)]
+#[tactic(auto, using(crate::proofs::Arguments::counted), unfolding(texts::specs::Typing::type_of))]
+fn call_term(
+    alloc: Global,
+    visible: &[Binding],
+    at: Site,
+    name: &str,
+    arguments: &[Expr],
+) -> Result<TypedTerm, TypeError>
+    ensures { IsTyped result (typing.call_by (names visible.now) (site at) name.now (expressions arguments.now)) }
+{
+    if is_left_out(name) {
+        return Err(TypeError::At {
+            fault: TypeFault::LeftOutWord,
+            site: at,
+        });
+    }
+    if let Some(function) = function_named(name) {
+        return id_term(function, at, arguments);
+    }
+    let Some(pick) = pick_named(name) else {
+        return Err(TypeError::At {
+            fault: TypeFault::UnknownName,
+            site: at,
+        });
+    };
+    if arguments.len() != 2 {
+        return Err(TypeError::At {
+            fault: TypeFault::WrongType,
+            site: at,
+        });
+    }
+    pick_of_two(alloc, visible, pick, at, arguments)
+}
+
+/// The kind and the term of an expression, where it is well typed among the visible names; else its first broken rule, from left to
+/// right.
+#[cycle(typing)]
+#[tactic(auto, using(syntax::proofs::Rows::seen_call), unfolding(texts::specs::Typing::type_of))]
+pub fn type_of(alloc: Global, visible: &[Binding], e: &Expr) -> Result<TypedTerm, TypeError>
+    ensures { IsTyped result (typing.type_of (names visible.now) (expression e.now)) }
+{
+    match e {
+        Expr::Number { kind, value, .. } => Ok(TypedTerm {
+            kind: *kind,
+            term: Term::Literal {
+                kind: *kind,
+                value: *value,
+            },
+        }),
+        Expr::Name { site, name } => variable_term(*site, meaning_of(visible, name.as_str())),
+        Expr::Element { site, name, index } => {
+            let (array, kind) = array_of(*site, meaning_of(visible, name.as_str()))?;
+            let index = type_of(alloc, visible, index)?;
+            Ok(TypedTerm {
+                kind,
+                term: Term::Load {
+                    array,
+                    site: *site,
+                    index: Box::new(alloc, index.term)?,
+                },
+            })
+        }
+        Expr::Call {
+            site,
+            name,
+            arguments,
+        } => call_term(alloc, visible, *site, name.as_str(), arguments.as_slice()),
+        Expr::Prefix { site, sign, of } => {
+            let of = type_of(alloc, visible, of)?;
+            Ok(prefix_term(alloc, *sign, *site, of)?)
+        }
+        Expr::Cast { site, kind, of } => {
+            let of = type_of(alloc, visible, of)?;
+            Ok(TypedTerm {
+                kind: *kind,
+                term: bring(alloc, *kind, *site, of)?,
+            })
+        }
+        Expr::Infix {
+            site,
+            sign,
+            left,
+            right,
+        } => {
+            let first = type_of(alloc, visible, left)?;
+            let second = type_of(alloc, visible, right)?;
+            infix_term(alloc, *sign, *site, right, first, second)
+        }
+        Expr::Conditional {
+            site,
+            test,
+            taken,
+            skipped,
+        } => {
+            let test = type_of(alloc, visible, test)?;
+            let taken = type_of(alloc, visible, taken)?;
+            let skipped = type_of(alloc, visible, skipped)?;
+            Ok(conditional_term(alloc, *site, test, taken, skipped)?)
+        }
+    }
+}

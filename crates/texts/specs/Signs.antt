@@ -8,7 +8,7 @@ pub data Sign : Type 0 where
   LeftParenthesis RightParenthesis LeftBrace RightBrace LeftBracket RightBracket Semicolon Comma : Sign
   Star Plus Minus Slash Percent And Or Caret Tilde Not Less Greater Equal Question Colon : Sign
 
--- how each is written, longer ones first
+-- how each is written, longer ones first; 63 is the question mark
 unfoldable pub signs : List (List ℕ × Sign)
 signs =
     (codes "<<=", LeftShiftEqual) ∷ (codes ">>=", RightShiftEqual)
@@ -21,4 +21,4 @@ signs =
     ∷ (codes "[", LeftBracket) ∷ (codes "]", RightBracket) ∷ (codes ";", Semicolon) ∷ (codes ",", Comma)
     ∷ (codes "*", Star) ∷ (codes "+", Plus) ∷ (codes "-", Minus) ∷ (codes "/", Slash) ∷ (codes "%", Percent)
     ∷ (codes "&", And) ∷ (codes "|", Or) ∷ (codes "^", Caret) ∷ (codes "~", Tilde) ∷ (codes "!", Not)
-    ∷ (codes "<", Less) ∷ (codes ">", Greater) ∷ (codes "=", Equal) ∷ (codes "?", Question) ∷ (codes ":", Colon) ∷ []
+    ∷ (codes "<", Less) ∷ (codes ">", Greater) ∷ (codes "=", Equal) ∷ (63 ∷ [], Question) ∷ (codes ":", Colon) ∷ []

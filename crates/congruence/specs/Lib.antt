@@ -1,0 +1,4 @@
+pub mod Residues
+pub mod Multiples
+pub mod Laws
+pub mod Quotients

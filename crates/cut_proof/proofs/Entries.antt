@@ -1,0 +1,60 @@
+-- The code's lists of forms, entry by entry.
+use Rattle.std.proofs.Common.{◌≡◌, ℕ, zero, suc, ◌+◌, ◌<◌, ◌≤◌, ◌==◌, Bool, true, false, ◌&&◌, List, [], ◌∷◌, ◌++◌, length, drop, drop-cons, add-one, get_or, arith, refl, ap, sym, ◌∙◌}
+use Rattle.std.specs.Prelude.{None, Some, ℤ}
+use Rattle.std.specs.Int.{is_negative}
+use Rattle.std.proofs.lemmas.Bool.Decides.{nat_tests}
+use Rattle.semantics.specs.Linear as semantics
+use Rattle.linear.specs.declared.form.Form.{Form}
+use Rattle.linear.specs.declared.term.Term.{Term}
+use Rattle.linear.specs.Terms.{terms}
+use Rattle.linear.specs.Forms.{form, forms}
+use Rattle.cut_proof.specs.Derivations.{Forms, entry, is_none, is_contradiction, if_made, line_form, refutes_from, refutes_of}
+use Rattle.cut_proof.specs.declared.Line.{Line}
+
+pub forms-append : (a b : List Form) → forms (a ++ b) ≡ forms a ++ forms b
+forms-append [] b = refl
+forms-append (f ∷ a) b = ap (λ fs. form f ∷ fs) (forms-append a b)
+
+pub entry_none : (fs : List Form) (n : ℕ) → length fs < n → entry (forms fs) n ≡ None
+entry_none fs zero h = absurd (omega arith)
+entry_none [] (suc n) h = refl
+entry_none (f ∷ fs) (suc zero) h = absurd (omega arith)
+entry_none (f ∷ fs) (suc (suc n)) h = entry_none fs (suc n) (omega arith)
+
+pub entry_is : (fs : List Form) (n i : ℕ) (d : Form) → n ≡ i + 1 → i < length fs → entry (forms fs) n ≡ Some (form (get_or fs i d))
+entry_is fs zero i d e h = absurd (omega arith)
+entry_is [] (suc n) i d e h = absurd (omega arith)
+entry_is (f ∷ fs) (suc zero) zero d e h = refl
+entry_is (f ∷ fs) (suc zero) (suc i) d e h = absurd (omega arith)
+entry_is (f ∷ fs) (suc (suc n)) zero d e h = absurd (omega arith)
+entry_is (f ∷ fs) (suc (suc n)) (suc i) d e h = entry_is fs (suc n) i d (omega arith) (omega arith)
+
+some_length : (ts : List Term) → false ≡ (suc (length ts) == 0)
+some_length ts = grind (arith, nat_tests)
+
+pub terms_end : (ts : List Term) (us : List (semantics.Weighted ℕ)) → terms ts ≡ us → is_none us ≡ (length ts == 0)
+terms_end [] us e = ap is_none (sym e)
+terms_end (t ∷ ts) us e = ap is_none (sym e) ∙ some_length ts
+
+pub alone : (ts : List Term) (us : List (semantics.Weighted ℕ)) (r k : ℤ) (b : Bool) → terms ts ≡ us → b ≡ (length ts == 0) → b ≡ true → r ≡ k → is_negative r ≡ (is_none us && is_negative k)
+alone ts us r k b e f g h = rw (terms_end ts us e ∙ sym f ∙ g) (ap is_negative h)
+
+pub not_alone : (ts : List Term) (us : List (semantics.Weighted ℕ)) (k : ℤ) (b : Bool) → terms ts ≡ us → b ≡ (length ts == 0) → b ≡ false → b ≡ (is_none us && is_negative k)
+not_alone ts us k b e f g = rw (terms_end ts us e ∙ sym f ∙ g) g
+
+-- one line more
+pub next_line : (facts : Forms) (made made' : List Form) (answer answer' all : Bool) (i : ℕ) (ls : List Line) (l : Line) (f : Form) → i < length ls → l ≡ get_or ls i l → Some (form f) ≡ line_form facts (forms made) l → made' ≡ made ++ f ∷ [] → answer' ≡ is_contradiction (form f) → refutes_from facts (forms made) answer (drop i ls) ≡ all → refutes_from facts (forms made') answer' (drop (i + 1) ls) ≡ all
+next_line facts made made' answer answer' all i ls l f h g e m c k =
+    let d : drop i ls ≡ l ∷ drop (i + 1) ls = drop-cons ls i l h ∙ rw (sym g, add-one) refl in
+    let one = ap (λ ms. refutes_from facts ms answer' (drop (i + 1) ls)) (ap forms m ∙ forms-append made (f ∷ [])) ∙ ap (λ b. refutes_from facts (forms made ++ form f ∷ []) b (drop (i + 1) ls)) c in
+    let two = ap (λ o. if_made o (λ g. refutes_from facts (forms made ++ g ∷ []) (is_contradiction g) (drop (i + 1) ls))) e in
+    one ∙ two ∙ ap (refutes_from facts (forms made) answer) (sym d) ∙ k
+
+no_more : (ls : List Line) (i : ℕ) → length ls ≤ i → drop i ls ≡ []
+no_more [] zero h = refl
+no_more [] (suc i) h = refl
+no_more (l ∷ ls) zero h = absurd (omega arith)
+no_more (l ∷ ls) (suc i) h = no_more ls i (omega arith)
+
+pub over : (facts made : Forms) (answer : Bool) (i : ℕ) (ls : List Line) → length ls ≤ i → refutes_from facts made answer (drop i ls) ≡ refutes_of facts ls → answer ≡ refutes_of facts ls
+over facts made answer i ls h e = ap (refutes_from facts made answer) (sym (no_more ls i h)) ∙ e

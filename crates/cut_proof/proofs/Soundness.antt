@@ -1,0 +1,101 @@
+-- Each line of a derivation is at least 0 wherever the facts are (Chvátal; Cook, Coullard and Turán 1987).
+use Rattle.std.proofs.Common.{◌≡◌, ℕ, zero, suc, Bool, true, false, cond, ◌&&◌, List, [], ◌∷◌, ◌++◌, arith, refl, sym, subst, nat_lt}
+use Rattle.std.specs.Prelude.{Option, None, Some, ℤ, pos, ◌+ℤ◌, ◌<ℤ◌, ◌≤ℤ◌}
+use Rattle.std.specs.Int.{is_positive, is_negative}
+use Rattle.std.specs.List.{All}
+use Rattle.std.proofs.lemmas.Int.{ints}
+use Rattle.std.proofs.lemmas.List.Elements.{All-head, All-tail, All-push, All-nil}
+use Rattle.semantics.specs.Linear.{Form, Weighted, value_of, terms_value, IsMet, IsImpossible}
+use Rattle.semantics.proofs.Integers.{mul-add, weighted}
+use Rattle.linear.specs.Exact.{sum, multiple, all_divide, fits}
+use Rattle.linear.proofs.Merging.{value-merge, value-multiples}
+use Rattle.linear.proofs.Quotients.{met-quotient}
+use Rattle.cut_proof.specs.declared.Line.{Line}
+use Rattle.cut_proof.specs.declared.Line.TheVariants as lines
+use Rattle.cut_proof.specs.Derivations.{Forms, and_then, entry, within_i64, add_part, add_parts, nothing, sum_line, divided_line, line_form, is_none, is_contradiction, if_made, refutes_from, refutes_of}
+
+true≢false : true ≡ false → ⊥
+true≢false e = subst (λ b. cond b (Unit {0}) ⊥) e tt
+
+gives : (o : Option (Form ℕ)) (go : Form ℕ → Option (Form ℕ)) (g : Form ℕ) → and_then o go ≡ Some g → (f : Form ℕ) × (o ≡ Some f) × (go f ≡ Some g)
+gives None go g h = absurd cc
+gives (Some f) go g h = (f, refl, h)
+
+tested : (b : Bool) (o : Option (Form ℕ)) (g : Form ℕ) → cond b o None ≡ Some g → (b ≡ true) × (o ≡ Some g)
+tested true o g h = (refl, h)
+tested false o g h = absurd cc
+
+same : (f g : Form ℕ) → Some f ≡ Some g → f ≡ g
+same f g h = cc
+
+positive : (z : ℤ) → is_positive z ≡ true → pos 0 <ℤ z
+positive z h = grind (arith, ints)
+
+at_least : (z : ℤ) → pos 0 <ℤ z → pos 0 ≤ℤ z
+at_least z h = omega (arith, ints)
+
+met-sum : (v : ℕ → ℤ) (f g : Form ℕ) → IsMet v f → IsMet v g → IsMet v (sum f g)
+met-sum v f g p q = omega (arith, ints, p, q, value-merge v f.terms g.terms)
+
+met-multiple : (v : ℕ → ℤ) (k : ℤ) (f : Form ℕ) → pos 0 <ℤ k → IsMet v f → IsMet v (multiple k f)
+met-multiple v k f hk p = omega (arith, ints, weighted k (value_of v f) (at_least k hk) p, value-multiples v k f.terms, mul-add k (terms_value v f.terms) f.constant)
+
+met-entry : (v : ℕ → ℤ) (fs : Forms) (n : ℕ) (f : Form ℕ) → All (IsMet v) fs → entry fs n ≡ Some f → IsMet v f
+met-entry v fs zero f m h = absurd cc
+met-entry v [] (suc n) f m h = absurd cc
+met-entry v (g ∷ fs) (suc zero) f m h = subst (IsMet v) (same g f h) (All-head (IsMet v) g fs m)
+met-entry v (g ∷ fs) (suc (suc n)) f m h = met-entry v fs (suc n) f (All-tail (IsMet v) g fs m) h
+
+met-add_part : (v : ℕ → ℤ) (made : Forms) (f : Form ℕ) (p : ℤ × ℕ) (g : Form ℕ) → All (IsMet v) made → IsMet v f → add_part made f p ≡ Some g → IsMet v g
+met-add_part v made f p g m mf h =
+    let t = tested (is_positive p.0) _ g h in
+    let e = gives (entry made p.1) _ g t.1 in
+    let k = gives (within_i64 (multiple p.0 e.0)) _ g e.2 in
+    let w = tested (fits (multiple p.0 e.0)) _ k.0 k.1 in
+    let s = tested (fits (sum f k.0)) _ g k.2 in
+    let mm : IsMet v k.0 = subst (IsMet v) (same _ _ w.1) (met-multiple v p.0 e.0 (positive p.0 t.0) (met-entry v made p.1 e.0 m e.1)) in
+    subst (IsMet v) (same _ _ s.1) (met-sum v f k.0 mf mm)
+
+met-add_parts : (v : ℕ → ℤ) (made : Forms) (before : ℕ) (f : Form ℕ) (ps : List (ℤ × ℕ)) (g : Form ℕ) → All (IsMet v) made → IsMet v f → add_parts made before f ps ≡ Some g → IsMet v g
+met-add_parts v made before f [] g m mf h = subst (IsMet v) (same f g h) mf
+met-add_parts v made before f (p ∷ ps) g m mf h =
+    let t = tested (nat_lt before p.1) _ g h in
+    let e = gives (add_part made f p) _ g t.1 in
+    met-add_parts v made p.1 e.0 ps g m (met-add_part v made f p e.0 m mf e.1) e.2
+
+met-sum_line : (v : ℕ → ℤ) (made : Forms) (ps : List (ℤ × ℕ)) (g : Form ℕ) → All (IsMet v) made → sum_line made ps ≡ Some g → IsMet v g
+met-sum_line v made [] g m h = absurd cc
+met-sum_line v made (p ∷ ps) g m h = met-add_parts v made 0 nothing (p ∷ ps) g m (omega (arith, ints)) h
+
+met-divided_line : (v : ℕ → ℤ) (made : Forms) (d : ℤ) (l : ℕ) (g : Form ℕ) → All (IsMet v) made → divided_line made d l ≡ Some g → IsMet v g
+met-divided_line v made d l g m h =
+    let t = tested (is_positive d) _ g h in
+    let e = gives (entry made l) _ g t.1 in
+    let w = tested (all_divide d e.0.terms) _ g e.2 in
+    subst (IsMet v) (same _ _ w.1) (met-quotient v d e.0 (positive d t.0) w.0 (met-entry v made l e.0 m e.1))
+
+met-line : (v : ℕ → ℤ) (facts made : Forms) (l : Line) (g : Form ℕ) → All (IsMet v) facts → All (IsMet v) made → line_form facts made l ≡ Some g → IsMet v g
+met-line v facts made (lines.Given n) g mf m h = met-entry v facts n g mf h
+met-line v facts made (lines.Sum ps) g mf m h = met-sum_line v made ps.items g m h
+met-line v facts made (lines.Div d l) g mf m h = met-divided_line v made d l g m h
+
+negative : (z : ℤ) → is_negative z ≡ true → z <ℤ pos 0
+negative z h = grind (arith, ints)
+
+below_zero : (v : ℕ → ℤ) (ts : List (Weighted ℕ)) (c : ℤ) → (is_none ts && is_negative c) ≡ true → pos 0 ≤ℤ (terms_value v ts +ℤ c) → ⊥
+below_zero v [] c h m = absurd (omega (arith, ints, negative c h, m))
+below_zero v (t ∷ ts) c h m = true≢false (sym h)
+
+made_by : (o : Option (Form ℕ)) (go : Form ℕ → Bool) → if_made o go ≡ true → (f : Form ℕ) × (o ≡ Some f) × (go f ≡ true)
+made_by None go h = absurd cc
+made_by (Some f) go h = (f, refl, h)
+
+never : (v : ℕ → ℤ) (facts made : Forms) (answer : Bool) (ls : List Line) → All (IsMet v) facts → All (IsMet v) made → (answer ≡ true → ⊥) → refutes_from facts made answer ls ≡ true → ⊥
+never v facts made answer [] mf m a h = a h
+never v facts made answer (l ∷ ls) mf m a h =
+    let e = made_by (line_form facts made l) _ h in
+    let g = met-line v facts made l e.0 mf m e.1 in
+    never v facts (made ++ e.0 ∷ []) (is_contradiction e.0) ls mf (All-push (IsMet v) made e.0 m g) (λ c. below_zero v e.0.terms e.0.constant c g) e.2
+
+pub refuted_is_impossible : (facts : Forms) (ls : List Line) → refutes_of facts ls ≡ true → IsImpossible facts
+refuted_is_impossible facts ls h = λ v m. never v facts [] false ls m (All-nil (IsMet v)) (λ e. true≢false (sym e)) h

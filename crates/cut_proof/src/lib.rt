@@ -1,0 +1,179 @@
+//! Proofs by cutting planes that no whole numbers meet a list of linear facts (Chvátal; Cook, Coullard and Turán 1987).
+//!
+//! A derivation is a list of lines, each a fact, a sum of earlier lines with weights of at least 1, or an earlier line
+//! whose coefficients all divide, divided, its constant rounded down. One that ends in a negative constant refutes the
+//! facts.
+#![tactic(auto)]
+
+ghost use Rattle.std.specs.Prelude.{◌≡◌, ℕ, ℤ, pos, Some, None, Ok, Err, IfOk, MatchOption, IsTrue, length};
+ghost use Rattle.semantics.specs.Linear.{IsImpossible};
+ghost use Rattle.linear.specs.Exact.{sum, multiple};
+ghost use Rattle.linear.specs.Forms.{form, forms};
+ghost use Rattle.cut_proof.specs.View.{seen};
+ghost use Rattle.cut_proof.specs.Derivations.{entry, within_i64, add_part, sum_line, divided_line, line_form, is_contradiction, refutes_of};
+
+#[cfg(test)]
+mod tests;
+
+use linear::{Fact, Form, LinearError};
+use std::alloc::{AllocError, Global};
+
+/// One line of a derivation. Facts and lines are counted from 1.
+#[derive(Debug, Drop)]
+pub enum Line {
+    /// A fact.
+    Given(u32),
+    /// Weights, each with an earlier line, the lines rising.
+    Sum(Vec<(i64, u32)>),
+    /// A divisor and an earlier line.
+    Div(i64, u32),
+}
+
+/// Lines, each of which may name those before it.
+#[derive(Debug, Drop)]
+pub struct Derivation {
+    pub lines: Vec<Line>,
+}
+
+/// Whether the derivation refutes the facts: each line is as it says, no number of it leaves `i64`, and there is a last
+/// line, a negative constant. No whole numbers meet facts that are refuted.
+pub fn refutes(alloc: Global, facts: &[Fact], derivation: &Derivation) -> Result<bool, AllocError>
+    ensures exact { IfOk result (λ b. b ≡ refutes_of (forms facts.now) derivation.now.lines.items) }
+    ensures impossible { IfOk result (λ b. IsTrue b → IsImpossible (forms facts.now)) }
+{
+    let lines = derivation.lines.as_slice();
+    let mut made: Vec<Form> = Vec::new(alloc);
+    let mut refuted = false;
+    for line in lines {
+        let Some(form) = make_line(alloc, facts, made.as_slice(), line)? else {
+            return Ok(false);
+        };
+        refuted = contradicts(&form);
+        made.push(form)?;
+    }
+    Ok(refuted)
+}
+
+/// What a line says, if it is as written.
+fn make_line(
+    alloc: Global,
+    facts: &[Fact],
+    made: &[Form],
+    line: &Line,
+) -> Result<Option<Form>, AllocError>
+    ensures { IfOk result (λ r. seen r ≡ line_form (forms facts.now) (forms made.now) line.now) }
+{
+    match line {
+        Line::Given(number) => make_given(alloc, facts, *number),
+        Line::Sum(parts) => make_sum(alloc, made, parts.as_slice()),
+        Line::Div(divisor, number) => make_quotient(alloc, made, *divisor, *number),
+    }
+}
+
+fn make_given(alloc: Global, facts: &[Fact], number: u32) -> Result<Option<Form>, AllocError>
+    ensures { IfOk result (λ r. seen r ≡ entry (forms facts.now) number) }
+{
+    let Some(fact) = named(facts, number) else {
+        return Ok(None);
+    };
+    let form = fact.copy(alloc)?;
+    Ok(Some(form))
+}
+
+fn make_sum(alloc: Global, made: &[Form], parts: &[(i64, u32)]) -> Result<Option<Form>, AllocError>
+    ensures { IfOk result (λ r. seen r ≡ sum_line (forms made.now) parts.now) }
+{
+    if parts.is_empty() {
+        return Ok(None);
+    }
+    let mut total = Form::constant(alloc, 0);
+    let mut before = 0;
+    for part in parts {
+        if part.1 <= before {
+            return Ok(None);
+        }
+        before = part.1;
+        let Some(next) = make_part(alloc, made, &total, *part)? else {
+            return Ok(None);
+        };
+        total = next;
+    }
+    Ok(Some(total))
+}
+
+/// A sum with one more part.
+fn make_part(
+    alloc: Global,
+    made: &[Form],
+    total: &Form,
+    part: (i64, u32),
+) -> Result<Option<Form>, AllocError>
+    ensures { IfOk result (λ r. seen r ≡ add_part (forms made.now) (form total.now) part) }
+{
+    if part.0 < 1 {
+        return Ok(None);
+    }
+    let Some(line) = named(made, part.1) else {
+        return Ok(None);
+    };
+    let Some(scaled) = settled_multiple(alloc, line, part.0)? else {
+        return Ok(None);
+    };
+    settled_sum(alloc, total, &scaled)
+}
+
+fn make_quotient(
+    alloc: Global,
+    made: &[Form],
+    divisor: i64,
+    number: u32,
+) -> Result<Option<Form>, AllocError>
+    ensures { IfOk result (λ r. seen r ≡ divided_line (forms made.now) divisor number) }
+{
+    if divisor < 1 {
+        return Ok(None);
+    }
+    let Some(line) = named(made, number) else {
+        return Ok(None);
+    };
+    line.divided(alloc, divisor)
+}
+
+/// A multiple, if it is within `i64`.
+fn settled_multiple(alloc: Global, line: &Form, weight: i64) -> Result<Option<Form>, AllocError>
+    ensures { IfOk result (λ r. seen r ≡ within_i64 (multiple weight (form line.now))) }
+{
+    match line.times(alloc, weight) {
+        Ok(form) => Ok(Some(form)),
+        Err(LinearError::TooLarge) => Ok(None),
+        Err(LinearError::Memory) => Err(AllocError),
+    }
+}
+
+/// A sum, if it is within `i64`.
+fn settled_sum(alloc: Global, total: &Form, part: &Form) -> Result<Option<Form>, AllocError>
+    ensures { IfOk result (λ r. seen r ≡ within_i64 (sum (form total.now) (form part.now))) }
+{
+    match total.add(alloc, part) {
+        Ok(form) => Ok(Some(form)),
+        Err(LinearError::TooLarge) => Ok(None),
+        Err(LinearError::Memory) => Err(AllocError),
+    }
+}
+
+/// The form of a number, counted from 1.
+fn named(made: &[Form], number: u32) -> Option<&Form>
+    ensures { MatchOption result (entry (forms made.now) number ≡ None) (λ f. entry (forms made.now) number ≡ Some (form f.now)) }
+{
+    if number == 0 || made.len() < number as usize {
+        return None;
+    }
+    Some(&made[number as usize - 1])
+}
+
+/// Whether a form is a negative constant.
+fn contradicts(line: &Form) -> bool
+    ensures { result ≡ is_contradiction (form line.now) }
+{
+    line.terms().is_empty() && line.constant_part() < 0
+}

@@ -1,0 +1,4 @@
+pub mod Merging
+pub mod Quotients
+pub mod Lists
+pub mod Results

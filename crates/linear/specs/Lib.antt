@@ -1,0 +1,3 @@
+pub mod Exact
+pub mod Terms
+pub mod Forms

@@ -1,0 +1,15 @@
+//! Linear forms over numbered symbols, with coefficients and constants in `i64`.
+//!
+//! A form's terms rise strictly by symbol and have no coefficient 0, so equal forms are equal values. Each operation
+//! answers exactly the form of whole numbers that `specs/Exact.antt` defines, or `TooLarge` where a number of it is no
+//! `i64`.
+#![tactic(auto)]
+
+mod form;
+mod merge;
+mod term;
+#[cfg(test)]
+mod tests;
+
+pub use form::{Fact, Form, LinearError};
+pub use term::{Symbol, Term};

@@ -54,6 +54,7 @@ untainted_by s bound full p w al i hi a h t =
       unordered = elim t.unordered [ inl ne ↦ inl (λ q. ne (sym (ap (group_of s) ia) ∙ q ∙ ap (group_of s) jb)) | inr e ↦ inr (ea ∙ e ∙ sym t.stored.epoch_is) ];
     })
 
+-- a load of an element that another item has stored to, with nothing that orders the two, would be a race
 untainted : (s : Setup) (bound : ℕ) → 0 < group_size s → (p : IsPairSafe s bound) (st : State) → Good s st → (i : ℕ) → i < item_count s → (a : Access) → touch i (st.items i) (ask s i (st.items i)) ≡ Some a → Tainted s i (st.items i) a.at → ⊥
 untainted s bound full p st g i hi = subst (λ (x : State). (a : Access) → touch i (x.items i) (ask s i (x.items i)) ≡ Some a → Tainted s i (x.items i) a.at → ⊥) g.is (untainted_by s bound full p g.world g.along i hi)
 
@@ -82,6 +83,7 @@ put-either {P} c d v m n h = go (same_cell d c)
     go true = inl refl
     go false = h
 
+-- after equal steps the memories still agree, but for what is tainted
 wrote-matches : (s : Setup) (i : ℕ) (it : Item) (k : Ask) (m n : Memory) → Matches s i it m n → Matches s i it (wrote k m) (wrote k n)
 wrote-matches s i it (Loads at kind site) m n h = h
 wrote-matches s i it (Stores at site value next) m n h = λ c. put-either at c value m n (h c)
@@ -232,5 +234,6 @@ module _ (s : Setup) (bound : ℕ) (full : 0 < group_size s) (p : IsPairSafe s b
   alone-on zero st m g h = stays s i 0 st (inl refl)
   alone-on (suc fuel) st m g h = goes_on fuel st m g h (alone-on fuel) (cases_Bool (counts (ask s i (st.items i))))
 
+  -- an item alone over the round's memory does what it does in the world, up to its next arrival or its end
   pub alone-way : (fuel : ℕ) (st : State) (m : Memory) (it : Item) → Good s st → st.items i ≡ it → Matches s i it st.memory m → Ran s i fuel st it (alone s i fuel it m)
   alone-way fuel st m it g e = subst (λ (x : Item). Matches s i x st.memory m → Ran s i fuel st x (alone s i fuel x m)) e (alone-on fuel st m g)

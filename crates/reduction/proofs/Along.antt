@@ -9,6 +9,8 @@ use Rattle.semantics.proofs.Steps.{Next, Fair, ask-fair}
 use Rattle.semantics.proofs.Events.{some-is, guarded-is}
 use Rattle.semantics.proofs.Groups.{both-true, every-at, member-of, place-below, group_size-pos}
 
+-- a world of a run: each item stands after the words of a solo run, items of a group have passed equally many barriers, and each
+-- access of the history is one of its item's solo run
 pub record Along (s : Setup) (w : World) : Type 0 where
   pub words : ℕ → List ℤ
   pub stands : (i : ℕ) → w.items i ≡ after s i (words i)
@@ -36,6 +38,7 @@ did_by s i w v (Goes next) lt e f h =
 did_by s i w v (Waits next) lt e f h = cc
 did_by s i w v Rests lt e f h = cc
 
+-- a step that happened did just that
 pub did : (s : Setup) (i : ℕ) (w v : World) → happens s w (Step i) ≡ Some v → Did s i w v
 unfolding happens
 did s i w v h =

@@ -98,6 +98,7 @@ happens-counted s (Release g) w v n full c h =
     let l = let_go s g w v h in
     subst (λ u. Counted s u (n + 1)) (sym l.after) (released-counted s g w (record { below = l.below; may = l.may; after = refl }) n full c)
 
+-- each event is a step, or a release, which lets at least one item go on
 pub run-counted : (s : Setup) (es : List Event) (w v : World) (n : ℕ) → 0 < group_size s → Counted s w n → run s es w ≡ Some v → Counted s v (n + length es)
 run-counted s [] w v n full c h = let e : w ≡ v = cc in subst (λ u. Counted s u (n + length {A = Event} [])) e (omega (arith, c))
 run-counted s (e ∷ es) w v n full c h =

@@ -22,6 +22,7 @@ put_by true true u v x h = absurd (h refl refl)
 put_by true false u v x h = refl
 put_by false b u v x h = refl
 
+-- writes to different elements commute
 pub put_comm : (c d : Cell) (u v : ℤ) (m : Memory) → c ≢ d → put d v (put c u m) ≡ put c u (put d v m)
 unfolding put
 put_comm c d u v m ne = λ k x. put_by (same_cell x c) (same_cell x d) u v (m x) (λ a b. ne (sym (same_cell-is x c a) ∙ same_cell-is x d b)) k
@@ -117,6 +118,7 @@ module _ (s : Setup) (bound : ℕ) (full : 0 < group_size s) (p : IsPairSafe s b
     | inr ne ↦ inl (λ q. ne (sym (ap (group_of s) ea) ∙ q ∙ ap (group_of s) eb))
   ]
 
+  -- two steps of different items that can both happen do not touch one element with a store among them: that would be a race
   free-here : (i j : ℕ) → i < item_count s → j < item_count s → i ≢ j → Free i (w.items i) (ask s i (w.items i)) j (w.items j) (ask s j (w.items j))
   free-here i j hi hj ne a b ha hb st e =
       let ia = touch-item i (w.items i) (ask s i (w.items i)) a ha in
@@ -129,6 +131,7 @@ module _ (s : Setup) (bound : ℕ) (full : 0 < group_size s) (p : IsPairSafe s b
         unordered = unordered-here i j a b hi hj ia jb (touch-epoch i (w.items i) (ask s i (w.items i)) a ha) (touch-epoch j (w.items j) (ask s j (w.items j)) b hb) e;
       })
 
+  -- two steps
   step_step : (i j : ℕ) → i ≢ j → Can s (state w) (Step i) → Can s (state w) (Step j) → Diamond s (state w) (Step i) (Step j)
   step_step i j ne ci cj =
       let k = ask s i (w.items i) in
@@ -152,6 +155,7 @@ module _ (s : Setup) (bound : ℕ) (full : 0 < group_size s) (p : IsPairSafe s b
       let b = can_running s i (w.items i) ci.1 in
       let q : Waiting ≡ Running = sym a ∙ b in cc
 
+  -- a step and the release of another group
   step_release : (i g : ℕ) → Can s (state w) (Step i) → Can s (state w) (Release g) → Diamond s (state w) (Step i) (Release g)
   unfolding let_items
   step_release i g ci cg =
@@ -180,6 +184,7 @@ module _ (s : Setup) (bound : ℕ) (full : 0 < group_size s) (p : IsPairSafe s b
   release_may : (g h : ℕ) → g ≢ h → Can s (state w) (Release h) → Can s (next s (state w) (Release g)) (Release h)
   release_may g h ne ch = (ch.0, may_go-same s w.items (let_items s g w.items) h full (λ k lt. let_items-other s g (member s h k) w.items (λ q. ne (sym q ∙ group_of-member s h k lt))) ch.1)
 
+  -- the releases of two groups
   release_release : (g h : ℕ) → g ≢ h → Can s (state w) (Release g) → Can s (state w) (Release h) → Diamond s (state w) (Release g) (Release h)
   unfolding let_items
   release_release g h ne cg ch = record {
@@ -188,6 +193,7 @@ module _ (s : Setup) (bound : ℕ) (full : 0 < group_size s) (p : IsPairSafe s b
     same = state-is _ _ _ _ refl (λ n j. let_by j (nat_eq (group_of s j) g) (nat_eq (group_of s j) h) (w.items j) (λ a b. ne (sym (eqb-true (group_of s j) g a) ∙ eqb-true (group_of s j) h b)) n);
   }
 
+  -- two events that can both happen are the same, or can happen in either order and lead to one state
   pub diamond : (e f : Event) → Can s (state w) e → Can s (state w) f → (e ≡ f) ⊎ Diamond s (state w) e f
   diamond (Step i) (Step j) ce cf = elim (cases_eq i j) [ inl q ↦ inl (ap Step q) | inr ne ↦ inr (step_step i j ne ce cf) ]
   diamond (Step i) (Release g) ce cf = inr (step_release i g ce cf)

@@ -7,6 +7,7 @@ use Rattle.semantics.specs.Safety.{IsPairSafe}
 use Rattle.semantics.proofs.Steps.{Passed, over-not_waiting}
 use Rattle.semantics.proofs.Turns.{Turn, Steps, Passes, Stays, turn}
 
+-- the same epochs of both spaces
 pub record Level (a b : Item) : Type 0 where
   pub local : a.local_epoch ≡ b.local_epoch
   pub global : a.global_epoch ≡ b.global_epoch
@@ -30,6 +31,7 @@ none_on s i j y vs h before (Keeps e l) =
     record { local = r.local ∙ sym l.local; global = r.global ∙ sym l.global }
 none_on s i j y vs h before (Raises q e) = absurd (omega arith)
 
+-- two items that have passed no barrier are level
 none_passed : (s : Setup) (i j : ℕ) (vs : List ℤ) → 0 ≡ passed s j vs → Level (after s i []) (after s j vs)
 unfolding opening
 none_passed s i j [] h = record { local = refl; global = refl }
@@ -60,6 +62,7 @@ second_on s bound i j p z y ws vs a h earlier before (Raises b e) =
     let same : passed s i ws ≡ passed s j vs = omega arith in
     both_raised s bound i j p z y ws vs a b same (earlier same)
 
+-- where the first has just passed a barrier, the second stands behind one that it passed with it
 second : (s : Setup) (bound : ℕ) (i j : ℕ) (p : Pair s bound i j) (z : ℤ) (ws : List ℤ) → Passed (after s i ws) (after s i (z ∷ ws)) → ((vs : List ℤ) → passed s i ws ≡ passed s j vs → Level (after s i ws) (after s j vs)) → (vs : List ℤ) → passed s i ws + 1 ≡ passed s j vs → Level (after s i (z ∷ ws)) (after s j vs)
 second s bound i j p z ws a earlier [] h = absurd (omega arith)
 second s bound i j p z ws a earlier (y ∷ vs) h =
@@ -71,6 +74,7 @@ first_on s bound i j p z ws vs earlier h (Keeps e l) =
     record { local = l.local ∙ r.local; global = l.global ∙ r.global }
 first_on s bound i j p z ws vs earlier h (Raises a e) = second s bound i j p z ws a earlier vs (sym e ∙ h)
 
+-- two items of a group that have passed equally many barriers are level
 pub epochs : (s : Setup) (bound : ℕ) (i j : ℕ) (p : Pair s bound i j) (ws vs : List ℤ) → passed s i ws ≡ passed s j vs → Level (after s i ws) (after s j vs)
 epochs s bound i j p [] vs h = none_passed s i j vs h
 epochs s bound i j p (z ∷ ws) vs h = first_on s bound i j p z ws vs (epochs s bound i j p ws) h (moved_on s i z ws)

@@ -109,6 +109,7 @@ module _ (s : Setup) (bound : ℕ) (full : 0 < group_size s) (p : IsPairSafe s b
     unfolding st1
     other1 j ne = advanced-other s g (bound + 1) st.items m (group_size s) j (λ l lt q. ne (ap (group_of s) q ∙ group_of-member s g l lt))
 
+    -- after its part of a round no item runs: fuel is left
     not_running1 : (k : ℕ) → k < group_size s → (st1.items (member s g k)).status ≡ Running → ⊥
     not_running1 k lt r =
         let l = (upto.long k lt).long (ap (λ (it : Item). it.status) (sym (at1 k lt)) ∙ r) in
@@ -125,6 +126,7 @@ module _ (s : Setup) (bound : ℕ) (full : 0 < group_size s) (p : IsPairSafe s b
         go Ended h = inr h
         go (Stopped f site) h = absurd (good-quiet s bound p st1 good1 j hj f site h)
 
+    -- if the group may not go, all its items have ended
     ended1 : may_go s st1.items g ≡ false → (j : ℕ) → j < item_count s → group_of s j ≡ g → (st1.items j).status ≡ Ended
     ended1 no_go j hj e = elim (settled1 j hj e) [
       | inl a ↦ let q : true ≡ false = sym (good-goes s bound p st1 good1 g hg full settled1 j hj e a) ∙ no_go in cc
@@ -213,6 +215,7 @@ module _ (s : Setup) (bound : ℕ) (full : 0 < group_size s) (p : IsPairSafe s b
     next_by n later (inl y) = rw (may-same, y) (done2 y _ (later y))
     next_by n later (inr y) = rw (may-same, y) (done1 y)
 
+  -- all rounds of the group are a way in the world that leaves the group's stores in memory, and all its items ended
   pub group-way : (n : ℕ) (its : ℕ → Item) (m : Memory) (st : State) → Start its m st → bound + 1 ≤ n + (st.items (member s g 0)).steps → Done s g st (rounds s g (bound + 1) n its m)
   group-way zero its m st b h = absurd (let q = good-short s bound p st b.good (member s g 0) (member-below s g 0 hg full) in omega (arith, q))
   group-way (suc n) its m st b h =

@@ -12,6 +12,7 @@ use Rattle.semantics.proofs.Updates.{put_item-same, put_item-other}
 use Rattle.semantics.proofs.Events.{Let, let_go}
 use Rattle.reduction.proofs.Along.{Along, Did, did, may_go-waits}
 
+-- the opening world is one of a run
 pub opening-along : (s : Setup) → Along s (opening_world s)
 unfolding opening_world
 opening-along s = record {
@@ -80,6 +81,7 @@ module _ (s : Setup) (i : ℕ) (w v : World) (al : Along s w) (d : Did s i w v) 
         (omega (arith, e, d.below), subst (λ k. Touched s k (extend i d.answer al.words k) a) (sym e) (step-new a new))
   ]
 
+  -- a step keeps it: the number that a load read is one more word
   pub step-along : Along s v
   step-along = record {
     words = extend i d.answer al.words;
@@ -115,6 +117,7 @@ module _ (s : Setup) (g : ℕ) (w : World) (al : Along s w) (l : Let s g w (rele
       go true = inr h
       go false = h
 
+  -- a release keeps it: each item of the group passes its barrier
   pub release-along : Along s (released s g w)
   unfolding released
   release-along = record {
@@ -134,6 +137,7 @@ pub then_run-is : (o : Option World) (f : World → Option World) (v : World) �
 then_run-is None f v h = cc
 then_run-is (Some u) f v h = (u, refl, h)
 
+-- so it holds of each world of a run
 pub run-along : (s : Setup) (es : List Event) (w v : World) → Along s w → run s es w ≡ Some v → Along s v
 run-along s [] w v al h = let e : w ≡ v = cc in subst (Along s) e al
 run-along s (e ∷ es) w v al h =

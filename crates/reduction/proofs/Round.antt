@@ -42,6 +42,7 @@ applied-cases P (x ∷ xs) m c h = elim (applied-cases P xs (put x.0 x.1 m) c h.
 pub member-inj : (s : Setup) (g k l : ℕ) → member s g k ≡ member s g l → k ≡ l
 member-inj s g k l e = omega arith
 
+-- items of a group are level in a state of a run
 pub good-level : (s : Setup) (bound : ℕ) (p : IsPairSafe s bound) (st : State) → Good s st → (i j : ℕ) → i < item_count s → j < item_count s → group_of s i ≡ group_of s j → Level (st.items i) (st.items j)
 good-level s bound p st g i j hi hj e =
     let al = g.along in
@@ -111,6 +112,7 @@ module _ (s : Setup) (bound : ℕ) (full : 0 < group_size s) (p : IsPairSafe s b
             (good-level s bound p st good (member s g k) (member s g f.place) (member-below s g k hg lt) (member-below s g f.place hg place-lt) (group_of-member s g k lt ∙ sym (group_of-member s g f.place place-lt))));
       }
 
+  -- before an item's part the world's memory and the round's agree, but for what is tainted for it
   round-matches : (k : ℕ) → k < group_size s → Each (From s g st k) (round_stores s g fuel st.items m k) → Matches s (member s g k) (st.items (member s g k)) (round_state k).memory m
   round-matches k lt each c = elim (applied-cases (From s g st k) (round_stores s g fuel st.items m k) st.memory c each) [
     | inl e ↦ elim (start c) [ inl q ↦ inl (e ∙ q) | inr f ↦ inr (foreign-tainted k lt (st.items (member s g k)) c f) ]
@@ -142,6 +144,7 @@ module _ (s : Setup) (bound : ℕ) (full : 0 < group_size s) (p : IsPairSafe s b
         ];
       }
 
+  -- the parts of a round, item by item, are a way in the world, and leave the round's stores in memory
   pub round-way : (k : ℕ) → k ≤ group_size s → Upto k
   round-way zero h = record { onward = onward-here s st (round_state 0) refl; each = tt; long = λ l lt. absurd (omega arith) }
   round-way (suc k) h = one_part k (omega arith) (round-way k (omega arith))

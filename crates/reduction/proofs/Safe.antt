@@ -22,11 +22,13 @@ running_goes w i (Goes next) f h e = cc
 running_goes w i (Waits next) f h e = let q : Waiting ≡ Running = sym f.was ∙ h in cc
 running_goes w i Rests f h e = let q = subst Over h f in elim q [ ]
 
+-- a running item can step
 step_possible : (s : Setup) (w : World) (i : ℕ) → i < item_count s → (w.items i).status ≡ Running → happens s w (Step i) ≡ None → ⊥
 unfolding happens
 step_possible s w i lt h e =
     running_goes w i (ask s i (w.items i)) (ask-fair s i (w.items i)) h (rw (lt-ltb i (item_count s) lt) at e)
 
+-- a group that may go can be released
 release_possible : (s : Setup) (w : World) (g : ℕ) → g < group_count s → may_go s w.items g ≡ true → happens s w (Release g) ≡ None → ⊥
 unfolding happens
 release_possible s w g lt h e =
@@ -39,12 +41,14 @@ module _ (s : Setup) (bound : ℕ) (p : IsPairSafe s bound) (w : World) (al : Al
   pub quiet-here : (i : ℕ) (f : Fault) (site : Site) → i < item_count s → (w.items i).status ≢ Stopped f site
   quiet-here i f site lt h = p.quiet i (al.words i) f site lt (status-after i (Stopped f site) h)
 
+  -- two waiting items of a group have equal lists left
   agree-here : (i j : ℕ) → i < item_count s → j < item_count s → group_of s i ≡ group_of s j → (w.items i).status ≡ Waiting → (w.items j).status ≡ Waiting → trail (w.items i).left ≡ trail (w.items j).left
   agree-here i j hi hj g a b = elim (cases_eq i j) [
     | inl e ↦ ap (λ k. trail (w.items k).left) e
     | inr ne ↦ ap (λ (it : Item). trail it.left) (al.stands i) ∙ p.agree i j hi hj ne g (al.words i) (al.words j) (status-after i Waiting a) (status-after j Waiting b) (al.level i j hi hj g) ∙ ap (λ (it : Item). trail it.left) (sym (al.stands j))
   ]
 
+  -- no item waits where another of its group has ended
   ends-here : (i j : ℕ) → i < item_count s → j < item_count s → group_of s i ≡ group_of s j → (w.items i).status ≡ Waiting → (w.items j).status ≡ Ended → ⊥
   ends-here i j hi hj g a b =
       let ne = λ (e : j ≡ i). let q : Ended ≡ Waiting = sym b ∙ ap (λ k. (w.items k).status) e ∙ a in let x : ⊥ = cc in x in
@@ -54,6 +58,7 @@ module _ (s : Setup) (bound : ℕ) (p : IsPairSafe s bound) (w : World) (al : Al
       let z = al.level i j hi hj g in
       omega (arith, e, x, y, z)
 
+  -- a world of a run is safe: what went wrong in it would have gone wrong in solo runs
   pub safe : IsSafe s bound w
   safe = record {
     no_fault = quiet-here;
@@ -78,6 +83,7 @@ module _ (s : Setup) (bound : ℕ) (p : IsPairSafe s bound) (w : World) (al : Al
   all_wait : (g i j : ℕ) → Settled g → i < item_count s → j < item_count s → group_of s i ≡ g → group_of s j ≡ g → (w.items i).status ≡ Waiting → (w.items j).status ≡ Waiting
   all_wait g i j settled hi hj gi gj a = elim (settled j hj gj) [ inl b ↦ b | inr b ↦ absurd (ends-here i j hi hj (gi ∙ sym gj) a b) ]
 
+  -- where no item of a group runs and one waits, the group may go
   pub group_goes : (g : ℕ) → g < group_count s → Settled g → 0 < group_size s → (i : ℕ) → i < item_count s → group_of s i ≡ g → (w.items i).status ≡ Waiting → may_go s w.items g ≡ true
   unfolding may_go
   group_goes g hg settled full i lt gi a = every-by (group_size s) _ (λ k hk.
@@ -89,6 +95,7 @@ module _ (s : Setup) (bound : ℕ) (p : IsPairSafe s bound) (w : World) (al : Al
       let b0 = all_wait g i (member s g 0) settled lt first gi e0 a in
       rw (b, (bytes_eq-Decides _ _).1 (agree-here (member s g k) (member s g 0) here first (e ∙ sym e0) b b0)) refl)
 
+  -- where nothing can happen all items have ended
   pub over-ended : IsOver s w → 0 < group_size s → (i : ℕ) → i < item_count s → (w.items i).status ≡ Ended
   over-ended over full i lt = elim (not_running over i lt) [
     | inl a ↦ absurd (release_possible s w (group_of s i) (group-below s i lt) (group_goes (group_of s i) (group-below s i lt) (λ j hj e. not_running over j hj) full i lt refl a) (over (Release (group_of s i))))

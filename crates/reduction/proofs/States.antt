@@ -64,6 +64,7 @@ stepped-follows w v i (Goes next) h = (refl, ap state (sym (some-is _ v h)))
 stepped-follows w v i (Waits next) h = cc
 stepped-follows w v i Rests h = cc
 
+-- an event of a world leads where the state's next says
 pub follows : (s : Setup) (w v : World) (e : Event) → happens s w e ≡ Some v → Follows s w v e
 unfolding happens released let_items
 follows s w v (Step i) h =
@@ -81,6 +82,7 @@ stepped-can w i (Goes next) h = (_, refl, refl)
 stepped-can w i (Waits next) h = cc
 stepped-can w i Rests h = cc
 
+-- an event that a state can have, its world can
 pub can-happen : (s : Setup) (w : World) (e : Event) → Can s (state w) e → (v : World) × (happens s w e ≡ Some v) × (state v ≡ next s (state w) e)
 unfolding happens released let_items
 can-happen s w (Step i) c =

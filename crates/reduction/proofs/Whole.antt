@@ -78,6 +78,7 @@ module _ (s : Setup) (bound : ℕ) (full : 0 < group_size s) (p : IsPairSafe s b
     ];
   }
 
+  -- group after group, from the opening state
   groups-way : (k : ℕ) → k ≤ group_count s → Groups s bound k
   groups-way zero h = record {
     st = state (opening_world s);
@@ -105,6 +106,7 @@ module _ (s : Setup) (bound : ℕ) (full : 0 < group_size s) (p : IsPairSafe s b
       let i = member-below s g 0 c.0 full in
       let q : Ended ≡ Waiting = sym (h (member s g 0) i) ∙ may_go-waits s st.items g (member s g 0) c.1 i (group_of-member s g 0 full) in cc
 
+  -- after all groups nothing can happen
   stuck-last : Stuck s last.st
   stuck-last = stuck_by last.st (λ i hi. last.ended i hi (group-below s i hi))
 
@@ -120,6 +122,7 @@ module _ (s : Setup) (bound : ℕ) (full : 0 < group_size s) (p : IsPairSafe s b
       go None h = h
       go (Some v) h = absurd (stuck e (follows s w v e h).can)
 
+-- the headline
 pub headline_lem : (s : Setup) (bound : ℕ) → 0 < group_size s → IsPairSafe s bound → Headline s bound
 headline_lem s bound full p es w h =
     let al = run-along s es (opening_world s) w (opening-along s) h in

@@ -216,26 +216,29 @@ fn smaller_end(a: Option<i64>, b: Option<i64>) -> Option<i64>
 #[cfg(test)]
 mod tests {
     use super::*;
+    use congruence::Congruence;
     use interval::Interval;
 
-    fn of(first: Interval, second: i64) -> Product<Interval, Interval> {
-        Product {
+    // Three times the members that leave 1 by 4, plus 1.
+    fn image(first: Interval) -> Product<Interval, Congruence> {
+        let class = Product {
             first,
-            second: Interval::of(second),
-        }
+            second: Congruence::of(1).join(Congruence::of(5)),
+        };
+        class.mul(Product::of(3)).add(Product::of(1))
     }
 
     #[test]
-    fn two_intervals(rt: HostRuntime) {
+    fn interval_and_congruence(rt: HostRuntime) {
         let range = Interval::top().at_most(9).at_least(-2);
-        let sum = of(range, 3).add(Product::of(1));
-        assert_eq!(rt; sum.bounds(), Interval::of(4).bounds());
-        let residue = of(range, 3).residue();
+        let ends = Interval::top().at_least(-5).at_most(28);
+        assert_eq!(rt; image(range).bounds(), ends.bounds());
+        let residue = image(range).residue();
         assert_eq!(rt;
             residue,
             Residue {
-                modulus: 0,
-                remainder: 3
+                modulus: 12,
+                remainder: 4
             }
         );
     }

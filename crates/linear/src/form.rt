@@ -31,8 +31,12 @@ pub enum LinearError {
 }
 
 impl LinearError {
+    ghost use Rattle.linear.specs.Errors.{error_number};
+
     /// The number under which the refusal is told.
-    pub fn number(&self) -> u32 {
+    pub fn number(&self) -> u32
+        ensures { result ≡ error_number self.now }
+    {
         match self {
             LinearError::TooLarge => 54,
             LinearError::Memory => 90,

@@ -145,7 +145,3 @@ unfoldable mutual
   pub types_of : List Binding → Expressions → Checked (List TypedTerm)
   types_of names nothing = Ok []
   types_of names (also e es) = then (type_of names e) (λ t. then (types_of names es) (λ ts. Ok (t ∷ ts)))
-
--- a call, by its parts
-abbrev pub call_by : List Binding → Site → List ℕ → Expressions → Checked TypedTerm
-call_by names site name arguments = type_of names (Call site name arguments)

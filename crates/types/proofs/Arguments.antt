@@ -7,9 +7,6 @@ use Rattle.texts.specs.TypeFaults.{WrongType, Checked, refused, then}
 use Rattle.texts.specs.Typing.{TypedTerm, id_term, are_two, pick_term, type_of, types_of}
 use Rattle.syntax.specs.View.{expression, expressions}
 use Rattle.syntax.specs.declared.tree.Expr.{Expr}
-use Rattle.types.specs.Answers.{Refuses}
-use Rattle.types.specs.declared.error.TypeError.{TypeError}
-use Rattle.types.specs.declared.error.TypeError.TheVariants as errors
 
 more : (site : core.Site) (f : core.Function) (e x : Expression) (es : Expressions) → id_term site f (also e (also x es)) ≡ refused WrongType site
 more site f (Number at kind n) x es = refl
@@ -55,7 +52,3 @@ pub ruleset arguments = (id_term-many, expressions-one)
 pub ruleset counted = (are_two-is, are_two-not)
 
 pub ruleset both_typed = (pick-two)
-
-pub Refuses-then : {A B : Type 0} (e : TypeError) (a : Checked A) (go : A → Checked B) → Refuses e a → Refuses e (then a go)
-Refuses-then (errors.At f s) a go h = rw h refl
-Refuses-then errors.Memory a go h = tt

@@ -4,6 +4,7 @@ ghost use Rattle.std.specs.Prelude.{◌≡◌, [], ◌∷◌, length, IfOk};
 ghost use Rattle.std.specs.Option.{option_map};
 ghost use Rattle.semantics.specs.Core as core;
 ghost use Rattle.semantics.specs.Word as word;
+ghost use Rattle.texts.specs.Surface as surface;
 ghost use Rattle.texts.specs.TypeFaults as rules;
 ghost use Rattle.texts.specs.Typing as typing;
 ghost use Rattle.words.specs.View.{kind};
@@ -317,7 +318,7 @@ fn call_term(
     name: &str,
     arguments: &[Expr],
 ) -> Result<TypedTerm, TypeError>
-    ensures { IsTyped result (typing.call_by (names visible.now) (site at) name.now (expressions arguments.now)) }
+    ensures { IsTyped result (typing.type_of (names visible.now) (surface.Call (site at) name.now (expressions arguments.now))) }
 {
     if is_left_out(name) {
         return Err(TypeError::At {

@@ -26,7 +26,7 @@ literal (literals.Int n) = record { kind = words.Int; value = n }
 literal (literals.Uint n) = record { kind = words.Uint; value = n }
 
 abbrev pub kind : TokenKind → tokens.TokenKind
-kind kinds.Name = tokens.Name
+kind (kinds.Name name) = tokens.Name name.now
 kind (kinds.Reserved w) = tokens.Word (word w)
 kind (kinds.Number n) = tokens.Number (literal n)
 kind (kinds.Sign s) = tokens.Mark (sign s)

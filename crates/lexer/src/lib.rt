@@ -32,10 +32,10 @@ pub enum Literal {
     Uint(u32),
 }
 
-/// What a token is.
+/// What a token is; a name lends its text.
 #[derive(Clone, Copy, Debug, PartialEq, Eq)]
-pub enum TokenKind {
-    Name,
+pub enum TokenKind<'a> {
+    Name(&'a str),
     Reserved(Reserved),
     Number(Literal),
     Sign(Sign),
@@ -44,8 +44,8 @@ pub enum TokenKind {
 
 /// A token: its text is `start..stop`, and its first byte stands at the line and column, each counted from 1.
 #[derive(Clone, Copy, Debug, PartialEq, Eq)]
-pub struct Token {
-    pub kind: TokenKind,
+pub struct Token<'a> {
+    pub kind: TokenKind<'a>,
     pub start: usize,
     pub stop: usize,
     pub line: u32,
@@ -127,9 +127,9 @@ impl<T: Drop> From<AllocFailed<T>> for TextError {
     }
 }
 
-enum Piece {
+enum Piece<'a> {
     Gap(usize),
-    Has(TokenKind, usize),
+    Has(TokenKind<'a>, usize),
     Bad(TextFault),
 }
 
@@ -140,7 +140,7 @@ struct Site {
 }
 
 /// The tokens of a text, the last one `End`, or its first fault.
-pub fn lex(alloc: Global, text: &[u8]) -> Result<Vec<Token>, TextError>
+pub fn lex(alloc: Global, text: &[u8]) -> Result<Vec<Token<'_>>, TextError>
     ensures { Gives result (tokens_of text.now) }
 {
     if text.len() > LIMIT {
@@ -213,7 +213,7 @@ fn past_byte(before: Site, byte: u8) -> Site
 }
 
 /// What stands at the front of bytes, of which `first` is the first.
-fn piece_at(first: u8, bytes: &[u8]) -> Piece
+fn piece_at(first: u8, bytes: &[u8]) -> Piece<'_>
     ensures { piece_seen result ≡ piece first bytes.now }
 {
     if is_blank(first) {
@@ -261,18 +261,22 @@ fn word_len(bytes: &[u8]) -> usize
     bytes.len()
 }
 
-fn kind_of_word(word: &[u8]) -> TokenKind
-    ensures { kind result ≡ word_kind (find (λ entry. bytes_eq entry.0 word.now) reserved_words) }
+fn kind_of_word(word: &[u8]) -> TokenKind<'_>
+    requires { prefix_len is_word_byte word.now ≡ length word.now }
+    ensures { kind result ≡ word_kind word.now (find (λ entry. bytes_eq entry.0 word.now) reserved_words) }
 {
     for (text, reserved) in reserved_words() {
         if *text == word {
             return TokenKind::Reserved(*reserved);
         }
     }
-    TokenKind::Name
+    match str::from_utf8(word) {
+        Ok(name) => TokenKind::Name(name),
+        Err(_) => unreachable!(),
+    }
 }
 
-fn sign_at(bytes: &[u8]) -> Piece
+fn sign_at(bytes: &[u8]) -> Piece<'_>
     ensures { piece_seen result ≡ sign_piece (find (λ entry. begins_with bytes.now entry.0) signs) }
 {
     for (text, sign) in signs() {
@@ -296,7 +300,7 @@ fn line_len(bytes: &[u8]) -> usize
 }
 
 /// The comment that begins with these bytes.
-fn comment_at(bytes: &[u8]) -> Piece
+fn comment_at(bytes: &[u8]) -> Piece<'_>
     requires { 2 ≤ length bytes.now }
     ensures { piece_seen result ≡ comment_piece (comment_end 2 (drop 2 bytes.now)) }
 {

@@ -79,7 +79,7 @@ fn reads_tokens_and_places(rt: HostRuntime) -> Result<(), Fail> {
         ("/ *", "1:1 Sign(Slash), 1:3 Sign(Star), 1:4 End, "),
         (
             "ifs If __if _",
-            "1:1 Name, 1:5 Name, 1:8 Name, 1:13 Name, 1:14 End, ",
+            "1:1 Name(\"ifs\"), 1:5 Name(\"If\"), 1:8 Name(\"__if\"), 1:13 Name(\"_\"), 1:14 End, ",
         ),
         ("0", "1:1 Number(Int(0)), 1:2 End, "),
         ("0u 00", "4 1:4"),
@@ -110,12 +110,12 @@ fn reads_tokens_and_places(rt: HostRuntime) -> Result<(), Fail> {
         ("/* é */;", "1:9 Sign(Semicolon), 1:10 End, "),
         (
             "a\rb\r\nc\n\td",
-            "1:1 Name, 1:3 Name, 2:1 Name, 3:2 Name, 3:3 End, ",
+            "1:1 Name(\"a\"), 1:3 Name(\"b\"), 2:1 Name(\"c\"), 3:2 Name(\"d\"), 3:3 End, ",
         ),
         ("a\n @ 08 /*", "1 2:2"),
         (
             "x/=y/z",
-            "1:1 Name, 1:2 Sign(SlashEqual), 1:4 Name, 1:5 Sign(Slash), 1:6 Name, 1:7 End, ",
+            "1:1 Name(\"x\"), 1:2 Sign(SlashEqual), 1:4 Name(\"y\"), 1:5 Sign(Slash), 1:6 Name(\"z\"), 1:7 End, ",
         ),
     ] {
         assert_eq!(rt;
@@ -133,7 +133,7 @@ fn reads_each_byte_alone(rt: HostRuntime) -> Result<(), Fail> {
         let want = match byte {
             b' ' | b'\t' | b'\r' => "1:2 End, ",
             b'\n' => "2:1 End, ",
-            b'a'..=b'z' | b'A'..=b'Z' | b'_' => "1:1 Name, 1:2 End, ",
+            b'a'..=b'z' | b'A'..=b'Z' | b'_' => "1:1 Name(",
             b'0'..=b'9'
             | b'!'
             | b'%'

@@ -19,14 +19,14 @@ word_written first [] rest h w = cc (sym h ∙ w.1)
 word_written first (b ∷ bytes) rest h w = omega arith
 
 pub text_written : (kind : TokenKind) (bytes rest : List ℕ) → IsText kind bytes rest → 0 < length bytes
-text_written Name bytes rest t = word_written is_letter bytes rest refl t.0
+text_written (Name name) bytes rest t = word_written is_letter bytes rest refl t.0
 text_written (Word w) bytes rest t = word_written is_letter bytes rest refl t.0
 text_written (Number n) bytes rest t = word_written is_decimal_digit bytes rest refl t.0
 text_written (Mark s) bytes rest t = written signs (bytes, s) signs_written t.0
 text_written End bytes rest t = absurd t
 
 not_end : (kind : TokenKind) (bytes rest : List ℕ) → IsText kind bytes rest → kind ≢ End
-not_end Name bytes rest t e = cc
+not_end (Name name) bytes rest t e = cc
 not_end (Word w) bytes rest t e = cc
 not_end (Number n) bytes rest t e = cc
 not_end (Mark s) bytes rest t e = cc

@@ -28,7 +28,7 @@ by_parts P all p q count e l h =
     subst (λ xs. P xs (drop count all)) t (subst (P p) d h)
 
 -- the longest front that passes
-run : (p : ℕ → Bool) (xs : List ℕ) → IsRun p (take (prefix_len p xs) xs) (drop (prefix_len p xs) xs)
+pub run : (p : ℕ → Bool) (xs : List ℕ) → IsRun p (take (prefix_len p xs) xs) (drop (prefix_len p xs) xs)
 run p [] = (refl, refl)
 run p (x ∷ xs) =
     cond_both (p x) (1 + prefix_len p xs) 0 (λ n. IsRun p (take n (x ∷ xs)) (drop n (x ∷ xs)))
@@ -102,8 +102,8 @@ longest p (y ∷ xs) e x f h c t =
     (λ i h. let k : y ≡ e = cc in elim (one_of y xs x c.0 c.1 c.2) [ inl j ↦ omega (arith, ap (λ z. length z.0) j, ap (λ z. length z.0) k) | inr d ↦ omega (arith, bounded (length y.0) xs x b.0 d, ap (λ z. length z.0) k) ])
     (λ i h. elim (one_of y xs x c.0 c.1 c.2) [ inl j ↦ absurd (false≢true (sym i ∙ ap p j ∙ t)) | inr d ↦ longest p xs e x b.1 h d t ]) h
 
-word_means : (all : List ℕ) (o : Option (List ℕ × Reserved)) → IsWord is_letter (take_while is_word_byte all) (drop (prefix_len is_word_byte all) all) → find (λ entry. bytes_eq entry.0 (take_while is_word_byte all)) reserved_words ≡ o → Means all (Has (word_kind o) (prefix_len is_word_byte all))
-word_means all None h e = (h, λ w c. false≢true (sym (not_found (λ entry. bytes_eq entry.0 (take_while is_word_byte all)) reserved_words _ e c) ∙ (bytes_eq-Decides (take_while is_word_byte all) (take_while is_word_byte all)).1 refl))
+word_means : (all : List ℕ) (o : Option (List ℕ × Reserved)) → IsWord is_letter (take_while is_word_byte all) (drop (prefix_len is_word_byte all) all) → find (λ entry. bytes_eq entry.0 (take_while is_word_byte all)) reserved_words ≡ o → Means all (Has (word_kind (take_while is_word_byte all) o) (prefix_len is_word_byte all))
+word_means all None h e = (h, (λ w c. false≢true (sym (not_found (λ entry. bytes_eq entry.0 (take_while is_word_byte all)) reserved_words _ e c) ∙ (bytes_eq-Decides (take_while is_word_byte all) (take_while is_word_byte all)).1 refl)), refl)
 word_means all (Some entry) h e =
     let r = found (λ entry. bytes_eq entry.0 (take_while is_word_byte all)) reserved_words entry e in
     (h, subst (λ xs. Contains reserved_words (xs, entry.1)) ((bytes_eq-Decides entry.0 (take_while is_word_byte all)).0 r.1) r.0)

@@ -92,25 +92,25 @@ digit : (b : ℕ) → is_decimal_digit b ≡ true → (is_blank b ≡ false) × 
 digit b h = (grind (arith, nat_tests), grind (arith, nat_tests))
 
 -- a word that no entry has is not found
-unlisted : (bytes : List ℕ) (o : Option (List ℕ × Reserved)) → find (λ entry. bytes_eq entry.0 bytes) reserved_words ≡ o → ((word : Reserved) → ¬ (Contains reserved_words (bytes, word))) → word_kind o ≡ Name
+unlisted : (bytes : List ℕ) (o : Option (List ℕ × Reserved)) → find (λ entry. bytes_eq entry.0 bytes) reserved_words ≡ o → ((word : Reserved) → ¬ (Contains reserved_words (bytes, word))) → word_kind bytes o ≡ Name bytes
 unlisted bytes None e h = refl
 unlisted bytes (Some entry) e h =
     let r = found (λ entry. bytes_eq entry.0 bytes) reserved_words entry e in
     absurd (h entry.1 (subst (λ xs. Contains reserved_words (xs, entry.1)) ((bytes_eq-Decides entry.0 bytes).0 r.1) r.0))
 
-listed : (bytes : List ℕ) (word : Reserved) (o : Option (List ℕ × Reserved)) → find (λ entry. bytes_eq entry.0 bytes) reserved_words ≡ o → Contains reserved_words (bytes, word) → word_kind o ≡ Word word
+listed : (bytes : List ℕ) (word : Reserved) (o : Option (List ℕ × Reserved)) → find (λ entry. bytes_eq entry.0 bytes) reserved_words ≡ o → Contains reserved_words (bytes, word) → word_kind bytes o ≡ Word word
 listed bytes word None e c = absurd (false≢true (sym (not_found (λ entry. bytes_eq entry.0 bytes) reserved_words (bytes, word) e c) ∙ (bytes_eq-Decides bytes bytes).1 refl))
 listed bytes word (Some entry) e c =
     let r = found (λ entry. bytes_eq entry.0 bytes) reserved_words entry e in
     ap Word (unique reserved_words entry (bytes, word) words_apart r.0 c ((bytes_eq-Decides entry.0 bytes).0 r.1))
 
-letter_back : (b : ℕ) (bytes rest : List ℕ) (kind : TokenKind) → IsWord is_letter (b ∷ bytes) rest → word_kind (find (λ entry. bytes_eq entry.0 (b ∷ bytes)) reserved_words) ≡ kind → Begins (b ∷ bytes) rest (Has kind (suc (length bytes)))
+letter_back : (b : ℕ) (bytes rest : List ℕ) (kind : TokenKind) → IsWord is_letter (b ∷ bytes) rest → word_kind (b ∷ bytes) (find (λ entry. bytes_eq entry.0 (b ∷ bytes)) reserved_words) ≡ kind → Begins (b ∷ bytes) rest (Has kind (suc (length bytes)))
 letter_back b bytes rest kind w k =
     let all : List ℕ = b ∷ (bytes ++ rest) in
     let n = run_back is_word_byte (b ∷ bytes) rest w.0 in
     let same = ap (λ n. take n all) n ∙ take_at (b ∷ bytes) rest (suc (length bytes)) refl in
     cond-false (is_blank b) _ _ (letter b w.1) ∙ cond-true (is_letter b) _ _ w.1
-    ∙ ap (λ xs. Has (word_kind (find (λ entry. bytes_eq entry.0 xs) reserved_words)) (prefix_len is_word_byte all)) same
+    ∙ ap (λ xs. Has (word_kind xs (find (λ entry. bytes_eq entry.0 xs) reserved_words)) (prefix_len is_word_byte all)) same
     ∙ ap (λ k. Has k (prefix_len is_word_byte all)) k ∙ ap (Has kind) n
 
 -- no sign begins as a blank or a word does
@@ -147,7 +147,7 @@ sign_back all bytes sign (Some entry) e c h l =
 
 text_back : (kind : TokenKind) (bytes rest : List ℕ) → IsText kind bytes rest → Begins bytes rest (Has kind (length bytes))
 text_back kind [] rest t = omega (arith, text_written kind [] rest t)
-text_back Name (b ∷ bytes) rest t = letter_back b bytes rest Name t.0 (unlisted (b ∷ bytes) _ refl t.1)
+text_back (Name name) (b ∷ bytes) rest t = letter_back b bytes rest (Name name) t.0 (unlisted (b ∷ bytes) _ refl t.1 ∙ ap Name (sym t.2))
 text_back (Word word) (b ∷ bytes) rest t = letter_back b bytes rest (Word word) t.0 (listed (b ∷ bytes) word _ refl t.1)
 text_back (Number literal) (b ∷ bytes) rest t =
     let all : List ℕ = b ∷ (bytes ++ rest) in

@@ -9,3 +9,8 @@ pub mod TypeFaults
 pub mod Scope
 pub mod Typing
 pub mod Elaboration
+pub mod Lexemes
+pub mod Grammar
+pub mod ParseFaults
+pub mod KernelGrammar
+pub mod Limits

@@ -24,7 +24,7 @@ IsWord first bytes rest = IsRun is_word_byte bytes rest × (first (slice_index_o
 -- the bytes of a token: a word or number has all word bytes that follow; a sign is the longest that stands here, and no
 -- comment begins here
 abbrev pub IsText : TokenKind → (bytes rest : List ℕ) → Type 0
-IsText Name bytes rest = IsWord is_letter bytes rest × ((word : Reserved) → ¬ (Contains reserved_words (bytes, word)))
+IsText (Name name) bytes rest = IsWord is_letter bytes rest × ((word : Reserved) → ¬ (Contains reserved_words (bytes, word))) × (name ≡ bytes)
 IsText (Word word) bytes rest = IsWord is_letter bytes rest × Contains reserved_words (bytes, word)
 IsText (Number literal) bytes rest = IsWord is_decimal_digit bytes rest × (number_of bytes ≡ Ok literal)
 IsText (Mark sign) bytes rest =

@@ -9,9 +9,10 @@ use Rattle.texts.specs.Reserved.{Reserved, reserved_words}
 use Rattle.texts.specs.Faults.{TextFault, BadByte, OpenComment, TextTooLong}
 use Rattle.texts.specs.Numbers.{Literal, is_decimal_digit, number_of}
 
--- what a token is; `End` stands at the end of each text
+-- what a token is: a name has its bytes; `End` stands at the end of each text
 pub data TokenKind : Type 0 where
-  Name End : TokenKind
+  Name : (name : List ℕ) → TokenKind
+  End : TokenKind
   Word : (word : Reserved) → TokenKind
   Number : (literal : Literal) → TokenKind
   Mark : (sign : Sign) → TokenKind
@@ -75,10 +76,10 @@ abbrev pub comment_piece : Option ℕ → Piece
 comment_piece None = Bad OpenComment
 comment_piece (Some count) = Gap count
 
--- a word is reserved where it is in the table
-abbrev pub word_kind : Option (List ℕ × Reserved) → TokenKind
-word_kind None = Name
-word_kind (Some entry) = Word entry.1
+-- a word is reserved where it is in the table, else a name
+abbrev pub word_kind : (word : List ℕ) → Option (List ℕ × Reserved) → TokenKind
+word_kind word None = Name word
+word_kind word (Some entry) = Word entry.1
 
 -- a word that is no number is a fault
 abbrev pub number_piece : Result Literal TextFault → (count : ℕ) → Piece
@@ -96,7 +97,7 @@ sign_piece (Some entry) = Has (Mark entry.1) (length entry.0)
 abbrev pub piece : ℕ → List ℕ → Piece
 piece b bytes =
     cond (is_blank b) (Gap 1) (
-    cond (is_letter b) (Has (word_kind (find (λ entry. bytes_eq entry.0 (take_while is_word_byte bytes)) reserved_words)) (prefix_len is_word_byte bytes)) (
+    cond (is_letter b) (Has (word_kind (take_while is_word_byte bytes) (find (λ entry. bytes_eq entry.0 (take_while is_word_byte bytes)) reserved_words)) (prefix_len is_word_byte bytes)) (
     cond (is_decimal_digit b) (number_piece (number_of (take_while is_word_byte bytes)) (prefix_len is_word_byte bytes)) (
     cond (begins_with bytes (codes "//")) (Gap (position_or_len is_line_feed bytes)) (
     cond (begins_with bytes (codes "/*")) (comment_piece (comment_end 2 (drop 2 bytes))) (

@@ -1,0 +1,5 @@
+pub mod Lists
+pub mod Steps
+pub mod StatementSteps
+pub mod ParameterLists
+pub mod Depths

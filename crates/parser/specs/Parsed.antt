@@ -1,0 +1,51 @@
+-- What tokens are read as: the one kernel within the limits, or a fault and its place.
+use Rattle.std.specs.Prelude.{◌≡◌, ℕ, List, Result, Ok, Err}
+use Rattle.semantics.specs.Core as core
+use Rattle.texts.specs.Lexemes.{Lexeme}
+use Rattle.texts.specs.ParseFaults as rules
+use Rattle.texts.specs.ParseFaults.{parse_fault_number}
+use Rattle.texts.specs.Limits as limits
+use Rattle.texts.specs.Limits.{within_limits}
+use Rattle.texts.specs.Surface as surface
+use Rattle.syntax.specs.View.{site, kernel}
+use Rattle.syntax.specs.declared.tree.Site.{Site}
+use Rattle.syntax.specs.declared.tree.Kernel.{Kernel}
+use Rattle.parser.specs.Reader.{Outcome, Took, Refused, front, run}
+use Rattle.parser.specs.Kernels.{kernel_reader}
+use Rattle.parser.specs.View.{fault}
+use Rattle.parser.specs.Counted.{counts}
+use Rattle.parser.specs.declared.counts.Counts as code
+use Rattle.parser.specs.declared.error.ParseFault.{ParseFault}
+use Rattle.parser.specs.declared.error.ParseError.{ParseError}
+use Rattle.parser.specs.declared.error.ParseError.TheVariants as errors
+
+abbrev pub Parsed : Type 0
+Parsed = Result surface.Kernel (rules.ParseFault × core.Site)
+
+abbrev pub judged : surface.Kernel → Result limits.Counts (rules.ParseFault × core.Site) → Parsed
+judged k (Ok c) = Ok k
+judged k (Err e) = Err e
+
+abbrev pub finished : Outcome surface.Kernel → Parsed
+finished (Took k rest) = judged k (within_limits k)
+finished (Refused f rest) = Err (f, (front rest).site)
+
+unfoldable pub parsed : List Lexeme → Parsed
+parsed ts = finished (run kernel_reader ts)
+
+-- an error is the definition's, unless memory was refused
+abbrev pub Fails : ParseError → Parsed → Type 0
+Fails (errors.At f s) answer = answer ≡ Err (fault f, site s)
+Fails errors.Memory answer = Unit {0}
+
+abbrev pub Gives : Result Kernel ParseError → Parsed → Type 0
+Gives (Ok k) answer = answer ≡ Ok (kernel k)
+Gives (Err e) answer = Fails e answer
+
+abbrev pub Measures : Result code.Counts (ParseFault × Site) → Result limits.Counts (rules.ParseFault × core.Site) → Type 0
+Measures (Ok c) answer = answer ≡ Ok (counts c)
+Measures (Err e) answer = answer ≡ Err (fault e.0, site e.1)
+
+abbrev pub error_number : ParseError → ℕ
+error_number (errors.At f s) = parse_fault_number (fault f)
+error_number errors.Memory = 90

@@ -1,0 +1,70 @@
+//! Tokens to trees. `parse` reads the whole language, without recursion deeper than the limits of brackets and levels allow; its answer is
+//! the tree that the definition in `specs/` reads, or the fault that it names at its place.
+#![tactic(auto)]
+
+ghost use Rattle.syntax.specs.View.{kernel as kernel_seen};
+ghost use Rattle.parser.specs.View.{lexemes};
+ghost use Rattle.parser.specs.Parsed.{parsed, Gives, Measures};
+ghost use Rattle.texts.specs.Limits.{within_limits};
+
+pub(crate) mod counts;
+pub mod error;
+pub(crate) mod expressions;
+pub(crate) mod front;
+pub(crate) mod kernels;
+pub(crate) mod limits;
+pub(crate) mod parts;
+pub(crate) mod statements;
+#[cfg(test)]
+mod tests;
+
+use counts::{Counts, count_parameters, count_statements};
+use error::{ParseError, ParseFault, Stop};
+use front::site_at;
+use kernels::whole_kernel;
+use lexer::Token;
+use limits::deep_statements;
+use std::alloc::Global;
+use syntax::tree::{Kernel, Site};
+
+#[tactic(auto, unfolding(texts::specs::Limits::within_limits))]
+fn measure(kernel: &Kernel) -> Result<Counts, (ParseFault, Site)>
+    ensures { Measures result (within_limits (kernel_seen kernel.now)) }
+{
+    if let Some(site) = deep_statements(1, kernel.body.as_slice()) {
+        return Err((ParseFault::TooDeep, site));
+    }
+    let none = Counts {
+        buffers: 0,
+        variables: 0,
+        arrays: 0,
+    };
+    let parameters = match count_parameters(none, kernel.parameters.as_slice()) {
+        Ok(counted) => counted,
+        Err(site) => return Err((ParseFault::TooMany, site)),
+    };
+    match count_statements(parameters, kernel.body.as_slice()) {
+        Ok(counted) => Ok(counted),
+        Err(site) => Err((ParseFault::TooMany, site)),
+    }
+}
+
+/// The kernel that the tokens are, the last of them `End`; else a fault and its place: that of the token where another is due, of a
+/// bracket, node or name past a limit.
+#[tactic(auto, unfolding(crate::specs::Parsed::parsed))]
+pub fn parse(alloc: Global, tokens: &[Token]) -> Result<Kernel, ParseError>
+    ensures { Gives result (parsed (lexemes tokens.now)) }
+{
+    let kernel = match whole_kernel(alloc, tokens) {
+        Ok((kernel, _)) => kernel,
+        Err(Stop::Memory) => return Err(ParseError::Memory),
+        Err(Stop::Refused(fault, rest)) => return Err(ParseError::At {
+            fault,
+            site: site_at(rest),
+        }),
+    };
+    match measure(&kernel) {
+        Ok(_) => Ok(kernel),
+        Err((fault, site)) => Err(ParseError::At { fault, site }),
+    }
+}

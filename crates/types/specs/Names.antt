@@ -2,10 +2,11 @@
 use Rattle.std.specs.Prelude.{List, map}
 use Rattle.texts.specs.Scope as scope
 use Rattle.words.specs.View.{kind}
-use Rattle.types.specs.View.{array}
+use Rattle.types.specs.View.{array, local_array}
 use Rattle.types.specs.declared.scope.Meaning.{Meaning}
 use Rattle.types.specs.declared.scope.Meaning.TheVariants as meanings
 use Rattle.types.specs.declared.scope.Binding.{Binding}
+use Rattle.types.specs.declared.scope.Scope.{Scope}
 
 abbrev pub meaning_seen : Meaning → scope.Meaning
 meaning_seen (meanings.Variable slot k) = scope.VariableAt slot (kind k)
@@ -16,3 +17,11 @@ binding b = record { name = b.name.now; meaning = meaning_seen b.meaning }
 
 abbrev pub names : List Binding → List scope.Binding
 names bs = map binding bs
+
+abbrev pub scope_seen : Scope → scope.Scope
+scope_seen s = record {
+  visible = names s.visible.items;
+  slots = map kind s.slots.items;
+  buffers = map kind s.buffers.items;
+  arrays = map local_array s.arrays.items;
+}

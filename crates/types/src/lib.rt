@@ -2,10 +2,15 @@
 //! type are written out, and each statement keeps its number in the source. And the typing of expressions.
 #![tactic(auto)]
 
+pub mod assignments;
+pub mod barriers;
 pub mod calls;
 pub mod core_tree;
+pub mod declarations;
 pub mod error;
+pub mod loads;
 pub mod scope;
+pub mod statements;
 #[cfg(test)]
 mod tests;
 pub mod typing;

@@ -26,11 +26,13 @@ fn target_array(at: Site, meaning: Option<Meaning>) -> Result<(Array, Kind), Typ
     ensures { IsArrayOf result (rules.then (rules.found (option_map meaning_seen meaning) rules.UnknownName (site at)) (elaboration.target_array (site at))) }
 {
     let fault = match meaning {
-        Some(Meaning::Array {
-            array,
-            kind,
-            writable: true,
-        }) => return Ok((array, kind)),
+        Some(
+            Meaning::Array {
+                array,
+                kind,
+                writable: true,
+            },
+        ) => return Ok((array, kind)),
         Some(Meaning::Array { .. }) => TypeFault::WriteToConst,
         Some(Meaning::Variable { .. }) => TypeFault::WrongType,
         None => TypeFault::UnknownName,

@@ -1,11 +1,9 @@
 //! Barriers and their fence flags.
 
 ghost use Rattle.std.specs.Prelude.{◌≡◌};
-ghost use Rattle.semantics.specs.Core as core;
-ghost use Rattle.semantics.specs.Word as word;
 ghost use Rattle.texts.specs.Elaboration as elaboration;
 ghost use Rattle.texts.specs.Surface as surface;
-ghost use Rattle.syntax.specs.View.{expression};
+ghost use Rattle.syntax.specs.View.{site as site_of, infix_sign, expression};
 ghost use Rattle.types.specs.View.{statement};
 ghost use Rattle.types.specs.Answers.{Gives};
 
@@ -47,10 +45,19 @@ fn one_flag(flag: &Expr) -> Result<bool, TypeError>
     }
 }
 
-// Both flags, in either order.
-fn two_flags(number: u32, left: &Expr, right: &Expr) -> Result<Statement, TypeError>
-    ensures { (at : core.Site) → Gives statement result (elaboration.barrier_of number (surface.Infix at (surface.Arithmetic word.BitOr) (expression left.now) (expression right.now))) }
+// Both flags joined by `|`, in either order; no other sign joins them.
+fn joined(
+    number: u32,
+    at: Site,
+    sign: InfixSign,
+    left: &Expr,
+    right: &Expr,
+) -> Result<Statement, TypeError>
+    ensures { Gives statement result (elaboration.barrier_of number (surface.Infix (site_of at) (infix_sign sign) (expression left.now) (expression right.now))) }
 {
+    let InfixSign::Arithmetic(Operator::BitOr) = sign else {
+        return refused(at);
+    };
     if one_flag(left)? == one_flag(right)? {
         return refused(right.site());
     }
@@ -66,13 +73,13 @@ pub fn barrier_of(number: u32, flags: &Expr) -> Result<Statement, TypeError>
     ensures { Gives statement result (elaboration.barrier_of number (expression flags.now)) }
 {
     if let Expr::Infix {
-        sign: InfixSign::Arithmetic(Operator::BitOr),
+        site,
+        sign,
         left,
         right,
-        ..
     } = flags
     {
-        return two_flags(number, left, right);
+        return joined(number, *site, *sign, left, right);
     }
     let local = one_flag(flags)?;
     Ok(Statement::Barrier {

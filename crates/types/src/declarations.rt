@@ -43,12 +43,7 @@ pub fn may_declare(scope: &Scope, name: &str) -> bool
 
 impl<'a> Scope<'a> {
     // The name takes its meaning, where it may.
-    fn bind(
-        &mut self,
-        at: Site,
-        name: &'a str,
-        meaning: Meaning,
-    ) -> Result<(), TypeError>
+    fn bind(&mut self, at: Site, name: &'a str, meaning: Meaning) -> Result<(), TypeError>
         ensures { Gives (λ _. scope_seen self.new) result (rules.when (scoping.may_declare (scope_seen self.old) name.now) rules.NameTwice (site at) (scoping.bind (scope_seen self.old) name.now (meaning_seen meaning))) }
     {
         if !may_declare(self, name) {

@@ -1,19 +1,23 @@
 //! Statements.
 
-ghost use Rattle.std.specs.Prelude.{◌≡◌, Ok};
+ghost use Rattle.std.specs.Prelude.{◌≡◌, ℕ, Ok};
+ghost use Rattle.semantics.specs.Core as core;
 ghost use Rattle.texts.specs.Elaboration as elaboration;
-ghost use Rattle.syntax.specs.View.{declaration, first as first_of};
+ghost use Rattle.texts.specs.Surface as surface;
+ghost use Rattle.words.specs.View.{kind as kind_of};
+ghost use Rattle.syntax.specs.View.{site as site_of, declaration, first as first_of};
 ghost use Rattle.types.specs.View.{statement};
 ghost use Rattle.types.specs.Names.{scope_seen};
 ghost use Rattle.types.specs.Answers.{Gives};
 
 use crate::assignments::elaborate_assignment;
 use crate::core_tree::Statement;
-use crate::error::TypeError;
+use crate::error::{TypeError, TypeFault};
 use crate::scope::Scope;
 use crate::typing::{bring, type_of};
 use std::alloc::Global;
-use syntax::tree::{Declaration, First};
+use syntax::tree::{Declaration, First, Site};
+use words::Kind;
 
 /// The core statement of a declaration, whose name is visible after its value.
 #[tactic(auto, unfolding(texts::specs::Elaboration::elaborate_declaration))]
@@ -44,4 +48,25 @@ fn elaborate_first<'a>(
         First::Declares(declaration) => elaborate_declaration(alloc, scope, declaration),
         First::Assigns(assignment) => elaborate_assignment(alloc, scope, assignment),
     }
+}
+
+#[tactic(auto, unfolding(texts::specs::Elaboration::elaborate_statement))]
+fn declare_local<'a>(
+    scope: &mut Scope<'a>,
+    top: bool,
+    site: Site,
+    name_site: Site,
+    name: &'a str,
+    kind: Kind,
+    length: u32,
+) -> Result<(), TypeError>
+    ensures { (n : ℕ) → Gives (λ _. elaboration.elaborated core.none (scope_seen scope.new)) result (elaboration.elaborate_statement top (scope_seen scope.old) (surface.DeclareArray n (site_of site) (kind_of kind) (site_of name_site) name.now length)) }
+{
+    if !top {
+        return Err(TypeError::At {
+            fault: TypeFault::ArrayInBlock,
+            site,
+        });
+    }
+    scope.declare_array(name_site, name, kind, length)
 }

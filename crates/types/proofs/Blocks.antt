@@ -1,20 +1,27 @@
 -- Blocks, and statements behind others.
-use Rattle.std.proofs.Common.{◌≡◌, ℕ, Bool, true, false, List, [], ◌∷◌, ◌++◌, Ok, Err, refl, ap, ◌∙◌, sym, append_assoc}
+use Rattle.std.proofs.Common.{◌≡◌, ℕ, suc, ◌+◌, ◌<◌, ◌≤◌, Bool, List, [], ◌∷◌, ◌++◌, length, drop, get_or, Result, Ok, Err, refl, ap, ◌∙◌, sym, add-one, drop-cons}
+use Rattle.std.proofs.Math.ListN.{drop_of_length-le}
 use Rattle.semantics.specs.Core as core
 use Rattle.texts.specs.Surface as surface
-use Rattle.texts.specs.TypeFaults.{Checked, then, when}
+use Rattle.texts.specs.TypeFaults.{Checked, then}
 use Rattle.texts.specs.Scope.{Scope, leave_block}
-use Rattle.texts.specs.Typing.{type_of}
+use Rattle.texts.specs.Typing.{TypedTerm, type_of}
 use Rattle.texts.specs.Elaboration.{Elaborated, elaborated, single, join, elaborate_first, elaborate_assignment, elaborate_statement, elaborate_all}
 use Rattle.types.specs.View.{statement, statements}
-use Rattle.types.specs.Blocks.{behind, block}
+use Rattle.types.specs.Blocks.{behind, block, repeated, otherwise}
+use Rattle.types.specs.Answers.{Gives, Refuses}
 use Rattle.types.specs.declared.core_tree.Statement.{Statement}
+use Rattle.types.specs.declared.error.TypeError.{TypeError}
+use Rattle.types.specs.declared.error.TypeError.TheVariants as errors
+use Rattle.syntax.specs.View.{statement as stmt, statements as stmts}
+use Rattle.syntax.specs.declared.tree.Stmt.{Stmt}
+use Rattle.types.proofs.Rows.{seen_if, seen_loop}
 
 then-then : {A B C : Type 0} → (a : Checked A) (f : A → Checked B) (g : B → Checked C) → then (then a f) g ≡ then a (λ x. then (f x) g)
 then-then (Ok a) f g = refl
 then-then (Err e) f g = refl
 
-pub block-if : (top : Bool) (sc : Scope) (n : ℕ) (s : core.Site) (e : surface.Expression) (a b : surface.Statements) → elaborate_statement top sc (surface.If n s e a b) ≡ then (type_of sc.visible e) (λ t. then (block sc a) (λ x. then (block x.scope b) (λ y. Ok (elaborated (single (core.If n t.term x.statements y.statements)) y.scope))))
+pub block-if : (top : Bool) (sc : Scope) (n : ℕ) (s : core.Site) (e : surface.Expression) (a b : surface.Statements) → elaborate_statement top sc (surface.If n s e a b) ≡ then (type_of sc.visible e) (λ t. then (block sc a) (λ x. otherwise x.scope n t.term x.statements b))
 unfolding elaborate_statement
 block-if top sc n s e a b = simp then-then
 
@@ -22,11 +29,11 @@ pub block-while : (top : Bool) (sc : Scope) (n : ℕ) (s : core.Site) (e : surfa
 unfolding elaborate_statement
 block-while top sc n s e a = simp then-then
 
-pub block-for : (top : Bool) (sc : Scope) (n : ℕ) (s : core.Site) (first : surface.First) (e : surface.Expression) (update : surface.Assignment) (a : surface.Statements) → elaborate_statement top sc (surface.For n s first e update a) ≡ then (elaborate_first sc first) (λ f. then (type_of f.scope.visible e) (λ t. then (elaborate_assignment f.scope update) (λ u. then (block f.scope a) (λ x. Ok (elaborated (join f.statements (single (core.Loop n t.term x.statements (single u)))) (leave_block sc x.scope))))))
+pub block-for : (top : Bool) (sc : Scope) (n : ℕ) (s : core.Site) (first : surface.First) (e : surface.Expression) (update : surface.Assignment) (a : surface.Statements) → elaborate_statement top sc (surface.For n s first e update a) ≡ then (elaborate_first sc first) (λ f. then (repeated f.scope n e update a) (λ x. Ok (elaborated (join f.statements x.statements) (leave_block sc x.scope))))
 unfolding elaborate_statement
 block-for top sc n s first e update a = simp then-then
 
-join-none : (a : core.Statements) → join a core.none ≡ a
+pub join-none : (a : core.Statements) → join a core.none ≡ a
 join-none core.none = refl
 join-none (core.one s ss) = ap (core.one s) (join-none ss)
 
@@ -49,3 +56,30 @@ behind-nothing before sc = ap (λ b. Ok (elaborated b sc)) (join-none before)
 pub behind-none : (answer : Checked Elaborated) → behind core.none answer ≡ answer
 behind-none (Ok e) = refl
 behind-none (Err e) = refl
+
+pub all-done : (top : Bool) (out : core.Statements) (sc : Scope) (ss : List Stmt) (i : ℕ) → length ss ≤ i → behind out (elaborate_all top sc (stmts (drop i ss))) ≡ Ok (elaborated out sc)
+unfolding elaborate_statement
+all-done top out sc ss i h = rw (drop_of_length-le ss h) (ap (λ b. Ok (elaborated b sc)) (join-none out))
+
+pub all-step : (top : Bool) (out : core.Statements) (sc : Scope) (ss : List Stmt) (i : ℕ) (s : Stmt) → i < length ss → s ≡ get_or ss i s → behind out (elaborate_all top sc (stmts (drop i ss))) ≡ then (behind out (elaborate_statement top sc (stmt s))) (λ a. behind a.statements (elaborate_all top a.scope (stmts (drop (i + 1) ss))))
+all-step top out sc ss i s h e = rw (add-one, drop-cons ss i s, ← e) (behind-one top out sc (stmt s) (stmts (drop (suc i) ss)))
+
+-- what an answer stands for, behind others
+pub gives-behind : {A : Type 0} → (r : Result A TypeError) (x : Checked Elaborated) (out : core.Statements) (after : Scope) → Gives (λ _. elaborated core.none after) r x → Gives (λ _. elaborated out after) r (behind out x)
+gives-behind (Ok a) x out after h = rw h (ap (λ b. Ok (elaborated b after)) (join-none out))
+gives-behind (Err (errors.At f s)) x out after h = rw h refl
+gives-behind (Err errors.Memory) x out after h = tt
+
+pub gives-alone : (r : Result Statement TypeError) (x : Checked core.Statement) (sc : Scope) → Gives statement r x → Gives (λ s. elaborated (single (statement s)) sc) r (then x (λ s. Ok (elaborated (single s) sc)))
+gives-alone (Ok s) x sc h = rw h refl
+gives-alone (Err (errors.At f s)) x sc h = rw h refl
+gives-alone (Err errors.Memory) x sc h = tt
+
+pub if-taken : (top : Bool) (sc : Scope) (n : ℕ) (s : core.Site) (e : surface.Expression) (a b : surface.Statements) (t : TypedTerm) (x : Elaborated) → type_of sc.visible e ≡ Ok t → behind core.none (block sc a) ≡ Ok x → elaborate_statement top sc (surface.If n s e a b) ≡ otherwise x.scope n t.term x.statements b
+if-taken top sc n s e a b t x p q = block-if top sc n s e a b ∙ rw (p, sym (behind-none (block sc a)) ∙ q) refl
+
+pub if-refused : (top : Bool) (sc : Scope) (n : ℕ) (s : core.Site) (e : surface.Expression) (a b : surface.Statements) (t : TypedTerm) (error : TypeError) (out : core.Statements) → type_of sc.visible e ≡ Ok t → Refuses error (behind core.none (block sc a)) → Refuses error (behind out (elaborate_statement top sc (surface.If n s e a b)))
+if-refused top sc n s e a b t (errors.At f at) out p q = rw (block-if top sc n s e a b, p, sym (behind-none (block sc a)) ∙ q) refl
+if-refused top sc n s e a b t errors.Memory out p q = tt
+
+pub ruleset alone = (block-while, block-for, join-none, seen_if, seen_loop)

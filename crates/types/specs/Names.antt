@@ -2,7 +2,9 @@
 use Rattle.std.specs.Prelude.{List, map}
 use Rattle.texts.specs.Scope as scope
 use Rattle.words.specs.View.{kind}
-use Rattle.types.specs.View.{array, local_array}
+use Rattle.types.specs.View.{array, local_array, statement, statements}
+use Rattle.texts.specs.Elaboration.{Elaborated, elaborated, single}
+use Rattle.types.specs.declared.core_tree.Statement.{Statement}
 use Rattle.types.specs.declared.scope.Meaning.{Meaning}
 use Rattle.types.specs.declared.scope.Meaning.TheVariants as meanings
 use Rattle.types.specs.declared.scope.Binding.{Binding}
@@ -25,3 +27,11 @@ scope_seen s = record {
   buffers = map kind s.buffers.items;
   arrays = map local_array s.arrays.items;
 }
+
+-- one core statement, and the scope after it
+abbrev pub one_seen : Scope → Statement → Elaborated
+one_seen after s = elaborated (single (statement s)) (scope_seen after)
+
+-- core statements, and the scope after them
+abbrev pub all_seen : List Statement → Scope → Elaborated
+all_seen ss after = elaborated (statements ss) (scope_seen after)

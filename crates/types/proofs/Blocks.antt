@@ -1,5 +1,5 @@
 -- Blocks, and statements behind others.
-use Rattle.std.proofs.Common.{◌≡◌, ℕ, suc, ◌+◌, ◌<◌, ◌≤◌, Bool, List, [], ◌∷◌, ◌++◌, length, drop, get_or, Result, Ok, Err, refl, ap, ◌∙◌, sym, add-one, drop-cons}
+use Rattle.std.proofs.Common.{◌≡◌, ℕ, suc, ◌+◌, ◌<◌, ◌≤◌, Bool, false, List, [], ◌∷◌, ◌++◌, length, drop, get_or, Result, Ok, Err, refl, ap, ◌∙◌, sym, add-one, drop-cons}
 use Rattle.std.proofs.Math.ListN.{drop_of_length-le}
 use Rattle.semantics.specs.Core as core
 use Rattle.texts.specs.Surface as surface
@@ -81,5 +81,37 @@ if-taken top sc n s e a b t x p q = block-if top sc n s e a b ∙ rw (p, sym (be
 pub if-refused : (top : Bool) (sc : Scope) (n : ℕ) (s : core.Site) (e : surface.Expression) (a b : surface.Statements) (t : TypedTerm) (error : TypeError) (out : core.Statements) → type_of sc.visible e ≡ Ok t → Refuses error (behind core.none (block sc a)) → Refuses error (behind out (elaborate_statement top sc (surface.If n s e a b)))
 if-refused top sc n s e a b t (errors.At f at) out p q = rw (block-if top sc n s e a b, p, sym (behind-none (block sc a)) ∙ q) refl
 if-refused top sc n s e a b t errors.Memory out p q = tt
+
+outside : (sc : Scope) (out : core.Statements) (a : Checked Elaborated) (x : Elaborated) → behind out a ≡ Ok x → behind out (then a (λ b. Ok (elaborated b.statements (leave_block sc b.scope)))) ≡ Ok (elaborated x.statements (leave_block sc x.scope))
+outside sc out (Ok e) x h = let k : elaborated (join out e.statements) e.scope ≡ x = cc in ap (λ y. Ok (elaborated y.statements (leave_block sc y.scope))) k
+outside sc out (Err e) x h = cc
+
+pub block-done : (sc : Scope) (body : surface.Statements) (out : core.Statements) (x : Elaborated) → behind out (elaborate_all false sc body) ≡ Ok x → behind out (block sc body) ≡ Ok (elaborated x.statements (leave_block sc x.scope))
+block-done sc body out x h = outside sc out (elaborate_all false sc body) x h
+
+pub otherwise-done : (sc : Scope) (n : ℕ) (test : core.Term) (taken : core.Statements) (skipped : surface.Statements) (x : Elaborated) → behind core.none (block sc skipped) ≡ Ok x → otherwise sc n test taken skipped ≡ Ok (elaborated (single (core.If n test taken x.statements)) x.scope)
+otherwise-done sc n test taken skipped x h = rw (sym (behind-none (block sc skipped)) ∙ h) refl
+
+pub while-done : (top : Bool) (sc : Scope) (n : ℕ) (s : core.Site) (e : surface.Expression) (body : surface.Statements) (t : TypedTerm) (x : Elaborated) → type_of sc.visible e ≡ Ok t → behind core.none (block sc body) ≡ Ok x → elaborate_statement top sc (surface.While n s e body) ≡ Ok (elaborated (single (core.Loop n t.term x.statements core.none)) x.scope)
+while-done top sc n s e body t x p q = block-while top sc n s e body ∙ rw (p, sym (behind-none (block sc body)) ∙ q) refl
+
+pub repeated-done : (sc : Scope) (n : ℕ) (e : surface.Expression) (update : surface.Assignment) (body : surface.Statements) (t : TypedTerm) (u : core.Statement) (x : Elaborated) → type_of sc.visible e ≡ Ok t → elaborate_assignment sc update ≡ Ok u → behind core.none (block sc body) ≡ Ok x → repeated sc n e update body ≡ Ok (elaborated (single (core.Loop n t.term x.statements (single u))) x.scope)
+repeated-done sc n e update body t u x p q r = rw (p, q, sym (behind-none (block sc body)) ∙ r) refl
+
+pub for-done : (top : Bool) (sc : Scope) (n : ℕ) (s : core.Site) (first : surface.First) (e : surface.Expression) (update : surface.Assignment) (body : surface.Statements) (f x : Elaborated) → elaborate_first sc first ≡ Ok f → repeated f.scope n e update body ≡ Ok x → elaborate_statement top sc (surface.For n s first e update body) ≡ Ok (elaborated (join f.statements x.statements) (leave_block sc x.scope))
+for-done top sc n s first e update body f x p q = block-for top sc n s first e update body ∙ rw (p, q) refl
+
+pub for-first : (top : Bool) (sc : Scope) (n : ℕ) (s : core.Site) (first : surface.First) (e : surface.Expression) (update : surface.Assignment) (body : surface.Statements) (error : TypeError) (out : core.Statements) → Refuses error (elaborate_first sc first) → Refuses error (behind out (elaborate_statement top sc (surface.For n s first e update body)))
+for-first top sc n s first e update body (errors.At f at) out p = rw (block-for top sc n s first e update body, p) refl
+for-first top sc n s first e update body errors.Memory out p = tt
+
+pub for-repeated : (top : Bool) (sc : Scope) (n : ℕ) (s : core.Site) (first : surface.First) (e : surface.Expression) (update : surface.Assignment) (body : surface.Statements) (f : Elaborated) (error : TypeError) (out : core.Statements) → elaborate_first sc first ≡ Ok f → Refuses error (repeated f.scope n e update body) → Refuses error (behind out (elaborate_statement top sc (surface.For n s first e update body)))
+for-repeated top sc n s first e update body f (errors.At fault at) out p q = rw (block-for top sc n s first e update body, p, q) refl
+for-repeated top sc n s first e update body f errors.Memory out p q = tt
+
+pub behind-two : (out : List Statement) (a b : Statement) → join (statements out) (join (single (statement a)) (single (statement b))) ≡ statements ((out ++ a ∷ []) ++ b ∷ [])
+behind-two out a b = sym (statements-snoc (out ++ a ∷ []) b ∙ ap (λ x. join x (single (statement b))) (statements-snoc out a) ∙ join-join (statements out) (single (statement a)) (single (statement b)))
+
+pub ruleset in_order = (behind-one)
 
 pub ruleset alone = (block-while, block-for, join-none, seen_if, seen_loop)

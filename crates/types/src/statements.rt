@@ -77,6 +77,7 @@ fn declare_local<'a>(
 
 // Statements in order, behind those that are there.
 #[cycle(statements)]
+#[tactic(auto, using(crate::proofs::Blocks::in_order), unfolding(texts::specs::Elaboration::elaborate_all))]
 pub fn elaborate_all<'a>(
     alloc: Global,
     top: bool,
@@ -213,6 +214,7 @@ fn push_one(
 
 // A statement's core statements, behind those that are there; `top` says that it stands directly in the kernel's body.
 #[cycle(statements)]
+#[tactic(auto, unfolding(texts::specs::Elaboration::elaborate_statement))]
 fn elaborate_statement<'a>(
     alloc: Global,
     top: bool,

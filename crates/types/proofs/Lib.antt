@@ -2,3 +2,4 @@ pub mod Arguments
 pub mod Blocks
 pub mod Names
 pub mod Rows
+pub mod Kernels

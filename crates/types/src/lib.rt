@@ -7,6 +7,7 @@ pub mod barriers;
 pub mod calls;
 pub mod core_tree;
 pub mod declarations;
+pub mod elaboration;
 pub mod error;
 pub mod loads;
 pub mod scope;

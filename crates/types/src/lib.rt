@@ -5,6 +5,7 @@
 pub mod assignments;
 pub mod barriers;
 pub mod calls;
+pub mod check;
 pub mod core_tree;
 pub mod declarations;
 pub mod elaboration;
@@ -14,4 +15,5 @@ pub mod scope;
 pub mod statements;
 #[cfg(test)]
 mod tests;
+pub mod typed;
 pub mod typing;

@@ -1,5 +1,5 @@
 -- Kernels, by their parts.
-use Rattle.std.proofs.Common.{◌≡◌, ℕ, List, length, drop, map, true, Ok, refl, ◌∙◌, sym, ap}
+use Rattle.std.proofs.Common.{◌≡◌, ℕ, List, length, drop, map, true, Ok, refl, ◌∙◌, sym}
 use Rattle.std.proofs.lemmas.List.{length-map, drop-map}
 use Rattle.semantics.specs.Core as core
 use Rattle.semantics.specs.Launch as launch

@@ -1,13 +1,12 @@
 //! Statements.
 
-ghost use Rattle.std.specs.Prelude.{◌≡◌, ℕ, Bool, Ok};
+ghost use Rattle.std.specs.Prelude.{◌≡◌, Bool};
 ghost use Rattle.semantics.specs.Core as core;
 ghost use Rattle.texts.specs.Elaboration as elaboration;
 ghost use Rattle.texts.specs.Surface as surface;
 ghost use Rattle.texts.specs.Scope as scoping;
 ghost use Rattle.texts.specs.TypeFaults.{Checked};
-ghost use Rattle.words.specs.View.{kind as kind_of};
-ghost use Rattle.syntax.specs.View.{site as site_of, expression, declaration, assignment, first as first_of, statement as stmt, statements as stmts};
+ghost use Rattle.syntax.specs.View.{expression, assignment, first as first_of, statement as stmt, statements as stmts};
 ghost use Rattle.types.specs.View.{term, statement, statements};
 ghost use Rattle.types.specs.Blocks.{behind, block, otherwise, repeated};
 ghost use Rattle.types.specs.Names.{scope_seen, one_seen, all_seen};
@@ -16,64 +15,12 @@ ghost use Rattle.types.specs.Answers.{Gives};
 use crate::assignments::elaborate_assignment;
 use crate::barriers::barrier_of;
 use crate::core_tree::{Statement, Term};
-use crate::error::{TypeError, TypeFault};
+use crate::declared::{declare_local, elaborate_declaration, elaborate_first};
+use crate::error::TypeError;
 use crate::scope::Scope;
-use crate::typing::{bring, type_of};
+use crate::typing::type_of;
 use std::alloc::Global;
-use syntax::tree::{Assignment, Declaration, Expr, First, Site, Stmt};
-use words::Kind;
-
-/// The core statement of a declaration, whose name is visible after its value.
-#[tactic(auto, unfolding(texts::specs::Elaboration::elaborate_declaration))]
-pub fn elaborate_declaration<'a>(
-    alloc: Global,
-    scope: &mut Scope<'a>,
-    d: &'a Declaration,
-) -> Result<Statement, TypeError>
-    ensures { Gives (one_seen scope.new) result (elaboration.elaborate_declaration (scope_seen scope.old) (declaration d.now)) }
-{
-    let value = type_of(alloc, &scope.visible, &d.value)?;
-    let slot = scope.declare_variable(d.name_site, d.name.as_str(), d.kind)?;
-    Ok(Statement::Set {
-        number: d.number,
-        slot,
-        value: bring(alloc, d.kind, d.name_site, value)?,
-    })
-}
-
-fn elaborate_first<'a>(
-    alloc: Global,
-    scope: &mut Scope<'a>,
-    first: &'a First,
-) -> Result<Statement, TypeError>
-    ensures { Gives (one_seen scope.new) result (elaboration.elaborate_first (scope_seen scope.old) (first_of first.now)) }
-{
-    match first {
-        First::Declares(declaration) => elaborate_declaration(alloc, scope, declaration),
-        First::Assigns(assignment) => elaborate_assignment(alloc, scope, assignment),
-    }
-}
-
-#[tactic(auto, unfolding(texts::specs::Elaboration::elaborate_statement))]
-fn declare_local<'a>(
-    scope: &mut Scope<'a>,
-    top: bool,
-    site: Site,
-    name_site: Site,
-    name: &'a str,
-    kind: Kind,
-    length: u32,
-) -> Result<(), TypeError>
-    ensures { (n : ℕ) → Gives (λ _. elaboration.elaborated core.none (scope_seen scope.new)) result (elaboration.elaborate_statement top (scope_seen scope.old) (surface.DeclareArray n (site_of site) (kind_of kind) (site_of name_site) name.now length)) }
-{
-    if !top {
-        return Err(TypeError::At {
-            fault: TypeFault::ArrayInBlock,
-            site,
-        });
-    }
-    scope.declare_array(name_site, name, kind, length)
-}
+use syntax::tree::{Assignment, Expr, First, Stmt};
 
 // Statements in order, behind those that are there.
 #[cycle(statements)]
@@ -202,10 +149,7 @@ fn elaborate_for<'a>(
 }
 
 // One statement behind those that are there.
-fn push_one(
-    out: &mut Vec<Statement>,
-    answer: Result<Statement, TypeError>,
-) -> Result<(), TypeError>
+fn push_one(out: &mut Vec<Statement>, answer: Result<Statement, TypeError>) -> Result<(), TypeError>
     ensures { (x : Checked elaboration.Elaborated) (after : scoping.Scope) → Gives (λ s. elaboration.elaborated (elaboration.single (statement s)) after) answer x → Gives (λ _. elaboration.elaborated (statements out.new.items) after) result (behind (statements out.old.items) x) }
 {
     out.push(answer?)?;
@@ -253,7 +197,10 @@ fn elaborate_statement<'a>(
             )
         }
         Stmt::While {
-            number, test, body, ..
+            number,
+            test,
+            body,
+            ..
         } => push_one(out, elaborate_while(alloc, scope, body, *number, test)),
         Stmt::For {
             number,

@@ -1,4 +1,4 @@
-use Rattle.std.proofs.Common.{◌≡◌, length, rules, ap, sym, ◌∙◌}
+use Rattle.std.proofs.Common.{◌≡◌, length, rules, ap, ◌∙◌}
 use Rattle.syntax.specs.View.{kernel as tree_of}
 use Rattle.types.specs.Names.{scope_seen, all_seen}
 use Rattle.types.proofs.Kernels.{kernel-done, kinds-behind}

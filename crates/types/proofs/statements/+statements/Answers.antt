@@ -1,6 +1,8 @@
-use Rattle.std.proofs.Common.{ap, sym, ◌∙◌, ◌≡◌, arith, rules, length, false, Ok, refl}
+use Rattle.std.proofs.Common.{ap, sym, ◌∙◌, ◌≡◌, arith, rules, length, false, string_bytes, Ok, refl}
 use Rattle.std.proofs.lemmas.Grind.{common_steps}
 use Rattle.semantics.specs.Core.{Loop}
+use Rattle.texts.specs.Surface.{DeclareArray}
+use Rattle.words.specs.View.{kind}
 use Rattle.texts.specs.Elaboration.{elaborated, single, elaborate_statement, elaborate_assignment, barrier_of}
 use Rattle.syntax.proofs.Rows.{seen_if, seen_while, seen_for, seen_block}
 use Rattle.syntax.specs.View.{site as site_of, statement as stmt, statements as stmts, first as first_of, assignment, expression}
@@ -27,7 +29,8 @@ pub elaborate_statement-returns-in-DeclareArray : goal.elaborate_statement-retur
 elaborate_statement-returns-in-DeclareArray t c =
     let e = ap stmt c.in-DeclareArray.is in
     let k = rw c.as_str.ensures.value at (c.declare_local.ensures c.in-DeclareArray.number) in
-    rw e (gives-behind c.declare_local.result _ (statements c.args.out.now.items) (scope_seen c.declare_local.new.scope) k)
+    let x = elaborate_statement c.args.top (scope_seen c.args.scope.now) (DeclareArray c.in-DeclareArray.number (site_of c.in-DeclareArray.site) (kind c.in-DeclareArray.kind) (site_of c.in-DeclareArray.name_site) (string_bytes c.in-DeclareArray.name) c.in-DeclareArray.length) in
+    rw e (gives-behind c.declare_local.result x (statements c.args.out.now.items) (scope_seen c.declare_local.new.scope) k)
 
 pub elaborate_statement-returns-in-Assign : goal.elaborate_statement-returns-in-Assign
 unfolding elaborate_statement

@@ -1,0 +1,4 @@
+pub mod Numbers
+pub mod View
+pub mod Differences
+pub mod Unmet

@@ -7,5 +7,6 @@ pub mod error;
 pub mod launches;
 pub mod meets;
 pub mod number;
+pub mod probe;
 pub mod sums;
 pub mod values;

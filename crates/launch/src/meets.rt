@@ -1,9 +1,10 @@
 //! Whether a launch meets its conditions.
 
-ghost use Rattle.std.specs.Prelude.{◌≡◌, length, map, pos, int_le, vec_len};
+ghost use Rattle.std.specs.Prelude.{◌≡◌, length, map, pos, int_le, vec_len, IsOk, ◌↔◌};
 ghost use Rattle.semantics.specs.Conditions as meaning;
+ghost use Rattle.semantics.specs.Conditions.{Meets};
 ghost use Rattle.words.specs.View.{value_of, word as word_of};
-ghost use Rattle.launch.specs.View.{launch as launch_of, buffer as buffer_of, count_range, argument_range, length_sum, requirement as requirement_of};
+ghost use Rattle.launch.specs.View.{conditions as conditions_of, launch as launch_of, buffer as buffer_of, count_range, argument_range, length_sum, requirement as requirement_of};
 ghost use Rattle.launch.specs.Unmet.{answer, is_in, unmet, unmet_groups, unmet_arguments, unmet_lengths, unmet_requirements};
 
 use crate::conditions::{ArgumentRange, Conditions, CountRange, Length, Requirement};
@@ -95,14 +96,23 @@ pub fn requirements_meet(launch: &Launch, requirements: &[Requirement]) -> Resul
     Ok(())
 }
 
-/// Whether a launch meets its conditions; else the line of the first that it does not meet, in the order of the text.
-pub fn meets(conditions: &Conditions, launch: &Launch) -> Result<(), ConditionError>
+fn first_unmet(conditions: &Conditions, launch: &Launch) -> Result<(), ConditionError>
     requires arguments { vec_len conditions.now.arguments ≡ vec_len launch.now.arguments }
     requires buffers { vec_len conditions.now.lengths ≡ vec_len launch.now.buffers.words }
-    ensures first { answer result ≡ unmet conditions.now (launch_of launch.now) }
+    ensures { answer result ≡ unmet conditions.now (launch_of launch.now) }
 {
     groups_meet(conditions, launch)?;
     arguments_meet(&conditions.arguments, &launch.arguments)?;
     lengths_meet(launch, &conditions.lengths, &launch.buffers.words)?;
     requirements_meet(launch, &conditions.requirements)
+}
+
+/// Whether a launch meets its conditions; else the line of the first that it does not meet, in the order of the text.
+pub fn meets(conditions: &Conditions, launch: &Launch) -> Result<(), ConditionError>
+    requires arguments { vec_len conditions.now.arguments ≡ vec_len launch.now.arguments }
+    requires buffers { vec_len conditions.now.lengths ≡ vec_len launch.now.buffers.words }
+    ensures first { answer result ≡ unmet conditions.now (launch_of launch.now) }
+    ensures met { IsOk result ↔ Meets (conditions_of conditions.now) (launch_of launch.now) }
+{
+    first_unmet(conditions, launch)
 }

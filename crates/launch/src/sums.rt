@@ -25,13 +25,21 @@ pub struct Difference {
 }
 
 impl Difference {
-    ghost use Rattle.launch.specs.Differences.{difference};
+    ghost use Rattle.launch.specs.Differences.{difference, above_zero};
 
     /// Whether the number is at least another one.
     pub fn at_least(self, other: Difference) -> bool
         ensures { result ≡ int_le (difference other) (difference self) }
     {
         other.plus + self.minus <= self.plus + other.minus
+    }
+
+    /// The larger of 0 and the number.
+    pub fn above_zero(self) -> u128
+        ensures value { result ≡ above_zero (difference self) }
+        ensures bound { result < 2 ^ 68 }
+    {
+        self.plus.saturating_sub(self.minus)
     }
 }
 

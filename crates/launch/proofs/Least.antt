@@ -1,6 +1,6 @@
 -- The launch at the least values meets its conditions.
-use Rattle.std.proofs.Common.{◌≡◌, ℕ, zero, suc, ◌+◌, List, [], ◌∷◌, length, map, replicate, Bool, true, false, cond, Option, Some, None, Result, Ok, Err, refl, ap, sym, ◌∙◌, arith}
-use Rattle.std.specs.Prelude.{ℤ, pos, negsuc, ◌+ℤ◌, ◌≤ℤ◌, nat_le, sum, IfOk, IfSome}
+use Rattle.std.proofs.Common.{◌≡◌, ℕ, zero, suc, List, [], ◌∷◌, length, map, replicate, Bool, true, false, cond, Option, Some, None, refl, ap, sym, ◌∙◌, arith}
+use Rattle.std.specs.Prelude.{ℤ, pos, negsuc, ◌+ℤ◌, ◌≤ℤ◌, nat_le, sum, IfSome}
 use Rattle.std.specs.Option.{option_map}
 use Rattle.std.specs.List.{All, AllZip}
 use Rattle.std.proofs.lemmas.List.{length-replicate}
@@ -58,13 +58,13 @@ requirements-least c bs h =
 
 least-meets : (c : Conditions) (bs : List (List ℤ)) → unmet_requirements (least_with c []) c.requirements.items ≡ None → bs ≡ map zeros (least_lengths (least_with c []) c.lengths.items) → Meets (conditions c) (least_with c bs)
 least-meets c bs h e = record {
-    groups_x = count-least c.groups.x;
-    groups_y = count-least c.groups.y;
-    groups_z = count-least c.groups.z;
-    arguments = arguments-least c.arguments.items;
-    lengths = rw (← e) at (lengths-least c bs c.lengths.items);
-    requires = requirements-least c bs h;
-  }
+  groups_x = count-least c.groups.x;
+  groups_y = count-least c.groups.y;
+  groups_z = count-least c.groups.z;
+  arguments = arguments-least c.arguments.items;
+  lengths = rw (← e) at (lengths-least c bs c.lengths.items);
+  requires = requirements-least c bs h;
+}
 
 cond-some : (b : Bool) (x y : List (List ℤ)) → cond b (Some x) None ≡ Some y → y ≡ x
 cond-some true x y h = cc

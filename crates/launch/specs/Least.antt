@@ -1,5 +1,5 @@
 -- The launch at the least counts, arguments and lengths, all words 0.
-use Rattle.std.specs.Prelude.{ℕ, ℤ, pos, List, [], length, map, replicate, nat_le, is_none, sum, Bool, ◌&&◌, cond, Option, Some, None}
+use Rattle.std.specs.Prelude.{ℕ, ℤ, pos, List, [], map, replicate, nat_le, sum, cond, Option, Some, None}
 use Rattle.std.specs.Prelude.{Vec}
 use Rattle.std.specs.declared.alloc.Global.{Global}
 use Rattle.semantics.specs.Launch as launches

@@ -1,6 +1,6 @@
 -- The first condition that a launch does not meet, by its line, in the order of the text: group counts, arguments, lengths,
 -- requirements.
-use Rattle.std.specs.Prelude.{ℕ, ℤ, pos, List, [], ◌∷◌, length, map, Bool, true, false, ◌&&◌, int_le, Option, Some, None, Result, Ok, Err}
+use Rattle.std.specs.Prelude.{ℕ, ℤ, pos, List, [], ◌∷◌, length, Bool, true, false, ◌&&◌, int_le, Option, Some, None, Result, Ok, Err}
 use Rattle.semantics.specs.Conditions as meaning
 use Rattle.semantics.specs.Word.{Word}
 use Rattle.semantics.specs.Launch as launches

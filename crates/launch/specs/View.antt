@@ -8,7 +8,6 @@ use Rattle.std.specs.Prelude.{Vec}
 use Rattle.std.specs.declared.alloc.Global.{Global}
 use Rattle.launch.specs.Numbers.{number}
 use Rattle.launch.specs.declared.conditions.CountRange.{CountRange}
-use Rattle.launch.specs.declared.conditions.CountRanges.{CountRanges}
 use Rattle.launch.specs.declared.conditions.ArgumentRange.{ArgumentRange}
 use Rattle.launch.specs.declared.conditions.Dimension.{Dimension}
 use Rattle.launch.specs.declared.conditions.Dimension.TheVariants as dimensions

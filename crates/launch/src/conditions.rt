@@ -45,8 +45,14 @@ pub enum Dimension {
 #[derive(Clone, Copy)]
 pub enum Summand {
     Constant(Number),
-    Argument { factor: Number, parameter: u32 },
-    Groups { factor: Number, dimension: Dimension },
+    Argument {
+        factor: Number,
+        parameter: u32,
+    },
+    Groups {
+        factor: Number,
+        dimension: Dimension,
+    },
 }
 
 /// At most 8 summands.

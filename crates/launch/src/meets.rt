@@ -30,7 +30,10 @@ fn groups_meet(conditions: &Conditions, launch: &Launch) -> Result<(), Condition
     ensures { answer result ≡ unmet_groups conditions.now (launch_of launch.now) }
 {
     let (ranges, counts) = (conditions.groups, launch.groups);
-    if is_count(ranges.x, counts.x) && is_count(ranges.y, counts.y) && is_count(ranges.z, counts.z) {
+    if is_count(ranges.x, counts.x)
+        && is_count(ranges.y, counts.y)
+        && is_count(ranges.z, counts.z)
+    {
         return Ok(());
     }
     Err(ConditionError {
@@ -83,7 +86,10 @@ fn is_met(launch: &Launch, requirement: &Requirement) -> bool
 }
 
 /// Whether each requirement is met; else the line of the first that is not.
-pub fn requirements_meet(launch: &Launch, requirements: &[Requirement]) -> Result<(), ConditionError>
+pub fn requirements_meet(
+    launch: &Launch,
+    requirements: &[Requirement],
+) -> Result<(), ConditionError>
     ensures { answer result ≡ unmet_requirements (launch_of launch.now) requirements.now }
 {
     for requirement in requirements {

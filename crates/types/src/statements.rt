@@ -22,7 +22,7 @@ use crate::typing::type_of;
 use std::alloc::Global;
 use syntax::tree::{Assignment, Expr, First, Stmt};
 
-// Statements in order, behind those that are there.
+/// Statements in order, behind those that are there; `top` says that they stand directly in the kernel's body.
 #[cycle(statements)]
 #[tactic(auto, using(crate::proofs::Blocks::in_order), unfolding(texts::specs::Elaboration::elaborate_all))]
 pub fn elaborate_all<'a>(

@@ -1,1 +1,5 @@
 pub mod Arguments
+pub mod Blocks
+pub mod Names
+pub mod Rows
+pub mod Kernels

@@ -41,3 +41,8 @@ IsTyped (Err e) answer = Refuses e answer
 abbrev pub IsArrayOf : Result (Array × Kind) TypeError → Checked (core.Array × word.Kind) → Type 0
 IsArrayOf (Ok a) answer = answer ≡ Ok (array a.0, kind a.1)
 IsArrayOf (Err e) answer = Refuses e answer
+
+-- the same of any answer, by what its value stands for
+abbrev pub Gives : {A B : Type 0} → (A → B) → Result A TypeError → Checked B → Type 0
+Gives seen (Ok a) answer = answer ≡ Ok (seen a)
+Gives seen (Err e) answer = Refuses e answer

@@ -5,7 +5,7 @@ ghost use Rattle.std.specs.Option.{option_map};
 ghost use Rattle.texts.specs.Scope as scope;
 ghost use Rattle.types.specs.Names.{meaning_seen, names};
 
-use crate::core_tree::Array;
+use crate::core_tree::{Array, LocalArray};
 use words::Kind;
 
 /// A private variable or value parameter, or a buffer parameter or local array.
@@ -27,6 +27,16 @@ pub enum Meaning {
 pub struct Binding<'a> {
     pub name: &'a str,
     pub meaning: Meaning,
+}
+
+/// What is visible, in order of declaration, and all that was declared so far: the kinds of the slots and of the buffers, and the
+/// local arrays.
+#[derive(Drop)]
+pub struct Scope<'a> {
+    pub visible: Vec<Binding<'a>>,
+    pub slots: Vec<Kind>,
+    pub buffers: Vec<Kind>,
+    pub arrays: Vec<LocalArray>,
 }
 
 /// What a name stands for, where it is visible.

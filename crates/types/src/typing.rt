@@ -118,7 +118,8 @@ fn shift_term(
     })
 }
 
-fn infix_term(
+/// The term of an operator between two operands; `operand` is the right one in the text.
+pub fn infix_term(
     alloc: Global,
     sign: InfixSign,
     at: Site,

@@ -1,0 +1,3 @@
+pub mod Products
+pub mod Unmet
+pub mod Least

@@ -1,0 +1,5 @@
+pub mod Numbers
+pub mod View
+pub mod Differences
+pub mod Unmet
+pub mod Least

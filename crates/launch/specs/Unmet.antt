@@ -1,0 +1,53 @@
+-- The first condition that a launch does not meet, by its line, in the order of the text: group counts, arguments, lengths,
+-- requirements.
+use Rattle.std.specs.Prelude.{ℕ, ℤ, pos, List, [], ◌∷◌, length, Bool, true, false, ◌&&◌, int_le, Option, Some, None, Result, Ok, Err}
+use Rattle.semantics.specs.Conditions as meaning
+use Rattle.semantics.specs.Word.{Word}
+use Rattle.semantics.specs.Launch as launches
+use Rattle.launch.specs.View.{count_range, argument_range, length_sum, requirement}
+use Rattle.launch.specs.declared.conditions.ArgumentRange.{ArgumentRange}
+use Rattle.launch.specs.declared.conditions.Length.{Length}
+use Rattle.launch.specs.declared.conditions.Requirement.{Requirement}
+use Rattle.launch.specs.declared.conditions.Conditions.{Conditions}
+use Rattle.launch.specs.declared.error.ConditionError.{ConditionError}
+
+-- the code's answer as a line
+abbrev pub answer : Result (Unit {0}) ConditionError → Option ℕ
+answer (Ok u) = None
+answer (Err e) = Some e.line
+
+abbrev pub is_in : meaning.Range → ℤ → Bool
+is_in r z = int_le r.low z && int_le z r.high
+
+-- a condition's line where it is not met, else what is first among the others
+abbrev pub unless : Bool → (line : ℕ) → Option ℕ → Option ℕ
+unless true line others = others
+unless false line others = Some line
+
+abbrev pub then : Option ℕ → Option ℕ → Option ℕ
+then (Some line) others = Some line
+then None others = others
+
+abbrev pub unmet_groups : Conditions → launches.Launch → Option ℕ
+unmet_groups c l =
+    unless (is_in (count_range c.groups.x) (pos l.groups.x) && (is_in (count_range c.groups.y) (pos l.groups.y) && is_in (count_range c.groups.z) (pos l.groups.z))) c.groups_line None
+
+abbrev pub unmet_arguments : List ArgumentRange → List Word → Option ℕ
+unmet_arguments [] ws = None
+unmet_arguments (r ∷ rs) [] = None
+unmet_arguments (r ∷ rs) (w ∷ ws) = unless (is_in (argument_range r) w.value) r.line (unmet_arguments rs ws)
+
+abbrev pub unmet_lengths : launches.Launch → List Length → List (List ℤ) → Option ℕ
+unmet_lengths l [] bs = None
+unmet_lengths l (n ∷ ns) [] = None
+unmet_lengths l (n ∷ ns) (b ∷ bs) = unless (int_le (meaning.sum_value l (length_sum n)) (pos (length b))) n.line (unmet_lengths l ns bs)
+
+abbrev pub unmet_requirements : launches.Launch → List Requirement → Option ℕ
+unmet_requirements l [] = None
+unmet_requirements l (r ∷ rs) =
+    unless (int_le (meaning.sum_value l (requirement r).right) (meaning.sum_value l (requirement r).left)) r.line (unmet_requirements l rs)
+
+abbrev pub unmet : Conditions → launches.Launch → Option ℕ
+unmet c l =
+    then (unmet_groups c l) (then (unmet_arguments c.arguments.items l.arguments) (
+    then (unmet_lengths l c.lengths.items l.buffers) (unmet_requirements l c.requirements.items)))

@@ -1,0 +1,14 @@
+//! Launches of a kernel and the conditions on them: ranges of group counts and arguments, a least length for each buffer, and
+//! requirements between sums. All sums are taken over whole numbers, without wrapping.
+#![tactic(auto)]
+
+pub mod conditions;
+pub mod error;
+pub mod launches;
+pub mod meets;
+pub mod number;
+pub mod probe;
+pub mod sums;
+#[cfg(test)]
+mod tests;
+pub mod values;

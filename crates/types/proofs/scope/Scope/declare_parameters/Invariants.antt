@@ -1,0 +1,8 @@
+use Rattle.std.proofs.Common.{◌≡◌, map, drop}
+use Rattle.texts.specs.Elaboration.{declare_parameters}
+use Rattle.syntax.specs.View.{parameter as parameter_of}
+use Rattle.types.specs.Names.{scope_seen}
+use Rattle.types.proofs.scope.Scope.declare_parameters.Given as goal
+
+abbrev pub invariant-loop-parameter : goal.invariant-loop-parameter
+invariant-loop-parameter l = declare_parameters (scope_seen l.self) (map parameter_of (drop l.parameter-index l.parameters)) ≡ declare_parameters (scope_seen l.initial.self) (map parameter_of l.parameters)

@@ -1,0 +1,10 @@
+use Rattle.std.proofs.Common.{◌≡◌, drop}
+use Rattle.texts.specs.Elaboration as elaboration
+use Rattle.syntax.specs.View.{statements as stmts}
+use Rattle.types.specs.View.{statements}
+use Rattle.types.specs.Names.{scope_seen}
+use Rattle.types.specs.Blocks.{behind}
+use Rattle.types.proofs.statements.+statements.Given as goal
+
+abbrev pub invariant-elaborate_all-loop-s : goal.invariant-elaborate_all-loop-s
+invariant-elaborate_all-loop-s l = behind (statements l.out.items) (elaboration.elaborate_all l.top (scope_seen l.scope) (stmts (drop l.s-index l.body))) ≡ behind (statements l.initial.out.items) (elaboration.elaborate_all l.top (scope_seen l.initial.scope) (stmts l.body))

@@ -1,0 +1,168 @@
+//! Assignments.
+
+ghost use Rattle.std.specs.Prelude.{◌≡◌, Ok, Some, None, string_bytes};
+ghost use Rattle.std.specs.Option.{option_map};
+ghost use Rattle.semantics.specs.Core as core;
+ghost use Rattle.texts.specs.Elaboration as elaboration;
+ghost use Rattle.texts.specs.Scope as scoping;
+ghost use Rattle.texts.specs.TypeFaults as rules;
+ghost use Rattle.texts.specs.Typing as typing;
+ghost use Rattle.words.specs.View.{kind as kind_of};
+ghost use Rattle.syntax.specs.View.{site, expression, assign_sign, assignment};
+ghost use Rattle.types.specs.View.{array as array_of, statement};
+ghost use Rattle.types.specs.Names.{names, meaning_seen, scope_seen};
+ghost use Rattle.types.specs.Answers.{typed_term, Gives, IsTyped, IsArrayOf};
+
+use crate::core_tree::{Array, Statement, Term};
+use crate::error::{TypeError, TypeFault};
+use crate::loads::first_load;
+use crate::scope::{Binding, Meaning, Scope, meaning_of};
+use crate::typing::{TypedTerm, bring, infix_term, type_of};
+use std::alloc::Global;
+use syntax::tree::{AssignSign, Assignment, Expr, InfixSign, Site};
+use words::Kind;
+
+fn target_array(at: Site, meaning: Option<Meaning>) -> Result<(Array, Kind), TypeError>
+    ensures { IsArrayOf result (rules.then (rules.found (option_map meaning_seen meaning) rules.UnknownName (site at)) (elaboration.target_array (site at))) }
+{
+    let fault = match meaning {
+        Some(
+            Meaning::Array {
+                array,
+                kind,
+                writable: true,
+            },
+        ) => return Ok((array, kind)),
+        Some(Meaning::Array { .. }) => TypeFault::WriteToConst,
+        Some(Meaning::Variable { .. }) => TypeFault::WrongType,
+        None => TypeFault::UnknownName,
+    };
+    Err(TypeError::At { fault, site: at })
+}
+
+fn target_slot(at: Site, meaning: Option<Meaning>) -> Result<(u32, Kind), TypeError>
+    ensures { Gives (λ x. (x.0, kind_of x.1)) result (rules.then (rules.found (option_map meaning_seen meaning) rules.UnknownName (site at)) (elaboration.target_slot (site at))) }
+{
+    match meaning {
+        Some(Meaning::Variable { slot, kind }) => Ok((slot, kind)),
+        Some(Meaning::Array { .. }) => Err(TypeError::At {
+            fault: TypeFault::WrongType,
+            site: at,
+        }),
+        None => Err(TypeError::At {
+            fault: TypeFault::UnknownName,
+            site: at,
+        }),
+    }
+}
+
+// The value of `x op= e`, which is that of `x op (e)`.
+fn assigned(
+    alloc: Global,
+    a: &Assignment,
+    old: TypedTerm,
+    value: TypedTerm,
+) -> Result<TypedTerm, TypeError>
+    ensures { IsTyped result (elaboration.assigned (assign_sign a.now.sign) (site a.now.sign_site) (expression a.now.value) (typed_term old) (typed_term value)) }
+{
+    let sign = match a.sign {
+        AssignSign::Plain => return Ok(value),
+        AssignSign::With(operator) => InfixSign::Arithmetic(operator),
+        AssignSign::WithLeftShift => InfixSign::LeftShift,
+        AssignSign::WithRightShift => InfixSign::RightShift,
+    };
+    infix_term(alloc, sign, a.sign_site, &a.value, old, value)
+}
+
+fn assign_variable(alloc: Global, scope: &Scope, a: &Assignment) -> Result<Statement, TypeError>
+    ensures { Gives statement result (rules.then (rules.found (scoping.meaning_of (names scope.now.visible.items) (string_bytes a.now.name)) rules.UnknownName (site a.now.site)) (λ m. elaboration.assign_to (scope_seen scope.now) (assignment a.now) m None)) }
+{
+    let (slot, kind) = target_slot(a.site, meaning_of(&scope.visible, a.name.as_str()))?;
+    let value = type_of(alloc, &scope.visible, &a.value)?;
+    let old = TypedTerm {
+        kind,
+        term: Term::Variable { slot },
+    };
+    let value = assigned(alloc, a, old, value)?;
+    Ok(Statement::Set {
+        number: a.number,
+        slot,
+        value: bring(alloc, kind, a.site, value)?,
+    })
+}
+
+fn without_load(a: &Assignment, index: &Expr) -> Result<(), TypeError>
+    ensures { (i : typing.TypedTerm) → Gives (λ _. i) result (rules.when (elaboration.without_load (assign_sign a.now.sign) (elaboration.first_load (expression index.now))) rules.LoadInCompoundIndex (elaboration.site_or (elaboration.first_load (expression index.now)) (site a.now.site)) i) }
+{
+    match (a.sign, first_load(index)) {
+        (AssignSign::Plain, _) | (_, None) => Ok(()),
+        (_, Some(load)) => Err(TypeError::At {
+            fault: TypeFault::LoadInCompoundIndex,
+            site: load,
+        }),
+    }
+}
+
+// The value that an element gets: that of `a[i] op (e)` where the sign is `op=`, so the index is typed once more.
+fn assigned_element(
+    alloc: Global,
+    visible: &[Binding],
+    a: &Assignment,
+    index: &Expr,
+    element: (Array, Kind),
+    value: TypedTerm,
+) -> Result<TypedTerm, TypeError>
+    ensures { (i : typing.TypedTerm) → typing.type_of (names visible.now) (expression index.now) ≡ Ok i → IsTyped result (elaboration.assigned (assign_sign a.now.sign) (site a.now.sign_site) (expression a.now.value) (typing.typed (kind_of element.1) (core.Load (array_of element.0) (site a.now.site) i.term)) (typed_term value)) }
+{
+    if let AssignSign::Plain = a.sign {
+        return Ok(value);
+    }
+    let index = type_of(alloc, visible, index)?;
+    let old = TypedTerm {
+        kind: element.1,
+        term: Term::Load {
+            array: element.0,
+            site: a.site,
+            index: Box::new(alloc, index.term)?,
+        },
+    };
+    assigned(alloc, a, old, value)
+}
+
+fn assign_element(
+    alloc: Global,
+    scope: &Scope,
+    a: &Assignment,
+    index: &Expr,
+) -> Result<Statement, TypeError>
+    ensures { Gives statement result (rules.then (rules.found (scoping.meaning_of (names scope.now.visible.items) (string_bytes a.now.name)) rules.UnknownName (site a.now.site)) (λ m. elaboration.assign_to (scope_seen scope.now) (assignment a.now) m (Some (expression index.now)))) }
+{
+    let visible = scope.visible.as_slice();
+    let element = target_array(a.site, meaning_of(visible, a.name.as_str()))?;
+    let typed = type_of(alloc, visible, index)?;
+    without_load(a, index)?;
+    let value = type_of(alloc, visible, &a.value)?;
+    let value = assigned_element(alloc, visible, a, index, element, value)?;
+    Ok(Statement::Store {
+        number: a.number,
+        array: element.0,
+        site: a.site,
+        index: typed.term,
+        value: bring(alloc, element.1, a.site, value)?,
+    })
+}
+
+/// The core statement of an assignment, or its first broken rule: of the target, of its index, of the value.
+#[tactic(auto, unfolding(texts::specs::Elaboration::elaborate_assignment))]
+pub fn elaborate_assignment(
+    alloc: Global,
+    scope: &Scope,
+    a: &Assignment,
+) -> Result<Statement, TypeError>
+    ensures { Gives statement result (elaboration.elaborate_assignment (scope_seen scope.now) (assignment a.now)) }
+{
+    match &a.index {
+        None => assign_variable(alloc, scope, a),
+        Some(index) => assign_element(alloc, scope, a, index),
+    }
+}

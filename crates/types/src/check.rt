@@ -1,0 +1,22 @@
+//! The typing of kernels.
+
+ghost use Rattle.std.specs.Prelude.{◌≡◌, IfOk};
+ghost use Rattle.texts.specs.Elaboration.{elaborate as elaborates};
+ghost use Rattle.syntax.specs.View.{kernel as tree_seen};
+ghost use Rattle.types.specs.View.{kernel as core_seen};
+ghost use Rattle.types.specs.Answers.{Gives};
+
+use crate::elaboration::elaborate;
+use crate::error::TypeError;
+use crate::typed::Typed;
+use std::alloc::Global;
+use syntax::tree::Kernel;
+
+/// The kernel with its core, where it is well typed, or its first broken rule with its place.
+pub fn check_types(alloc: Global, tree: Kernel) -> Result<Typed, TypeError>
+    ensures core { Gives (λ t. core_seen t.1) result (elaborates (tree_seen tree)) }
+    ensures tree { IfOk result (λ t. t.0 ≡ tree) }
+{
+    let core = elaborate(alloc, &tree)?;
+    Ok(Typed::new(tree, core))
+}

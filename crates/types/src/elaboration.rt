@@ -1,0 +1,53 @@
+//! Kernels.
+
+ghost use Rattle.std.specs.Prelude.{◌≡◌, drop};
+ghost use Rattle.texts.specs.Elaboration as elaboration;
+ghost use Rattle.syntax.specs.View.{kernel as tree_of};
+ghost use Rattle.types.specs.View.{kernel};
+ghost use Rattle.types.specs.Answers.{Gives};
+
+use crate::core_tree::Core;
+use crate::error::TypeError;
+use crate::scope::Scope;
+use crate::statements::elaborate_all;
+use std::alloc::Global;
+use syntax::tree::Kernel;
+use words::Kind;
+
+// The kinds behind the first ones.
+fn behind(kinds: &[Kind], first: usize) -> &[Kind]
+    ensures { result.now ≡ drop first kinds.now }
+{
+    if first <= kinds.len() {
+        &kinds[first..]
+    } else {
+        &[]
+    }
+}
+
+/// The core of a kernel, or its first broken rule: of its parameters, then of its statements.
+#[tactic(auto, unfolding(texts::specs::Elaboration::elaborate))]
+pub fn elaborate(alloc: Global, tree: &Kernel) -> Result<Core, TypeError>
+    ensures { Gives kernel result (elaboration.elaborate (tree_of tree.now)) }
+{
+    let mut scope = Scope {
+        visible: Vec::new(alloc),
+        slots: Vec::new(alloc),
+        buffers: Vec::new(alloc),
+        arrays: Vec::new(alloc),
+    };
+    scope.declare_parameters(&tree.parameters)?;
+    let buffers = Vec::from_slice(alloc, &scope.buffers)?;
+    let arguments = Vec::from_slice(alloc, &scope.slots)?;
+    let mut body = Vec::new(alloc);
+    elaborate_all(alloc, true, &mut scope, &tree.body, &mut body)?;
+    let variables = Vec::from_slice(alloc, behind(&scope.slots, arguments.len()))?;
+    Ok(Core {
+        sizes: tree.sizes,
+        buffers,
+        arguments,
+        arrays: scope.arrays,
+        variables,
+        body,
+    })
+}

@@ -1,0 +1,216 @@
+//! Statements.
+
+ghost use Rattle.std.specs.Prelude.{◌≡◌, Bool};
+ghost use Rattle.semantics.specs.Core as core;
+ghost use Rattle.texts.specs.Elaboration as elaboration;
+ghost use Rattle.texts.specs.Surface as surface;
+ghost use Rattle.texts.specs.Scope as scoping;
+ghost use Rattle.texts.specs.TypeFaults.{Checked};
+ghost use Rattle.syntax.specs.View.{expression, assignment, first as first_of, statement as stmt, statements as stmts};
+ghost use Rattle.types.specs.View.{term, statement, statements};
+ghost use Rattle.types.specs.Blocks.{behind, block, otherwise, repeated};
+ghost use Rattle.types.specs.Names.{scope_seen, one_seen, all_seen};
+ghost use Rattle.types.specs.Answers.{Gives};
+
+use crate::assignments::elaborate_assignment;
+use crate::barriers::barrier_of;
+use crate::core_tree::{Statement, Term};
+use crate::declared::{declare_local, elaborate_declaration, elaborate_first};
+use crate::error::TypeError;
+use crate::scope::Scope;
+use crate::typing::type_of;
+use std::alloc::Global;
+use syntax::tree::{Assignment, Expr, First, Stmt};
+
+/// Statements in order, behind those that are there; `top` says that they stand directly in the kernel's body.
+#[cycle(statements)]
+#[tactic(auto, using(crate::proofs::Blocks::in_order), unfolding(texts::specs::Elaboration::elaborate_all))]
+pub fn elaborate_all<'a>(
+    alloc: Global,
+    top: bool,
+    scope: &mut Scope<'a>,
+    body: &'a [Stmt],
+    out: &mut Vec<Statement>,
+) -> Result<(), TypeError>
+    ensures { Gives (λ _. all_seen out.new.items scope.new) result (behind (statements out.old.items) (elaboration.elaborate_all top (scope_seen scope.old) (stmts body.now))) }
+{
+    for s in body {
+        elaborate_statement(alloc, top, scope, s, out)?;
+    }
+    Ok(())
+}
+
+// A block: its names go at its end.
+#[cycle(statements)]
+fn elaborate_block<'a>(
+    alloc: Global,
+    scope: &mut Scope<'a>,
+    body: &'a [Stmt],
+    out: &mut Vec<Statement>,
+) -> Result<(), TypeError>
+    ensures { Gives (λ _. all_seen out.new.items scope.new) result (behind (statements out.old.items) (block (scope_seen scope.old) (stmts body.now))) }
+{
+    let outside = scope.visible.len();
+    elaborate_all(alloc, false, scope, body, out)?;
+    scope.visible.truncate(outside);
+    Ok(())
+}
+
+#[cycle(statements)]
+#[tactic(auto, using(crate::proofs::Blocks::alone))]
+fn elaborate_else<'a>(
+    alloc: Global,
+    scope: &mut Scope<'a>,
+    skipped: &'a [Stmt],
+    number: u32,
+    test: Term,
+    taken: Vec<Statement>,
+) -> Result<Statement, TypeError>
+    ensures { Gives (one_seen scope.new) result (otherwise (scope_seen scope.old) number (term test) (statements taken.items) (stmts skipped.now)) }
+{
+    let mut inside = Vec::new(alloc);
+    elaborate_block(alloc, scope, skipped, &mut inside)?;
+    Ok(Statement::If {
+        number,
+        test,
+        taken,
+        skipped: inside,
+    })
+}
+
+#[cycle(statements)]
+#[tactic(auto, using(crate::proofs::Blocks::alone))]
+fn elaborate_while<'a>(
+    alloc: Global,
+    scope: &mut Scope<'a>,
+    body: &'a [Stmt],
+    number: u32,
+    test: &Expr,
+) -> Result<Statement, TypeError>
+    ensures { (top : Bool) (at : core.Site) → Gives (one_seen scope.new) result (elaboration.elaborate_statement top (scope_seen scope.old) (surface.While number at (expression test.now) (stmts body.now))) }
+{
+    let test = type_of(alloc, &scope.visible, test)?;
+    let mut inside = Vec::new(alloc);
+    elaborate_block(alloc, scope, body, &mut inside)?;
+    Ok(Statement::Loop {
+        number,
+        test: test.term,
+        body: inside,
+        update: Vec::new(alloc),
+    })
+}
+
+// What a `for` repeats, after its first part.
+#[cycle(statements)]
+#[tactic(auto, using(crate::proofs::Blocks::alone))]
+fn elaborate_repeated<'a>(
+    alloc: Global,
+    scope: &mut Scope<'a>,
+    body: &'a [Stmt],
+    number: u32,
+    test: &Expr,
+    update: &Assignment,
+) -> Result<Statement, TypeError>
+    ensures { Gives (one_seen scope.new) result (repeated (scope_seen scope.old) number (expression test.now) (assignment update.now) (stmts body.now)) }
+{
+    let test = type_of(alloc, &scope.visible, test)?;
+    let update = elaborate_assignment(alloc, scope, update)?;
+    let mut inside = Vec::new(alloc);
+    elaborate_block(alloc, scope, body, &mut inside)?;
+    let mut updates = Vec::new(alloc);
+    updates.push(update)?;
+    Ok(Statement::Loop {
+        number,
+        test: test.term,
+        body: inside,
+        update: updates,
+    })
+}
+
+#[cycle(statements)]
+#[tactic(auto, using(crate::proofs::Blocks::alone))]
+fn elaborate_for<'a>(
+    alloc: Global,
+    scope: &mut Scope<'a>,
+    body: &'a [Stmt],
+    out: &mut Vec<Statement>,
+    number: u32,
+    first: &'a First,
+    test: &Expr,
+    update: &Assignment,
+) -> Result<(), TypeError>
+    ensures { (top : Bool) (at : core.Site) → Gives (λ _. all_seen out.new.items scope.new) result (behind (statements out.old.items) (elaboration.elaborate_statement top (scope_seen scope.old) (surface.For number at (first_of first.now) (expression test.now) (assignment update.now) (stmts body.now)))) }
+{
+    let outside = scope.visible.len();
+    out.push(elaborate_first(alloc, scope, first)?)?;
+    out.push(elaborate_repeated(alloc, scope, body, number, test, update)?)?;
+    scope.visible.truncate(outside);
+    Ok(())
+}
+
+// One statement behind those that are there.
+fn push_one(out: &mut Vec<Statement>, answer: Result<Statement, TypeError>) -> Result<(), TypeError>
+    ensures { (x : Checked elaboration.Elaborated) (after : scoping.Scope) → Gives (λ s. elaboration.elaborated (elaboration.single (statement s)) after) answer x → Gives (λ _. elaboration.elaborated (statements out.new.items) after) result (behind (statements out.old.items) x) }
+{
+    out.push(answer?)?;
+    Ok(())
+}
+
+// A statement's core statements, behind those that are there; `top` says that it stands directly in the kernel's body.
+#[cycle(statements)]
+#[tactic(auto, unfolding(texts::specs::Elaboration::elaborate_statement))]
+fn elaborate_statement<'a>(
+    alloc: Global,
+    top: bool,
+    scope: &mut Scope<'a>,
+    s: &'a Stmt,
+    out: &mut Vec<Statement>,
+) -> Result<(), TypeError>
+    ensures { Gives (λ _. all_seen out.new.items scope.new) result (behind (statements out.old.items) (elaboration.elaborate_statement top (scope_seen scope.old) (stmt s.now))) }
+{
+    match s {
+        Stmt::Declare(declaration) => {
+            push_one(out, elaborate_declaration(alloc, scope, declaration))
+        }
+        Stmt::DeclareArray {
+            site,
+            kind,
+            name_site,
+            name,
+            length,
+            ..
+        } => declare_local(scope, top, *site, *name_site, name.as_str(), *kind, *length),
+        Stmt::Assign(assignment) => push_one(out, elaborate_assignment(alloc, scope, assignment)),
+        Stmt::If {
+            number,
+            test,
+            taken,
+            skipped,
+            ..
+        } => {
+            let test = type_of(alloc, &scope.visible, test)?;
+            let mut inside = Vec::new(alloc);
+            elaborate_block(alloc, scope, taken, &mut inside)?;
+            push_one(
+                out,
+                elaborate_else(alloc, scope, skipped, *number, test.term, inside),
+            )
+        }
+        Stmt::While {
+            number,
+            test,
+            body,
+            ..
+        } => push_one(out, elaborate_while(alloc, scope, body, *number, test)),
+        Stmt::For {
+            number,
+            first,
+            test,
+            update,
+            body,
+            ..
+        } => elaborate_for(alloc, scope, body, out, *number, first, test, update),
+        Stmt::Barrier { number, flags, .. } => push_one(out, barrier_of(*number, flags)),
+        Stmt::Block { body, .. } => elaborate_block(alloc, scope, body, out),
+    }
+}

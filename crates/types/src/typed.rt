@@ -1,0 +1,63 @@
+//! Well-typed kernels.
+
+ghost use Rattle.std.specs.Prelude.{◌≡◌, Ok};
+ghost use Rattle.texts.specs.Elaboration.{elaborate as elaborates};
+ghost use Rattle.syntax.specs.View.{kernel as tree_seen};
+ghost use Rattle.types.specs.View.{kernel as core_seen};
+
+use crate::core_tree::Core;
+use std::marker::Model;
+use syntax::tree::Kernel;
+
+/// A kernel's tree with its core, which is what the tree elaborates to.
+#[derive(Drop)]
+pub struct Typed {
+    tree: Kernel,
+    core: Core,
+}
+
+impl Model for Typed {
+    ghost use Rattle.std.specs.Prelude.{◌≡◌, Ok};
+    ghost use Rattle.std.specs.Coded.{codes};
+    ghost use Rattle.texts.specs.Elaboration.{elaborate as elaborates};
+    ghost use Rattle.syntax.specs.View.{kernel as tree_seen};
+    ghost use Rattle.syntax.specs.contracts.tree.Kernel as tree_type;
+    ghost use Rattle.syntax.specs.declared.tree.Kernel.{Kernel};
+    ghost use Rattle.types.specs.View.{kernel as core_seen};
+    ghost use Rattle.types.specs.contracts.core_tree.Core as core_type;
+    ghost use Rattle.types.specs.declared.core_tree.Core.{Core};
+
+    ghost Value = { Kernel × Core };
+
+    ghost coded = { Prim.hlevel (codes, tree_type.the_row.coded, core_type.the_row.coded) };
+
+    ghost view = { λ t. (t.tree, t.core) };
+
+    ghost invariant = { λ t. elaborates (tree_seen t.tree) ≡ Ok (core_seen t.core) };
+}
+
+impl Typed {
+    /// A tree with the core that it elaborates to, as the caller has shown.
+    pub fn new(tree: Kernel, core: Core) -> Typed
+        requires { elaborates (tree_seen tree) ≡ Ok (core_seen core) }
+        ensures { result ≡ (tree, core) }
+    {
+        Typed { tree, core }
+    }
+
+    /// The kernel's tree.
+    pub fn kernel(&self) -> &Kernel
+        ensures value { result.now ≡ self.now.0 }
+        ensures typed { elaborates (tree_seen self.now.0) ≡ Ok (core_seen self.now.1) }
+    {
+        &self.tree
+    }
+
+    /// The kernel's core.
+    pub fn core(&self) -> &Core
+        ensures value { result.now ≡ self.now.1 }
+        ensures typed { elaborates (tree_seen self.now.0) ≡ Ok (core_seen self.now.1) }
+    {
+        &self.core
+    }
+}

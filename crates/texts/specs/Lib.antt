@@ -9,3 +9,8 @@ pub mod TypeFaults
 pub mod Scope
 pub mod Typing
 pub mod Elaboration
+pub mod Lines
+pub mod Certificate
+pub mod CertificateText
+pub mod CertificateLines
+pub mod CertificateReading

@@ -1,0 +1,190 @@
+-- What a line of a certificate says, by its words. A word list that fits nothing gives nothing.
+use Rattle.std.specs.Prelude.{ℕ, ℤ, pos, List, [], ◌∷◌, ◌++◌, drop, Bool, true, false, cond, not, nat_eq, nat_le, ◌&&◌, Option, None, Some, Result, Ok, Err, bytes_eq, codes}
+use Rattle.std.specs.Option.{option_map}
+use Rattle.std.specs.Ordering.{nat_cmp, is_lt, int_eq}
+use Rattle.std.specs.List.{starts_with}
+use Rattle.std.specs.Int.Signed.{lt_z}
+use Rattle.std.specs.Cmp.Lexicographic.{slice_cmp}
+use Rattle.semantics.specs.Linear.{Weighted, Form}
+use Rattle.texts.specs.Tokens.{is_letter, is_word_byte}
+use Rattle.texts.specs.Lines.{NumberFault, pieces, is_empty, sole, two, first, natural_of, integer_of}
+use Rattle.texts.specs.Certificate.{Dimension, First, Second, Third, Name, Variable, AtAnchor, Turns, Fresh, Argument, Length, Groups, Group, Local, Anchor, KernelEntry, Barrier, Spot, Congruence, Descent, Down, Halve, Bound, Claim, Show, Positive, Negative, Quotient, Part, Step, Given, Sum, Divide}
+
+-- what a line between the first and the last says
+pub data Item : Type 0 where
+  PlaceItem : (spot : Spot) → Item
+  SameItem : (name : List ℕ) → Item
+  FactItem : (form : Form Name) → Item
+  CongruenceItem : (congruence : Congruence) → Item
+  BoundItem : (bound : Bound) → Item
+  EntryItem : (obligation : ℕ) (claim : Claim) → Item
+  StepItem : (step : Step) → Item
+  EndItem : Item
+
+abbrev pub then : {A B : Type 0} → Option A → (A → Option B) → Option B
+then None go = None
+then (Some a) go = go a
+
+abbrev pub when : {A : Type 0} → Bool → A → Option A
+when holds a = cond holds (Some a) None
+
+abbrev pub number : {A : Type 0} → Result A NumberFault → Option A
+number (Ok a) = Some a
+number (Err fault) = None
+
+abbrev pub begins : (word front : List ℕ) → Bool
+begins word front = starts_with nat_eq word front
+
+abbrev pub all_word_bytes : List ℕ → Bool
+all_word_bytes [] = true
+all_word_bytes (b ∷ bytes) = is_word_byte b && all_word_bytes bytes
+
+-- a letter or `_`, then letters, digits and `_`
+abbrev pub is_identifier : List ℕ → Bool
+is_identifier [] = false
+is_identifier (b ∷ bytes) = is_letter b && all_word_bytes bytes
+
+abbrev pub identifier_of : List ℕ → Option (List ℕ)
+identifier_of word = when (is_identifier word) word
+
+abbrev pub dimension_of : List ℕ → Option Dimension
+dimension_of word =
+    cond (bytes_eq word (codes "0")) (Some First) (cond (bytes_eq word (codes "1")) (Some Second) (cond (bytes_eq word (codes "2")) (Some Third) None))
+
+-- `groups.`, `group.` and `local.`
+unfoldable pub dimensional_of : List ℕ → Option Name
+dimensional_of word =
+    cond (begins word (codes "groups.")) (option_map Groups (dimension_of (drop 7 word))) (
+    cond (begins word (codes "group.")) (option_map Group (dimension_of (drop 6 word))) (
+    cond (begins word (codes "local.")) (option_map Local (dimension_of (drop 6 word))) (
+    option_map Variable (identifier_of word))))
+
+unfoldable pub name_of : List ℕ → Option Name
+name_of word =
+    cond (begins word (codes "@")) (option_map AtAnchor (identifier_of (drop 1 word))) (
+    cond (begins word (codes "$")) (option_map Turns (number (natural_of (drop 1 word)))) (
+    cond (begins word (codes "#")) (option_map Fresh (number (natural_of (drop 1 word)))) (
+    cond (begins word (codes "arg.")) (option_map Argument (identifier_of (drop 4 word))) (
+    cond (begins word (codes "len.")) (option_map Length (identifier_of (drop 4 word))) (
+    dimensional_of word)))))
+
+abbrev pub weighted : ℤ → Name → Weighted Name
+weighted coefficient name = record { coefficient = coefficient; symbol = name }
+
+-- the number and the name of `C*NAME`; no coefficient is 0
+abbrev pub term_of : List ℕ × List ℕ → Option (Weighted Name)
+term_of parts =
+    then (number (integer_of parts.0)) (λ coefficient. then (name_of parts.1) (λ name.
+    when (not (int_eq coefficient (pos 0))) (weighted coefficient name)))
+
+-- bytes before bytes, as in a dictionary
+abbrev pub is_before : (left right : List ℕ) → Bool
+is_before left right = is_lt (slice_cmp nat_cmp left right)
+
+-- a name after the one before it
+abbrev pub name_follows : (before : Option (List ℕ)) → List ℕ → Bool
+name_follows None name = true
+name_follows (Some before) name = is_before before name
+
+abbrev pub form : List (Weighted Name) → ℤ → Form Name
+form terms constant = record { terms = terms; constant = constant }
+
+-- terms with ` + ` after each, their names rising, and a constant
+unfoldable pub form_of : (terms : List (Weighted Name)) (before : Option (List ℕ)) → List (List ℕ) → Option (Form Name)
+form_of terms before [] = None
+form_of terms before (word ∷ []) = option_map (form terms) (number (integer_of word))
+form_of terms before (word ∷ sign ∷ others) =
+    then (two (pieces 42 word)) (λ parts. then (term_of parts) (λ term.
+    cond (bytes_eq sign (codes "+") && name_follows before parts.1) (form_of (terms ++ term ∷ []) (Some parts.1) others) None))
+
+abbrev pub anchor_of : List ℕ → Option Anchor
+anchor_of word =
+    cond (bytes_eq word (codes "entry")) (Some KernelEntry) (cond (begins word (codes "b")) (option_map Barrier (number (natural_of (drop 1 word)))) None)
+
+abbrev pub head_of : List (List ℕ) → Option (Option ℕ)
+head_of [] = Some None
+head_of (word ∷ []) = cond (begins word (codes "h")) (option_map Some (number (natural_of (drop 1 word)))) None
+head_of (word ∷ other ∷ others) = None
+
+-- an anchor, and `/hK` behind it
+abbrev pub spot_of : List (List ℕ) → Option Spot
+spot_of words = then (first words) (λ w. then (anchor_of w.0) (λ anchor. then (head_of w.1) (λ head. Some (record { anchor = anchor; head = head }))))
+
+abbrev pub at_least : ℕ → Result ℕ NumberFault → Option ℕ
+at_least least answer = then (number answer) (λ n. when (nat_le least n) n)
+
+unfoldable pub congruence_of : List (List ℕ) → Option Congruence
+congruence_of words =
+    then (first words) (λ w. then (at_least 2 (natural_of w.0)) (λ modulus. then (form_of [] None w.1) (λ f.
+    Some (record { modulus = modulus; form = f }))))
+
+-- `down STEP` or `halve`, and the words after it
+abbrev pub descent_of : List ℕ → List (List ℕ) → Option (Descent × List (List ℕ))
+descent_of word words =
+    cond (bytes_eq word (codes "down")) (then (first words) (λ w. then (at_least 1 (natural_of w.0)) (λ step. Some (Down step, w.1)))) (
+    cond (bytes_eq word (codes "halve")) (Some (Halve, words)) None)
+
+unfoldable pub bound_of : List (List ℕ) → Option Bound
+bound_of words =
+    then (first words) (λ a. then (number (natural_of a.0)) (λ loop. then (first a.1) (λ b. then (descent_of b.0 b.1) (λ descent.
+    then (first descent.1) (λ c. then (number (integer_of c.0)) (λ most. then (form_of [] None c.1) (λ f.
+    Some (record { loop = loop; descent = descent.0; most = most; form = f }))))))))
+
+abbrev pub plain_claim : List ℕ → Option Claim
+plain_claim word =
+    cond (bytes_eq word (codes "show")) (Some Show) (cond (bytes_eq word (codes "pos")) (Some Positive) (cond (bytes_eq word (codes "neg")) (Some Negative) None))
+
+abbrev pub claim_of : List ℕ → List (List ℕ) → Option Claim
+claim_of word words =
+    cond (bytes_eq word (codes "quot")) (option_map Quotient (form_of [] None words)) (cond (is_empty words) (plain_claim word) None)
+
+unfoldable pub entry_of : List (List ℕ) → Option Item
+entry_of words =
+    then (first words) (λ a. then (at_least 1 (natural_of a.0)) (λ obligation. then (first a.1) (λ b. then (claim_of b.0 b.1) (λ claim.
+    Some (EntryItem obligation claim)))))
+
+abbrev pub part_of : (weight line : List ℕ) → Option Part
+part_of weight line =
+    then (number (integer_of weight)) (λ w. then (number (integer_of line)) (λ l. Some (record { weight = w; line = l })))
+
+-- a line after those before it
+abbrev pub part_follows : List Part → Part → Bool
+part_follows [] p = true
+part_follows (a ∷ []) p = lt_z a.line p.line
+part_follows (a ∷ b ∷ parts) p = part_follows (b ∷ parts) p
+
+-- pairs of a weight and a line, one at least, the lines rising
+unfoldable pub sum_of : (parts : List Part) → List (List ℕ) → Option Step
+sum_of parts [] = when (not (is_empty parts)) (Sum parts)
+sum_of parts (weight ∷ []) = None
+sum_of parts (weight ∷ line ∷ others) = then (part_of weight line) (λ p. cond (part_follows parts p) (sum_of (parts ++ p ∷ []) others) None)
+
+abbrev pub given_of : List (List ℕ) → Option Step
+given_of words = then (sole words) (λ word. option_map Given (number (integer_of word)))
+
+abbrev pub divide_of : List (List ℕ) → Option Step
+divide_of words = then (two words) (λ w. then (part_of w.0 w.1) (λ p. Some (Divide p.weight p.line)))
+
+-- by the first word; those of a place
+abbrev pub place_item : (keyword : List ℕ) → List (List ℕ) → Option Item
+place_item keyword words =
+    cond (bytes_eq keyword (codes "place")) (then (sole words) (λ word. option_map PlaceItem (spot_of (pieces 47 word)))) (
+    cond (bytes_eq keyword (codes "same")) (then (sole words) (λ word. option_map SameItem (identifier_of word))) (
+    cond (bytes_eq keyword (codes "fact")) (option_map FactItem (form_of [] None words)) (
+    cond (bytes_eq keyword (codes "mod")) (option_map CongruenceItem (congruence_of words)) None)))
+
+-- those of a derivation
+abbrev pub step_item : (keyword : List ℕ) → List (List ℕ) → Option Item
+step_item keyword words =
+    cond (bytes_eq keyword (codes "g")) (option_map StepItem (given_of words)) (
+    cond (bytes_eq keyword (codes "s")) (option_map StepItem (sum_of [] words)) (
+    cond (bytes_eq keyword (codes "d")) (option_map StepItem (divide_of words)) (
+    place_item keyword words)))
+
+unfoldable pub item_of : List (List ℕ) → Option Item
+item_of words =
+    then (first words) (λ w.
+    cond (bytes_eq w.0 (codes "loop")) (option_map BoundItem (bound_of w.1)) (
+    cond (bytes_eq w.0 (codes "ob")) (entry_of w.1) (
+    cond (bytes_eq w.0 (codes "end")) (when (is_empty w.1) EndItem) (
+    step_item w.0 w.1))))

@@ -56,15 +56,16 @@ pub data Claim : Type 0 where
   Show Positive Negative : Claim
   Quotient : (form : Form Name) → Claim
 
-pub record Part : Type 0 where
-  pub weight : ℤ
+-- a line of a derivation, and what it is multiplied or divided by
+pub record Scaled : Type 0 where
+  pub factor : ℤ
   pub line : ℤ
 
 -- a line of a derivation: a fact, a sum of earlier lines with weights, an earlier line divided
 pub data Step : Type 0 where
   Given : (fact : ℤ) → Step
-  Sum : (parts : List Part) → Step
-  Divide : (divisor line : ℤ) → Step
+  Sum : (parts : List Scaled) → Step
+  Divide : (quotient : Scaled) → Step
 
 pub record Entry : Type 0 where
   pub obligation : ℕ

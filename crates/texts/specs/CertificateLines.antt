@@ -7,8 +7,8 @@ use Rattle.std.specs.Int.Signed.{lt_z}
 use Rattle.std.specs.Cmp.Lexicographic.{slice_cmp}
 use Rattle.semantics.specs.Linear.{Weighted, Form}
 use Rattle.texts.specs.Tokens.{is_letter, is_word_byte}
-use Rattle.texts.specs.Lines.{NumberFault, pieces, is_empty, sole, two, first, natural_of, integer_of}
-use Rattle.texts.specs.Certificate.{Dimension, First, Second, Third, Name, Variable, AtAnchor, Turns, Fresh, Argument, Length, Groups, Group, Local, Anchor, KernelEntry, Barrier, Spot, Congruence, Descent, Down, Halve, Bound, Claim, Show, Positive, Negative, Quotient, Part, Step, Given, Sum, Divide}
+use Rattle.texts.specs.Lines.{NumberFault, pieces, is_empty, follows, sole, two, first, natural_of, integer_of}
+use Rattle.texts.specs.Certificate.{Dimension, First, Second, Third, Name, Variable, AtAnchor, Turns, Fresh, Argument, Length, Groups, Group, Local, Anchor, KernelEntry, Barrier, Spot, Congruence, Descent, Down, Halve, Bound, Claim, Show, Positive, Negative, Quotient, Scaled, Step, Given, Sum, Divide}
 
 -- what a line between the first and the last says
 pub data Item : Type 0 where
@@ -143,27 +143,25 @@ entry_of words =
     then (first words) (λ a. then (at_least 1 (natural_of a.0)) (λ obligation. then (first a.1) (λ b. then (claim_of b.0 b.1) (λ claim.
     Some (EntryItem obligation claim)))))
 
-abbrev pub part_of : (weight line : List ℕ) → Option Part
-part_of weight line =
-    then (number (integer_of weight)) (λ w. then (number (integer_of line)) (λ l. Some (record { weight = w; line = l })))
+abbrev pub scaled_of : (factor line : List ℕ) → Option Scaled
+scaled_of factor line =
+    then (number (integer_of factor)) (λ f. then (number (integer_of line)) (λ l. Some (record { factor = f; line = l })))
 
--- a line after those before it
-abbrev pub part_follows : List Part → Part → Bool
-part_follows [] p = true
-part_follows (a ∷ []) p = lt_z a.line p.line
-part_follows (a ∷ b ∷ parts) p = part_follows (b ∷ parts) p
+abbrev pub line_is_before : (left right : Scaled) → Bool
+line_is_before left right = lt_z left.line right.line
 
 -- pairs of a weight and a line, one at least, the lines rising
-unfoldable pub sum_of : (parts : List Part) → List (List ℕ) → Option Step
+unfoldable pub sum_of : (parts : List Scaled) → List (List ℕ) → Option Step
 sum_of parts [] = when (not (is_empty parts)) (Sum parts)
 sum_of parts (weight ∷ []) = None
-sum_of parts (weight ∷ line ∷ others) = then (part_of weight line) (λ p. cond (part_follows parts p) (sum_of (parts ++ p ∷ []) others) None)
+sum_of parts (weight ∷ line ∷ others) =
+    then (scaled_of weight line) (λ p. cond (follows line_is_before parts p) (sum_of (parts ++ p ∷ []) others) None)
 
 abbrev pub given_of : List (List ℕ) → Option Step
 given_of words = then (sole words) (λ word. option_map Given (number (integer_of word)))
 
 abbrev pub divide_of : List (List ℕ) → Option Step
-divide_of words = then (two words) (λ w. then (part_of w.0 w.1) (λ p. Some (Divide p.weight p.line)))
+divide_of words = then (two words) (λ w. option_map Divide (scaled_of w.0 w.1))
 
 -- by the first word; those of a place
 abbrev pub place_item : (keyword : List ℕ) → List (List ℕ) → Option Item

@@ -1,7 +1,7 @@
 -- Reading a certificate, line by line: what has been read, what may follow it, and the first line that may not.
 use Rattle.std.specs.Prelude.{ℕ, suc, ℤ, pos, List, [], ◌∷◌, ◌++◌, length, Bool, true, false, cond, not, nat_eq, nat_lt, ◌&&◌, ◌||◌, Option, None, Some, Result, Ok, Err, bytes_eq, codes}
 use Rattle.std.specs.Ordering.{int_eq}
-use Rattle.texts.specs.Lines.{is_empty, two, line_feed, pieces, words, integer_of}
+use Rattle.texts.specs.Lines.{is_empty, follows, two, line_feed, pieces, words, integer_of}
 use Rattle.texts.specs.Certificate.{Anchor, KernelEntry, Barrier, Spot, Place, Bound, Entry, Step, Claim, Certificate, CertificateFault, BadLine, OtherVersion}
 use Rattle.texts.specs.CertificateLines.{Item, PlaceItem, SameItem, FactItem, CongruenceItem, BoundItem, EntryItem, StepItem, EndItem, then, when, number, item_of}
 
@@ -21,12 +21,6 @@ head_is_before (Some j) (Some k) = nat_lt j k
 abbrev pub spot_is_before : (left right : Spot) → Bool
 spot_is_before left right =
     anchor_is_before left.anchor right.anchor || (not (anchor_is_before right.anchor left.anchor) && head_is_before left.head right.head)
-
--- whether what comes next is after the last of what there is
-abbrev pub follows : {A B : Type 0} → (A → B → Bool) → List A → B → Bool
-follows is_before [] b = true
-follows is_before (a ∷ []) b = is_before a b
-follows is_before (a ∷ c ∷ as') b = follows is_before (c ∷ as') b
 
 -- what is open behind the part that is settled
 pub data Open : Type 0 where

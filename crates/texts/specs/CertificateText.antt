@@ -4,7 +4,7 @@ use Rattle.std.specs.List.{flat_map}
 use Rattle.std.specs.Fmt.{decimal, signed_decimal}
 use Rattle.semantics.specs.Linear.{Weighted, Form}
 use Rattle.texts.specs.Lines.{text_of_lines}
-use Rattle.texts.specs.Certificate.{Dimension, First, Second, Third, Name, Variable, AtAnchor, Turns, Fresh, Argument, Length, Groups, Group, Local, Anchor, KernelEntry, Barrier, Spot, Congruence, Place, Descent, Down, Halve, Bound, Claim, Show, Positive, Negative, Quotient, Part, Step, Given, Sum, Divide, Entry, Certificate}
+use Rattle.texts.specs.Certificate.{Dimension, First, Second, Third, Name, Variable, AtAnchor, Turns, Fresh, Argument, Length, Groups, Group, Local, Anchor, KernelEntry, Barrier, Spot, Congruence, Place, Descent, Down, Halve, Bound, Claim, Show, Positive, Negative, Quotient, Scaled, Step, Given, Sum, Divide, Entry, Certificate}
 
 abbrev pub dimension_text : Dimension → List ℕ
 dimension_text First = codes "0"
@@ -70,13 +70,13 @@ claim_text (Quotient form) = codes "quot " ++ form_text form
 abbrev pub entry_line : (obligation : ℕ) → Claim → List ℕ
 entry_line obligation claim = codes "ob " ++ (decimal obligation ++ (codes " " ++ claim_text claim))
 
-abbrev pub part_text : Part → List ℕ
-part_text p = codes " " ++ (signed_decimal p.weight ++ (codes " " ++ signed_decimal p.line))
+abbrev pub scaled_text : Scaled → List ℕ
+scaled_text s = codes " " ++ (signed_decimal s.factor ++ (codes " " ++ signed_decimal s.line))
 
 abbrev pub step_line : Step → List ℕ
 step_line (Given fact) = codes "g " ++ signed_decimal fact
-step_line (Sum parts) = codes "s" ++ flat_map part_text parts
-step_line (Divide divisor line) = codes "d " ++ (signed_decimal divisor ++ (codes " " ++ signed_decimal line))
+step_line (Sum parts) = codes "s" ++ flat_map scaled_text parts
+step_line (Divide quotient) = codes "d" ++ scaled_text quotient
 
 abbrev pub entry_lines : Entry → List (List ℕ)
 entry_lines e = entry_line e.obligation e.claim ∷ map step_line e.steps

@@ -26,6 +26,12 @@ abbrev pub is_empty : {A : Type 0} → List A → Bool
 is_empty [] = true
 is_empty (a ∷ others) = false
 
+-- whether what comes next is after the last of what there is
+abbrev pub follows : {A B : Type 0} → (A → B → Bool) → List A → B → Bool
+follows is_before [] b = true
+follows is_before (a ∷ []) b = is_before a b
+follows is_before (a ∷ c ∷ others) b = follows is_before (c ∷ others) b
+
 -- the one word, the two words that there are
 abbrev pub sole : {A : Type 0} → List A → Option A
 sole [] = None

@@ -1,0 +1,5 @@
+//! Certificates and their text.
+#![tactic(auto)]
+
+pub mod tree;
+pub mod write;

@@ -1,5 +1,7 @@
 //! Certificates and their text.
 #![tactic(auto)]
 
+pub mod error;
 pub mod tree;
+mod word;
 pub mod write;

@@ -2,6 +2,8 @@
 #![tactic(auto)]
 
 pub mod error;
+mod item;
+mod name;
 pub mod tree;
 mod word;
 pub mod write;

@@ -89,10 +89,13 @@ name_follows (Some before) name = is_before before name
 abbrev pub form : List (Weighted Name) → ℤ → Form Name
 form terms constant = record { terms = terms; constant = constant }
 
+abbrev pub constant_of : List (Weighted Name) → List ℕ → Option (Form Name)
+constant_of terms word = option_map (form terms) (number (integer_of word))
+
 -- terms with ` + ` after each, their names rising, and a constant
 unfoldable pub form_of : (terms : List (Weighted Name)) (before : Option (List ℕ)) → List (List ℕ) → Option (Form Name)
 form_of terms before [] = None
-form_of terms before (word ∷ []) = option_map (form terms) (number (integer_of word))
+form_of terms before (word ∷ []) = constant_of terms word
 form_of terms before (word ∷ sign ∷ others) =
     then (two (pieces 42 word)) (λ parts. then (term_of parts) (λ term.
     cond (bytes_eq sign (codes "+") && name_follows before parts.1) (form_of (terms ++ term ∷ []) (Some parts.1) others) None))

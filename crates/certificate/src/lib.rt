@@ -1,6 +1,7 @@
 //! Certificates and their text.
 #![tactic(auto)]
 
+mod draft;
 pub mod error;
 mod item;
 mod name;

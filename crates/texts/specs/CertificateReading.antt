@@ -60,17 +60,26 @@ abbrev pub open_entry : Open → Option Entry
 open_entry (InEntry e) = Some e
 open_entry o = None
 
+abbrev pub place_is_behind : Place → Spot → Bool
+place_is_behind p spot = spot_is_before p.spot spot
+
+abbrev pub bound_is_behind : Bound → ℕ → Bool
+bound_is_behind b loop = nat_lt b.loop loop
+
+abbrev pub entry_is_behind : Entry → ℕ → Bool
+entry_is_behind e obligation = nat_lt e.obligation obligation
+
 -- places come before bounds and entries, and rise
 abbrev pub place_fits : Certificate → Spot → Bool
-place_fits c spot = (is_empty c.bounds && is_empty c.entries) && follows (λ (p : Place) s. spot_is_before p.spot s) c.places spot
+place_fits c spot = (is_empty c.bounds && is_empty c.entries) && follows place_is_behind c.places spot
 
 -- bounds come before entries, and rise by their loops
 abbrev pub bound_fits : Certificate → Bound → Bool
-bound_fits c b = is_empty c.entries && follows (λ (a : Bound) n. nat_lt a.loop n) c.bounds b.loop
+bound_fits c b = is_empty c.entries && follows bound_is_behind c.bounds b.loop
 
 -- entries rise by their obligations
 abbrev pub entry_fits : Certificate → ℕ → Bool
-entry_fits c obligation = follows (λ (e : Entry) n. nat_lt e.obligation n) c.entries obligation
+entry_fits c obligation = follows entry_is_behind c.entries obligation
 
 abbrev pub place_at : Spot → Place
 place_at spot = record { spot = spot; same = []; facts = []; congruences = [] }
@@ -85,17 +94,35 @@ add_to_place p (FactItem f) = when (is_empty p.congruences) (record p { facts = 
 add_to_place p (CongruenceItem c) = Some (record p { congruences = p.congruences ++ c ∷ [] })
 add_to_place p item = None
 
-abbrev pub add_step : Entry → Step → Entry
-add_step e s = record e { steps = e.steps ++ s ∷ [] }
+abbrev pub with_step : Entry → Step → Option Entry
+with_step e s = Some (record e { steps = e.steps ++ s ∷ [] })
+
+abbrev pub add_place : Draft → Spot → Option Draft
+add_place d spot = then (settle d.settled d.opened) (λ c. when (place_fits c spot) (draft c (InPlace (place_at spot))))
+
+abbrev pub add_bound : Draft → Bound → Option Draft
+add_bound d b = then (settle d.settled d.opened) (λ c. when (bound_fits c b) (draft (record c { bounds = c.bounds ++ b ∷ [] }) Nothing))
+
+abbrev pub add_entry : Draft → ℕ → Claim → Option Draft
+add_entry d n claim = then (settle d.settled d.opened) (λ c. when (entry_fits c n) (draft c (InEntry (entry_at n claim))))
+
+abbrev pub add_to_entry : Draft → Step → Option Draft
+add_to_entry d s = then (open_entry d.opened) (λ e. then (with_step e s) (λ f. Some (draft d.settled (InEntry f))))
+
+abbrev pub add_end : Draft → Option Draft
+add_end d = then (settle d.settled d.opened) (λ c. Some (draft c Ended))
+
+abbrev pub add_within : Draft → Item → Option Draft
+add_within d item = then (open_place d.opened) (λ p. then (add_to_place p item) (λ q. Some (draft d.settled (InPlace q))))
 
 -- one more line
 unfoldable pub add : Draft → Item → Option Draft
-add d (PlaceItem spot) = then (settle d.settled d.opened) (λ c. when (place_fits c spot) (draft c (InPlace (place_at spot))))
-add d (BoundItem b) = then (settle d.settled d.opened) (λ c. when (bound_fits c b) (draft (record c { bounds = c.bounds ++ b ∷ [] }) Nothing))
-add d (EntryItem n claim) = then (settle d.settled d.opened) (λ c. when (entry_fits c n) (draft c (InEntry (entry_at n claim))))
-add d (StepItem s) = then (open_entry d.opened) (λ e. Some (draft d.settled (InEntry (add_step e s))))
-add d EndItem = then (settle d.settled d.opened) (λ c. Some (draft c Ended))
-add d item = then (open_place d.opened) (λ p. then (add_to_place p item) (λ q. Some (draft d.settled (InPlace q))))
+add d (PlaceItem spot) = add_place d spot
+add d (BoundItem b) = add_bound d b
+add d (EntryItem n claim) = add_entry d n claim
+add d (StepItem s) = add_to_entry d s
+add d EndItem = add_end d
+add d item = add_within d item
 
 abbrev pub Read : Type 0
 Read = Result Certificate (CertificateFault × ℕ)

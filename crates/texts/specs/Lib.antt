@@ -14,3 +14,4 @@ pub mod Certificate
 pub mod CertificateText
 pub mod CertificateLines
 pub mod CertificateReading
+pub mod CertificateRules

@@ -44,3 +44,8 @@ no_block lines view xs i out whole h q = sym (append-nil out) ∙ ap (λ ys. out
 pub four : (out line : List ℕ) (a b c : List (List ℕ)) → (((out ++ (line ++ 10 ∷ [])) ++ text_of_lines a) ++ text_of_lines b) ++ text_of_lines c ≡ out ++ text_of_lines (line ∷ (a ++ (b ++ c)))
 four out line a b c =
     simp append_assoc (ap (λ t. out ++ (line ++ (10 ∷ t))) (sym (lines-append a (b ++ c) ∙ ap (λ t. text_of_lines a ++ t) (lines-append b c))))
+
+-- the first line, three rows of lines, and the last line
+pub whole : (first last : List ℕ) (a b c : List (List ℕ)) → (((first ++ text_of_lines a) ++ text_of_lines b) ++ text_of_lines c) ++ (last ++ 10 ∷ []) ≡ first ++ text_of_lines ((a ++ (b ++ c)) ++ last ∷ [])
+whole first last a b c =
+    simp append_assoc (ap (λ t. first ++ t) (sym (lines-append a (b ++ (c ++ last ∷ [])) ∙ ap (λ t. text_of_lines a ++ t) (lines-append b (c ++ last ∷ []) ∙ ap (λ t. text_of_lines b ++ t) (lines-append c (last ∷ []) ∙ ap (λ t. text_of_lines c ++ t) (append-nil (last ++ 10 ∷ [])))))))

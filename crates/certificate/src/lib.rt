@@ -1,10 +1,16 @@
 //! Certificates and their text.
 #![tactic(auto)]
 
+mod certificate;
 mod draft;
 pub mod error;
 mod item;
 mod name;
+mod reader;
 pub mod tree;
 mod word;
-pub mod write;
+mod writer;
+
+pub use certificate::Certificate;
+pub use reader::{LIMIT, read};
+pub use writer::write;

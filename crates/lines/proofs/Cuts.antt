@@ -19,3 +19,12 @@ one_piece p (a ∷ text) h =
       | true ↦ λ l. absurd (omega arith)
       | false ↦ λ l. ap (onto_first a) (one_piece p text (omega arith))
     ] h
+
+onto_some : {A : Type 0} (a : A) (parts : List (List A)) → is_empty parts ≡ false → length (onto_first a parts) ≡ length parts
+onto_some a [] e = absurd cc
+onto_some a (x ∷ xs) e = refl
+
+pub few_pieces : {A : Type 0} (p : A → Bool) (text : List A) → length (slice_split p text) ≤ length text + 1
+few_pieces p [] = omega arith
+few_pieces p (a ∷ text) =
+    cond_both (p a) ([] ∷ slice_split p text) (onto_first a (slice_split p text)) (λ ps. length ps ≤ suc (length text) + 1) (λ _. omega (arith, few_pieces p text)) (λ _. omega (arith, few_pieces p text, onto_some a (slice_split p text) (some_piece p text)))

@@ -11,14 +11,16 @@ pub struct Pieces<'a> {
 }
 
 impl<'a> Pieces<'a> {
-    ghost use Rattle.std.specs.Prelude.{◌≡◌, [], ◌∷◌, MatchOption};
+    ghost use Rattle.std.specs.Prelude.{◌≡◌, ◌≤◌, ◌+◌, [], ◌∷◌, length, MatchOption};
     ghost use Rattle.std.specs.Option.{option_copied};
     ghost use Rattle.texts.specs.Lines.{pieces, is_empty, sole, two};
     ghost use Rattle.lines.specs.Left.{left, both};
 
     /// All pieces of a text: one more than it has separators.
+    #[tactic(auto, using(crate::proofs::Cuts::few_pieces))]
     pub fn of(text: &'a [u8], separator: u8) -> Pieces<'a>
-        ensures { left result ≡ pieces separator text.now }
+        ensures cut { left result ≡ pieces separator text.now }
+        ensures count { length (left result) ≤ length text.now + 1 }
     {
         Pieces {
             separator,

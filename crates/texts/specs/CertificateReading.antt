@@ -139,19 +139,25 @@ abbrev pub go_on : ℕ → Option Draft → (Draft → Read) → Read
 go_on n None go = Err (BadLine, n)
 go_on n (Some d) go = go d
 
+abbrev pub add_line : Draft → List ℕ → Option Draft
+add_line d line = then (item_of (words line)) (add d)
+
 -- line after line, each with its number; what follows the last line feed is no line
 abbrev pub read_lines : ℕ → Draft → List (List ℕ) → Read
 read_lines n d [] = Err (BadLine, n)
 read_lines n d (line ∷ others) =
-    cond (is_empty others) (finish n d line) (go_on n (then (item_of (words line)) (add d)) (λ e. read_lines (suc n) e others))
+    cond (is_empty others) (finish n d line) (go_on n (add_line d line) (λ e. read_lines (suc n) e others))
 
 -- `certificate 1` begins a text: with another number that is of another version
 abbrev pub head_of_version : Option ℤ → Option CertificateFault
 head_of_version None = Some BadLine
 head_of_version (Some version) = cond (int_eq version (pos 1)) None (Some OtherVersion)
 
+abbrev pub version_of : List (List ℕ) → Option ℤ
+version_of words = then (two words) (λ w. cond (bytes_eq w.0 (codes "certificate")) (number (integer_of w.1)) None)
+
 abbrev pub head_fault : List (List ℕ) → Option CertificateFault
-head_fault words = head_of_version (then (two words) (λ w. cond (bytes_eq w.0 (codes "certificate")) (number (integer_of w.1)) None))
+head_fault words = head_of_version (version_of words)
 
 abbrev pub unless : Option CertificateFault → Read → Read
 unless None read = read

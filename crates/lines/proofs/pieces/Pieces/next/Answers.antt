@@ -14,4 +14,4 @@ returns-then-at-text c =
     let inside : position_or_len (λ b. nat_eq b separator) text < length text = omega (arith, c.if-at-text.true, place) in
     ap (rest_left separator) c.in-Some.is ∙ slice_split_first (λ b. nat_eq b separator) text 0 inside
     ∙ ap (λ n. take n text ∷ pieces separator (drop (n + 1) text)) (sym place)
-    ∙ ap (λ ps. take c.position-at.result text ∷ ps) (sym (rw take_rest at c.of-others.ensures))
+    ∙ ap (λ ps. take c.position-at.result text ∷ ps) (sym (rw take_rest at c.of-others.ensures.cut))

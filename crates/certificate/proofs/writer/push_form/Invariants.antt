@@ -3,7 +3,7 @@ use Rattle.std.specs.List.{flat_map}
 use Rattle.std.specs.String.{string_bytes}
 use Rattle.texts.specs.CertificateText as text
 use Rattle.certificate.specs.View as view
-use Rattle.certificate.proofs.write.push_form.Given as goal
+use Rattle.certificate.proofs.writer.push_form.Given as goal
 
 abbrev pub invariant-loop-term : goal.invariant-loop-term
 invariant-loop-term l =

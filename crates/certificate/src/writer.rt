@@ -1,14 +1,16 @@
 //! The text of a certificate.
 
-ghost use Rattle.std.specs.Prelude.{◌≡◌, ◌++◌, [], ◌∷◌, map, OnOk};
+ghost use Rattle.std.specs.Prelude.{◌≡◌, ◌++◌, [], ◌∷◌, map, IfOk, OnOk};
 ghost use Rattle.std.specs.List.{flat_map};
 ghost use Rattle.std.specs.String.{string_bytes};
 ghost use Rattle.texts.specs.Lines.{text_of_lines};
 ghost use Rattle.texts.specs.CertificateText as text;
 ghost use Rattle.certificate.specs.View as view;
+ghost use Rattle.certificate.specs.Certificates.{certificate};
 
+use crate::certificate::Certificate;
 use crate::tree::{Anchor, Bound, Claim, Congruence, Descent, Dimension, Entry, Form, Name, Place, Scaled, Spot, Step, Term};
-use std::alloc::AllocError;
+use std::alloc::{AllocError, Global};
 
 fn push_dimension(out: &mut String, dimension: Dimension) -> Result<(), AllocError>
     ensures { OnOk result (string_bytes out.new ≡ string_bytes out.old ++ text.dimension_text (view.dimension dimension)) }
@@ -266,4 +268,17 @@ fn push_entries(out: &mut String, entries: &[Entry]) -> Result<(), AllocError>
         push_entry(out, entry)?;
     }
     Ok(())
+}
+
+/// The text of a certificate.
+#[tactic(auto, using(crate::proofs::Texts::whole))]
+pub fn write(alloc: Global, from: &Certificate) -> Result<Vec<u8>, AllocError>
+    ensures { IfOk result (λ v. v.items ≡ text.text_of (certificate from.now)) }
+{
+    let mut out = String::from_str(alloc, "certificate 1\n")?;
+    push_places(&mut out, from.places())?;
+    push_bounds(&mut out, from.bounds())?;
+    push_entries(&mut out, from.entries())?;
+    out.push_str("end\n")?;
+    Ok(out.into_bytes())
 }

@@ -14,3 +14,6 @@ mod writer;
 pub use certificate::Certificate;
 pub use reader::{LIMIT, read};
 pub use writer::write;
+
+#[cfg(test)]
+mod tests;

@@ -4,3 +4,5 @@ pub mod Reading
 pub mod Order
 pub mod Unique
 pub mod Sites
+pub mod Decimals
+pub mod Cuts

@@ -6,3 +6,4 @@ pub mod Unique
 pub mod Sites
 pub mod Decimals
 pub mod Cuts
+pub mod FormsRead

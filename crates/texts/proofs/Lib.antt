@@ -7,3 +7,4 @@ pub mod Sites
 pub mod Decimals
 pub mod Cuts
 pub mod FormsRead
+pub mod ItemsRead

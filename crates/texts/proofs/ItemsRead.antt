@@ -40,10 +40,10 @@ is_item (EntryItem n claim) = (is_natural n && nat_le 1 n) && is_claim claim
 is_item (StepItem s) = is_step s
 is_item EndItem = true
 
-same : {A : Type 0} (a b : A) → Some a ≡ Some b → a ≡ b
+pub same : {A : Type 0} (a b : A) → Some a ≡ Some b → a ≡ b
 same a b e = cc
 
-andt : (a b : Bool) → a ≡ true → b ≡ true → (a && b) ≡ true
+pub andt : (a b : Bool) → a ≡ true → b ≡ true → (a && b) ≡ true
 andt a b p q = rw (p, q) refl
 
 -- a word, its text, and what follows it
@@ -156,7 +156,7 @@ plain_back w c e = elim (by_word w (codes "show") _ _ c e) [
   ]
 ]
 
-none_left : {A : Type 0} (ws : List A) → is_empty ws ≡ true → ws ≡ []
+pub none_left : {A : Type 0} (ws : List A) → is_empty ws ≡ true → ws ≡ []
 none_left [] e = refl
 none_left (w ∷ ws) e = absurd cc
 

@@ -8,3 +8,4 @@ pub mod Decimals
 pub mod Cuts
 pub mod FormsRead
 pub mod ItemsRead
+pub mod DraftsRead

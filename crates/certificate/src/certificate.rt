@@ -1,6 +1,8 @@
 //! Certificates that have a text.
 
-ghost use Rattle.std.specs.Prelude.{◌≡◌, true, map};
+ghost use Rattle.std.specs.Prelude.{◌≡◌, true};
+ghost use Rattle.texts.specs.CertificateRules.{is_certificate};
+ghost use Rattle.certificate.specs.Drafts.{parts as parts_of};
 
 use crate::draft::Parts;
 use crate::tree::{Bound, Entry, Place};
@@ -10,15 +12,18 @@ use crate::tree::{Bound, Entry, Place};
 #[derive(Debug, Drop)]
 pub struct Certificate {
     parts: Parts,
+    ghost proper: { is_certificate (parts_of parts) ≡ true },
 }
 
 impl Certificate {
-    ghost use Rattle.std.specs.Prelude.{◌≡◌, map};
+    ghost use Rattle.std.specs.Prelude.{◌≡◌, true, map};
+    ghost use Rattle.texts.specs.CertificateRules.{is_certificate};
     ghost use Rattle.certificate.specs.View as view;
     ghost use Rattle.certificate.specs.Certificates.{certificate};
     ghost use Rattle.certificate.specs.Drafts as drafts;
 
     pub(crate) fn of(parts: Parts) -> Certificate
+        requires { is_certificate (drafts.parts parts) ≡ true }
         ensures { certificate result ≡ drafts.parts parts }
     {
         Certificate { parts }

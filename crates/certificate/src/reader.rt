@@ -1,10 +1,11 @@
 //! A certificate of its text.
 
-ghost use Rattle.std.specs.Prelude.{◌≡◌, ◌+◌, ◌≤◌, ◌^◌, length, map};
+ghost use Rattle.std.specs.Prelude.{◌≡◌, ◌+◌, ◌≤◌, ◌^◌, true, length, map};
 ghost use Rattle.std.specs.Option.{option_map};
 ghost use Rattle.texts.specs.Lines.{words};
 ghost use Rattle.texts.specs.CertificateLines as meaning;
 ghost use Rattle.texts.specs.CertificateReading as reading;
+ghost use Rattle.texts.specs.CertificateRules.{is_certificate};
 ghost use Rattle.lines.specs.Left.{left};
 ghost use Rattle.certificate.specs.Answers.{Means, fault};
 ghost use Rattle.certificate.specs.Drafts as drafts;
@@ -55,6 +56,7 @@ fn add_line(alloc: Global, draft: Draft, line: &[u8]) -> Result<Draft, LineError
 
 /// The certificate that is read, if nothing stands behind its last line.
 fn finish(number: usize, draft: Draft, rest: &[u8]) -> Result<Certificate, CertError>
+    requires { is_certificate (drafts.parts draft.settled) ≡ true }
     ensures { Says result (reading.finish number (drafts.draft draft) rest.now) }
 {
     let Draft { settled, opened } = draft;

@@ -9,3 +9,4 @@ pub mod Cuts
 pub mod FormsRead
 pub mod ItemsRead
 pub mod DraftsRead
+pub mod CertificateRead

@@ -1,9 +1,7 @@
 -- What the code's answers stand for.
 use Rattle.std.specs.Prelude.{◌≡◌, ℕ, List, Option, None, Some, Result, Ok, Err}
 use Rattle.std.specs.Option.{option_map}
-use denote.Ref.{Bor}
 use Rattle.texts.specs.Certificate as certificate
-use Rattle.texts.specs.CertificateLines as items
 use Rattle.lines.specs.declared.pieces.Pieces.{Pieces}
 use Rattle.lines.specs.Left.{left}
 use Rattle.certificate.specs.declared.error.CertFault.{CertFault}

@@ -1,10 +1,7 @@
 -- The code's drafts as those of the definitions.
-use Rattle.std.specs.Prelude.{List, map}
+use Rattle.std.specs.Prelude.{map}
 use Rattle.texts.specs.Certificate as certificate
 use Rattle.texts.specs.CertificateReading as reading
-use Rattle.certificate.specs.declared.tree.Place.{Place}
-use Rattle.certificate.specs.declared.tree.Bound.{Bound}
-use Rattle.certificate.specs.declared.tree.Entry.{Entry}
 use Rattle.certificate.specs.declared.draft.Parts.{Parts}
 use Rattle.certificate.specs.declared.draft.Open.{Open}
 use Rattle.certificate.specs.declared.draft.Open.TheVariants as opens

@@ -1,5 +1,5 @@
 -- The code's certificates as those of the definitions.
-use Rattle.std.specs.Prelude.{List, map}
+use Rattle.std.specs.Prelude.{map}
 use Rattle.std.specs.String.{string_bytes}
 use Rattle.semantics.specs.Linear as linear
 use Rattle.texts.specs.Certificate as certificate

@@ -214,12 +214,7 @@ fn add_bound(draft: Draft, bound: Bound) -> Result<Draft, LineError>
     })
 }
 
-fn add_entry(
-    alloc: Global,
-    draft: Draft,
-    obligation: u64,
-    claim: Claim,
-) -> Result<Draft, LineError>
+fn add_entry(alloc: Global, draft: Draft, obligation: u64, claim: Claim) -> Result<Draft, LineError>
     ensures { Means drafts.draft result (reading.add_entry (drafts.draft draft) obligation (view.claim claim)) }
 {
     let settled = settle(draft.settled, draft.opened)?;

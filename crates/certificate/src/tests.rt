@@ -98,7 +98,10 @@ fn bad_lines_are_refused(rt: HostRuntime) -> Result<(), Fail> {
         (b"certificate 1", (50, 1)),
         (b"certificate 1\nend\n\n", (50, 3)),
         (b"certificate 1\nend\nx", (50, 3)),
-        (b"certificate 1\nob 3 show\ng 34\ng 39\ng 40\ns 064 1 1 2 1 3\nend\n", (50, 6)),
+        (
+            b"certificate 1\nob 3 show\ng 34\ng 39\ng 40\ns 064 1 1 2 1 3\nend\n",
+            (50, 6),
+        ),
         (b"certificate 1\nob 3 show\ns 1 2 1 1\nend\n", (50, 3)),
         (b"certificate 1\nob 3 show\ns\nend\n", (50, 3)),
         (b"certificate 1\nob 0 show\nend\n", (50, 2)),
@@ -106,12 +109,21 @@ fn bad_lines_are_refused(rt: HostRuntime) -> Result<(), Fail> {
         (b"certificate 1\nob 2  show\nend\n", (50, 2)),
         (b"certificate 1\nplace entry\nend\n", (50, 3)),
         (b"certificate 1\nplace b2\nfact 0*i + 1\nend\n", (50, 3)),
-        (b"certificate 1\nplace b2\nfact 1*j + 1*i + 1\nend\n", (50, 3)),
+        (
+            b"certificate 1\nplace b2\nfact 1*j + 1*i + 1\nend\n",
+            (50, 3),
+        ),
         (b"certificate 1\nplace b2\nfact 1\nsame i\nend\n", (50, 4)),
         (b"certificate 1\nplace b2\nfact -0\nend\n", (50, 3)),
-        (b"certificate 1\nplace b2\nfact 1\nplace b1\nfact 1\nend\n", (50, 4)),
+        (
+            b"certificate 1\nplace b2\nfact 1\nplace b1\nfact 1\nend\n",
+            (50, 4),
+        ),
         (b"certificate 1\nplace b2\nmod 1 1\nend\n", (50, 3)),
-        (b"certificate 1\nloop 2 halve 1 1\nplace b1\nfact 1\nend\n", (50, 3)),
+        (
+            b"certificate 1\nloop 2 halve 1 1\nplace b1\nfact 1\nend\n",
+            (50, 3),
+        ),
         (b"certificate 1\nloop 2 down 0 1 1\nend\n", (50, 2)),
         (b"certificate 1\nend 1\n", (50, 2)),
     ];

@@ -9,7 +9,10 @@ ghost use Rattle.certificate.specs.View as view;
 ghost use Rattle.certificate.specs.Certificates.{certificate};
 
 use crate::certificate::Certificate;
-use crate::tree::{Anchor, Bound, Claim, Congruence, Descent, Dimension, Entry, Form, Name, Place, Scaled, Spot, Step, Term};
+use crate::tree::{
+    Anchor, Bound, Claim, Congruence, Descent, Dimension, Entry, Form, Name, Place, Scaled, Spot,
+    Step, Term,
+};
 use std::alloc::{AllocError, Global};
 
 fn push_dimension(out: &mut String, dimension: Dimension) -> Result<(), AllocError>

@@ -1,4 +1,4 @@
-use Rattle.std.proofs.Common.{◌≡◌, ◌+◌, ◌-◌, length, sym, ◌∙◌, arith}
+use Rattle.std.proofs.Common.{◌≡◌, ◌+◌, ◌-◌, length, sym, arith}
 use Rattle.texts.specs.CertificateReading as reading
 use Rattle.certificate.specs.View as view
 use Rattle.certificate.proofs.Last.{last_follows}

@@ -1,4 +1,4 @@
-use Rattle.std.proofs.Common.{◌≡◌, ◌+◌, ◌-◌, length, sym, ◌∙◌, arith, rules, SFits, w64, to_z-of_z}
+use Rattle.std.proofs.Common.{◌≡◌, ◌+◌, ◌-◌, length, sym, arith, rules, SFits, w64, to_z-of_z}
 use Rattle.texts.specs.CertificateLines as meaning
 use Rattle.certificate.specs.View as view
 use Rattle.certificate.proofs.Last.{last_follows}

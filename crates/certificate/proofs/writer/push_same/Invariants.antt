@@ -1,9 +1,7 @@
 use Rattle.std.proofs.Common.{◌≡◌, ◌++◌, drop, map}
-use Rattle.std.specs.List.{flat_map}
 use Rattle.std.specs.String.{string_bytes}
 use Rattle.texts.specs.Lines.{text_of_lines}
 use Rattle.texts.specs.CertificateText as text
-use Rattle.certificate.specs.View as view
 use Rattle.certificate.proofs.writer.push_same.Given as goal
 
 abbrev pub invariant-loop-name : goal.invariant-loop-name

@@ -16,8 +16,8 @@ use Rattle.texts.proofs.Fits.{both, begins}
 own : IsNumeralModel (λ ds. all_ascii_digits ds ≡ true) value_of
 own = numerals_by_fold _ tells_all_ascii_digits (λ n ds. fold (λ n b. n * 10 + (b - 48)) n ds) (record { empty = λ _. refl; more = λ _ _ _ _. refl })
 
-below : (n k : ℕ) → nat_lt n k ≡ true → n < k
-below n k h = grind (arith, nat_tests)
+pub below_of : (n k : ℕ) → nat_lt n k ≡ true → n < k
+below_of n k h = grind (arith, nat_tests)
 
 pub below_test : (n k : ℕ) → n < k → nat_lt n k ≡ true
 below_test n k h = grind (arith, nat_tests)
@@ -64,14 +64,14 @@ unfolding natural_of
 natural_back w n =
     cond_both (is_decimal w) (within (2 ^ 63) (value_of w) (value_of w)) (Err NoDecimal) (λ r. r ≡ Ok n → (decimal n ≡ w) × (is_natural n ≡ true))
     (λ d. cond_both (nat_lt (value_of w) (2 ^ 63)) (Ok (value_of w)) (Err TooLarge) (λ r. r ≡ Ok n → (decimal n ≡ w) × (is_natural n ≡ true))
-      (λ l e. let q : value_of w ≡ n = cc in (ap decimal (sym q) ∙ spelt_back w d (omega (arith, below (value_of w) (2 ^ 63) l)), ap is_natural (sym q) ∙ l))
+      (λ l e. let q : value_of w ≡ n = cc in (ap decimal (sym q) ∙ spelt_back w d (omega (arith, below_of (value_of w) (2 ^ 63) l)), ap is_natural (sym q) ∙ l))
       (λ l e. absurd cc))
     (λ d e. absurd cc)
 
 pub natural_forth : (n : ℕ) → is_natural n ≡ true → natural_of (decimal n) ≡ Ok n
 unfolding natural_of
 natural_forth n h =
-    let l : n < 2 ^ 64 = omega (arith, below n (2 ^ 63) h) in
+    let l : n < 2 ^ 64 = omega (arith, below_of n (2 ^ 63) h) in
     rw (decimal_is_decimal n l, decimal_value n l, h) refl
 
 negative_back : (ds : List ℕ) (z : ℤ) → negative_of ds ≡ Ok z → (signed_decimal z ≡ 45 ∷ ds) × (is_integer z ≡ true)
@@ -83,7 +83,7 @@ negative_back ds z =
       cond_both (nat_lt v (2 ^ 63 + 1)) (Ok (negsuc (v - 1))) (Err TooLarge) P
       (λ l e.
         let q : negsuc (v - 1) ≡ z = cc in
-        let small : v < 2 ^ 63 + 1 = below v (2 ^ 63 + 1) l in
+        let small : v < 2 ^ 63 + 1 = below_of v (2 ^ 63 + 1) l in
         let some : 0 < v = above v (differs v 0 p.1) in
         let next : suc (v - 1) ≡ v = omega arith in
         (ap signed_decimal (sym q) ∙ ap (λ n. 45 ∷ decimal n) next ∙ ap (λ t. 45 ∷ t) (spelt_back ds p.0 (omega arith)), ap is_integer (sym q) ∙ below_test (v - 1) (2 ^ 63) (omega arith)))
@@ -124,6 +124,9 @@ negative_forth n h =
 pub integer_forth : (z : ℤ) → is_integer z ≡ true → integer_of (signed_decimal z) ≡ Ok z
 unfolding integer_of
 integer_forth (pos n) h =
-    let l : n < 2 ^ 64 = omega (arith, below n (2 ^ 63) h) in
+    let l : n < 2 ^ 64 = omega (arith, below_of n (2 ^ 63) h) in
     rw (no_sign (decimal n) (digits_decimal own n l), natural_forth n h) refl
-integer_forth (negsuc n) h = negative_forth n (below n (2 ^ 63) h)
+integer_forth (negsuc n) h = negative_forth n (below_of n (2 ^ 63) h)
+
+pub digits_of_decimal : (n : ℕ) → n < 2 ^ 64 → all_ascii_digits (decimal n) ≡ true
+digits_of_decimal n l = digits_decimal own n l

@@ -10,3 +10,5 @@ pub mod FormsRead
 pub mod ItemsRead
 pub mod DraftsRead
 pub mod CertificateRead
+pub mod FormsWritten
+pub mod ItemsWritten

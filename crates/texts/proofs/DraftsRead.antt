@@ -62,17 +62,17 @@ body_entry places bounds entries e =
     ∙ ap (λ t. flat_map place_lines places ++ t) (sym (append_assoc (map bound_line bounds) (flat_map entry_lines entries) (entry_lines e)))
     ∙ sym (append_assoc (flat_map place_lines places) (map bound_line bounds ++ flat_map entry_lines entries) (entry_lines e))
 
-place_follows : (places : List Place) (p : Place) → follows place_is_behind places p.spot ≡ follows place_is_before places p
+pub place_follows : (places : List Place) (p : Place) → follows place_is_behind places p.spot ≡ follows place_is_before places p
 place_follows [] p = refl
 place_follows (a ∷ []) p = refl
 place_follows (a ∷ b ∷ places) p = place_follows (b ∷ places) p
 
-bound_follows : (bounds : List Bound) (b : Bound) → follows bound_is_behind bounds b.loop ≡ follows bound_is_before bounds b
+pub bound_follows : (bounds : List Bound) (b : Bound) → follows bound_is_behind bounds b.loop ≡ follows bound_is_before bounds b
 bound_follows [] b = refl
 bound_follows (a ∷ []) b = refl
 bound_follows (a ∷ c ∷ bounds) b = bound_follows (c ∷ bounds) b
 
-entry_follows : (entries : List Entry) (e : Entry) → follows entry_is_behind entries e.obligation ≡ follows entry_is_before entries e
+pub entry_follows : (entries : List Entry) (e : Entry) → follows entry_is_behind entries e.obligation ≡ follows entry_is_before entries e
 entry_follows [] e = refl
 entry_follows (a ∷ []) e = refl
 entry_follows (a ∷ c ∷ entries) e = entry_follows (c ∷ entries) e

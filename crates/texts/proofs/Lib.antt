@@ -12,3 +12,4 @@ pub mod DraftsRead
 pub mod CertificateRead
 pub mod FormsWritten
 pub mod ItemsWritten
+pub mod CertificateWritten

@@ -1,9 +1,8 @@
 -- A text is that of the certificate that it says.
-use Rattle.std.proofs.Common.{◌≡◌, ℕ, suc, Bool, true, false, cond, ◌&&◌, List, [], ◌∷◌, ◌++◌, length, Option, None, Some, Ok, Err, refl, ap, sym, ◌∙◌, append_assoc}
-use Rattle.std.specs.Prelude.{ℤ, pos, codes, bytes_eq, nat_lt, Result}
+use Rattle.std.proofs.Common.{◌≡◌, ℕ, suc, true, false, ◌&&◌, List, [], ◌∷◌, ◌++◌, length, Option, None, Some, Ok, Err, refl, ap, sym, ◌∙◌, append_assoc}
+use Rattle.std.specs.Prelude.{ℤ, pos, codes, bytes_eq, nat_lt}
 use Rattle.std.specs.Ordering.{int_eq}
-use Rattle.std.specs.List.{flat_map, join_with_byte}
-use Rattle.std.specs.Fmt.{signed_decimal}
+use Rattle.std.specs.List.{join_with_byte}
 use Rattle.std.proofs.Common.{arith}
 use Rattle.std.proofs.lemmas.Bool.{cond_both}
 use Rattle.std.proofs.lemmas.Bool.Decides.{Decides-int_eq}
@@ -15,7 +14,7 @@ use Rattle.std.proofs.lemmas.Slice.Eq.{bytes_eq-Decides}
 use Rattle.texts.specs.Lines.{is_empty, two, pieces, words, text_of_lines, integer_of}
 use Rattle.texts.specs.Certificate.{Certificate, CertificateFault, BadLine, OtherVersion}
 use Rattle.texts.specs.CertificateText.{body_lines, text_of}
-use Rattle.texts.specs.CertificateLines.{then, number}
+use Rattle.texts.specs.CertificateLines.{number}
 use Rattle.texts.specs.CertificateReading.{Open, Nothing, InPlace, InEntry, Ended, Draft, nothing_yet, Read, is_ended, finish, go_on, add_line, read_lines, head_of_version, version_of, head_fault, unless, read_text, certificate_limit, certificate_of}
 use Rattle.texts.specs.CertificateRules.{is_certificate}
 use Rattle.texts.proofs.Fits.{both}
@@ -58,14 +57,16 @@ read_back n d [] c h = λ q. absurd cc
 read_back n d (line ∷ others) c h =
     cond_both (is_empty others) (finish n d line) (go_on n (add_line d line) (λ e. read_lines (suc n) e others)) (λ r. r ≡ Ok c → Completes (text_of_lines (draft_lines d)) (join_with_byte 10 (line ∷ others)) c)
     (λ e q.
-      let f = finish_back n d line c h q in
-      (ap (λ ls. text_of_lines (draft_lines d) ++ join_with_byte 10 (line ∷ ls)) (none_left others e) ∙ ap (λ t. text_of_lines (draft_lines d) ++ t) f.1 ∙ append-nil (text_of_lines (draft_lines d))
-      ∙ ap (λ t. text_of_lines (body_lines d.settled ++ t)) (is_open_end d.opened f.0) ∙ ap (λ x. text_of_lines (body_lines x ++ codes "end" ∷ [])) f.2, ap is_certificate (sym f.2) ∙ h.settled))
+    let f = finish_back n d line c h q in (
+      ap (λ ls. text_of_lines (draft_lines d) ++ join_with_byte 10 (line ∷ ls)) (none_left others e) ∙ ap (λ t. text_of_lines (draft_lines d) ++ t) f.1 ∙ append-nil (text_of_lines (draft_lines d))
+          ∙ ap (λ t. text_of_lines (body_lines d.settled ++ t)) (is_open_end d.opened f.0) ∙ ap (λ x. text_of_lines (body_lines x ++ codes "end" ∷ [])) f.2,
+      ap is_certificate (sym f.2) ∙ h.settled,
+    ))
     (λ e q.
-      let g = went_on n (add_line d line) (λ x. read_lines (suc n) x others) c q in
-      let a = add_line_back d line g.0 h g.1 in
-      let r = read_back (suc n) g.0 others c a.0 g.2 in
-      (ap (λ t. text_of_lines (draft_lines d) ++ t) (joined_more line others e) ∙ sym (lines_push (draft_lines d) line (join_with_byte 10 others)) ∙ ap (λ ls. text_of_lines ls ++ join_with_byte 10 others) (sym a.1) ∙ r.0, r.1))
+    let g = went_on n (add_line d line) (λ x. read_lines (suc n) x others) c q in
+    let a = add_line_back d line g.0 h g.1 in
+    let r = read_back (suc n) g.0 others c a.0 g.2 in
+    (ap (λ t. text_of_lines (draft_lines d) ++ t) (joined_more line others e) ∙ sym (lines_push (draft_lines d) line (join_with_byte 10 others)) ∙ ap (λ ls. text_of_lines ls ++ join_with_byte 10 others) (sym a.1) ∙ r.0, r.1))
 
 version_back : (v : Option ℤ) → head_of_version v ≡ None → v ≡ Some (pos 1)
 version_back None = λ q. absurd cc
@@ -94,9 +95,9 @@ text_back (line ∷ others) c =
     cond_both (is_empty others) (Err (BadLine, 1)) (unless (head_fault (words line)) (read_lines 2 nothing_yet others)) (λ r. r ≡ Ok c → (text_of c ≡ join_with_byte 10 (line ∷ others)) × (is_certificate c ≡ true))
     (λ e q. absurd cc)
     (λ e q.
-      let u = unless_back (head_fault (words line)) (read_lines 2 nothing_yet others) c q in
-      let r = read_back 2 nothing_yet others c nothing_read u.1 in
-      (ap (λ t. (codes "certificate 1" ++ (10 ∷ [])) ++ t) (sym r.0) ∙ ap (λ t. t ++ (10 ∷ join_with_byte 10 others)) (sym (first_line line u.0)) ∙ sym (joined_more line others e), r.1))
+    let u = unless_back (head_fault (words line)) (read_lines 2 nothing_yet others) c q in
+    let r = read_back 2 nothing_yet others c nothing_read u.1 in
+    (ap (λ t. (codes "certificate 1" ++ (10 ∷ [])) ++ t) (sym r.0) ∙ ap (λ t. t ++ (10 ∷ join_with_byte 10 others)) (sym (first_line line u.0)) ∙ sym (joined_more line others e), r.1))
 
 pub certificate_back : (text : List ℕ) (c : Certificate) → certificate_of text ≡ Ok c → (text_of c ≡ text) × (is_certificate c ≡ true)
 certificate_back text c =

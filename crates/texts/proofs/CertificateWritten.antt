@@ -1,5 +1,5 @@
 -- A certificate is read of its text.
-use Rattle.std.proofs.Common.{◌≡◌, ℕ, suc, ◌+◌, ◌≤◌, Bool, true, false, cond, not, nat_eq, ◌&&◌, List, [], ◌∷◌, ◌++◌, length, map, Option, None, Some, Ok, Err, refl, ap, sym, subst, ◌∙◌, append_assoc, arith}
+use Rattle.std.proofs.Common.{◌≡◌, ℕ, suc, ◌≤◌, true, false, not, nat_eq, ◌&&◌, List, [], ◌∷◌, ◌++◌, length, map, Option, None, Some, Ok, refl, ap, sym, subst, ◌∙◌, append_assoc, arith}
 use Rattle.std.specs.Prelude.{ℤ, pos, codes, nat_lt, nat_le}
 use Rattle.std.specs.List.{flat_map}
 use Rattle.std.specs.Fmt.{decimal, signed_decimal}
@@ -11,12 +11,12 @@ use Rattle.semantics.specs.Linear.{Weighted, Form}
 use Rattle.texts.specs.Lines.{integer_of, is_empty, follows, pieces, words, text_of_lines}
 use Rattle.texts.specs.Certificate.{Name, Anchor, KernelEntry, Barrier, Spot, Congruence, Place, Descent, Down, Halve, Bound, Claim, Show, Positive, Negative, Quotient, Scaled, Step, Given, Sum, Divide, Entry, Certificate}
 use Rattle.texts.specs.CertificateText.{name_text, term_text, form_text, anchor_text, head_text, place_line, same_line, fact_line, congruence_line, place_lines, descent_text, bound_line, claim_text, entry_line, scaled_text, step_line, entry_lines, body_lines, text_of}
-use Rattle.texts.specs.CertificateLines.{Item, PlaceItem, SameItem, FactItem, CongruenceItem, BoundItem, EntryItem, StepItem, EndItem, then, when, number, is_identifier, item_of}
-use Rattle.texts.specs.CertificateReading.{place_is_behind, bound_is_behind, entry_is_behind, Open, Nothing, InPlace, InEntry, Ended, Draft, draft, certificate, nothing_yet, has_line, settle, place_fits, place_at, entry_at, add, add_line, finish, go_on, read_lines, Read, unless, head_of_version, head_fault, read_text, certificate_limit, certificate_of}
+use Rattle.texts.specs.CertificateLines.{Item, PlaceItem, SameItem, FactItem, CongruenceItem, BoundItem, EntryItem, StepItem, EndItem, then, when, number, is_identifier}
+use Rattle.texts.specs.CertificateReading.{bound_is_behind, entry_is_behind, Nothing, InPlace, InEntry, Ended, Draft, draft, certificate, nothing_yet, has_line, settle, place_fits, place_at, entry_at, add, add_line, finish, go_on, read_lines, unless, head_of_version, head_fault, read_text, certificate_limit, certificate_of}
 use Rattle.texts.specs.CertificateRules.{all, rises, is_natural, is_integer, is_name, is_term, is_form, is_anchor, is_head, is_spot, is_congruence, is_open_place, is_place, is_descent, is_bound, is_claim, is_scaled, is_step, is_entry, place_is_before, bound_is_before, entry_is_before, is_certificate}
 use Rattle.texts.proofs.Fits.{both}
 use Rattle.texts.proofs.Decimals.{integer_forth}
-use Rattle.texts.proofs.FormsWritten.{is_free, is_plain, cut_one, cut_at, all_append, plain_free, natural_plain, integer_plain, identifier_plain, name_plain, rises_follow, moved}
+use Rattle.texts.proofs.FormsWritten.{is_free, cut_at, all_append, plain_free, natural_plain, integer_plain, identifier_plain, name_plain, rises_follow, moved}
 use Rattle.texts.proofs.ItemsRead.{item_line, is_item, andt}
 use Rattle.texts.proofs.ItemsWritten.{item_forth}
 use Rattle.texts.proofs.DraftsRead.{place_follows, bound_follows, entry_follows}
@@ -108,9 +108,9 @@ stays d = record { reads = λ n rest h. (n, refl); free = refl }
 leads_on : (d e f : Draft) (a b : List (List ℕ)) → Leads d a e → Leads e b f → Leads d (a ++ b) f
 leads_on d e f a b p q = record {
   reads = λ n rest h.
-    let x = p.reads n (b ++ rest) (some_more b rest h) in
-    let y = q.reads x.0 rest h in
-    (y.0, ap (read_lines n d) (append_assoc a b rest) ∙ x.1 ∙ y.1);
+      let x = p.reads n (b ++ rest) (some_more b rest h) in
+      let y = q.reads x.0 rest h in
+      (y.0, ap (read_lines n d) (append_assoc a b rest) ∙ x.1 ∙ y.1);
   free = all_append (is_free 10) a b p.free q.free;
 }
 
@@ -164,8 +164,8 @@ names_lead c spot done (x ∷ names) h =
     let p = both (is_identifier x) (all is_identifier names) h in
     subst (λ ns. Leads (in_place c spot done [] []) (map same_line (x ∷ names)) (in_place c spot ns [] [])) (sym (moved done x names))
     (leads_on (in_place c spot done [] []) (in_place c spot (done ++ x ∷ []) [] []) (in_place c spot ((done ++ x ∷ []) ++ names) [] []) (same_line x ∷ []) (map same_line names)
-      (by_item (in_place c spot done [] []) (SameItem x) (in_place c spot (done ++ x ∷ []) [] []) p.0 (add_same c spot done x))
-      (names_lead c spot (done ++ x ∷ []) names p.1))
+    (by_item (in_place c spot done [] []) (SameItem x) (in_place c spot (done ++ x ∷ []) [] []) p.0 (add_same c spot done x))
+    (names_lead c spot (done ++ x ∷ []) names p.1))
 
 facts_lead : (c : Certificate) (spot : Spot) (names : List (List ℕ)) (done facts : List (Form Name)) → all is_form facts ≡ true → Leads (in_place c spot names done []) (map fact_line facts) (in_place c spot names (done ++ facts) [])
 facts_lead c spot names done [] h = subst (λ fs. Leads (in_place c spot names done []) [] (in_place c spot names fs [])) (sym (append-nil done)) (stays (in_place c spot names done []))
@@ -173,8 +173,8 @@ facts_lead c spot names done (x ∷ facts) h =
     let p = both (is_form x) (all is_form facts) h in
     subst (λ fs. Leads (in_place c spot names done []) (map fact_line (x ∷ facts)) (in_place c spot names fs [])) (sym (moved done x facts))
     (leads_on (in_place c spot names done []) (in_place c spot names (done ++ x ∷ []) []) (in_place c spot names ((done ++ x ∷ []) ++ facts) []) (fact_line x ∷ []) (map fact_line facts)
-      (by_item (in_place c spot names done []) (FactItem x) (in_place c spot names (done ++ x ∷ []) []) p.0 (add_fact c spot names done x))
-      (facts_lead c spot names (done ++ x ∷ []) facts p.1))
+    (by_item (in_place c spot names done []) (FactItem x) (in_place c spot names (done ++ x ∷ []) []) p.0 (add_fact c spot names done x))
+    (facts_lead c spot names (done ++ x ∷ []) facts p.1))
 
 congruences_lead : (c : Certificate) (spot : Spot) (names : List (List ℕ)) (facts : List (Form Name)) (done congruences : List Congruence) → all is_congruence congruences ≡ true → Leads (in_place c spot names facts done) (map congruence_line congruences) (in_place c spot names facts (done ++ congruences))
 congruences_lead c spot names facts done [] h = subst (λ cs. Leads (in_place c spot names facts done) [] (in_place c spot names facts cs)) (sym (append-nil done)) (stays (in_place c spot names facts done))
@@ -182,8 +182,8 @@ congruences_lead c spot names facts done (x ∷ more) h =
     let p = both (is_congruence x) (all is_congruence more) h in
     subst (λ cs. Leads (in_place c spot names facts done) (map congruence_line (x ∷ more)) (in_place c spot names facts cs)) (sym (moved done x more))
     (leads_on (in_place c spot names facts done) (in_place c spot names facts (done ++ x ∷ [])) (in_place c spot names facts ((done ++ x ∷ []) ++ more)) (congruence_line x ∷ []) (map congruence_line more)
-      (by_item (in_place c spot names facts done) (CongruenceItem x) (in_place c spot names facts (done ++ x ∷ [])) p.0 (add_congruence c spot names facts done x))
-      (congruences_lead c spot names facts (done ++ x ∷ []) more p.1))
+    (by_item (in_place c spot names facts done) (CongruenceItem x) (in_place c spot names facts (done ++ x ∷ [])) p.0 (add_congruence c spot names facts done x))
+    (congruences_lead c spot names facts (done ++ x ∷ []) more p.1))
 
 -- from a draft that is settled
 place_leads : (d : Draft) (c : Certificate) (p : Place) → settle d.settled d.opened ≡ Some c → place_fits c p.spot ≡ true → is_open_place p ≡ true → Leads d (place_lines p) (draft c (InPlace p))
@@ -198,7 +198,7 @@ place_leads d c p s f h =
     leads_on d zero three (place_line p.spot ∷ []) (map same_line p.same ++ (map fact_line p.facts ++ map congruence_line p.congruences))
     (by_item d (PlaceItem p.spot) zero a.0 (add_place_on d c p.spot s f))
     (leads_on zero one three (map same_line p.same) (map fact_line p.facts ++ map congruence_line p.congruences) (names_lead c p.spot [] p.same b.0)
-      (leads_on one two three (map fact_line p.facts) (map congruence_line p.congruences) (facts_lead c p.spot p.same [] p.facts g.0) (congruences_lead c p.spot p.same p.facts [] p.congruences g.1)))
+    (leads_on one two three (map fact_line p.facts) (map congruence_line p.congruences) (facts_lead c p.spot p.same [] p.facts g.0) (congruences_lead c p.spot p.same p.facts [] p.congruences g.1)))
 
 -- a draft that is settled as that certificate
 record Settles (d : Draft) (lines : List (List ℕ)) (c : Certificate) : Type 0 where
@@ -242,8 +242,8 @@ steps_lead c n claim done (x ∷ steps) h =
     let p = both (is_step x) (all is_step steps) h in
     subst (λ ss. Leads (in_entry c n claim done) (map step_line (x ∷ steps)) (in_entry c n claim ss)) (sym (moved done x steps))
     (leads_on (in_entry c n claim done) (in_entry c n claim (done ++ x ∷ [])) (in_entry c n claim ((done ++ x ∷ []) ++ steps)) (step_line x ∷ []) (map step_line steps)
-      (by_item (in_entry c n claim done) (StepItem x) (in_entry c n claim (done ++ x ∷ [])) p.0 (add_step_on c n claim done x))
-      (steps_lead c n claim (done ++ x ∷ []) steps p.1))
+    (by_item (in_entry c n claim done) (StepItem x) (in_entry c n claim (done ++ x ∷ [])) p.0 (add_step_on c n claim done x))
+    (steps_lead c n claim (done ++ x ∷ []) steps p.1))
 
 entries_lead : (d : Draft) (places : List Place) (bounds : List Bound) (done entries : List Entry) → settle d.settled d.opened ≡ Some (certificate places bounds done) → all is_entry entries ≡ true → rises entry_is_before (done ++ entries) ≡ true → Settles d (flat_map entry_lines entries) (certificate places bounds (done ++ entries))
 entries_lead d places bounds done [] s h up = record { last = d; leads = stays d; settled = s ∙ ap (λ es. Some (certificate places bounds es)) (sym (append-nil done)) }

@@ -1,13 +1,13 @@
 -- Words, and the line that they make.
-use Rattle.std.proofs.Common.{◌≡◌, ℕ, suc, Bool, true, false, cond, nat_eq, ◌&&◌, List, [], ◌∷◌, ◌++◌, length, drop, Option, None, Some, Result, Ok, Err, refl, ap, sym, ◌∙◌, append_assoc, inl, inr, ◌⊎◌}
+use Rattle.std.proofs.Common.{◌≡◌, ℕ, Bool, true, false, cond, List, [], ◌∷◌, ◌++◌, length, drop, Option, None, Some, Result, Ok, Err, refl, ap, sym, ◌∙◌, inl, inr, ◌⊎◌}
 use Rattle.std.specs.Prelude.{bytes_eq}
 use Rattle.std.specs.Option.{option_map}
-use Rattle.std.specs.List.{slice_split, flat_map, join_with_byte, starts_with}
+use Rattle.std.specs.List.{flat_map, join_with_byte}
 use Rattle.std.proofs.lemmas.Bool.{cond_both}
 use Rattle.std.proofs.lemmas.List.{append-nil}
 use Rattle.std.proofs.lemmas.List.Splits.{join_with_byte-slice_split}
 use Rattle.std.proofs.lemmas.Slice.Eq.{bytes_eq-Decides}
-use Rattle.texts.specs.Lines.{NumberFault, pieces, words, sole, two, first, follows}
+use Rattle.texts.specs.Lines.{NumberFault, pieces, sole, two, first, follows}
 use Rattle.texts.specs.CertificateLines.{then, when, number, begins as begins_so}
 use Rattle.texts.specs.CertificateRules.{all, rises}
 use Rattle.texts.proofs.Fits.{begins, both}

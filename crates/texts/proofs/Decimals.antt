@@ -1,13 +1,13 @@
 -- A number is written as it is read, and read as it is written.
-use Rattle.std.proofs.Common.{◌≡◌, ℕ, zero, suc, ◌+◌, ◌-◌, ◌*◌, ◌<◌, ◌≤◌, ◌^◌, Bool, true, false, cond, not, nat_eq, nat_lt, ◌&&◌, List, [], ◌∷◌, length, get_or, drop, Ok, Err, refl, ap, sym, ◌∙◌, arith}
+use Rattle.std.proofs.Common.{◌≡◌, ℕ, zero, suc, ◌+◌, ◌-◌, ◌*◌, ◌<◌, ◌^◌, true, false, not, nat_eq, nat_lt, ◌&&◌, List, [], ◌∷◌, length, get_or, drop, Ok, Err, refl, ap, sym, ◌∙◌, arith}
 use Rattle.std.specs.Prelude.{ℤ, pos, negsuc, fold, codes, Result}
 use Rattle.std.specs.List.{starts_with}
 use Rattle.std.specs.Str.{all_ascii_digits}
 use Rattle.std.specs.Fmt.{decimal, signed_decimal}
-use Rattle.std.proofs.lemmas.Bool.{cond_both, cond-true, cond-false, false≢true}
+use Rattle.std.proofs.lemmas.Bool.{cond_both, cond-true}
 use Rattle.std.proofs.lemmas.Bool.Decides.{nat_tests}
 use Rattle.std.proofs.lemmas.Fmt.{decimal_digit, first_decimal, decimal_nonempty, digits_decimal, digits_value-decimal, decimal-digits_value}
-use Rattle.std.proofs.lemmas.Str.Parse.{IsNumeralModel, FoldsDigits, numerals_by_fold, tells_all_ascii_digits}
+use Rattle.std.proofs.lemmas.Str.Parse.{IsNumeralModel, numerals_by_fold, tells_all_ascii_digits}
 use Rattle.texts.specs.Numbers.{is_well_spelt}
 use Rattle.texts.specs.Lines.{NumberFault, NoDecimal, TooLarge, is_decimal, value_of, within, natural_of, negative_of, positive_of, integer_of}
 use Rattle.texts.specs.CertificateRules.{is_natural, is_integer}
@@ -64,8 +64,8 @@ unfolding natural_of
 natural_back w n =
     cond_both (is_decimal w) (within (2 ^ 63) (value_of w) (value_of w)) (Err NoDecimal) (λ r. r ≡ Ok n → (decimal n ≡ w) × (is_natural n ≡ true))
     (λ d. cond_both (nat_lt (value_of w) (2 ^ 63)) (Ok (value_of w)) (Err TooLarge) (λ r. r ≡ Ok n → (decimal n ≡ w) × (is_natural n ≡ true))
-      (λ l e. let q : value_of w ≡ n = cc in (ap decimal (sym q) ∙ spelt_back w d (omega (arith, below_of (value_of w) (2 ^ 63) l)), ap is_natural (sym q) ∙ l))
-      (λ l e. absurd cc))
+    (λ l e. let q : value_of w ≡ n = cc in (ap decimal (sym q) ∙ spelt_back w d (omega (arith, below_of (value_of w) (2 ^ 63) l)), ap is_natural (sym q) ∙ l))
+    (λ l e. absurd cc))
     (λ d e. absurd cc)
 
 pub natural_forth : (n : ℕ) → is_natural n ≡ true → natural_of (decimal n) ≡ Ok n
@@ -80,14 +80,14 @@ negative_back ds z =
     let P : Result ℤ NumberFault → Type 0 = λ r. r ≡ Ok z → (signed_decimal z ≡ 45 ∷ ds) × (is_integer z ≡ true) in
     cond_both (is_decimal ds && not (nat_eq v 0)) (within (2 ^ 63 + 1) v (negsuc (v - 1))) (Err NoDecimal) P
     (λ d. let p = both (is_decimal ds) (not (nat_eq v 0)) d in
-      cond_both (nat_lt v (2 ^ 63 + 1)) (Ok (negsuc (v - 1))) (Err TooLarge) P
-      (λ l e.
-        let q : negsuc (v - 1) ≡ z = cc in
-        let small : v < 2 ^ 63 + 1 = below_of v (2 ^ 63 + 1) l in
-        let some : 0 < v = above v (differs v 0 p.1) in
-        let next : suc (v - 1) ≡ v = omega arith in
-        (ap signed_decimal (sym q) ∙ ap (λ n. 45 ∷ decimal n) next ∙ ap (λ t. 45 ∷ t) (spelt_back ds p.0 (omega arith)), ap is_integer (sym q) ∙ below_test (v - 1) (2 ^ 63) (omega arith)))
-      (λ l e. absurd cc))
+    cond_both (nat_lt v (2 ^ 63 + 1)) (Ok (negsuc (v - 1))) (Err TooLarge) P
+    (λ l e.
+    let q : negsuc (v - 1) ≡ z = cc in
+    let small : v < 2 ^ 63 + 1 = below_of v (2 ^ 63 + 1) l in
+    let some : 0 < v = above v (differs v 0 p.1) in
+    let next : suc (v - 1) ≡ v = omega arith in
+    (ap signed_decimal (sym q) ∙ ap (λ n. 45 ∷ decimal n) next ∙ ap (λ t. 45 ∷ t) (spelt_back ds p.0 (omega arith)), ap is_integer (sym q) ∙ below_test (v - 1) (2 ^ 63) (omega arith)))
+    (λ l e. absurd cc))
     (λ d e. absurd cc)
 
 positive_back : (w : List ℕ) (z : ℤ) (r : Result ℕ NumberFault) → natural_of w ≡ r → positive_of r ≡ Ok z → (signed_decimal z ≡ w) × (is_integer z ≡ true)

@@ -1,27 +1,18 @@
 -- What was read is a certificate as far as it goes, and its text is what was read.
-use Rattle.std.proofs.Common.{◌≡◌, ℕ, suc, Bool, true, false, cond, not, ◌&&◌, List, [], ◌∷◌, ◌++◌, length, map, Option, None, Some, Ok, Err, refl, ap, sym, subst, ◌∙◌, append_assoc}
-use Rattle.std.specs.Prelude.{ℤ, pos, codes, bytes_eq, nat_le, nat_lt}
-use Rattle.std.specs.Ordering.{int_eq}
-use Rattle.std.specs.List.{flat_map, join_with_byte}
-use Rattle.std.specs.Fmt.{decimal, signed_decimal}
-use Rattle.std.proofs.lemmas.Bool.{cond_both}
-use Rattle.std.proofs.lemmas.Bool.Decides.{Decides-int_eq}
-use Rattle.std.proofs.lemmas.Fmt.{decimal_digit}
+use Rattle.std.proofs.Common.{◌≡◌, ℕ, Bool, true, ◌&&◌, List, [], ◌∷◌, ◌++◌, map, Some, refl, ap, sym, subst, ◌∙◌, append_assoc}
+use Rattle.std.specs.Prelude.{codes}
+use Rattle.std.specs.List.{flat_map}
 use Rattle.std.proofs.lemmas.Grind.{flat_map-append}
 use Rattle.std.proofs.lemmas.List.{append-nil, map_push}
-use Rattle.std.proofs.lemmas.List.Splits.{join_with_byte-slice_split}
-use Rattle.std.proofs.lemmas.Slice.Eq.{bytes_eq-Decides}
-use Rattle.texts.specs.Lines.{is_empty, follows, two, pieces, words, text_of_lines, integer_of}
-use Rattle.texts.specs.Certificate.{Spot, Place, Bound, Step, Claim, Entry, Certificate, CertificateFault, BadLine, OtherVersion}
-use Rattle.texts.specs.CertificateText.{place_line, same_line, fact_line, congruence_line, place_lines, bound_line, entry_line, entry_lines, step_line, body_lines, text_of}
+use Rattle.texts.specs.Lines.{is_empty, follows, words}
+use Rattle.texts.specs.Certificate.{Spot, Place, Bound, Step, Claim, Entry, Certificate}
+use Rattle.texts.specs.CertificateText.{place_line, same_line, fact_line, congruence_line, place_lines, bound_line, entry_line, entry_lines, step_line, body_lines}
 use Rattle.texts.specs.CertificateLines.{Item, PlaceItem, SameItem, FactItem, CongruenceItem, BoundItem, EntryItem, StepItem, EndItem, then, when, number, item_of}
-use Rattle.texts.specs.CertificateReading.{place_is_behind, bound_is_behind, entry_is_behind, Open, Nothing, InPlace, InEntry, Ended, Draft, draft, certificate, nothing_yet, has_line, settle, open_place, open_entry, place_fits, bound_fits, entry_fits, place_at, entry_at, add_to_place, with_step, add_place, add_bound, add_entry, add_to_entry, add_end, add_within, add, Read, is_ended, finish, go_on, add_line, read_lines, head_of_version, version_of, head_fault, unless, read_text, certificate_limit, certificate_of}
+use Rattle.texts.specs.CertificateReading.{place_is_behind, bound_is_behind, entry_is_behind, Open, Nothing, InPlace, InEntry, Ended, Draft, draft, certificate, has_line, settle, open_place, open_entry, place_fits, bound_fits, entry_fits, place_at, entry_at, add_to_place, add_place, add_bound, add_entry, add_to_entry, add_end, add_within, add, add_line}
 use Rattle.texts.specs.CertificateRules.{all, rises, is_form, is_spot, is_congruence, is_open_place, is_place, is_bound, is_claim, is_step, is_entry, place_is_before, bound_is_before, entry_is_before, is_certificate}
-use Rattle.texts.specs.CertificateRules as rules
 use Rattle.texts.specs.CertificateLines as lines
 use Rattle.texts.proofs.Fits.{both}
-use Rattle.texts.proofs.Decimals.{integer_back}
-use Rattle.texts.proofs.Cuts.{then_back, when_back, cond_back, number_back, two_back, pieces_back, all_push, rises_push}
+use Rattle.texts.proofs.Cuts.{then_back, when_back, all_push, rises_push}
 use Rattle.texts.proofs.FormsRead.{three}
 use Rattle.texts.proofs.ItemsRead.{item_line, is_item, item_back, andt, same, none_left}
 

@@ -1,6 +1,6 @@
 -- Names and forms are written as they are read.
-use Rattle.std.proofs.Common.{◌≡◌, ℕ, suc, Bool, true, false, cond, not, ◌&&◌, List, [], ◌∷◌, ◌++◌, length, drop, Option, None, Some, refl, ap, sym, ◌∙◌, append_assoc, inl, inr, ◌⊎◌}
-use Rattle.std.specs.Prelude.{ℤ, pos, codes, bytes_eq}
+use Rattle.std.proofs.Common.{◌≡◌, ℕ, Bool, true, not, ◌&&◌, List, [], ◌∷◌, ◌++◌, drop, Option, None, Some, refl, ap, sym, ◌∙◌, append_assoc, inl, inr}
+use Rattle.std.specs.Prelude.{pos, codes, bytes_eq}
 use Rattle.std.specs.Option.{option_map}
 use Rattle.std.specs.Ordering.{int_eq}
 use Rattle.std.specs.List.{flat_map}
@@ -12,7 +12,7 @@ use Rattle.semantics.specs.Linear.{Weighted, Form}
 use Rattle.texts.specs.Lines.{pieces, two, natural_of, integer_of, follows}
 use Rattle.texts.specs.Certificate.{Dimension, First, Second, Third, Name, Variable, AtAnchor, Turns, Fresh, Argument, Length, Groups, Group, Local}
 use Rattle.texts.specs.CertificateText.{dimension_text, name_text, term_text, form_text}
-use Rattle.texts.specs.CertificateLines.{then, when, number, is_identifier, identifier_of, dimension_of, dimensional_of, name_of, weighted, term_of, name_follows, form, constant_of, form_of}
+use Rattle.texts.specs.CertificateLines.{number, is_identifier, identifier_of, dimension_of, dimensional_of, name_of, weighted, term_of, name_follows, form, form_of}
 use Rattle.texts.specs.CertificateRules.{all, rises, is_natural, is_integer, is_name, is_term, term_is_before, is_form}
 use Rattle.texts.proofs.Fits.{both}
 use Rattle.texts.proofs.Decimals.{natural_back, integer_back}
@@ -138,6 +138,6 @@ form_back ts before (word ∷ sign ∷ others) f good up b e =
     let next : follows term_is_before ts t.0 ≡ true = sym (last_name_follows ts t.0) ∙ ap (name_follows (last_name ts)) r.1 ∙ ap (λ o. name_follows o p.0.1) (sym b) ∙ s.1 in
     let h = form_back (ts ++ t.0 ∷ []) (Some p.0.1) others f (all_push is_term ts t.0 good r.2) (rises_push term_is_before ts t.0 up next) (ap Some (sym r.1) ∙ sym (last_name_push ts t.0)) c.1 in
     let written : word ≡ signed_decimal t.0.coefficient ++ (42 ∷ name_text t.0.symbol) =
-      pieces_back 42 word p.0.0 (p.0.1 ∷ []) (two_back (pieces 42 word) p.0 p.1) ∙ ap (λ n. p.0.0 ++ (42 ∷ n)) (append-nil p.0.1) ∙ ap (λ a. a ++ (42 ∷ p.0.1)) (sym r.0) ∙ ap (λ n. signed_decimal t.0.coefficient ++ (42 ∷ n)) (sym r.1)
-      in
+    pieces_back 42 word p.0.0 (p.0.1 ∷ []) (two_back (pieces 42 word) p.0 p.1) ∙ ap (λ n. p.0.0 ++ (42 ∷ n)) (append-nil p.0.1) ∙ ap (λ a. a ++ (42 ∷ p.0.1)) (sym r.0) ∙ ap (λ n. signed_decimal t.0.coefficient ++ (42 ∷ n)) (sym r.1)
+    in
     (term_text t.0 ++ h.0, term_spaced word sign others t.0 h.0 written ((bytes_eq-Decides sign (codes "+")).0 s.0) h.1, h.2 ∙ terms_push ts t.0 h.0, h.3)

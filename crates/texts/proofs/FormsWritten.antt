@@ -1,9 +1,9 @@
 -- Names and forms are read as they are written.
-use Rattle.std.proofs.Common.{◌≡◌, ℕ, suc, ◌+◌, ◌<◌, ◌^◌, Bool, true, false, cond, not, nat_eq, ◌&&◌, ◌||◌, List, [], ◌∷◌, ◌++◌, length, Option, None, Some, Ok, refl, ap, sym, ◌∙◌, append_assoc, arith}
-use Rattle.std.specs.Prelude.{ℤ, pos, negsuc, codes, bytes_eq}
+use Rattle.std.proofs.Common.{◌≡◌, ℕ, suc, ◌<◌, ◌^◌, Bool, true, false, not, nat_eq, ◌&&◌, ◌||◌, List, [], ◌∷◌, ◌++◌, Option, None, Some, refl, ap, sym, ◌∙◌, append_assoc, arith}
+use Rattle.std.specs.Prelude.{ℤ, pos, negsuc, codes}
 use Rattle.std.specs.Option.{option_map}
 use Rattle.std.specs.Ordering.{int_eq}
-use Rattle.std.specs.List.{slice_split, onto_first, flat_map, starts_with}
+use Rattle.std.specs.List.{onto_first, flat_map, starts_with}
 use Rattle.std.specs.Str.{all_ascii_digits}
 use Rattle.std.specs.Fmt.{decimal, signed_decimal}
 use Rattle.std.proofs.lemmas.Bool.{cond-true, cond-false, false≢true}
@@ -12,10 +12,10 @@ use Rattle.std.proofs.lemmas.List.{append-nil}
 use Rattle.std.proofs.lemmas.List.Splits.{slice_split-cons_no}
 use Rattle.semantics.specs.Linear.{Weighted, Form}
 use Rattle.texts.specs.Tokens.{is_letter, is_word_byte}
-use Rattle.texts.specs.Lines.{pieces, two, natural_of, integer_of, follows}
+use Rattle.texts.specs.Lines.{pieces, two, natural_of, follows}
 use Rattle.texts.specs.Certificate.{Dimension, First, Second, Third, Name, Variable, AtAnchor, Turns, Fresh, Argument, Length, Groups, Group, Local}
 use Rattle.texts.specs.CertificateText.{dimension_text, name_text, term_text, form_text}
-use Rattle.texts.specs.CertificateLines.{then, when, number, begins, all_word_bytes, is_identifier, identifier_of, dimension_of, dimensional_of, name_of, weighted, term_of, name_follows, form, constant_of, form_of}
+use Rattle.texts.specs.CertificateLines.{then, when, number, begins, all_word_bytes, is_identifier, identifier_of, dimensional_of, name_of, weighted, term_of, name_follows, form, form_of}
 use Rattle.texts.specs.CertificateRules.{all, rises, is_natural, is_integer, is_name, is_term, term_is_before, is_form}
 use Rattle.texts.proofs.Fits.{both}
 use Rattle.texts.proofs.Decimals.{digits_of_decimal, below_of, natural_forth, integer_forth}

@@ -1,6 +1,6 @@
 -- Lines are written as they are read.
-use Rattle.std.proofs.Common.{◌≡◌, ℕ, suc, Bool, true, false, cond, not, ◌&&◌, List, [], ◌∷◌, ◌++◌, length, drop, Option, None, Some, refl, ap, sym, ◌∙◌, append_assoc, inl, inr, ◌⊎◌}
-use Rattle.std.specs.Prelude.{ℤ, codes, bytes_eq, nat_le}
+use Rattle.std.proofs.Common.{◌≡◌, ℕ, Bool, true, cond, not, ◌&&◌, List, [], ◌∷◌, ◌++◌, drop, Option, None, Some, refl, ap, sym, ◌∙◌, append_assoc, inl, inr}
+use Rattle.std.specs.Prelude.{codes, bytes_eq, nat_le}
 use Rattle.std.specs.Option.{option_map}
 use Rattle.std.specs.List.{flat_map}
 use Rattle.std.specs.Fmt.{decimal, signed_decimal}
@@ -12,8 +12,6 @@ use Rattle.texts.specs.Certificate.{Name, Anchor, KernelEntry, Barrier, Spot, Co
 use Rattle.texts.specs.CertificateText.{form_text, anchor_text, head_text, place_line, same_line, fact_line, congruence_line, descent_text, bound_line, claim_text, entry_line, scaled_text, step_line}
 use Rattle.texts.specs.CertificateLines.{Item, PlaceItem, SameItem, FactItem, CongruenceItem, BoundItem, EntryItem, StepItem, EndItem, then, when, number, at_least, identifier_of, form_of, anchor_of, head_of, spot_of, congruence_of, descent_of, bound_of, plain_claim, claim_of, entry_of, scaled_of, line_is_before, sum_of, given_of, divide_of, place_item, step_item, item_of}
 use Rattle.texts.specs.CertificateRules.{all, rises, is_natural, is_integer, is_form, is_anchor, is_head, is_spot, is_congruence, is_descent, is_bound, is_claim, is_scaled, is_step}
-use Rattle.texts.specs.CertificateRules as rules
-use Rattle.texts.proofs.Fits.{both}
 use Rattle.texts.proofs.Decimals.{natural_back, integer_back}
 use Rattle.texts.proofs.Cuts.{parted, spaced, pieces_back, then_back, map_back, when_back, cond_back, number_back, first_back, sole_back, two_back, by_word, by_front, all_push, rises_push}
 use Rattle.texts.proofs.FormsRead.{identifier_back, form_back, three}
@@ -69,17 +67,18 @@ congruence_back ws c e =
     let made : Congruence = record { modulus = m.0; form = f.0 } in
     let q : made ≡ c = same made c f.2 in
     let n = least_back 2 a.0.0 m.0 m.1 in
-    let g = whole_back a.0.1 f.0 f.1 in
-    (ap (λ t. codes "mod" ++ t) (word_front ws a.0.0 a.0.1 (decimal m.0) (32 ∷ form_text f.0) (first_back ws a.0 a.1) n.0 g.0) ∙ ap congruence_line q,
-    ap is_congruence (sym q) ∙ three (is_natural m.0) (nat_le 2 m.0) (is_form f.0) n.1 n.2 g.1)
+    let g = whole_back a.0.1 f.0 f.1 in (
+      ap (λ t. codes "mod" ++ t) (word_front ws a.0.0 a.0.1 (decimal m.0) (32 ∷ form_text f.0) (first_back ws a.0 a.1) n.0 g.0) ∙ ap congruence_line q,
+      ap is_congruence (sym q) ∙ three (is_natural m.0) (nat_le 2 m.0) (is_form f.0) n.1 n.2 g.1,
+    )
 
 anchor_back : (w : List ℕ) (a : Anchor) → anchor_of w ≡ Some a → (anchor_text a ≡ w) × (is_anchor a ≡ true)
 anchor_back w a e = elim (by_word w (codes "entry") _ _ a e) [
   | inl h ↦ let q : KernelEntry ≡ a = cc in (ap anchor_text (sym q) ∙ sym h.0, ap is_anchor (sym q))
   | inr f ↦ elim (by_front w (codes "b") _ _ a f) [
     | inl h ↦ let m = map_back Barrier (number (natural_of (drop 1 w))) a h.1 in
-      let n = natural_back (drop 1 w) m.0 (number_back (natural_of (drop 1 w)) m.0 m.1) in
-      (ap anchor_text (sym m.2) ∙ ap (λ t. 98 ∷ t) n.0 ∙ sym h.0, ap is_anchor (sym m.2) ∙ n.1)
+        let n = natural_back (drop 1 w) m.0 (number_back (natural_of (drop 1 w)) m.0 m.1) in
+        (ap anchor_text (sym m.2) ∙ ap (λ t. 98 ∷ t) n.0 ∙ sym h.0, ap is_anchor (sym m.2) ∙ n.1)
     | inr g ↦ absurd cc
   ]
 ]
@@ -88,8 +87,8 @@ head_back : (ws : List (List ℕ)) (h : Option ℕ) → head_of ws ≡ Some h �
 head_back [] h e = let q : None ≡ h = cc in (ap head_text (sym q), ap is_head (sym q))
 head_back (w ∷ []) h e = elim (by_front w (codes "h") _ _ h e) [
   | inl k ↦ let m = map_back Some (number (natural_of (drop 1 w))) h k.1 in
-    let n = natural_back (drop 1 w) m.0 (number_back (natural_of (drop 1 w)) m.0 m.1) in
-    (ap head_text (sym m.2) ∙ ap (λ t. 47 ∷ (104 ∷ t)) n.0 ∙ ap (λ t. 47 ∷ t) (sym k.0) ∙ sym (append-nil (47 ∷ w)), ap is_head (sym m.2) ∙ n.1)
+      let n = natural_back (drop 1 w) m.0 (number_back (natural_of (drop 1 w)) m.0 m.1) in
+      (ap head_text (sym m.2) ∙ ap (λ t. 47 ∷ (104 ∷ t)) n.0 ∙ ap (λ t. 47 ∷ t) (sym k.0) ∙ sym (append-nil (47 ∷ w)), ap is_head (sym m.2) ∙ n.1)
   | inr g ↦ absurd cc
 ]
 head_back (w ∷ v ∷ ws) h e = absurd cc
@@ -102,23 +101,25 @@ spot_back word s e =
     let made : Spot = record { anchor = a.0; head = h.0 } in
     let q : made ≡ s = same made s h.2 in
     let b = anchor_back w.0.0 a.0 a.1 in
-    let c = head_back w.0.1 h.0 h.1 in
-    (ap place_line (sym q) ∙ ap (λ t. codes "place " ++ (t ++ head_text h.0)) b.0 ∙ ap (λ t. codes "place " ++ (w.0.0 ++ t)) c.0 ∙ ap (λ t. codes "place " ++ t) (sym (pieces_back 47 word w.0.0 w.0.1 (first_back (pieces 47 word) w.0 w.1))),
-    ap is_spot (sym q) ∙ andt (is_anchor a.0) (is_head h.0) b.1 c.1)
+    let c = head_back w.0.1 h.0 h.1 in (
+      ap place_line (sym q) ∙ ap (λ t. codes "place " ++ (t ++ head_text h.0)) b.0 ∙ ap (λ t. codes "place " ++ (w.0.0 ++ t)) c.0 ∙ ap (λ t. codes "place " ++ t) (sym (pieces_back 47 word w.0.0 w.0.1 (first_back (pieces 47 word) w.0 w.1))),
+      ap is_spot (sym q) ∙ andt (is_anchor a.0) (is_head h.0) b.1 c.1,
+    )
 
 descent_back : (w : List ℕ) (ws : List (List ℕ)) (d : Descent × List (List ℕ)) → descent_of w ws ≡ Some d → (w ++ spaced ws ≡ descent_text d.0 ++ spaced d.1) × (is_descent d.0 ≡ true)
 descent_back w ws d e = elim (by_word w (codes "down") _ _ d e) [
   | inl h ↦ let a = then_back (first ws) _ d h.1 in
-    let n = then_back (at_least 1 (natural_of a.0.0)) _ d a.2 in
-    let made : Descent × List (List ℕ) = (Down n.0, a.0.1) in
-    let q : made ≡ d = cc in
-    let l = least_back 1 a.0.0 n.0 n.1 in
-    (ap (λ t. t ++ spaced ws) h.0 ∙ ap (λ t. codes "down" ++ t) (word_front ws a.0.0 a.0.1 (decimal n.0) (spaced a.0.1) (first_back ws a.0 a.1) l.0 refl) ∙ ap (λ (r : Descent × List (List ℕ)). descent_text r.0 ++ spaced r.1) q,
-    ap (λ (r : Descent × List (List ℕ)). is_descent r.0) (sym q) ∙ andt (is_natural n.0) (nat_le 1 n.0) l.1 l.2)
+      let n = then_back (at_least 1 (natural_of a.0.0)) _ d a.2 in
+      let made : Descent × List (List ℕ) = (Down n.0, a.0.1) in
+      let q : made ≡ d = cc in
+      let l = least_back 1 a.0.0 n.0 n.1 in (
+        ap (λ t. t ++ spaced ws) h.0 ∙ ap (λ t. codes "down" ++ t) (word_front ws a.0.0 a.0.1 (decimal n.0) (spaced a.0.1) (first_back ws a.0 a.1) l.0 refl) ∙ ap (λ (r : Descent × List (List ℕ)). descent_text r.0 ++ spaced r.1) q,
+        ap (λ (r : Descent × List (List ℕ)). is_descent r.0) (sym q) ∙ andt (is_natural n.0) (nat_le 1 n.0) l.1 l.2,
+      )
   | inr f ↦ elim (by_word w (codes "halve") _ _ d f) [
     | inl h ↦ let made : Descent × List (List ℕ) = (Halve, ws) in
-      let q : made ≡ d = cc in
-      (ap (λ t. t ++ spaced ws) h.0 ∙ ap (λ (r : Descent × List (List ℕ)). descent_text r.0 ++ spaced r.1) q, ap (λ (r : Descent × List (List ℕ)). is_descent r.0) (sym q))
+        let q : made ≡ d = cc in
+        (ap (λ t. t ++ spaced ws) h.0 ∙ ap (λ (r : Descent × List (List ℕ)). descent_text r.0 ++ spaced r.1) q, ap (λ (r : Descent × List (List ℕ)). is_descent r.0) (sym q))
     | inr g ↦ absurd cc
   ]
 ]
@@ -140,9 +141,10 @@ bound_back ws b e =
     let mb = integer_back c.0.0 m.0 (number_back (integer_of c.0.0) m.0 m.1) in
     let fb = whole_back c.0.1 f.0 f.1 in
     let tail = word_front d.0.1 c.0.0 c.0.1 (signed_decimal m.0) (32 ∷ form_text f.0) (first_back d.0.1 c.0 c.1) mb.0 fb.0 in
-    let middle : spaced a.0.1 ≡ 32 ∷ (descent_text d.0.0 ++ (32 ∷ (signed_decimal m.0 ++ (32 ∷ form_text f.0)))) = ap spaced (first_back a.0.1 s.0 s.1) ∙ ap (λ t. 32 ∷ t) db.0 ∙ ap (λ t. 32 ∷ (descent_text d.0.0 ++ t)) tail in
-    (ap (λ t. codes "loop" ++ t) (word_front ws a.0.0 a.0.1 (decimal n.0) _ (first_back ws a.0 a.1) nb.0 middle) ∙ ap bound_line q,
-    ap is_bound (sym q) ∙ andt (is_natural n.0) _ nb.1 (three (is_descent d.0.0) (is_integer m.0) (is_form f.0) db.1 mb.1 fb.1))
+    let middle : spaced a.0.1 ≡ 32 ∷ (descent_text d.0.0 ++ (32 ∷ (signed_decimal m.0 ++ (32 ∷ form_text f.0)))) = ap spaced (first_back a.0.1 s.0 s.1) ∙ ap (λ t. 32 ∷ t) db.0 ∙ ap (λ t. 32 ∷ (descent_text d.0.0 ++ t)) tail in (
+      ap (λ t. codes "loop" ++ t) (word_front ws a.0.0 a.0.1 (decimal n.0) _ (first_back ws a.0 a.1) nb.0 middle) ∙ ap bound_line q,
+      ap is_bound (sym q) ∙ andt (is_natural n.0) _ nb.1 (three (is_descent d.0.0) (is_integer m.0) (is_form f.0) db.1 mb.1 fb.1),
+    )
 
 plain_back : (w : List ℕ) (c : Claim) → plain_claim w ≡ Some c → (claim_text c ≡ w) × (is_claim c ≡ true)
 plain_back w c e = elim (by_word w (codes "show") _ _ c e) [
@@ -163,11 +165,11 @@ none_left (w ∷ ws) e = absurd cc
 claim_back : (w : List ℕ) (ws : List (List ℕ)) (c : Claim) → claim_of w ws ≡ Some c → (w ++ spaced ws ≡ claim_text c) × (is_claim c ≡ true)
 claim_back w ws c e = elim (by_word w (codes "quot") _ _ c e) [
   | inl h ↦ let m = map_back Quotient (form_of [] None ws) c h.1 in
-    let f = whole_back ws m.0 m.1 in
-    (ap (λ t. t ++ spaced ws) h.0 ∙ ap (λ t. codes "quot" ++ t) f.0 ∙ ap claim_text m.2, ap is_claim (sym m.2) ∙ f.1)
+      let f = whole_back ws m.0 m.1 in
+      (ap (λ t. t ++ spaced ws) h.0 ∙ ap (λ t. codes "quot" ++ t) f.0 ∙ ap claim_text m.2, ap is_claim (sym m.2) ∙ f.1)
   | inr g ↦ let p = cond_back (is_empty ws) (plain_claim w) c g in
-    let b = plain_back w c p.1 in
-    (ap (λ t. w ++ spaced t) (none_left ws p.0) ∙ append-nil w ∙ sym b.0, b.1)
+      let b = plain_back w c p.1 in
+      (ap (λ t. w ++ spaced t) (none_left ws p.0) ∙ append-nil w ∙ sym b.0, b.1)
 ]
 
 entry_back : (ws : List (List ℕ)) (i : Item) → entry_of ws ≡ Some i → (codes "ob" ++ spaced ws ≡ item_line i) × (is_item i ≡ true)
@@ -180,9 +182,10 @@ entry_back ws i e =
     let made : Item = EntryItem n.0 c.0 in
     let q : made ≡ i = same made i c.2 in
     let nb = least_back 1 a.0.0 n.0 n.1 in
-    let cb = claim_back b.0.0 b.0.1 c.0 c.1 in
-    (ap (λ t. codes "ob" ++ t) (word_front ws a.0.0 a.0.1 (decimal n.0) (32 ∷ claim_text c.0) (first_back ws a.0 a.1) nb.0 (ap spaced (first_back a.0.1 b.0 b.1) ∙ ap (λ t. 32 ∷ t) cb.0)) ∙ ap item_line q,
-    ap is_item (sym q) ∙ andt _ (is_claim c.0) (andt (is_natural n.0) (nat_le 1 n.0) nb.1 nb.2) cb.1)
+    let cb = claim_back b.0.0 b.0.1 c.0 c.1 in (
+      ap (λ t. codes "ob" ++ t) (word_front ws a.0.0 a.0.1 (decimal n.0) (32 ∷ claim_text c.0) (first_back ws a.0 a.1) nb.0 (ap spaced (first_back a.0.1 b.0 b.1) ∙ ap (λ t. 32 ∷ t) cb.0)) ∙ ap item_line q,
+      ap is_item (sym q) ∙ andt _ (is_claim c.0) (andt (is_natural n.0) (nat_le 1 n.0) nb.1 nb.2) cb.1,
+    )
 
 scaled_back : (f l : List ℕ) (s : Scaled) → scaled_of f l ≡ Some s → (signed_decimal s.factor ≡ f) × (signed_decimal s.line ≡ l) × (is_scaled s ≡ true)
 scaled_back f l s e =
@@ -241,18 +244,18 @@ made_back make w k ws read i p e back =
 place_item_back : (w : List ℕ) (ws : List (List ℕ)) (i : Item) → place_item w ws ≡ Some i → (w ++ spaced ws ≡ item_line i) × (is_item i ≡ true)
 place_item_back w ws i e = elim (by_word w (codes "place") _ _ i e) [
   | inl h ↦ let v = then_back (sole ws) _ i h.1 in
-    made_back PlaceItem w (codes "place") ws (spot_of (pieces 47 v.0)) i h.0 v.2 (λ s r.
+      made_back PlaceItem w (codes "place") ws (spot_of (pieces 47 v.0)) i h.0 v.2 (λ s r.
       let b = spot_back v.0 s r in
       (ap (λ t. codes "place" ++ spaced t) (sole_back ws v.0 v.1) ∙ ap (λ t. codes "place " ++ t) (append-nil v.0) ∙ sym b.0, b.1))
   | inr f ↦ elim (by_word w (codes "same") _ _ i f) [
     | inl h ↦ let v = then_back (sole ws) _ i h.1 in
-      made_back SameItem w (codes "same") ws (identifier_of v.0) i h.0 v.2 (λ s r.
+        made_back SameItem w (codes "same") ws (identifier_of v.0) i h.0 v.2 (λ s r.
         let b = identifier_back v.0 s r in
         (ap (λ t. codes "same" ++ spaced t) (sole_back ws v.0 v.1) ∙ ap (λ t. codes "same " ++ t) (append-nil v.0 ∙ sym b.0), b.1))
     | inr g ↦ elim (by_word w (codes "fact") _ _ i g) [
       | inl h ↦ made_back FactItem w (codes "fact") ws (form_of [] None ws) i h.0 h.1 (λ s r.
-        let b = whole_back ws s r in
-        (ap (λ t. codes "fact" ++ t) b.0, b.1))
+          let b = whole_back ws s r in
+          (ap (λ t. codes "fact" ++ t) b.0, b.1))
       | inr k ↦ elim (by_word w (codes "mod") _ _ i k) [
         | inl h ↦ made_back CongruenceItem w (codes "mod") ws (congruence_of ws) i h.0 h.1 (congruence_back ws)
         | inr l ↦ absurd cc
@@ -280,7 +283,7 @@ item_front w ws i e = elim (by_word w (codes "loop") _ _ i e) [
     | inl h ↦ let b = entry_back ws i h.1 in (ap (λ t. t ++ spaced ws) h.0 ∙ b.0, b.1)
     | inr g ↦ elim (by_word w (codes "end") _ _ i g) [
       | inl h ↦ let k = when_back (is_empty ws) EndItem i h.1 in
-        (ap (λ t. t ++ spaced ws) h.0 ∙ ap (λ t. codes "end" ++ spaced t) (none_left ws k.0) ∙ ap item_line k.1, ap is_item (sym k.1))
+          (ap (λ t. t ++ spaced ws) h.0 ∙ ap (λ t. codes "end" ++ spaced t) (none_left ws k.0) ∙ ap item_line k.1, ap is_item (sym k.1))
       | inr k ↦ step_item_back w ws i k
     ]
   ]

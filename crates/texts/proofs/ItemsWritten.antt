@@ -1,20 +1,20 @@
 -- Lines are read as they are written.
-use Rattle.std.proofs.Common.{◌≡◌, ℕ, suc, Bool, true, false, cond, not, nat_eq, ◌&&◌, List, [], ◌∷◌, ◌++◌, Option, None, Some, refl, ap, sym, ◌∙◌, append_assoc}
-use Rattle.std.specs.Prelude.{ℤ, codes, bytes_eq, nat_le}
+use Rattle.std.proofs.Common.{◌≡◌, ℕ, true, false, not, nat_eq, ◌&&◌, List, [], ◌∷◌, ◌++◌, Option, None, Some, refl, ap, sym, ◌∙◌, append_assoc}
+use Rattle.std.specs.Prelude.{ℤ, codes, nat_le}
 use Rattle.std.specs.Option.{option_map}
 use Rattle.std.specs.List.{flat_map}
 use Rattle.std.specs.Fmt.{decimal, signed_decimal}
-use Rattle.std.proofs.lemmas.Bool.{cond-true, false≢true}
+use Rattle.std.proofs.lemmas.Bool.{cond-true}
 use Rattle.std.proofs.lemmas.List.{append-nil}
 use Rattle.semantics.specs.Linear.{Form}
-use Rattle.texts.specs.Lines.{is_empty, pieces, words, first, sole, two, natural_of, integer_of, follows}
+use Rattle.texts.specs.Lines.{is_empty, pieces, words, sole, natural_of, integer_of, follows}
 use Rattle.texts.specs.Certificate.{Name, Anchor, KernelEntry, Barrier, Spot, Congruence, Descent, Down, Halve, Bound, Claim, Show, Positive, Negative, Quotient, Scaled, Step, Given, Sum, Divide}
-use Rattle.texts.specs.CertificateText.{name_text, term_text, form_text, anchor_text, head_text, place_line, congruence_line, descent_text, bound_line, claim_text, entry_line, scaled_text, step_line}
-use Rattle.texts.specs.CertificateLines.{Item, PlaceItem, SameItem, FactItem, CongruenceItem, BoundItem, EntryItem, StepItem, EndItem, then, when, number, at_least, identifier_of, form_of, anchor_of, head_of, spot_of, congruence_of, descent_of, bound_of, claim_of, entry_of, scaled_of, line_is_before, sum_of, given_of, divide_of, place_item, step_item, item_of}
-use Rattle.texts.specs.CertificateRules.{all, rises, is_natural, is_integer, is_form, is_anchor, is_head, is_spot, is_congruence, is_descent, is_bound, is_claim, is_scaled, is_step, is_term}
+use Rattle.texts.specs.CertificateText.{form_text, anchor_text, head_text, place_line, congruence_line, descent_text, bound_line, claim_text, entry_line, scaled_text, step_line}
+use Rattle.texts.specs.CertificateLines.{Item, PlaceItem, SameItem, FactItem, CongruenceItem, BoundItem, EntryItem, StepItem, EndItem, then, when, number, at_least, identifier_of, form_of, anchor_of, spot_of, congruence_of, descent_of, bound_of, claim_of, entry_of, scaled_of, line_is_before, sum_of, given_of, item_of}
+use Rattle.texts.specs.CertificateRules.{all, rises, is_natural, is_integer, is_form, is_anchor, is_head, is_spot, is_congruence, is_descent, is_bound, is_claim, is_scaled, is_step}
 use Rattle.texts.proofs.Fits.{both}
 use Rattle.texts.proofs.Decimals.{natural_forth, integer_forth}
-use Rattle.texts.proofs.FormsWritten.{is_free, is_plain, cut_one, cut_at, all_append, plain_free, natural_plain, integer_plain, identifier_plain, name_plain, identifier_forth, form_forth, rises_follow, moved}
+use Rattle.texts.proofs.FormsWritten.{is_free, is_plain, cut_one, cut_at, all_append, plain_free, natural_plain, integer_plain, identifier_plain, identifier_forth, form_forth, rises_follow, moved}
 use Rattle.texts.proofs.ItemsRead.{item_line, is_item}
 
 natural_free : (c n : ℕ) → is_plain c ≡ false → is_natural n ≡ true → is_free c (decimal n) ≡ true

@@ -1,5 +1,5 @@
 -- Reading a certificate, line by line: what has been read, what may follow it, and the first line that may not.
-use Rattle.std.specs.Prelude.{ℕ, suc, ℤ, pos, List, [], ◌∷◌, ◌++◌, length, Bool, true, false, cond, not, nat_eq, nat_lt, ◌&&◌, ◌||◌, Option, None, Some, Result, Ok, Err, bytes_eq, codes}
+use Rattle.std.specs.Prelude.{ℕ, suc, ℤ, pos, List, [], ◌∷◌, ◌++◌, length, Bool, true, false, cond, not, nat_lt, ◌&&◌, ◌||◌, Option, None, Some, Result, Ok, Err, bytes_eq, codes}
 use Rattle.std.specs.Ordering.{int_eq}
 use Rattle.texts.specs.Lines.{is_empty, follows, two, line_feed, pieces, words, integer_of}
 use Rattle.texts.specs.Certificate.{Anchor, KernelEntry, Barrier, Spot, Place, Bound, Entry, Step, Claim, Certificate, CertificateFault, BadLine, OtherVersion}

@@ -1,5 +1,5 @@
 -- Which certificates have a text: names and numbers that can be written, and parts that rise.
-use Rattle.std.specs.Prelude.{ℕ, ℤ, pos, negsuc, ◌^◌, List, [], ◌∷◌, Bool, true, false, not, nat_le, nat_lt, ◌&&◌, Option, None, Some}
+use Rattle.std.specs.Prelude.{ℕ, ℤ, pos, negsuc, ◌^◌, List, [], ◌∷◌, Bool, true, not, nat_le, nat_lt, ◌&&◌, Option, None, Some}
 use Rattle.std.specs.Ordering.{int_eq}
 use Rattle.semantics.specs.Linear.{Weighted, Form}
 use Rattle.texts.specs.Lines.{is_empty}

@@ -5,8 +5,10 @@ use Rattle.std.specs.Prelude.{codes, bytes_eq}
 use Rattle.semantics.specs.Linear.{Weighted}
 use Rattle.texts.specs.Lines.{pieces, two, follows, is_empty}
 use Rattle.texts.specs.Certificate.{Name, Scaled}
-use Rattle.texts.specs.CertificateReading.{Draft, add_line, finish, go_on, read_lines}
-use Rattle.texts.specs.CertificateLines.{term_of, name_follows, form_of, line_is_before, scaled_of, sum_of}
+use Rattle.texts.specs.CertificateDrafts.{Draft}
+use Rattle.texts.specs.CertificateReading.{add_line, finish, go_on, read_lines}
+use Rattle.texts.specs.CertificateForms.{term_of, name_follows, form_of}
+use Rattle.texts.specs.CertificateLines.{line_is_before, scaled_of, sum_of}
 
 pub one_term : (terms : List (Weighted Name)) (before : Option (List ℕ)) (ws : List (List ℕ)) (word sign : List ℕ) (others : List (List ℕ)) (parts : List ℕ × List ℕ) (t : Weighted Name) → ws ≡ word ∷ sign ∷ others → two (pieces 42 word) ≡ Some parts → term_of parts ≡ Some t → (bytes_eq sign (codes "+") && name_follows before parts.1) ≡ true → form_of terms before ws ≡ form_of (terms ++ t ∷ []) (Some parts.1) others
 unfolding form_of

@@ -4,7 +4,7 @@ ghost use Rattle.std.specs.Prelude.{◌≡◌, ◌&&◌, [], map, None, bytes_eq
 ghost use Rattle.std.specs.Option.{option_copied};
 ghost use Rattle.std.specs.String.{string_bytes};
 ghost use Rattle.texts.specs.Lines.{natural_of, integer_of};
-ghost use Rattle.texts.specs.CertificateLines as meaning;
+ghost use Rattle.texts.specs.CertificateForms as forms;
 ghost use Rattle.lines.specs.Left.{left};
 ghost use Rattle.certificate.specs.View as view;
 ghost use Rattle.certificate.specs.Answers.{Means, pair};
@@ -18,7 +18,7 @@ use std::cmp::Ordering;
 
 #[tactic(auto, using(crate::proofs::Ascii::utf8))]
 pub fn identifier(alloc: Global, word: &[u8]) -> Result<String, LineError>
-    ensures { Means string_bytes result (meaning.identifier_of word.now) }
+    ensures { Means string_bytes result (forms.identifier_of word.now) }
 {
     if !is_identifier(word) {
         return Err(LineError::Bad);
@@ -29,9 +29,9 @@ pub fn identifier(alloc: Global, word: &[u8]) -> Result<String, LineError>
     Ok(String::from_str(alloc, text)?)
 }
 
-#[tactic(auto, unfolding(texts::specs::CertificateLines::dimensional_of))]
+#[tactic(auto, unfolding(texts::specs::CertificateForms::dimensional_of))]
 fn dimensional(alloc: Global, word: &[u8]) -> Result<Name, LineError>
-    ensures { Means view.name result (meaning.dimensional_of word.now) }
+    ensures { Means view.name result (forms.dimensional_of word.now) }
 {
     if begins(word, "groups.") {
         let Some(dimension) = dimension(&word[7..]) else {
@@ -53,9 +53,9 @@ fn dimensional(alloc: Global, word: &[u8]) -> Result<Name, LineError>
     }
 }
 
-#[tactic(auto, unfolding(texts::specs::CertificateLines::name_of))]
+#[tactic(auto, unfolding(texts::specs::CertificateForms::name_of))]
 pub fn name(alloc: Global, word: &[u8]) -> Result<Name, LineError>
-    ensures { Means view.name result (meaning.name_of word.now) }
+    ensures { Means view.name result (forms.name_of word.now) }
 {
     if begins(word, "@") {
         Ok(Name::AtAnchor(identifier(alloc, &word[1..])?))
@@ -80,7 +80,7 @@ pub fn name(alloc: Global, word: &[u8]) -> Result<Name, LineError>
 
 /// A term, of the words before and behind its `*`.
 fn term(alloc: Global, coefficient: &[u8], spelling: &[u8]) -> Result<Term, LineError>
-    ensures { Means view.term result (meaning.term_of (pair coefficient.now spelling.now)) }
+    ensures { Means view.term result (forms.term_of (pair coefficient.now spelling.now)) }
 {
     let Some(coefficient) = integer(coefficient) else {
         return Err(LineError::Bad);
@@ -94,7 +94,7 @@ fn term(alloc: Global, coefficient: &[u8], spelling: &[u8]) -> Result<Term, Line
 
 /// Whether a name may stand behind the one before it.
 fn follows(before: Option<&[u8]>, name: &[u8]) -> bool
-    ensures { result ≡ meaning.name_follows (option_copied before.entry) name.now }
+    ensures { result ≡ forms.name_follows (option_copied before.entry) name.now }
 {
     match before {
         None => true,
@@ -104,13 +104,13 @@ fn follows(before: Option<&[u8]>, name: &[u8]) -> bool
 
 /// Whether a term may stand behind the one before it.
 fn goes_on(sign: &[u8], before: Option<&[u8]>, name: &[u8]) -> bool
-    ensures { result ≡ (bytes_eq sign.now (codes "+") && meaning.name_follows (option_copied before.entry) name.now) }
+    ensures { result ≡ (bytes_eq sign.now (codes "+") && forms.name_follows (option_copied before.entry) name.now) }
 {
     is(sign, "+") && follows(before, name)
 }
 
 fn constant(terms: Vec<Term>, word: &[u8]) -> Result<Form, LineError>
-    ensures { Means view.form result (meaning.constant_of (map view.term terms.items) word.now) }
+    ensures { Means view.form result (forms.constant_of (map view.term terms.items) word.now) }
 {
     let Some(constant) = integer(word) else {
         return Err(LineError::Bad);
@@ -119,9 +119,9 @@ fn constant(terms: Vec<Term>, word: &[u8]) -> Result<Form, LineError>
 }
 
 /// The form that words say.
-#[tactic(auto, unfolding(texts::specs::CertificateLines::form_of))]
+#[tactic(auto, unfolding(texts::specs::CertificateForms::form_of))]
 pub fn form(alloc: Global, words: Pieces<'_>) -> Result<Form, LineError>
-    ensures { Means view.form result (meaning.form_of [] None (left words.entry)) }
+    ensures { Means view.form result (forms.form_of [] None (left words.entry)) }
 {
     let mut terms = Vec::new(alloc);
     let mut before = None;

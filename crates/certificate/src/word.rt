@@ -5,6 +5,7 @@ ghost use Rattle.std.specs.Option.{option_map};
 ghost use Rattle.std.specs.Str.{bytes_eq};
 ghost use Rattle.texts.specs.Tokens.{is_letter, is_word_byte};
 ghost use Rattle.texts.specs.Lines.{natural_of, integer_of};
+ghost use Rattle.texts.specs.CertificateForms as forms;
 ghost use Rattle.texts.specs.CertificateLines as meaning;
 ghost use Rattle.lines.specs.Left.{left};
 ghost use Rattle.certificate.specs.View as view;
@@ -23,13 +24,13 @@ pub fn is(word: &[u8], spelling: &str) -> bool
 
 /// Whether a word begins so.
 pub fn begins(word: &[u8], front: &str) -> bool
-    ensures { result ≡ meaning.begins word.now front.now }
+    ensures { result ≡ forms.begins word.now front.now }
 {
     word.starts_with(front.as_bytes())
 }
 
 pub fn natural(word: &[u8]) -> Option<u64>
-    ensures { result ≡ meaning.number (natural_of word.now) }
+    ensures { result ≡ forms.number (natural_of word.now) }
 {
     match number::natural(word) {
         Ok(number) => Some(number),
@@ -47,7 +48,7 @@ pub fn natural_from(least: u64, word: &[u8]) -> Option<u64>
 }
 
 pub fn integer(word: &[u8]) -> Option<i64>
-    ensures { result ≡ meaning.number (integer_of word.now) }
+    ensures { result ≡ forms.number (integer_of word.now) }
 {
     match number::integer(word) {
         Ok(number) => Some(number),
@@ -68,7 +69,7 @@ fn is_word_byte(b: u8) -> bool
 }
 
 fn are_word_bytes(bytes: &[u8]) -> bool
-    ensures { result ≡ meaning.all_word_bytes bytes.now }
+    ensures { result ≡ forms.all_word_bytes bytes.now }
 {
     for b in bytes {
         if !is_word_byte(*b) {
@@ -79,7 +80,7 @@ fn are_word_bytes(bytes: &[u8]) -> bool
 }
 
 pub fn is_identifier(word: &[u8]) -> bool
-    ensures { result ≡ meaning.is_identifier word.now }
+    ensures { result ≡ forms.is_identifier word.now }
 {
     match word {
         [] => false,
@@ -88,7 +89,7 @@ pub fn is_identifier(word: &[u8]) -> bool
 }
 
 pub fn dimension(word: &[u8]) -> Option<Dimension>
-    ensures { option_map view.dimension result ≡ meaning.dimension_of word.now }
+    ensures { option_map view.dimension result ≡ forms.dimension_of word.now }
 {
     if is(word, "0") {
         Some(Dimension::First)

@@ -14,8 +14,9 @@ use Rattle.std.proofs.lemmas.Slice.Eq.{bytes_eq-Decides}
 use Rattle.texts.specs.Lines.{is_empty, two, pieces, words, text_of_lines, integer_of}
 use Rattle.texts.specs.Certificate.{Certificate, CertificateFault, BadLine, OtherVersion}
 use Rattle.texts.specs.CertificateText.{body_lines, text_of}
-use Rattle.texts.specs.CertificateLines.{number}
-use Rattle.texts.specs.CertificateReading.{Open, Nothing, InPlace, InEntry, Ended, Draft, nothing_yet, Read, is_ended, finish, go_on, add_line, read_lines, head_of_version, version_of, head_fault, unless, read_text, certificate_limit, certificate_of}
+use Rattle.texts.specs.CertificateForms.{number}
+use Rattle.texts.specs.CertificateDrafts.{Open, Nothing, InPlace, InEntry, Ended, Draft, nothing_yet}
+use Rattle.texts.specs.CertificateReading.{Read, is_ended, finish, go_on, add_line, read_lines, head_of_version, version_of, head_fault, unless, read_text, certificate_limit, certificate_of}
 use Rattle.texts.specs.CertificateRules.{is_certificate}
 use Rattle.texts.proofs.Fits.{both}
 use Rattle.texts.proofs.Decimals.{integer_back}

@@ -11,8 +11,10 @@ use Rattle.semantics.specs.Linear.{Weighted, Form}
 use Rattle.texts.specs.Lines.{integer_of, is_empty, follows, pieces, words, text_of_lines}
 use Rattle.texts.specs.Certificate.{Name, Anchor, KernelEntry, Barrier, Spot, Congruence, Place, Descent, Down, Halve, Bound, Claim, Show, Positive, Negative, Quotient, Scaled, Step, Given, Sum, Divide, Entry, Certificate}
 use Rattle.texts.specs.CertificateText.{name_text, term_text, form_text, anchor_text, head_text, place_line, same_line, fact_line, congruence_line, place_lines, descent_text, bound_line, claim_text, entry_line, scaled_text, step_line, entry_lines, body_lines, text_of}
-use Rattle.texts.specs.CertificateLines.{Item, PlaceItem, SameItem, FactItem, CongruenceItem, BoundItem, EntryItem, StepItem, EndItem, then, when, number, is_identifier}
-use Rattle.texts.specs.CertificateReading.{bound_is_behind, entry_is_behind, Nothing, InPlace, InEntry, Ended, Draft, draft, certificate, nothing_yet, has_line, settle, place_fits, place_at, entry_at, add, add_line, finish, go_on, read_lines, unless, head_of_version, head_fault, read_text, certificate_limit, certificate_of}
+use Rattle.texts.specs.CertificateForms.{then, when, number, is_identifier}
+use Rattle.texts.specs.CertificateLines.{Item, PlaceItem, SameItem, FactItem, CongruenceItem, BoundItem, EntryItem, StepItem, EndItem}
+use Rattle.texts.specs.CertificateDrafts.{bound_is_behind, entry_is_behind, Nothing, InPlace, InEntry, Ended, Draft, draft, certificate, nothing_yet, has_line, settle, place_fits, place_at, entry_at, add}
+use Rattle.texts.specs.CertificateReading.{add_line, finish, go_on, read_lines, unless, head_of_version, head_fault, read_text, certificate_limit, certificate_of}
 use Rattle.texts.specs.CertificateRules.{all, rises, is_natural, is_integer, is_name, is_term, is_form, is_anchor, is_head, is_spot, is_congruence, is_open_place, is_place, is_descent, is_bound, is_claim, is_scaled, is_step, is_entry, place_is_before, bound_is_before, entry_is_before, is_certificate}
 use Rattle.texts.proofs.Fits.{both}
 use Rattle.texts.proofs.Decimals.{integer_forth}

@@ -8,7 +8,7 @@ use Rattle.std.proofs.lemmas.List.{append-nil}
 use Rattle.std.proofs.lemmas.List.Splits.{join_with_byte-slice_split}
 use Rattle.std.proofs.lemmas.Slice.Eq.{bytes_eq-Decides}
 use Rattle.texts.specs.Lines.{NumberFault, pieces, sole, two, first, follows}
-use Rattle.texts.specs.CertificateLines.{then, when, number, begins as begins_so}
+use Rattle.texts.specs.CertificateForms.{then, when, number, begins as begins_so}
 use Rattle.texts.specs.CertificateRules.{all, rises}
 use Rattle.texts.proofs.Fits.{begins, both}
 

@@ -7,10 +7,12 @@ use Rattle.std.proofs.lemmas.List.{append-nil, map_push}
 use Rattle.texts.specs.Lines.{is_empty, follows, words}
 use Rattle.texts.specs.Certificate.{Spot, Place, Bound, Step, Claim, Entry, Certificate}
 use Rattle.texts.specs.CertificateText.{place_line, same_line, fact_line, congruence_line, place_lines, bound_line, entry_line, entry_lines, step_line, body_lines}
-use Rattle.texts.specs.CertificateLines.{Item, PlaceItem, SameItem, FactItem, CongruenceItem, BoundItem, EntryItem, StepItem, EndItem, then, when, number, item_of}
-use Rattle.texts.specs.CertificateReading.{place_is_behind, bound_is_behind, entry_is_behind, Open, Nothing, InPlace, InEntry, Ended, Draft, draft, certificate, has_line, settle, open_place, open_entry, place_fits, bound_fits, entry_fits, place_at, entry_at, add_to_place, add_place, add_bound, add_entry, add_to_entry, add_end, add_within, add, add_line}
+use Rattle.texts.specs.CertificateForms.{then, when, number}
+use Rattle.texts.specs.CertificateLines.{Item, PlaceItem, SameItem, FactItem, CongruenceItem, BoundItem, EntryItem, StepItem, EndItem, item_of}
+use Rattle.texts.specs.CertificateDrafts.{place_is_behind, bound_is_behind, entry_is_behind, Open, Nothing, InPlace, InEntry, Ended, Draft, draft, certificate, has_line, settle, open_place, open_entry, place_fits, bound_fits, entry_fits, place_at, entry_at, add_to_place, add_place, add_bound, add_entry, add_to_entry, add_end, add_within, add}
+use Rattle.texts.specs.CertificateReading.{add_line}
 use Rattle.texts.specs.CertificateRules.{all, rises, is_form, is_spot, is_congruence, is_open_place, is_place, is_bound, is_claim, is_step, is_entry, place_is_before, bound_is_before, entry_is_before, is_certificate}
-use Rattle.texts.specs.CertificateLines as lines
+use Rattle.texts.specs.CertificateForms as names
 use Rattle.texts.proofs.Fits.{both}
 use Rattle.texts.proofs.Cuts.{then_back, when_back, all_push, rises_push}
 use Rattle.texts.proofs.FormsRead.{three}
@@ -166,14 +168,14 @@ record Extends (p : Place) (line : List ℕ) (q : Place) : Type 0 where
   good : is_open_place q ≡ true
   lines : place_lines q ≡ place_lines p ++ line ∷ []
 
-open_parts : (p : Place) → is_open_place p ≡ true → (is_spot p.spot ≡ true) × (all lines.is_identifier p.same ≡ true) × (all is_form p.facts ≡ true) × (all is_congruence p.congruences ≡ true)
+open_parts : (p : Place) → is_open_place p ≡ true → (is_spot p.spot ≡ true) × (all names.is_identifier p.same ≡ true) × (all is_form p.facts ≡ true) × (all is_congruence p.congruences ≡ true)
 open_parts p h =
     let a = both _ _ h in
     let b = both _ _ a.1 in
     let c = both _ _ b.1 in
     (a.0, b.0, c.0, c.1)
 
-open_test : (p : Place) → is_spot p.spot ≡ true → all lines.is_identifier p.same ≡ true → all is_form p.facts ≡ true → all is_congruence p.congruences ≡ true → is_open_place p ≡ true
+open_test : (p : Place) → is_spot p.spot ≡ true → all names.is_identifier p.same ≡ true → all is_form p.facts ≡ true → all is_congruence p.congruences ≡ true → is_open_place p ≡ true
 open_test p a b c d = andt _ _ a (three _ _ _ b c d)
 
 extend_same : (head : List ℕ) (names : List (List ℕ)) (n : List ℕ) (facts congruences : List (List ℕ)) → facts ≡ [] → congruences ≡ [] → head ∷ (map same_line (names ++ n ∷ []) ++ (facts ++ congruences)) ≡ (head ∷ (map same_line names ++ (facts ++ congruences))) ++ same_line n ∷ []
@@ -191,7 +193,7 @@ add_to_place_back p (SameItem n) q g h e =
     let o = open_parts p h in
     subst (Extends p (same_line n)) w.1 (record {
       spot = refl;
-      good = open_test made o.0 (all_push lines.is_identifier p.same n o.1 g) o.2 o.3;
+      good = open_test made o.0 (all_push names.is_identifier p.same n o.1 g) o.2 o.3;
       lines = extend_same (place_line p.spot) p.same n (map fact_line p.facts) (map congruence_line p.congruences) (ap (map fact_line) (none_left p.facts none.0)) (ap (map congruence_line) (none_left p.congruences none.1));
     })
 add_to_place_back p (FactItem f) q g h e =

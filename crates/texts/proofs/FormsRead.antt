@@ -12,7 +12,7 @@ use Rattle.semantics.specs.Linear.{Weighted, Form}
 use Rattle.texts.specs.Lines.{pieces, two, natural_of, integer_of, follows}
 use Rattle.texts.specs.Certificate.{Dimension, First, Second, Third, Name, Variable, AtAnchor, Turns, Fresh, Argument, Length, Groups, Group, Local}
 use Rattle.texts.specs.CertificateText.{dimension_text, name_text, term_text, form_text}
-use Rattle.texts.specs.CertificateLines.{number, is_identifier, identifier_of, dimension_of, dimensional_of, name_of, weighted, term_of, name_follows, form, form_of}
+use Rattle.texts.specs.CertificateForms.{number, is_identifier, identifier_of, dimension_of, dimensional_of, name_of, weighted, term_of, name_follows, form, form_of}
 use Rattle.texts.specs.CertificateRules.{all, rises, is_natural, is_integer, is_name, is_term, term_is_before, is_form}
 use Rattle.texts.proofs.Fits.{both}
 use Rattle.texts.proofs.Decimals.{natural_back, integer_back}

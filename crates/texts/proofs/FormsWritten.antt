@@ -15,7 +15,7 @@ use Rattle.texts.specs.Tokens.{is_letter, is_word_byte}
 use Rattle.texts.specs.Lines.{pieces, two, natural_of, follows}
 use Rattle.texts.specs.Certificate.{Dimension, First, Second, Third, Name, Variable, AtAnchor, Turns, Fresh, Argument, Length, Groups, Group, Local}
 use Rattle.texts.specs.CertificateText.{dimension_text, name_text, term_text, form_text}
-use Rattle.texts.specs.CertificateLines.{then, when, number, begins, all_word_bytes, is_identifier, identifier_of, dimensional_of, name_of, weighted, term_of, name_follows, form, form_of}
+use Rattle.texts.specs.CertificateForms.{then, when, number, begins, all_word_bytes, is_identifier, identifier_of, dimensional_of, name_of, weighted, term_of, name_follows, form, form_of}
 use Rattle.texts.specs.CertificateRules.{all, rises, is_natural, is_integer, is_name, is_term, term_is_before, is_form}
 use Rattle.texts.proofs.Fits.{both}
 use Rattle.texts.proofs.Decimals.{digits_of_decimal, below_of, natural_forth, integer_forth}

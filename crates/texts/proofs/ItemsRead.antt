@@ -10,12 +10,13 @@ use Rattle.semantics.specs.Linear.{Form}
 use Rattle.texts.specs.Lines.{is_empty, pieces, words, first, sole, two, natural_of, integer_of, follows}
 use Rattle.texts.specs.Certificate.{Name, Anchor, KernelEntry, Barrier, Spot, Congruence, Descent, Down, Halve, Bound, Claim, Show, Positive, Negative, Quotient, Scaled, Step, Given, Sum, Divide}
 use Rattle.texts.specs.CertificateText.{form_text, anchor_text, head_text, place_line, same_line, fact_line, congruence_line, descent_text, bound_line, claim_text, entry_line, scaled_text, step_line}
-use Rattle.texts.specs.CertificateLines.{Item, PlaceItem, SameItem, FactItem, CongruenceItem, BoundItem, EntryItem, StepItem, EndItem, then, when, number, at_least, identifier_of, form_of, anchor_of, head_of, spot_of, congruence_of, descent_of, bound_of, plain_claim, claim_of, entry_of, scaled_of, line_is_before, sum_of, given_of, divide_of, place_item, step_item, item_of}
+use Rattle.texts.specs.CertificateForms.{then, when, number, identifier_of, form_of}
+use Rattle.texts.specs.CertificateLines.{Item, PlaceItem, SameItem, FactItem, CongruenceItem, BoundItem, EntryItem, StepItem, EndItem, at_least, anchor_of, head_of, spot_of, congruence_of, descent_of, bound_of, plain_claim, claim_of, entry_of, scaled_of, line_is_before, sum_of, given_of, divide_of, place_item, step_item, item_of}
 use Rattle.texts.specs.CertificateRules.{all, rises, is_natural, is_integer, is_form, is_anchor, is_head, is_spot, is_congruence, is_descent, is_bound, is_claim, is_scaled, is_step}
 use Rattle.texts.proofs.Decimals.{natural_back, integer_back}
 use Rattle.texts.proofs.Cuts.{parted, spaced, pieces_back, then_back, map_back, when_back, cond_back, number_back, first_back, sole_back, two_back, by_word, by_front, all_push, rises_push}
 use Rattle.texts.proofs.FormsRead.{identifier_back, form_back, three}
-use Rattle.texts.specs.CertificateLines as lines
+use Rattle.texts.specs.CertificateForms as names
 
 -- the line of an item
 abbrev pub item_line : Item → List ℕ
@@ -30,7 +31,7 @@ item_line EndItem = codes "end"
 
 abbrev pub is_item : Item → Bool
 is_item (PlaceItem s) = is_spot s
-is_item (SameItem name) = lines.is_identifier name
+is_item (SameItem name) = names.is_identifier name
 is_item (FactItem f) = is_form f
 is_item (CongruenceItem c) = is_congruence c
 is_item (BoundItem b) = is_bound b

@@ -10,7 +10,8 @@ use Rattle.semantics.specs.Linear.{Form}
 use Rattle.texts.specs.Lines.{is_empty, pieces, words, sole, natural_of, integer_of, follows}
 use Rattle.texts.specs.Certificate.{Name, Anchor, KernelEntry, Barrier, Spot, Congruence, Descent, Down, Halve, Bound, Claim, Show, Positive, Negative, Quotient, Scaled, Step, Given, Sum, Divide}
 use Rattle.texts.specs.CertificateText.{form_text, anchor_text, head_text, place_line, congruence_line, descent_text, bound_line, claim_text, entry_line, scaled_text, step_line}
-use Rattle.texts.specs.CertificateLines.{Item, PlaceItem, SameItem, FactItem, CongruenceItem, BoundItem, EntryItem, StepItem, EndItem, then, when, number, at_least, identifier_of, form_of, anchor_of, spot_of, congruence_of, descent_of, bound_of, claim_of, entry_of, scaled_of, line_is_before, sum_of, given_of, item_of}
+use Rattle.texts.specs.CertificateForms.{then, when, number, identifier_of, form_of}
+use Rattle.texts.specs.CertificateLines.{Item, PlaceItem, SameItem, FactItem, CongruenceItem, BoundItem, EntryItem, StepItem, EndItem, at_least, anchor_of, spot_of, congruence_of, descent_of, bound_of, claim_of, entry_of, scaled_of, line_is_before, sum_of, given_of, item_of}
 use Rattle.texts.specs.CertificateRules.{all, rises, is_natural, is_integer, is_form, is_anchor, is_head, is_spot, is_congruence, is_descent, is_bound, is_claim, is_scaled, is_step}
 use Rattle.texts.proofs.Fits.{both}
 use Rattle.texts.proofs.Decimals.{natural_forth, integer_forth}

@@ -5,8 +5,9 @@ use Rattle.semantics.specs.Linear.{Weighted, Form}
 use Rattle.texts.specs.Lines.{is_empty}
 use Rattle.texts.specs.Certificate.{Name, Variable, AtAnchor, Turns, Fresh, Argument, Length, Groups, Group, Local, Anchor, KernelEntry, Barrier, Spot, Congruence, Place, Descent, Down, Halve, Bound, Claim, Show, Positive, Negative, Quotient, Scaled, Step, Given, Sum, Divide, Entry, Certificate}
 use Rattle.texts.specs.CertificateText.{name_text}
-use Rattle.texts.specs.CertificateLines.{is_identifier, is_before, line_is_before}
-use Rattle.texts.specs.CertificateReading.{spot_is_before, has_line}
+use Rattle.texts.specs.CertificateForms.{is_identifier, is_before}
+use Rattle.texts.specs.CertificateLines.{line_is_before}
+use Rattle.texts.specs.CertificateDrafts.{spot_is_before, has_line}
 
 abbrev pub all : {A : Type 0} → (A → Bool) → List A → Bool
 all test [] = true

@@ -12,6 +12,8 @@ pub mod Elaboration
 pub mod Lines
 pub mod Certificate
 pub mod CertificateText
+pub mod CertificateForms
 pub mod CertificateLines
+pub mod CertificateDrafts
 pub mod CertificateReading
 pub mod CertificateRules

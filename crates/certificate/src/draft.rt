@@ -2,7 +2,7 @@
 
 ghost use Rattle.std.specs.Prelude.{◌≡◌, ◌∷◌, map};
 ghost use Rattle.texts.specs.Lines as lines;
-ghost use Rattle.texts.specs.CertificateDrafts as growing;
+ghost use Rattle.texts.specs.CertificateDrafts as drafting;
 ghost use Rattle.certificate.specs.View as view;
 ghost use Rattle.certificate.specs.Items as items;
 ghost use Rattle.certificate.specs.Drafts as drafts;
@@ -37,7 +37,7 @@ pub struct Draft {
 }
 
 fn anchor_is_before(left: Anchor, right: Anchor) -> bool
-    ensures { result ≡ growing.anchor_is_before (view.anchor left) (view.anchor right) }
+    ensures { result ≡ drafting.anchor_is_before (view.anchor left) (view.anchor right) }
 {
     match (left, right) {
         (Anchor::KernelEntry, Anchor::KernelEntry) => false,
@@ -48,7 +48,7 @@ fn anchor_is_before(left: Anchor, right: Anchor) -> bool
 }
 
 fn head_is_before(left: Option<u64>, right: Option<u64>) -> bool
-    ensures { result ≡ growing.head_is_before left right }
+    ensures { result ≡ drafting.head_is_before left right }
 {
     match (left, right) {
         (None, None) => false,
@@ -59,7 +59,7 @@ fn head_is_before(left: Option<u64>, right: Option<u64>) -> bool
 }
 
 fn spot_is_before(left: Spot, right: Spot) -> bool
-    ensures { result ≡ growing.spot_is_before (view.spot left) (view.spot right) }
+    ensures { result ≡ drafting.spot_is_before (view.spot left) (view.spot right) }
 {
     anchor_is_before(left.anchor, right.anchor)
         || !anchor_is_before(right.anchor, left.anchor) && head_is_before(left.head, right.head)
@@ -67,7 +67,7 @@ fn spot_is_before(left: Spot, right: Spot) -> bool
 
 /// Whether a place may stand behind those before it.
 fn place_follows(places: &[Place], spot: Spot) -> bool
-    ensures { result ≡ lines.follows growing.place_is_behind (map view.place places.now) (view.spot spot) }
+    ensures { result ≡ lines.follows drafting.place_is_behind (map view.place places.now) (view.spot spot) }
 {
     match places.last() {
         None => true,
@@ -76,7 +76,7 @@ fn place_follows(places: &[Place], spot: Spot) -> bool
 }
 
 fn bound_follows(bounds: &[Bound], number: u64) -> bool
-    ensures { result ≡ lines.follows growing.bound_is_behind (map view.bound bounds.now) number }
+    ensures { result ≡ lines.follows drafting.bound_is_behind (map view.bound bounds.now) number }
 {
     match bounds.last() {
         None => true,
@@ -85,7 +85,7 @@ fn bound_follows(bounds: &[Bound], number: u64) -> bool
 }
 
 fn entry_follows(entries: &[Entry], obligation: u64) -> bool
-    ensures { result ≡ lines.follows growing.entry_is_behind (map view.entry entries.now) obligation }
+    ensures { result ≡ lines.follows drafting.entry_is_behind (map view.entry entries.now) obligation }
 {
     match entries.last() {
         None => true,
@@ -94,7 +94,7 @@ fn entry_follows(entries: &[Entry], obligation: u64) -> bool
 }
 
 fn place_fits(settled: &Parts, spot: Spot) -> bool
-    ensures { result ≡ growing.place_fits (drafts.parts settled.now) (view.spot spot) }
+    ensures { result ≡ drafting.place_fits (drafts.parts settled.now) (view.spot spot) }
 {
     if !(settled.bounds.is_empty() && settled.entries.is_empty()) {
         return false;
@@ -103,7 +103,7 @@ fn place_fits(settled: &Parts, spot: Spot) -> bool
 }
 
 fn bound_fits(settled: &Parts, bound: &Bound) -> bool
-    ensures { result ≡ growing.bound_fits (drafts.parts settled.now) (view.bound bound.now) }
+    ensures { result ≡ drafting.bound_fits (drafts.parts settled.now) (view.bound bound.now) }
 {
     if !settled.entries.is_empty() {
         return false;
@@ -112,20 +112,20 @@ fn bound_fits(settled: &Parts, bound: &Bound) -> bool
 }
 
 fn entry_fits(settled: &Parts, obligation: u64) -> bool
-    ensures { result ≡ growing.entry_fits (drafts.parts settled.now) obligation }
+    ensures { result ≡ drafting.entry_fits (drafts.parts settled.now) obligation }
 {
     entry_follows(settled.entries.as_slice(), obligation)
 }
 
 fn has_line(place: &Place) -> bool
-    ensures { result ≡ growing.has_line (view.place place.now) }
+    ensures { result ≡ drafting.has_line (view.place place.now) }
 {
     !(place.same.is_empty() && (place.facts.is_empty() && place.congruences.is_empty()))
 }
 
 /// What is open becomes settled.
 fn settle(settled: Parts, opened: Open) -> Result<Parts, LineError>
-    ensures { Means drafts.parts result (growing.settle (drafts.parts settled) (drafts.opened opened)) }
+    ensures { Means drafts.parts result (drafting.settle (drafts.parts settled) (drafts.opened opened)) }
 {
     let mut settled = settled;
     match opened {
@@ -147,7 +147,7 @@ fn settle(settled: Parts, opened: Open) -> Result<Parts, LineError>
 
 /// In a place `same` lines come first, then `fact` lines, then `mod` lines.
 fn add_to_place(place: Place, item: Item) -> Result<Place, LineError>
-    ensures { Means view.place result (growing.add_to_place (view.place place) (items.item item)) }
+    ensures { Means view.place result (drafting.add_to_place (view.place place) (items.item item)) }
 {
     let mut place = place;
     match item {
@@ -174,7 +174,7 @@ fn add_to_place(place: Place, item: Item) -> Result<Place, LineError>
 }
 
 fn add_step(entry: Entry, step: Step) -> Result<Entry, LineError>
-    ensures { Means view.entry result (growing.with_step (view.entry entry) (view.step step)) }
+    ensures { Means view.entry result (drafting.with_step (view.entry entry) (view.step step)) }
 {
     let mut entry = entry;
     entry.steps.push(step)?;
@@ -182,7 +182,7 @@ fn add_step(entry: Entry, step: Step) -> Result<Entry, LineError>
 }
 
 fn add_place(alloc: Global, draft: Draft, spot: Spot) -> Result<Draft, LineError>
-    ensures { Means drafts.draft result (growing.add_place (drafts.draft draft) (view.spot spot)) }
+    ensures { Means drafts.draft result (drafting.add_place (drafts.draft draft) (view.spot spot)) }
 {
     let settled = settle(draft.settled, draft.opened)?;
     if !place_fits(&settled, spot) {
@@ -201,7 +201,7 @@ fn add_place(alloc: Global, draft: Draft, spot: Spot) -> Result<Draft, LineError
 }
 
 fn add_bound(draft: Draft, bound: Bound) -> Result<Draft, LineError>
-    ensures { Means drafts.draft result (growing.add_bound (drafts.draft draft) (view.bound bound)) }
+    ensures { Means drafts.draft result (drafting.add_bound (drafts.draft draft) (view.bound bound)) }
 {
     let mut settled = settle(draft.settled, draft.opened)?;
     if !bound_fits(&settled, &bound) {
@@ -215,7 +215,7 @@ fn add_bound(draft: Draft, bound: Bound) -> Result<Draft, LineError>
 }
 
 fn add_entry(alloc: Global, draft: Draft, obligation: u64, claim: Claim) -> Result<Draft, LineError>
-    ensures { Means drafts.draft result (growing.add_entry (drafts.draft draft) obligation (view.claim claim)) }
+    ensures { Means drafts.draft result (drafting.add_entry (drafts.draft draft) obligation (view.claim claim)) }
 {
     let settled = settle(draft.settled, draft.opened)?;
     if !entry_fits(&settled, obligation) {
@@ -233,7 +233,7 @@ fn add_entry(alloc: Global, draft: Draft, obligation: u64, claim: Claim) -> Resu
 }
 
 fn add_to_entry(draft: Draft, step: Step) -> Result<Draft, LineError>
-    ensures { Means drafts.draft result (growing.add_to_entry (drafts.draft draft) (view.step step)) }
+    ensures { Means drafts.draft result (drafting.add_to_entry (drafts.draft draft) (view.step step)) }
 {
     let Draft { settled, opened } = draft;
     let Open::InEntry(entry) = opened else {
@@ -247,7 +247,7 @@ fn add_to_entry(draft: Draft, step: Step) -> Result<Draft, LineError>
 }
 
 fn add_end(draft: Draft) -> Result<Draft, LineError>
-    ensures { Means drafts.draft result (growing.add_end (drafts.draft draft)) }
+    ensures { Means drafts.draft result (drafting.add_end (drafts.draft draft)) }
 {
     let settled = settle(draft.settled, draft.opened)?;
     Ok(Draft {
@@ -257,7 +257,7 @@ fn add_end(draft: Draft) -> Result<Draft, LineError>
 }
 
 fn add_within(draft: Draft, item: Item) -> Result<Draft, LineError>
-    ensures { Means drafts.draft result (growing.add_within (drafts.draft draft) (items.item item)) }
+    ensures { Means drafts.draft result (drafting.add_within (drafts.draft draft) (items.item item)) }
 {
     let Draft { settled, opened } = draft;
     let Open::InPlace(place) = opened else {
@@ -273,7 +273,7 @@ fn add_within(draft: Draft, item: Item) -> Result<Draft, LineError>
 /// One more line.
 #[tactic(auto, unfolding(texts::specs::CertificateDrafts::add))]
 pub fn add(alloc: Global, draft: Draft, item: Item) -> Result<Draft, LineError>
-    ensures { Means drafts.draft result (growing.add (drafts.draft draft) (items.item item)) }
+    ensures { Means drafts.draft result (drafting.add (drafts.draft draft) (items.item item)) }
 {
     match item {
         Item::Place(spot) => add_place(alloc, draft, spot),

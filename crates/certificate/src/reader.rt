@@ -4,7 +4,7 @@ ghost use Rattle.std.specs.Prelude.{◌≡◌, ◌+◌, ◌≤◌, ◌^◌, true
 ghost use Rattle.std.specs.Option.{option_map};
 ghost use Rattle.texts.specs.Lines.{words};
 ghost use Rattle.texts.specs.CertificateLines as meaning;
-ghost use Rattle.texts.specs.CertificateDrafts as growing;
+ghost use Rattle.texts.specs.CertificateDrafts as drafting;
 ghost use Rattle.texts.specs.CertificateReading as reading;
 ghost use Rattle.texts.specs.CertificateRules.{is_certificate};
 ghost use Rattle.lines.specs.Left.{left};
@@ -78,7 +78,7 @@ fn finish(number: usize, draft: Draft, rest: &[u8]) -> Result<Certificate, CertE
 
 fn read_lines(alloc: Global, lines: Pieces<'_>) -> Result<Certificate, CertError>
     requires { length (left lines) ≤ 2 ^ 32 }
-    ensures { Says result (reading.read_lines 2 growing.nothing_yet (left lines.entry)) }
+    ensures { Says result (reading.read_lines 2 drafting.nothing_yet (left lines.entry)) }
 {
     let mut draft = Draft {
         settled: Parts {

@@ -1,4 +1,4 @@
--- What a line of a certificate says, by its words. A word list that fits nothing gives nothing.
+-- What a line of a certificate says, by its words. Words that fit nothing give nothing.
 use Rattle.std.specs.Prelude.{ℕ, List, [], ◌∷◌, ◌++◌, drop, Bool, cond, not, nat_le, Option, None, Some, Result, bytes_eq, codes}
 use Rattle.std.specs.Option.{option_map}
 use Rattle.std.specs.Int.Signed.{lt_z}

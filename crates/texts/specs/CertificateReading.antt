@@ -1,4 +1,4 @@
--- Reading a certificate, line by line: what has been read, what may follow it, and the first line that may not.
+-- Reading a certificate, line by line, to its end or its first fault.
 use Rattle.std.specs.Prelude.{ℕ, suc, ℤ, pos, List, [], ◌∷◌, length, Bool, true, false, cond, nat_lt, ◌&&◌, Option, None, Some, Result, Ok, Err, bytes_eq, codes}
 use Rattle.std.specs.Ordering.{int_eq}
 use Rattle.texts.specs.Lines.{is_empty, two, line_feed, pieces, words, integer_of}

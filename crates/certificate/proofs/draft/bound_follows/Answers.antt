@@ -1,5 +1,5 @@
 use Rattle.std.proofs.Common.{◌≡◌, ◌+◌, ◌-◌, length, sym, arith}
-use Rattle.texts.specs.CertificateDrafts as growing
+use Rattle.texts.specs.CertificateDrafts as drafting
 use Rattle.certificate.specs.View as view
 use Rattle.certificate.proofs.Last.{last_follows}
 use Rattle.certificate.proofs.draft.bound_follows.Goals as goal
@@ -8,4 +8,4 @@ pub returns-in-Some : goal.returns-in-Some
 returns-in-Some c =
     let some = c.in-Some.ensures.item in
     let count : (length c.args.bounds.now - 1) + 1 ≡ length c.args.bounds.now = omega (arith, some.3.0) in
-    sym (last_follows growing.bound_is_behind view.bound c.args.bounds.now (length c.args.bounds.now - 1) c.in-Some.last.now c.args.number count some.1)
+    sym (last_follows drafting.bound_is_behind view.bound c.args.bounds.now (length c.args.bounds.now - 1) c.in-Some.last.now c.args.number count some.1)

@@ -4,3 +4,12 @@ pub mod Reading
 pub mod Order
 pub mod Unique
 pub mod Sites
+pub mod Decimals
+pub mod Cuts
+pub mod FormsRead
+pub mod ItemsRead
+pub mod DraftsRead
+pub mod CertificateRead
+pub mod FormsWritten
+pub mod ItemsWritten
+pub mod CertificateWritten

@@ -14,3 +14,11 @@ pub mod Grammar
 pub mod ParseFaults
 pub mod KernelGrammar
 pub mod Limits
+pub mod Lines
+pub mod Certificate
+pub mod CertificateText
+pub mod CertificateForms
+pub mod CertificateLines
+pub mod CertificateDrafts
+pub mod CertificateReading
+pub mod CertificateRules

@@ -2,4 +2,5 @@
 //! with an empty body.
 #![tactic(auto)]
 
+pub mod certificates;
 pub mod laws;

@@ -1,0 +1,4 @@
+pub mod Texts
+pub mod Ascii
+pub mod Steps
+pub mod Last

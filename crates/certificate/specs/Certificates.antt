@@ -1,0 +1,21 @@
+-- The code's certificates as those of the definitions, and its answers.
+use Rattle.std.specs.Prelude.{◌≡◌, Result, Ok, Err}
+use Rattle.texts.specs.Certificate as certificates
+use Rattle.texts.specs.CertificateReading as reading
+use Rattle.certificate.specs.declared.certificate.Certificate.{Certificate}
+use Rattle.certificate.specs.declared.error.CertError.{CertError}
+use Rattle.certificate.specs.declared.error.CertError.TheVariants as errors
+use Rattle.certificate.specs.Answers.{fault}
+use Rattle.certificate.specs.Drafts as drafts
+
+abbrev pub certificate : Certificate → certificates.Certificate
+certificate c = drafts.parts c.parts
+
+-- an error is the definition's, unless memory was refused
+abbrev pub Refuses : CertError → reading.Read → Type 0
+Refuses (errors.Refused f n) answer = answer ≡ Err (fault f, n)
+Refuses errors.Memory answer = Unit {0}
+
+abbrev pub Says : Result Certificate CertError → reading.Read → Type 0
+Says (Ok c) answer = answer ≡ Ok (certificate c)
+Says (Err e) answer = Refuses e answer

@@ -1,0 +1,5 @@
+pub mod View
+pub mod Answers
+pub mod Items
+pub mod Drafts
+pub mod Certificates

@@ -1,0 +1,19 @@
+//! Certificates and their text.
+#![tactic(auto)]
+
+mod certificate;
+mod draft;
+pub mod error;
+mod item;
+mod name;
+mod reader;
+pub mod tree;
+mod word;
+mod writer;
+
+pub use certificate::Certificate;
+pub use reader::{LIMIT, read};
+pub use writer::write;
+
+#[cfg(test)]
+mod tests;

@@ -1,0 +1,140 @@
+//! A certificate of its text.
+
+ghost use Rattle.std.specs.Prelude.{◌≡◌, ◌+◌, ◌≤◌, ◌^◌, true, length, map};
+ghost use Rattle.std.specs.Option.{option_map};
+ghost use Rattle.texts.specs.Lines.{words};
+ghost use Rattle.texts.specs.CertificateLines as meaning;
+ghost use Rattle.texts.specs.CertificateDrafts as drafting;
+ghost use Rattle.texts.specs.CertificateReading as reading;
+ghost use Rattle.texts.specs.CertificateRules.{is_certificate};
+ghost use Rattle.lines.specs.Left.{left};
+ghost use Rattle.certificate.specs.Answers.{Means, fault};
+ghost use Rattle.certificate.specs.Drafts as drafts;
+ghost use Rattle.certificate.specs.Certificates.{Says};
+
+use crate::certificate::Certificate;
+use crate::draft::{Draft, Open, Parts, add};
+use crate::error::{CertError, CertFault, LineError};
+use crate::item::read_item;
+use crate::word::{integer, is};
+use lines::pieces::Pieces;
+use std::alloc::Global;
+
+/// The longest text that is read, in bytes.
+pub const LIMIT: usize = 16_777_216;
+
+/// What `certificate M` has for M.
+fn version(line: &[u8]) -> Option<i64>
+    ensures { result ≡ reading.version_of (words line.now) }
+{
+    let Some((keyword, version)) = Pieces::of(line, b' ').two() else {
+        return None;
+    };
+    if !is(keyword, "certificate") {
+        return None;
+    }
+    integer(version)
+}
+
+/// What is wrong with the first line.
+fn head_fault(line: &[u8]) -> Option<CertFault>
+    ensures { option_map fault result ≡ reading.head_fault (words line.now) }
+{
+    match version(line) {
+        None => Some(CertFault::BadLine),
+        Some(1) => None,
+        Some(_) => Some(CertFault::OtherVersion),
+    }
+}
+
+/// The draft with one more line.
+fn add_line(alloc: Global, draft: Draft, line: &[u8]) -> Result<Draft, LineError>
+    ensures { Means drafts.draft result (reading.add_line (drafts.draft draft) line.now) }
+{
+    let item = read_item(alloc, Pieces::of(line, b' '))?;
+    add(alloc, draft, item)
+}
+
+/// The certificate that is read, if nothing stands behind its last line.
+fn finish(number: usize, draft: Draft, rest: &[u8]) -> Result<Certificate, CertError>
+    requires { is_certificate (drafts.parts draft.settled) ≡ true }
+    ensures { Says result (reading.finish number (drafts.draft draft) rest.now) }
+{
+    let Draft { settled, opened } = draft;
+    let Open::Ended = opened else {
+        return Err(CertError::Refused {
+            fault: CertFault::BadLine,
+            line: number,
+        });
+    };
+    if !rest.is_empty() {
+        return Err(CertError::Refused {
+            fault: CertFault::BadLine,
+            line: number,
+        });
+    }
+    Ok(Certificate::of(settled))
+}
+
+fn read_lines(alloc: Global, lines: Pieces<'_>) -> Result<Certificate, CertError>
+    requires { length (left lines) ≤ 2 ^ 32 }
+    ensures { Says result (reading.read_lines 2 drafting.nothing_yet (left lines.entry)) }
+{
+    let mut draft = Draft {
+        settled: Parts {
+            places: Vec::new(alloc),
+            bounds: Vec::new(alloc),
+            entries: Vec::new(alloc),
+        },
+        opened: Open::Nothing,
+    };
+    let mut number = 2;
+    let mut rest = lines;
+    while let Some((line, others)) = rest.next() {
+        if others.is_over() {
+            return finish(number, draft, line);
+        }
+        match add_line(alloc, draft, line) {
+            Ok(next) => draft = next,
+            Err(LineError::Bad) => return Err(CertError::Refused {
+                fault: CertFault::BadLine,
+                line: number,
+            }),
+            Err(LineError::Memory) => return Err(CertError::Memory),
+        }
+        number += 1;
+        rest = others;
+    }
+    Err(CertError::Refused {
+        fault: CertFault::BadLine,
+        line: number,
+    })
+}
+
+/// The certificate of a text, or its first fault. The text is gone through once.
+pub fn read(alloc: Global, text: &[u8]) -> Result<Certificate, CertError>
+    ensures { Says result (reading.certificate_of text.now) }
+{
+    if text.len() > LIMIT {
+        return Err(CertError::Refused {
+            fault: CertFault::BadLine,
+            line: 1,
+        });
+    }
+    let Some((first, others)) = Pieces::of(text, b'\n').next() else {
+        return Err(CertError::Refused {
+            fault: CertFault::BadLine,
+            line: 1,
+        });
+    };
+    if others.is_over() {
+        return Err(CertError::Refused {
+            fault: CertFault::BadLine,
+            line: 1,
+        });
+    }
+    if let Some(fault) = head_fault(first) {
+        return Err(CertError::Refused { fault, line: 1 });
+    }
+    read_lines(alloc, others)
+}

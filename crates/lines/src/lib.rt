@@ -1,0 +1,7 @@
+//! Texts of lines: a text is cut into lines, a line into words, and a word is read as a number.
+#![tactic(auto)]
+
+pub mod number;
+pub mod pieces;
+#[cfg(test)]
+mod tests;

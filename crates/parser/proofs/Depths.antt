@@ -1,5 +1,5 @@
 -- A node below 32 levels is the first such node.
-use Rattle.std.proofs.Common.{◌≡◌, ℕ, ◌+◌, nat_lt, true, cond, Option, None, Some, ap}
+use Rattle.std.proofs.Common.{◌≡◌, ℕ, nat_lt, true, cond, Option, Some, ap}
 use Rattle.semantics.specs.Core.{Site}
 use Rattle.texts.specs.Surface.{Expression, Number, Name, Element, Call, Prefix, Cast, Infix, Conditional, Statement, Declare, DeclareArray, Assign, If, While, For, Barrier, Block, site_of, begins_at}
 use Rattle.texts.specs.Limits.{past, deep_expression, deep_statement}

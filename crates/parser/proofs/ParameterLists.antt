@@ -1,5 +1,5 @@
 -- Rows of parameters, one after another.
-use Rattle.std.proofs.Common.{◌≡◌, ℕ, zero, suc, ◌+◌, ◌-◌, ◌<◌, ◌≤◌, List, [], ◌∷◌, ◌++◌, true, false, cond, refl, ap, sym, ◌∙◌, arith}
+use Rattle.std.proofs.Common.{◌≡◌, ℕ, suc, ◌+◌, ◌-◌, ◌<◌, ◌≤◌, List, [], ◌∷◌, ◌++◌, true, false, cond, refl, ap, ◌∙◌, arith}
 use Rattle.texts.specs.Lexemes.{Lexeme}
 use Rattle.texts.specs.ParseFaults.{Expected, TooMany}
 use Rattle.texts.specs.Surface.{Parameter}

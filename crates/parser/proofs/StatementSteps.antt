@@ -4,7 +4,7 @@ use Rattle.texts.specs.Lexemes.{Lexeme}
 use Rattle.texts.specs.ParseFaults.{TooDeep}
 use Rattle.parser.specs.Reader.{Looks, Refused, run}
 use Rattle.parser.specs.Expressions.{kind_at}
-use Rattle.parser.specs.Statements.{counted, statement_by, body_by, items, item_by, levels, statement_reader, body_reader, block_reader, item_reader}
+use Rattle.parser.specs.Statements.{counted, statement_by, body_by, items, item_by, statement_reader, body_reader, block_reader, item_reader}
 use Rattle.parser.proofs.Steps.{pred, stops-carry, bracket-less}
 
 pub statement-none : (room n : ℕ) (ts : List Lexeme) → run (statement_reader 0 room n) ts ≡ Refused TooDeep ts

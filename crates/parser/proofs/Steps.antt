@@ -1,5 +1,5 @@
 -- One step of each reader.
-use Rattle.std.proofs.Common.{◌≡◌, ℕ, zero, suc, ◌-◌, List, true, false, cond, refl, ap, sym, ◌∙◌, None, Some, arith}
+use Rattle.std.proofs.Common.{◌≡◌, ℕ, zero, suc, ◌-◌, List, true, false, cond, refl, ap, ◌∙◌, None, Some, arith}
 use Rattle.texts.specs.Lexemes.{Lexeme}
 use Rattle.texts.specs.ParseFaults.{Expected, TooDeep}
 use Rattle.semantics.specs.Core.{Site}

@@ -1,6 +1,6 @@
 -- How statements are read. `depth` is how many levels of the tree are left, `room` how many brackets may be opened, `n` the number of
 -- the next statement.
-use Rattle.std.specs.Prelude.{ℕ, zero, suc, ◌+◌, List, [], ◌∷◌, Bool, true, false, cond, nat_lt, nat_le, ◌&&◌, Option, Some, None, bytes_eq, codes}
+use Rattle.std.specs.Prelude.{ℕ, zero, suc, ◌+◌, List, Bool, true, false, cond, nat_lt, nat_le, ◌&&◌, Option, Some, None, bytes_eq, codes}
 use Rattle.semantics.specs.Word.{Kind}
 use Rattle.semantics.specs.Core.{Site}
 use Rattle.texts.specs.Signs as signs

@@ -1,7 +1,6 @@
 -- What the code reads and answers, as the definitions have it.
 use Rattle.std.specs.Prelude.{◌≡◌, ℕ, List, map, Result, Ok, Err, Vec, slice_index}
 use denote.Ref.{Bor}
-use Rattle.semantics.specs.Core as core
 use Rattle.texts.specs.Lexemes.{Lexeme}
 use Rattle.texts.specs.ParseFaults as rules
 use Rattle.texts.specs.Surface as surface

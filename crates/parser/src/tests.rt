@@ -93,7 +93,7 @@ fn binds_by_rank(rt: HostRuntime) -> Result<(), Fail> {
     let Ok(kernel) = kernel_of(rt.alloc(), "", "x = 1u + 2u * 3u;\n}")? else {
         return Err(Fail::new(format_args!("another answer is due")));
     };
-    let Stmt::Assign(assigned) = &kernel.body[0] else {
+    let Some(Stmt::Assign(assigned)) = kernel.body.first() else {
         return Err(Fail::new(format_args!("another answer is due")));
     };
     let Expr::Infix { site, sign, .. } = &assigned.value else {
@@ -107,27 +107,24 @@ fn binds_by_rank(rt: HostRuntime) -> Result<(), Fail> {
 
 #[test]
 fn refuses_past_limits(rt: HostRuntime) -> Result<(), Fail> {
-    let alloc = rt.alloc();
-    for (front, part, back, most, past) in [
-        ("x = ", "~", "1;}", 30, "11 3:36"),
-        ("x = 1", " + 1", ";}", 30, "11 3:5"),
-        ("x = ", "(", "", 63, "11 3:68"),
-        ("", "a[0] = 1u;\n", "}", 512, "12 515:1"),
-        ("", "uint x = 0u;\n", "}", 64, "12 67:6"),
+    for (front, part, back, count, want) in [
+        ("x = ", "~", "1;}", 30, "1"),
+        ("x = ", "~", "1;}", 31, "11 3:36"),
+        ("x = 1", " + 1", ";}", 30, "1"),
+        ("x = 1", " + 1", ";}", 31, "11 3:5"),
+        ("x = ", "(", "1;", 63, "10 3:69"),
+        ("x = ", "(", "1;", 64, "11 3:68"),
+        ("", "a[0] = 1u;\n", "}", 512, "512"),
+        ("", "a[0] = 1u;\n", "}", 513, "12 515:1"),
+        ("", "uint x = 0u;\n", "}", 64, "64"),
+        ("", "uint x = 0u;\n", "}", 65, "12 67:6"),
     ] {
-        let closing = times(alloc, ")", most)?;
-        let inside = times(alloc, part, most)?;
-        let fits = if part == "(" {
-            format!(in alloc; "{front}{inside}1{closing};}}")?
-        } else {
-            format!(in alloc; "{front}{inside}{back}")?
-        };
-        assert!(rt; kernel_of(alloc, "", fits.as_str())?.is_ok(), "at {part}");
-        let long = format!(in alloc; "{front}{part}{inside}{back}")?;
+        let inside = times(rt.alloc(), part, count)?;
+        let body = format!(in rt.alloc(); "{front}{inside}{back}")?;
         assert_eq!(rt;
-            shown(alloc, "", long.as_str())?.as_str(),
-            past,
-            "at {part}"
+            shown(rt.alloc(), "", body.as_str())?.as_str(),
+            want,
+            "{count} of {part}"
         );
     }
     Ok(())

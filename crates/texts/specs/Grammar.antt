@@ -1,6 +1,6 @@
 -- The grammar of expressions: which lexemes stand for which tree (C99 6.5, for this profile). Each relation speaks of lexemes of which a
 -- tree stands at the front, and of the `rest` after it; `room` is how many brackets may be opened one inside another.
-use Rattle.std.specs.Prelude.{◌≡◌, ℕ, zero, suc, List, [], ◌∷◌, Some}
+use Rattle.std.specs.Prelude.{◌≡◌, ℕ, suc, List, ◌∷◌, Some}
 use Rattle.semantics.specs.Word.{Kind}
 use Rattle.semantics.specs.Core.{Site}
 use Rattle.texts.specs.Numbers.{Literal}

@@ -84,7 +84,7 @@ mutual
     array : {room n : ℕ} {rest : List Lexeme} (w : Reserved) (kind : Kind) (x : List ℕ) (length : Literal) (at type there opening count closing semicolon : Site) →
         kind_of w ≡ Some kind →
         IsItem (suc room) n (word words.Local at ∷ word w type ∷ name x there ∷ mark LeftBracket opening ∷ number length count ∷ mark RightBracket closing ∷ mark Semicolon semicolon ∷ rest)
-            (DeclareArray n at kind there x length.value) (n + 1) rest
+        (DeclareArray n at kind there x length.value) (n + 1) rest
 
 pub data IsParameter : List Lexeme → Parameter → (rest : List Lexeme) → Type 0 where
   buffer : {rest : List Lexeme} (w : Reserved) (kind : Kind) (x : List ℕ) (at type star there : Site) → kind_of w ≡ Some kind →
@@ -107,7 +107,7 @@ pub data IsKernel : (room : ℕ) → List Lexeme → Kernel → Type 0 where
       (at1 at2 at3 at4 at5 at6 at7 at8 at9 at10 at11 at12 at13 at14 at15 at16 at17 at18 at19 : Site) →
       IsParameters ts ps (mark LeftBrace at18 ∷ ts1) → IsItems (suc (suc room)) 1 ts1 body next (record { kind = End; site = at19 } ∷ []) →
       IsKernel (suc (suc (suc room)))
-          (word words.Kernel at1 ∷ word words.Attribute at2 ∷ mark LeftParenthesis at3 ∷ mark LeftParenthesis at4 ∷ name (codes "reqd_work_group_size") at5
-          ∷ mark LeftParenthesis at6 ∷ number x at7 ∷ mark Comma at8 ∷ number y at9 ∷ mark Comma at10 ∷ number z at11
-          ∷ mark RightParenthesis at12 ∷ mark RightParenthesis at13 ∷ mark RightParenthesis at14 ∷ word words.Void at15 ∷ name f at16 ∷ mark LeftParenthesis at17 ∷ ts)
-          (record { name = f; sizes = record { x = x.value; y = y.value; z = z.value }; parameters = ps; body = body })
+      (word words.Kernel at1 ∷ word words.Attribute at2 ∷ mark LeftParenthesis at3 ∷ mark LeftParenthesis at4 ∷ name (codes "reqd_work_group_size") at5
+      ∷ mark LeftParenthesis at6 ∷ number x at7 ∷ mark Comma at8 ∷ number y at9 ∷ mark Comma at10 ∷ number z at11
+      ∷ mark RightParenthesis at12 ∷ mark RightParenthesis at13 ∷ mark RightParenthesis at14 ∷ word words.Void at15 ∷ name f at16 ∷ mark LeftParenthesis at17 ∷ ts)
+      (record { name = f; sizes = record { x = x.value; y = y.value; z = z.value }; parameters = ps; body = body })

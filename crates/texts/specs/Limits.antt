@@ -2,7 +2,7 @@
 -- private variables together, 16 local arrays. (512 statements, an array's length and the local sizes are limited as they are read.)
 use Rattle.std.specs.Prelude.{ℕ, ◌+◌, List, [], ◌∷◌, Option, Some, None, Result, Ok, Err, cond, nat_lt}
 use Rattle.semantics.specs.Core.{Site}
-use Rattle.texts.specs.Surface.{Expression, Number, Name, Element, Call, Prefix, Cast, Infix, Conditional, Expressions, nothing, also, Declaration, Assignment, First, FirstDeclares, FirstAssigns, Statement, Declare, DeclareArray, Assign, If, While, For, Barrier, Block, Statements, none, one, Parameter, Buffer, Value, Kernel, site_of, begins_at}
+use Rattle.texts.specs.Surface.{Expression, Number, Name, Element, Call, Prefix, Cast, Infix, Conditional, Expressions, nothing, also, Declaration, Assignment, First, FirstDeclares, FirstAssigns, Statement, Declare, DeclareArray, Assign, If, While, For, Barrier, Block, Statements, none, one, Parameter, Buffer, Value, Kernel}
 use Rattle.texts.specs.Elaboration.{either}
 use Rattle.texts.specs.ParseFaults.{ParseFault, TooDeep, TooMany}
 

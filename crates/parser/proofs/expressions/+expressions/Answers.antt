@@ -6,8 +6,8 @@ use Rattle.syntax.specs.View.{site, expression, expressions, infix_sign}
 use Rattle.syntax.proofs.Rows.{seen_call}
 use Rattle.parser.specs.Reader.{front, behind, run, Took, carry}
 use Rattle.parser.specs.View.{lexemes}
-use Rattle.parser.specs.Expressions.{is_comma, is_right_parenthesis, expects, infix_at, ranked, chain, operand_reader, expression_reader, more_arguments, arguments}
-use Rattle.parser.proofs.Lists.{in_front, with_first, begin, next-one, closes, too-many, another}
+use Rattle.parser.specs.Expressions.{is_comma, is_right_parenthesis, expects, infix_at, ranked, chain, operand_reader, expression_reader, more_arguments}
+use Rattle.parser.proofs.Lists.{in_front, begin, next-one, closes, too-many, another}
 use Rattle.parser.proofs.Steps.{stops-carry, chain-goes, longer-none, longer-more, name-call, parentheses-inner}
 use Rattle.parser.proofs.expressions.+expressions.Goals as goal
 

@@ -1,4 +1,4 @@
-use Rattle.std.proofs.Common.{◌≡◌, ℕ, ◌+◌, ◌-◌, ◌*◌}
+use Rattle.std.proofs.Common.{◌≡◌, ◌+◌, ◌-◌, ◌*◌}
 use Rattle.syntax.specs.View.{expressions}
 use Rattle.parser.specs.Reader.{run}
 use Rattle.parser.specs.View.{lexemes}

@@ -149,10 +149,10 @@ statement_by body block room depth n at (token.Mark signs.LeftBrace) = bracket r
 statement_by body block room depth n at (token.Word words.If) = Passes (Then (tested room depth) (λ e. Then (body room (n + 1)) (λ a. Then (else_reader body room a.1) (λ b. Gives (If n at e a.0 b.0, b.1)))))
 statement_by body block room depth n at (token.Word words.While) = Passes (Then (tested room depth) (λ e. Then (body room (n + 1)) (λ b. Gives (While n at e b.0, b.1))))
 statement_by body block room depth n at (token.Word words.For) =
-    Passes (Then (head_reader room depth (n + 1)) (λ h. Then (body room (n + 3)) (λ b. Gives (For n at h.first h.test h.update b.0, b.1))))
+    cond (nat_lt 510 n) (Fails TooMany) (Passes (Then (head_reader room depth (n + 1)) (λ h. Then (body room (n + 3)) (λ b. Gives (For n at h.first h.test h.update b.0, b.1)))))
 statement_by body block room depth n at kind = Fails Expected
 
--- a statement more than 512 is one too many
+-- a statement more than 512 is one too many; a `for` has two more statements in its head
 abbrev pub counted : {A : Type 0} → (n : ℕ) → Reader A → Reader A
 counted n reader = cond (nat_lt 512 n) (Fails TooMany) reader
 

@@ -122,6 +122,9 @@ fn below<'a>(
             Ok(((tree, next), rest))
         }
         TokenKind::Reserved(Reserved::For) => {
+            if number > 510 {
+                return Err(Stop::Refused(ParseFault::TooMany, tokens));
+            }
             let (head, rest) = head_of_for(alloc, room, depth, number + 1, behind(tokens))?;
             let ((body, next), rest) = body(alloc, room, depth, number + 3, rest)?;
             let tree = Stmt::For {

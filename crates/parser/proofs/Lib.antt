@@ -3,3 +3,4 @@ pub mod Steps
 pub mod StatementSteps
 pub mod ParameterLists
 pub mod Depths
+pub mod Locality

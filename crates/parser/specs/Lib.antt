@@ -6,3 +6,4 @@ pub mod Heads
 pub mod Kernels
 pub mod Counted
 pub mod Parsed
+pub mod Fronts

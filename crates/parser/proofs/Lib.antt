@@ -4,3 +4,6 @@ pub mod StatementSteps
 pub mod ParameterLists
 pub mod Depths
 pub mod Locality
+pub mod Inversion
+pub mod Marks
+pub mod Sound

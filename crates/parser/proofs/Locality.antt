@@ -5,7 +5,7 @@ use Rattle.texts.specs.Lexemes.{Lexeme}
 use Rattle.parser.specs.Reader.{Reader, Gives, Fails, Looks, Passes, Then, Outcome, Took, Refused, carry, front, behind, run}
 use Rattle.texts.specs.ParseFaults.{ParseFault}
 use Rattle.parser.specs.Kernels.{kernel_reader}
-use Rattle.parser.specs.Fronts.{Before, before, rest_of, leaving, Rests}
+use Rattle.parser.specs.Fronts.{Before, before, rest_of, Rests}
 
 -- where nothing is left, nothing comes
 none-comes : {A : Type 0} (reader : Reader A) → rest_of (run reader []) ≡ []

@@ -3,18 +3,13 @@
 use Rattle.std.specs.Prelude.{ℕ, zero, suc, List, Bool, true, false, cond, nat_eq, Option, Some, None}
 use Rattle.semantics.specs.Word.{Kind}
 use Rattle.semantics.specs.Core.{Site}
-use Rattle.texts.specs.Signs.{Sign, LeftParenthesis, RightParenthesis, LeftBracket, RightBracket, Comma, Question, Colon}
+use Rattle.texts.specs.Signs.{LeftParenthesis, RightParenthesis, LeftBracket, RightBracket, Comma, Question, Colon}
 use Rattle.texts.specs.Tokens as token
 use Rattle.texts.specs.Tokens.{TokenKind}
 use Rattle.texts.specs.Lexemes.{infix_of, prefix_of, kind_of}
 use Rattle.texts.specs.ParseFaults.{Expected, TooDeep, TooMany}
 use Rattle.texts.specs.Surface.{Expression, InfixSign, Number, Name, Element, Call, Prefix, Cast, Infix, Conditional, Expressions, nothing, also, PrefixSign}
 use Rattle.parser.specs.Reader.{Reader, Gives, Fails, Looks, Passes, Then}
-
--- the sign of a lexeme
-abbrev pub sign_of : TokenKind → Option Sign
-sign_of (token.Mark s) = Some s
-sign_of kind = None
 
 -- signs that stand by themselves
 abbrev pub is_left_parenthesis : TokenKind → Bool

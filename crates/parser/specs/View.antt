@@ -1,7 +1,7 @@
 -- What the code reads and answers, as the definitions have it.
 use Rattle.std.specs.Prelude.{◌≡◌, ℕ, List, map, Result, Ok, Err, Vec, slice_index}
 use denote.Ref.{Bor}
-use Rattle.texts.specs.Lexemes.{Lexeme}
+use Rattle.texts.specs.Lexemes.{Lexeme, lexeme}
 use Rattle.texts.specs.ParseFaults as rules
 use Rattle.texts.specs.Surface as surface
 use Rattle.std.specs.declared.alloc.Global.{Global}
@@ -11,7 +11,7 @@ use Rattle.syntax.specs.declared.tree.Stmt.{Stmt}
 use Rattle.syntax.specs.declared.tree.Parameter.{Parameter}
 use Rattle.semantics.specs.Launch.{Three}
 use Rattle.syntax.specs.declared.tree.InfixSign.{InfixSign}
-use Rattle.lexer.specs.Seen.{kind}
+use Rattle.lexer.specs.Seen.{token}
 use Rattle.lexer.specs.declared.Token.{Token}
 use Rattle.parser.specs.Reader.{Outcome, Took, Refused}
 use Rattle.parser.specs.declared.error.ParseFault.{ParseFault}
@@ -19,11 +19,9 @@ use Rattle.parser.specs.declared.error.ParseFault.TheVariants as faults
 use Rattle.parser.specs.declared.error.Stop.{Stop}
 use Rattle.parser.specs.declared.error.Stop.TheVariants as stops
 
-abbrev pub lexeme : Token → Lexeme
-lexeme t = record { kind = kind t.kind; site = record { line = t.line; column = t.column } }
-
+-- what the grammar reads of the lexer's tokens
 abbrev pub lexemes : List Token → List Lexeme
-lexemes tokens = map lexeme tokens
+lexemes tokens = map (λ t. lexeme (token t)) tokens
 
 abbrev pub fault : ParseFault → rules.ParseFault
 fault faults.Expected = rules.Expected

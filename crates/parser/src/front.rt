@@ -8,7 +8,7 @@ ghost use Rattle.texts.specs.Lexemes as lexemes_of;
 ghost use Rattle.syntax.specs.View.{site, infix_sign, prefix_sign, assign_sign};
 ghost use Rattle.words.specs.View.{kind as number_kind};
 ghost use Rattle.parser.specs.Reader.{front, behind, run, Passes, Gives, Fails};
-ghost use Rattle.parser.specs.View.{lexeme, lexemes, Reads, ranked_sign, text_seen};
+ghost use Rattle.parser.specs.View.{lexemes, Reads, ranked_sign, text_seen};
 ghost use Rattle.parser.specs.Expressions as reads;
 ghost use Rattle.parser.specs.Statements as statements;
 ghost use Rattle.parser.specs.Kernels as kernels;

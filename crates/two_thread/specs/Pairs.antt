@@ -1,0 +1,93 @@
+-- What is to be shown of two items: that no two of their accesses, one of them a store, are of one element.
+use Rattle.std.specs.Prelude.{ℕ, suc, ◌-◌, ℤ, pos, List, [], ◌∷◌, ◌++◌, map, length, Bool, true, false, ◌&&◌, ◌||◌, cond, nat_eq, nat_lt, int_lt}
+use Rattle.semantics.specs.Launch.{Three, Kernel}
+use Rattle.semantics.specs.Setup.{along}
+use Rattle.semantics.specs.Conditions.{Conditions}
+use Rattle.domain.specs.declared.Domain.{Ghosts}
+use Rattle.walk.specs.Symbols.{Which, First, Second, Symbol, Local, Group, Fact, constant, once, minus, equals}
+use Rattle.walk.specs.Elements.{Known, element_of, lacks_zero}
+use Rattle.walk.specs.Launching.{each_dimension, launch_facts, item_facts, known, count_range}
+use Rattle.walk.specs.Trees.{Access, Obligation, accesses}
+use Rattle.walk.specs.Walks.{setting, tree}
+
+-- items of one group, which differ in a local id, or of two groups, which differ in a group id
+pub data Scope : Type 0 where
+  Within : Scope
+  Across : Scope
+
+-- in a dimension, the first item's id is below the second one's, or above it
+pub data Order : Type 0 where
+  Below : Order
+  Above : Order
+
+pub record Pair (E : Type 0) : Type 0 where
+  pub first : Access E
+  pub second : Access E
+  pub scope : Scope
+  pub dimension : ℕ
+  pub order : Order
+
+abbrev pub id : Scope → Which → ℕ → Symbol
+id Within w d = Local w d
+id Across w d = Group w d
+
+abbrev pub less : Fact → Fact → Fact
+less f g = minus (minus g f) (constant (pos 1))
+
+abbrev pub order_fact : Order → Fact → Fact → Fact
+order_fact Below f g = less f g
+order_fact Above f g = less g f
+
+abbrev pub same_group : ℕ → List Fact
+same_group d = equals (once (Group First d)) (once (Group Second d))
+
+abbrev pub scope_facts : Scope → List Fact
+scope_facts Within = each_dimension same_group
+scope_facts Across = []
+
+abbrev pub pair_facts : {E : Type 0} → (launch : List Fact) → Pair E → List Fact
+pair_facts launch p =
+    launch ++ (p.first.facts ++ (p.second.facts ++ (scope_facts p.scope
+    ++ (order_fact p.order (once (id p.scope First p.dimension)) (once (id p.scope Second p.dimension)) ∷ equals p.first.index p.second.index))))
+
+-- the domain alone tells that the indexes differ
+abbrev pub is_apart : {E : Type 0} → Ghosts E → Known E → Pair E → Bool
+is_apart g k p = lacks_zero g (element_of g (record { known = k; first = p.first.elements; second = p.second.elements }) (minus p.first.index p.second.index))
+
+abbrev pub pair_obligation : {E : Type 0} → Ghosts E → Known E → (launch : List Fact) → Pair E → Obligation
+pair_obligation g k launch p = record { needed = true; settled = is_apart g k p; facts = pair_facts launch p }
+
+-- dimensions in which two items can differ
+abbrev pub differs : Three ℕ → Conditions → Scope → ℕ → Bool
+differs sizes c Within d = nat_lt 1 (along sizes d 1)
+differs sizes c Across d = int_lt (pos 1) (count_range c d).high
+
+abbrev pub two_orders : {E : Type 0} → Bool → Access E → Access E → Scope → ℕ → List (Pair E)
+two_orders true u v s d = record { first = u; second = v; scope = s; dimension = d; order = Below } ∷ record { first = u; second = v; scope = s; dimension = d; order = Above } ∷ []
+two_orders false u v s d = []
+
+abbrev pub all_orders : {E : Type 0} → Three ℕ → Conditions → Scope → Access E → Access E → List (Pair E)
+all_orders sizes c s u v = each_dimension (λ d. two_orders (differs sizes c s d) u v s d)
+
+-- both of this buffer, and at least one a store
+abbrev pub conflict : {E : Type 0} → ℕ → Access E → Access E → Bool
+conflict b u v = nat_eq u.buffer b && (nat_eq v.buffer b && (u.is_store || v.is_store))
+
+abbrev pub where_so : {A : Type 0} → Bool → List A → List A
+where_so true xs = xs
+where_so false xs = []
+
+abbrev pub with_each : {E : Type 0} → Three ℕ → Conditions → Scope → ℕ → Access E → List (Access E) → List (Pair E)
+with_each sizes c s b u [] = []
+with_each sizes c s b u (v ∷ vs) = where_so (conflict b u v) (all_orders sizes c s u v) ++ with_each sizes c s b u vs
+
+-- each access of the first item with the same one of the second item and those behind it
+abbrev pub pairs_in : {E : Type 0} → Three ℕ → Conditions → ℕ → (first second : List (Access E)) → Scope → List (Pair E)
+pairs_in sizes c b [] vs s = []
+pairs_in sizes c b (u ∷ us) [] s = []
+pairs_in sizes c b (u ∷ us) (v ∷ vs) s = with_each sizes c s b u (v ∷ vs) ++ pairs_in sizes c b us vs s
+
+-- buffer by buffer, from the number b on
+abbrev pub pairs_from : {E A : Type 0} → Three ℕ → Conditions → (b : ℕ) (buffers : List A) → (first second : List (Access E)) → List (Pair E)
+pairs_from sizes c b [] us vs = []
+pairs_from sizes c b (k ∷ ks) us vs = pairs_in sizes c b us vs Within ++ (pairs_in sizes c b us vs Across ++ pairs_from sizes c (suc b) ks us vs)

@@ -1,0 +1,28 @@
+-- All that is to be shown of a kernel under conditions, in the order of its numbers: the claims of one item, then the pairs.
+use Rattle.std.specs.Prelude.{◌≡◌, ◌⊎◌, ℕ, List, ◌++◌, map, Bool, true}
+use Rattle.std.specs.List.{All}
+use Rattle.semantics.specs.Launch.{Kernel}
+use Rattle.semantics.specs.Conditions.{Conditions}
+use Rattle.semantics.specs.Linear.{IsImpossible}
+use Rattle.domain.specs.declared.Domain.{Ghosts}
+use Rattle.walk.specs.Symbols.{Which, First, Second}
+use Rattle.walk.specs.Launching.{launch_facts, item_facts, known}
+use Rattle.walk.specs.Trees.{Access, Obligation, claims, accesses}
+use Rattle.walk.specs.Walks.{setting, tree}
+use Rattle.two_thread.specs.Pairs.{Pair, pairs_from, pair_obligation}
+
+abbrev pub item_accesses : {E : Type 0} → Ghosts E → Kernel → Conditions → (has_entry : ℕ → Bool) → Which → List (Access E)
+item_accesses g k c has_entry w = accesses (item_facts k.sizes w) (tree (setting g k c has_entry w) k.body)
+
+abbrev pub item_claims : {E : Type 0} → Ghosts E → Kernel → Conditions → (has_entry : ℕ → Bool) → List Obligation
+item_claims g k c has_entry = claims (launch_facts c) (item_facts k.sizes First) (tree (setting g k c has_entry First) k.body)
+
+abbrev pub pairs : {E : Type 0} → Ghosts E → Kernel → Conditions → (has_entry : ℕ → Bool) → List (Pair E)
+pairs g k c has_entry = pairs_from k.sizes c 0 k.buffers (item_accesses g k c has_entry First) (item_accesses g k c has_entry Second)
+
+abbrev pub obligations : {E : Type 0} → Ghosts E → Kernel → Conditions → (has_entry : ℕ → Bool) → List Obligation
+obligations g k c has_entry = item_claims g k c has_entry ++ map (pair_obligation g (known g k.sizes c) (launch_facts c)) (pairs g k c has_entry)
+
+-- where it is needed, the domain settles it or its facts are impossible
+abbrev pub IsShown : Obligation → Type 0
+IsShown o = o.needed ≡ true → (o.settled ≡ true) ⊎ IsImpossible o.facts

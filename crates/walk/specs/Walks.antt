@@ -1,0 +1,190 @@
+-- The walk of a straight-line kernel: the tree of its body. A walk is written with what goes on from its form, so that trees of
+-- choices can be told in the same way.
+use Rattle.std.specs.Prelude.{ℕ, suc, ◌+◌, ◌*◌, ◌<◌, ℤ, pos, negsuc, List, [], ◌∷◌, ◌++◌, length, map, Bool, true, false, ◌&&◌, ◌||◌, cond, nat_lt, slice_index_or, Option, Some, None}
+use Rattle.semantics.specs.Word.{Kind, Int, Uint, in_kind, Operator, Add, Multiply}
+use Rattle.semantics.specs.Core.{Space, Global, Local, Array, Function, GlobalId, LocalId, GroupId, GlobalSize, LocalSize, NumGroups, Term, Literal, Variable, Id, Binary, Convert, Statement, Store, Statements, none, one}
+use Rattle.semantics.specs.Launch.{Three, Kernel}
+use Rattle.semantics.specs.Setup.{along}
+use Rattle.semantics.specs.Linear.{Weighted}
+use Rattle.semantics.specs.Conditions.{Conditions}
+use Rattle.linear.specs.Exact.{sum, multiple}
+use Rattle.domain.specs.declared.Domain.{Ghosts}
+use Rattle.domain.specs.declared.Bounds.{Bounds}
+use Rattle.walk.specs.Symbols as symbols
+use Rattle.walk.specs.Symbols.{Which, First, Second, Symbol, Given, Length, New, Fact, constant, once, minus}
+use Rattle.walk.specs.Elements.{Known, Elements, between, element_of, is_settled}
+use Rattle.walk.specs.Launching.{known}
+use Rattle.walk.specs.Trees.{Tree, Leaf, Claim, Know, Touch}
+
+-- what a walk is of: a domain with what it knows, the local sizes, the kinds of the value parameters, the item, and the numbers
+-- of the obligations that have an entry
+pub record Setting (E : Type 0) : Type 1 where
+  pub domain : Ghosts E
+  pub known : Known E
+  pub sizes : Three ℕ
+  pub arguments : List Kind
+  pub item : Which
+  pub has_entry : ℕ → Bool
+
+-- how many claims were made, and the elements of the new symbols so far
+pub record State (E : Type 0) : Type 0 where
+  pub claims : ℕ
+  pub elements : List E
+
+-- a form with the kind of its value
+pub record Value : Type 0 where
+  pub kind : Kind
+  pub form : Fact
+
+abbrev pub value : Kind → Fact → Value
+value k f = record { kind = k; form = f }
+
+abbrev pub Onward : Type 0 → Type 0
+Onward E = Value → State E → Tree E
+
+abbrev pub elements_of : {E : Type 0} → Known E → Which → List E → Elements E
+elements_of k First es = record { known = k; first = es; second = [] }
+elements_of k Second es = record { known = k; first = []; second = es }
+
+abbrev pub elements_at : {E : Type 0} → Setting E → State E → Elements E
+elements_at s st = elements_of s.known s.item st.elements
+
+abbrev pub settles : {E : Type 0} → Setting E → State E → Fact → Bool
+settles s st f = is_settled s.domain (elements_at s st) f
+
+abbrev pub claimed : {E : Type 0} → State E → State E
+claimed st = record { claims = suc st.claims; elements = st.elements }
+
+-- one claim, which is numbered
+abbrev pub claim : {E : Type 0} → Setting E → Bool → Fact → State E → (State E → Tree E) → Tree E
+claim s needed f st go = Claim needed (settles s st f) f (go (claimed st))
+
+abbrev pub lower_fact : Fact → Option ℤ → (rest : List Fact) → List Fact
+lower_fact f None rest = rest
+lower_fact f (Some low) rest = minus f (constant low) ∷ rest
+
+abbrev pub upper_fact : Fact → Option ℤ → List Fact
+upper_fact f None = []
+upper_fact f (Some high) = minus (constant high) f ∷ []
+
+abbrev pub know_all : {E : Type 0} → List Fact → Tree E → Tree E
+know_all [] rest = rest
+know_all (f ∷ fs) rest = Know f (know_all fs rest)
+
+abbrev pub bound_facts : Fact → Bounds → List Fact
+bound_facts f b = lower_fact f b.low (upper_fact f b.high)
+
+abbrev pub newest : {E : Type 0} → Setting E → State E → Fact
+newest s st = once (New s.item (length st.elements))
+
+abbrev pub with_new : {E : Type 0} → State E → E → State E
+with_new st e = record { claims = st.claims; elements = st.elements ++ e ∷ [] }
+
+-- a new symbol, with its bounds as facts
+abbrev pub invent : {E : Type 0} → Setting E → E → State E → (Fact → State E → Tree E) → Tree E
+invent s e st go = know_all (bound_facts (newest s st) (s.domain.bounds_of e)) (go (newest s st) (with_new st e))
+
+abbrev pub least : Kind → ℤ
+least Int = negsuc 2147483647
+least Uint = pos 0
+
+abbrev pub greatest : Kind → ℤ
+greatest Int = pos 2147483647
+greatest Uint = pos 4294967295
+
+abbrev pub low_end : Kind → Fact → Fact
+low_end k f = minus f (constant (least k))
+
+abbrev pub high_end : Kind → Fact → Fact
+high_end k f = minus (constant (greatest k)) f
+
+-- the two ends of a kind's range
+abbrev pub in_range : {E : Type 0} → Setting E → Bool → Kind → Fact → State E → (State E → Tree E) → Tree E
+in_range s needed k f st go = claim s needed (low_end k f) st (λ st'. claim s needed (high_end k f) st' go)
+
+-- both claims are settled or have an entry
+abbrev pub is_kept : {E : Type 0} → Setting E → Fact → State E → Bool
+is_kept s f st = (settles s st (low_end Uint f) || s.has_entry (st.claims + 1)) && (settles s st (high_end Uint f) || s.has_entry (st.claims + 2))
+
+abbrev pub kept_or_new : {E : Type 0} → Setting E → Bool → Fact → State E → Onward E → Tree E
+kept_or_new s true f st go = go (value Uint f) st
+kept_or_new s false f st go = invent s (between s.domain (least Uint) (greatest Uint)) st (λ g st'. go (value Uint g) st')
+
+-- an exact result in its kind: of an `int` both ends are to be shown, a `uint` of which they are not kept has wrapped
+abbrev pub ranged : {E : Type 0} → Setting E → Kind → Fact → State E → Onward E → Tree E
+ranged s Int f st go = in_range s true Int f st (λ st'. go (value Int f) st')
+ranged s Uint f st go = in_range s (is_kept s f st) Uint f st (λ st'. kept_or_new s (is_kept s f st) f st' go)
+
+abbrev pub brought_from : {E : Type 0} → Setting E → (to from : Kind) → Fact → State E → Onward E → Tree E
+brought_from s Int Int f st go = go (value Int f) st
+brought_from s Int Uint f st go = ranged s Int f st go
+brought_from s Uint Int f st go = ranged s Uint f st go
+brought_from s Uint Uint f st go = go (value Uint f) st
+
+-- a value brought to a kind
+abbrev pub brought : {E : Type 0} → Setting E → Kind → Value → State E → Onward E → Tree E
+brought s k v st go = brought_from s k v.kind v.form st go
+
+-- by a constant form exactly, else a new symbol
+abbrev pub product : {E : Type 0} → Setting E → (left right : List (Weighted ℕ)) → Fact → Fact → State E → (Fact → State E → Tree E) → Tree E
+product s ts [] f g st go = go (multiple g.constant f) st
+product s [] (u ∷ us) f g st go = go (multiple f.constant g) st
+product s (t ∷ ts) (u ∷ us) f g st go = invent s (s.domain.mul_of (element_of s.domain (elements_at s st) f) (element_of s.domain (elements_at s st) g)) st go
+
+-- past the third dimension an id is 0, and a size or count 1
+abbrev pub id_form : {E : Type 0} → Setting E → Function → ℕ → Fact
+id_form s f d = cond (nat_lt d 3) (inside f) (outside f)
+  where
+    inside : Function → Fact
+    inside GlobalId = sum (multiple (pos (along s.sizes d 1)) (once (symbols.Group s.item d))) (once (symbols.Local s.item d))
+    inside LocalId = once (symbols.Local s.item d)
+    inside GroupId = once (symbols.Group s.item d)
+    inside GlobalSize = multiple (pos (along s.sizes d 1)) (once (symbols.Groups d))
+    inside LocalSize = constant (pos (along s.sizes d 1))
+    inside NumGroups = once (symbols.Groups d)
+    outside : Function → Fact
+    outside GlobalId = constant (pos 0)
+    outside LocalId = constant (pos 0)
+    outside GroupId = constant (pos 0)
+    outside GlobalSize = constant (pos 1)
+    outside LocalSize = constant (pos 1)
+    outside NumGroups = constant (pos 1)
+
+-- an exact result of two operands of one kind
+abbrev pub exact : {E : Type 0} → Setting E → Operator → Fact → Fact → State E → (Fact → State E → Tree E) → Tree E
+exact s Multiply f g st go = product s f.terms g.terms f g st go
+exact s op f g st go = go (sum f g) st
+
+-- operands from left to right, then the conversion of the left one, of the right one, then the operator
+abbrev pub walk : {E : Type 0} → Setting E → Term → State E → Onward E → Tree E
+walk s (Literal k z) st go = go (value k (constant z)) st
+walk s (Variable x) st go = go (value (slice_index_or s.arguments x Int) (once (Given x))) st
+walk s (Id f d) st go = go (value Uint (id_form s f d)) st
+walk s (Binary op k site a b) st go =
+    walk s a st (λ x st1. walk s b st1 (λ y st2.
+    brought s k x st2 (λ x' st3. brought s k y st3 (λ y' st4.
+    exact s op x'.form y'.form st4 (λ f st5. ranged s k f st5 go)))))
+walk s (Convert k site a) st go = walk s a st (λ x st1. brought s k x st1 go)
+walk s t st go = Leaf
+
+-- an index is at least 0, and below its buffer's length
+abbrev pub in_buffer : {E : Type 0} → Setting E → ℕ → Fact → State E → (State E → Tree E) → Tree E
+in_buffer s b i st go = claim s true i st (λ st'. claim s true (minus (minus (once (Length b)) (constant (pos 1))) i) st' go)
+
+-- the index, the value, then the access
+abbrev pub walk_all : {E : Type 0} → Setting E → Statements → State E → (State E → Tree E) → Tree E
+walk_all s none st go = go st
+walk_all s (one (Store n a site index e) rest) st go =
+    walk s index st (λ i st1. walk s e st1 (λ v st2.
+    in_buffer s a.number i.form st2 (λ st3. Touch true a.number i.form st3.elements (walk_all s rest st3 go))))
+walk_all s (one t rest) st go = Leaf
+
+abbrev pub opening_state : {E : Type 0} → State E
+opening_state = record { claims = 0; elements = [] }
+
+abbrev pub tree : {E : Type 0} → Setting E → Statements → Tree E
+tree s body = walk_all s body opening_state (λ st. Leaf)
+
+-- of this kernel under these conditions
+abbrev pub setting : {E : Type 0} → Ghosts E → Kernel → Conditions → (has_entry : ℕ → Bool) → Which → Setting E
+setting g k c has_entry w = record { domain = g; known = known g k.sizes c; sizes = k.sizes; arguments = k.arguments; item = w; has_entry = has_entry }

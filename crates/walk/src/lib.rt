@@ -1,4 +1,13 @@
-//! The walk of one work-item along its kernel: what is to be shown on the way, what is known there, and the accesses.
+//! Walk.
 #![tactic(auto)]
-
-pub fn nothing() {}
+mod elements;
+mod error;
+mod forms;
+mod path;
+mod setting;
+mod steps;
+pub use elements::{Known, element_of, is_settled, between};
+pub use error::WalkError;
+pub use forms::{Which, once_group, once_local};
+pub use path::{Access, Claim, Path};
+pub use setting::Setting;

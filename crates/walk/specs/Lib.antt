@@ -7,3 +7,4 @@ pub mod Straight
 pub mod Collected
 pub mod View
 pub mod Before
+pub mod Leads

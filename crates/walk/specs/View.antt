@@ -16,6 +16,7 @@ use Rattle.walk.specs.declared.path.Claim.{Claim}
 use Rattle.walk.specs.declared.path.Access.{Access}
 use Rattle.walk.specs.declared.path.Path.{Path}
 use Rattle.walk.specs.declared.setting.Setting.{Setting}
+use Rattle.walk.specs.declared.ranges.Value.{Value}
 use Rattle.walk.specs.declared.error.WalkError.{WalkError}
 use Rattle.walk.specs.declared.error.WalkError.TheVariants as errors
 use Rattle.walk.specs.declared.forms.Which.{Which}
@@ -41,12 +42,14 @@ claim_seen facts c = record { needed = c.needed; settled = c.settled; claim = fo
 abbrev pub access_seen : {E : Type 0} → List Fact → List E → Access → trees.Access E
 access_seen facts elements a = record { is_store = a.is_store; buffer = a.buffer; index = form a.index; elements = take a.elements elements; facts = take a.facts facts }
 
-abbrev pub met : {E : Type 0} → Path E → Met E
+unfoldable pub met : {E : Type 0} → Path E → Met E
 met p = record {
-  facts = forms p.facts.items;
+  found = record {
+    facts = forms p.facts.items;
+    claims = map (claim_seen (forms p.facts.items)) p.claims.items;
+    accesses = map (access_seen (forms p.facts.items) p.elements.items) p.accesses.items;
+  };
   elements = p.elements.items;
-  claims = map (claim_seen (forms p.facts.items)) p.claims.items;
-  accesses = map (access_seen (forms p.facts.items) p.elements.items) p.accesses.items;
 }
 
 -- of a setting, for one item
@@ -59,3 +62,6 @@ setting g s w = record {
   item = which w;
   has_entry = λ n. slice_index_or s.entries.items n false;
 }
+
+abbrev pub value : Value → walks.Value
+value v = record { kind = kind v.kind; form = form v.form }

@@ -4,6 +4,7 @@ mod elements;
 mod error;
 mod forms;
 mod path;
+mod ranges;
 mod setting;
 mod steps;
 pub use elements::{Known, element_of, is_settled, between};

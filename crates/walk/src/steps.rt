@@ -11,6 +11,7 @@ use linear::Form;
 use std::alloc::Global;
 
 impl<D: Copy> Path<D> {
+    #[tactic(auto, unfolding(crate::specs::View::met))]
     /// With these facts, before the first step.
     pub fn opening(alloc: Global, facts: Vec<Form>) -> Path<D>
         ensures { met result ≡ opening (forms facts.items) }

@@ -1,14 +1,15 @@
 -- Steps of a path that lead where the walk leads on.
 use Rattle.std.proofs.Common.{◌≡◌, ℕ, suc, ◌+◌, Bool, true, false, List, [], ◌∷◌, ◌++◌, length, length-append, add-one, refl, sym, ap, ◌∙◌}
-use Rattle.std.specs.Prelude.{ℤ, Option, Some, None}
+use Rattle.std.specs.Prelude.{ℤ, pos, Option, Some, None}
 use Rattle.semantics.specs.Word.{Kind, Uint}
+use Rattle.semantics.specs.Core.{Term}
 use Rattle.domain.specs.declared.Bounds.{Bounds}
-use Rattle.walk.specs.Symbols.{Fact, constant, minus}
+use Rattle.walk.specs.Symbols.{Length, Fact, constant, once, minus}
 use Rattle.walk.specs.Elements.{between}
-use Rattle.walk.specs.Trees.{Tree, Know}
+use Rattle.walk.specs.Trees.{Tree, Know, Touch}
 use Rattle.walk.specs.Walks as walks
-use Rattle.walk.specs.Walks.{Setting, State, Onward, settles, newest, claimed, know_all, bound_facts, lower_fact, upper_fact, low_end, high_end}
-use Rattle.walk.specs.Collected.{Met, collect, state_of, add_claim, with_claim, with_fact, with_element}
+use Rattle.walk.specs.Walks.{Setting, State, Value, Onward, settles, newest, claimed, know_all, bound_facts, lower_fact, upper_fact, low_end, high_end}
+use Rattle.walk.specs.Collected.{Met, collect, state_of, add_claim, with_claim, with_fact, with_element, with_access}
 use Rattle.walk.specs.Leads.{Steps, Leads}
 
 one_more : {A : Type 0} (xs : List A) (x : A) → length (xs ++ x ∷ []) ≡ suc (length xs)
@@ -61,3 +62,16 @@ keeps s kept f l m d e a go =
     (λ i. collect l.found (walks.in_range s (sym d i) Uint f (state_of l) (λ st'. walks.kept_or_new s (sym d i) f st' go)))
     ∙ a (λ st'. walks.kept_or_new s kept f st' go)
     ∙ ap (λ c. collect m.found (walks.kept_or_new s c f (state_of m) go)) e
+
+pub buffer_steps : {E : Type 0} (s : Setting E) (b : ℕ) (i low last room : Fact) (l m n : Met E) → low ≡ i → last ≡ minus (once (Length b)) (constant (pos 1)) → room ≡ minus last i → Steps l m (walks.claim s true low) → Steps m n (walks.claim s true room) → Steps l n (walks.in_buffer s b i)
+buffer_steps s b i low last room l m n d e f a c go =
+    (λ j. collect l.found (walks.claim s true (sym d j) (state_of l) (λ st'. walks.claim s true (sym (f ∙ ap (λ x. minus x i) e) j) st' go)))
+    ∙ a (λ st'. walks.claim s true room st' go) ∙ c go
+
+pub store_steps : {E : Type 0} (s : Setting E) (b : ℕ) (index e : Term) (x y : Value) (k l m n o : Met E) → Leads k l (walks.walk s index) x → Leads l m (walks.walk s e) y → Steps m n (walks.in_buffer s b x.form) → o ≡ with_access n true b x.form n.elements → Steps k o (walks.walk_store s b index e)
+unfolding collect
+store_steps s b index e x y k l m n o p q r t go =
+    p (λ i st1. walks.walk s e st1 (λ v st2. walks.in_buffer s b i.form st2 (λ st3. Touch true b i.form st3.elements (go st3))))
+    ∙ q (λ v st2. walks.in_buffer s b x.form st2 (λ st3. Touch true b x.form st3.elements (go st3)))
+    ∙ r (λ st3. Touch true b x.form st3.elements (go st3))
+    ∙ ap (λ (z : Met _). collect z.found (go (state_of z))) (sym t)

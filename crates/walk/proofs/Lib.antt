@@ -1,3 +1,4 @@
 pub mod Families
 pub mod Paths
 pub mod Leading
+pub mod Bodies

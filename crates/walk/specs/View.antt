@@ -1,5 +1,5 @@
 -- What the code's values stand for.
-use Rattle.std.specs.Prelude.{ℕ, ◌≤◌, List, map, take, Bool, false, slice_index, slice_index_or, length}
+use Rattle.std.specs.Prelude.{ℕ, ◌≤◌, List, [], ◌∷◌, map, take, Bool, true, false, slice_index, slice_index_or, length}
 use Rattle.domain.specs.declared.Domain.{Ghosts}
 use Rattle.words.specs.View.{kind}
 use Rattle.linear.specs.Forms.{form, forms}
@@ -65,3 +65,10 @@ setting g s w = record {
 
 abbrev pub value : Value → walks.Value
 value v = record { kind = kind v.kind; form = form v.form }
+
+abbrev pub is_none : {A : Type 0} → List A → Bool
+is_none [] = true
+is_none (x ∷ xs) = false
+
+abbrev pub is_number : Fact → Bool
+is_number f = is_none f.terms

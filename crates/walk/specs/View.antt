@@ -1,5 +1,6 @@
 -- What the code's values stand for.
 use Rattle.std.specs.Prelude.{ℕ, ◌≤◌, List, [], ◌∷◌, map, take, Bool, true, false, slice_index, slice_index_or, length}
+use Rattle.semantics.specs.Launch.{Three}
 use Rattle.domain.specs.declared.Domain.{Ghosts}
 use Rattle.words.specs.View.{kind}
 use Rattle.linear.specs.Forms.{form, forms}
@@ -52,12 +53,15 @@ met p = record {
   elements = p.elements.items;
 }
 
+abbrev pub three : List ℕ → Three ℕ
+three sizes = record { x = slice_index sizes 0; y = slice_index sizes 1; z = slice_index sizes 2 }
+
 -- of a setting, for one item
 abbrev pub setting : {E : Type 0} → Ghosts E → Setting E → Which → walks.Setting E
 setting g s w = record {
   domain = g;
   known = known_seen s.known;
-  sizes = record { x = slice_index s.sizes 0; y = slice_index s.sizes 1; z = slice_index s.sizes 2 };
+  sizes = three s.sizes;
   arguments = map kind s.arguments.items;
   item = which w;
   has_entry = λ n. slice_index_or s.entries.items n false;

@@ -77,9 +77,12 @@ abbrev pub where_so : {A : Type 0} → Bool → List A → List A
 where_so true xs = xs
 where_so false xs = []
 
+abbrev pub with_one : {E : Type 0} → Three ℕ → Conditions → Scope → ℕ → Access E → Access E → List (Pair E)
+with_one sizes c s b u v = where_so (conflict b u v) (all_orders sizes c s u v)
+
 abbrev pub with_each : {E : Type 0} → Three ℕ → Conditions → Scope → ℕ → Access E → List (Access E) → List (Pair E)
 with_each sizes c s b u [] = []
-with_each sizes c s b u (v ∷ vs) = where_so (conflict b u v) (all_orders sizes c s u v) ++ with_each sizes c s b u vs
+with_each sizes c s b u (v ∷ vs) = with_one sizes c s b u v ++ with_each sizes c s b u vs
 
 -- each access of the first item with the same one of the second item and those behind it
 abbrev pub pairs_in : {E : Type 0} → Three ℕ → Conditions → ℕ → (first second : List (Access E)) → Scope → List (Pair E)
@@ -87,7 +90,10 @@ pairs_in sizes c b [] vs s = []
 pairs_in sizes c b (u ∷ us) [] s = []
 pairs_in sizes c b (u ∷ us) (v ∷ vs) s = with_each sizes c s b u (v ∷ vs) ++ pairs_in sizes c b us vs s
 
+abbrev pub pairs_of : {E : Type 0} → Three ℕ → Conditions → ℕ → (first second : List (Access E)) → List (Pair E)
+pairs_of sizes c b us vs = pairs_in sizes c b us vs Within ++ pairs_in sizes c b us vs Across
+
 -- buffer by buffer, from the number b on
 abbrev pub pairs_from : {E A : Type 0} → Three ℕ → Conditions → (b : ℕ) (buffers : List A) → (first second : List (Access E)) → List (Pair E)
 pairs_from sizes c b [] us vs = []
-pairs_from sizes c b (k ∷ ks) us vs = pairs_in sizes c b us vs Within ++ (pairs_in sizes c b us vs Across ++ pairs_from sizes c (suc b) ks us vs)
+pairs_from sizes c b (k ∷ ks) us vs = pairs_of sizes c b us vs ++ pairs_from sizes c (suc b) ks us vs

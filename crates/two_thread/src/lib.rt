@@ -1,5 +1,13 @@
 //! What is to be shown of two work-items, and what it promises: where all of it is shown, each launch that meets the conditions is
 //! pair-safe.
+//!
+//! `all_pairs` lists the pairs of accesses that may clash, dimension by dimension and both ways round, in the order of their numbers;
+//! `pair_facts` are the facts of one of them, which are to be impossible.
 #![tactic(auto)]
 
+mod facts;
 pub mod laws;
+mod pairs;
+
+pub use facts::{claim_facts, is_apart, pair_facts};
+pub use pairs::{Order, Pair, Scope, all_pairs};

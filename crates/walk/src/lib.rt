@@ -7,8 +7,8 @@
 
 mod elements;
 mod error;
+mod extents;
 mod forms;
-mod known;
 mod launching;
 mod path;
 mod ranges;
@@ -20,8 +20,8 @@ mod walking;
 
 pub use elements::{Known, between, element_of};
 pub use error::WalkError;
-pub use forms::{Which, less_number, once_group, once_local};
-pub use known::known;
+pub use extents::known;
+pub use forms::{Which, less_number, number_less, once_group, once_local};
 pub use launching::{item_facts, launch_facts};
 pub use path::{Access, Claim, Path};
 pub use ranges::Value;

@@ -1,0 +1,240 @@
+//! The pairs of accesses that may clash.
+
+ghost use Rattle.std.specs.Prelude.{◌≡◌, ◌++◌, ◌<◌, ◌≤◌, ℕ, List, pos, IfOk, map, length, drop, nat_eq};
+ghost use Rattle.launch.specs.View.{conditions as conditions_seen};
+ghost use Rattle.walk.specs.Launching.{count_range};
+ghost use Rattle.walk.specs.View.{three};
+ghost use Rattle.two_thread.specs.Pairs as specs;
+ghost use Rattle.two_thread.specs.View.{scope as scope_seen, order as order_seen, pair as pair_seen, nth_access, seen_accesses, Adds};
+
+use launch::conditions::Conditions;
+use std::alloc::Global;
+use walk::{Path, WalkError};
+use words::Kind;
+
+/// Items of one group, which differ in a local id, or of two groups, which differ in a group id.
+#[derive(Clone, Copy)]
+pub enum Scope {
+    Within,
+    Across,
+}
+
+/// In a dimension, the first item's id is below the second one's, or above it.
+#[derive(Clone, Copy)]
+pub enum Order {
+    Below,
+    Above,
+}
+
+/// Two accesses by their indexes, one of each item, and how the items differ.
+#[derive(Clone, Copy)]
+pub struct Pair {
+    pub first: usize,
+    pub second: usize,
+    pub scope: Scope,
+    pub dimension: u32,
+    pub order: Order,
+}
+
+/// The largest group count of a dimension.
+fn highest_count(conditions: &Conditions, dimension: u32) -> u32
+    requires { dimension < 3 }
+    ensures { pos result ≡ (count_range (conditions_seen conditions.now) dimension).high }
+{
+    match dimension {
+        0 => conditions.groups.x.high,
+        1 => conditions.groups.y.high,
+        _ => conditions.groups.z.high,
+    }
+}
+
+/// Two items can differ in this dimension.
+fn differs(sizes: [u32; 3], conditions: &Conditions, scope: Scope, dimension: u32) -> bool
+    requires { dimension < 3 }
+    ensures { result ≡ specs.differs (three sizes) (conditions_seen conditions.now) (scope_seen scope) dimension }
+{
+    match scope {
+        Scope::Within => sizes[dimension as usize] > 1,
+        Scope::Across => highest_count(conditions, dimension) > 1,
+    }
+}
+
+/// An access is of this buffer.
+fn is_of<D: Copy>(buffer: u32, path: &Path<D>, i: usize) -> bool
+    requires { i < length path.now.accesses.items }
+    ensures { result ≡ nat_eq (nth_access (seen_accesses path.now) i).buffer buffer }
+{
+    path.accesses[i].buffer == buffer
+}
+
+/// An access is a store.
+fn is_store<D: Copy>(path: &Path<D>, i: usize) -> bool
+    requires { i < length path.now.accesses.items }
+    ensures { result ≡ (nth_access (seen_accesses path.now) i).is_store }
+{
+    path.accesses[i].is_store
+}
+
+/// Both accesses are of this buffer, and one of them at least is a store.
+fn conflict<D: Copy>(buffer: u32, first: &Path<D>, second: &Path<D>, i: usize, j: usize) -> bool
+    requires first { i < length first.now.accesses.items }
+    requires second { j < length second.now.accesses.items }
+    ensures { result ≡ specs.conflict buffer (nth_access (seen_accesses first.now) i) (nth_access (seen_accesses second.now) j) }
+{
+    is_of(buffer, first, i)
+        && is_of(buffer, second, j)
+        && (is_store(first, i) || is_store(second, j))
+}
+
+/// Where the items can differ in a dimension, both ways round.
+fn two_orders<D: Copy>(
+    found: &mut Vec<Pair>,
+    first: &Path<D>,
+    second: &Path<D>,
+    differ: bool,
+    below: Pair,
+) -> Result<(), WalkError>
+    ensures { IfOk result (λ _. Adds (seen_accesses first.now) (seen_accesses second.now) found.old.items found.new.items (specs.two_orders differ (nth_access (seen_accesses first.now) below.first) (nth_access (seen_accesses second.now) below.second) (scope_seen below.scope) below.dimension)) }
+{
+    if !differ {
+        return Ok(());
+    }
+    found.push(Pair {
+        order: Order::Below,
+        ..below
+    })?;
+    found.push(Pair {
+        order: Order::Above,
+        ..below
+    })?;
+    Ok(())
+}
+
+/// Dimension by dimension.
+fn all_orders<D: Copy>(
+    found: &mut Vec<Pair>,
+    sizes: [u32; 3],
+    conditions: &Conditions,
+    first: &Path<D>,
+    second: &Path<D>,
+    scope: Scope,
+    i: usize,
+    j: usize,
+) -> Result<(), WalkError>
+    ensures { IfOk result (λ _. Adds (seen_accesses first.now) (seen_accesses second.now) found.old.items found.new.items (specs.all_orders (three sizes) (conditions_seen conditions.now) (scope_seen scope) (nth_access (seen_accesses first.now) i) (nth_access (seen_accesses second.now) j))) }
+{
+    let pair = Pair {
+        first: i,
+        second: j,
+        scope,
+        dimension: 0,
+        order: Order::Below,
+    };
+    let x = differs(sizes, conditions, scope, 0);
+    two_orders(found, first, second, x, pair)?;
+    let y = differs(sizes, conditions, scope, 1);
+    two_orders(found, first, second, y, Pair { dimension: 1, ..pair })?;
+    let z = differs(sizes, conditions, scope, 2);
+    two_orders(found, first, second, z, Pair { dimension: 2, ..pair })?;
+    Ok(())
+}
+
+/// One access of each item.
+fn with_one<D: Copy>(
+    found: &mut Vec<Pair>,
+    sizes: [u32; 3],
+    conditions: &Conditions,
+    first: &Path<D>,
+    second: &Path<D>,
+    scope: Scope,
+    buffer: u32,
+    i: usize,
+    j: usize,
+) -> Result<(), WalkError>
+    requires first { i < length first.now.accesses.items }
+    requires second { j < length second.now.accesses.items }
+    ensures { IfOk result (λ _. Adds (seen_accesses first.now) (seen_accesses second.now) found.old.items found.new.items (specs.with_one (three sizes) (conditions_seen conditions.now) (scope_seen scope) buffer (nth_access (seen_accesses first.now) i) (nth_access (seen_accesses second.now) j))) }
+{
+    if conflict(buffer, first, second, i, j) {
+        all_orders(found, sizes, conditions, first, second, scope, i, j)?;
+    }
+    Ok(())
+}
+
+/// An access of the first item with those of the second from the same one on.
+fn with_each<D: Copy>(
+    found: &mut Vec<Pair>,
+    sizes: [u32; 3],
+    conditions: &Conditions,
+    first: &Path<D>,
+    second: &Path<D>,
+    scope: Scope,
+    buffer: u32,
+    i: usize,
+) -> Result<(), WalkError>
+    requires { i < length first.now.accesses.items }
+    ensures { IfOk result (λ _. Adds (seen_accesses first.now) (seen_accesses second.now) found.old.items found.new.items (specs.with_each (three sizes) (conditions_seen conditions.now) (scope_seen scope) buffer (nth_access (seen_accesses first.now) i) (drop i (seen_accesses second.now)))) }
+{
+    for j in i..second.accesses.len() {
+        with_one(found, sizes, conditions, first, second, scope, buffer, i, j)?;
+    }
+    Ok(())
+}
+
+/// The pairs of one buffer in one scope.
+fn pairs_in<D: Copy>(
+    found: &mut Vec<Pair>,
+    sizes: [u32; 3],
+    conditions: &Conditions,
+    first: &Path<D>,
+    second: &Path<D>,
+    scope: Scope,
+    buffer: u32,
+) -> Result<(), WalkError>
+    ensures { IfOk result (λ _. Adds (seen_accesses first.now) (seen_accesses second.now) found.old.items found.new.items (specs.pairs_in (three sizes) (conditions_seen conditions.now) buffer (seen_accesses first.now) (seen_accesses second.now) (scope_seen scope))) }
+{
+    let count = first.accesses.len().min(second.accesses.len());
+    for i in 0..count {
+        with_each(found, sizes, conditions, first, second, scope, buffer, i)?;
+    }
+    Ok(())
+}
+
+/// The pairs of one buffer.
+fn pairs_of<D: Copy>(
+    found: &mut Vec<Pair>,
+    sizes: [u32; 3],
+    conditions: &Conditions,
+    first: &Path<D>,
+    second: &Path<D>,
+    buffer: u32,
+) -> Result<(), WalkError>
+    ensures { IfOk result (λ _. Adds (seen_accesses first.now) (seen_accesses second.now) found.old.items found.new.items (specs.pairs_of (three sizes) (conditions_seen conditions.now) buffer (seen_accesses first.now) (seen_accesses second.now))) }
+{
+    pairs_in(found, sizes, conditions, first, second, Scope::Within, buffer)?;
+    pairs_in(found, sizes, conditions, first, second, Scope::Across, buffer)?;
+    Ok(())
+}
+
+/// The pairs of all buffers, by the number of the buffer: in each those of one group, then those of two.
+pub fn all_pairs<D: Copy>(
+    alloc: Global,
+    sizes: [u32; 3],
+    conditions: &Conditions,
+    buffers: &[Kind],
+    first: &Path<D>,
+    second: &Path<D>,
+) -> Result<Vec<Pair>, WalkError>
+    ensures { IfOk result (λ v. map (pair_seen (seen_accesses first.now) (seen_accesses second.now)) v.items ≡ specs.pairs_from (three sizes) (conditions_seen conditions.now) 0 buffers.now (seen_accesses first.now) (seen_accesses second.now)) }
+{
+    let mut found = Vec::new(alloc);
+    let mut buffer = 0u32;
+    for _kind in buffers {
+        pairs_of(&mut found, sizes, conditions, first, second, buffer)?;
+        let Some(next) = buffer.checked_add(1) else {
+            return Err(WalkError::TooMany);
+        };
+        buffer = next;
+    }
+    Ok(found)
+}

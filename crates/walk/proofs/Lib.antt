@@ -5,3 +5,5 @@ pub mod Members
 pub mod Worlds
 pub mod Launched
 pub mod Known
+pub mod Journeys
+pub mod Ranges

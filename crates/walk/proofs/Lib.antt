@@ -7,3 +7,6 @@ pub mod Launched
 pub mod Known
 pub mod Journeys
 pub mod Ranges
+pub mod Identities
+pub mod Operators
+pub mod Expressions

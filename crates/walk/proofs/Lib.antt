@@ -10,3 +10,4 @@ pub mod Ranges
 pub mod Identities
 pub mod Operators
 pub mod Expressions
+pub mod Bodies

@@ -11,3 +11,8 @@ pub mod Identities
 pub mod Operators
 pub mod Expressions
 pub mod Bodies
+pub mod Twins
+pub mod TwinElements
+pub mod TwinTrees
+pub mod TwinFacts
+pub mod TwinWalks

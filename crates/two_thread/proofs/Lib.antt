@@ -1,0 +1,6 @@
+pub mod SoloStores
+pub mod Alone
+pub mod Places
+pub mod PairLists
+pub mod Meetings
+pub mod Safe

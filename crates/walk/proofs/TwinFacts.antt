@@ -5,7 +5,7 @@ use Rattle.std.specs.List.{AllZip}
 use Rattle.semantics.specs.Launch.{Three}
 use Rattle.semantics.specs.Setup.{along}
 use Rattle.walk.specs.Symbols as symbols
-use Rattle.walk.specs.Symbols.{First, Second, Given, Local, Group, New, number, Fact, constant, once, minus}
+use Rattle.walk.specs.Symbols.{First, Second, Given, Length, Local, Group, New, number, Fact, constant, once, minus}
 use Rattle.walk.specs.Launching.{each_dimension, id_facts, item_facts}
 use Rattle.walk.specs.Walks.{lower_fact, upper_fact}
 use Rattle.walk.proofs.Twins.{twin, Twins, Alike, constant-alike, once-alike, minus-alike}
@@ -17,6 +17,9 @@ groups-twin d = record { own = omega arith; same = omega arith }
 
 pub given-twin : (n : ℕ) → Twins (number (Given n)) (number (Given n))
 given-twin n = record { own = omega arith; same = omega arith }
+
+pub length-twin : (b : ℕ) → Twins (number (Length b)) (number (Length b))
+length-twin b = record { own = omega arith; same = omega arith }
 
 pub local-twin : (d : ℕ) → Twins (number (Local First d)) (number (Local Second d))
 local-twin d = record { own = omega arith; same = omega arith }

@@ -1,0 +1,1 @@
+-- Where all is shown, a straight-line kernel is pair-safe.

@@ -1,11 +1,11 @@
 -- What an item alone keeps: it is quiet and short, it never waits, and each of its accesses is in the tree.
-use Rattle.std.proofs.Common.{◌≡◌, ◌≢◌, ℕ, zero, suc, ◌+◌, ◌<◌, ◌≤◌, true, List, [], ◌∷◌, length, Option, Some, None, arith, refl, sym, ap, subst, ◌∙◌, inl, inr}
-use Rattle.std.specs.Prelude.{ℤ, ◌⊎◌}
+use Rattle.std.proofs.Common.{◌≡◌, ◌≢◌, ◌≤◌, true, List, [], ◌∷◌, length, Option, Some, None, arith, refl, sym, ap, subst, ◌∙◌, inl, inr}
+use Rattle.std.specs.Prelude.{ℤ}
 use Rattle.std.specs.List.{All}
 use Rattle.semantics.specs.Word.{Fault}
 use Rattle.semantics.specs.Core.{Site, Statements, none, one}
-use Rattle.semantics.specs.Item.{Item, Status, Running, Waiting, Ended, Stopped, enter, status_of}
-use Rattle.semantics.specs.Ask.{Ask, Rests, Stores, ask}
+use Rattle.semantics.specs.Item.{Item, Waiting, Stopped, enter, status_of}
+use Rattle.semantics.specs.Ask.{Ask, ask}
 use Rattle.semantics.specs.Solo.{Access, after, touch, Touched, is_waiting, passed, arrived}
 use Rattle.semantics.proofs.Steps.{not_waiting}
 use Rattle.walk.specs.Symbols.{First}

@@ -1,16 +1,16 @@
 -- Two items at their accesses of one element contradict what is shown of the pair.
-use Rattle.std.proofs.Common.{◌≡◌, ◌≢◌, ℕ, zero, suc, ◌+◌, ◌*◌, ◌%◌, ◌/◌, ◌<◌, Bool, true, false, ◌&&◌, ◌||◌, cond, nat_eq, nat_lt, List, [], ◌∷◌, ◌++◌, length, arith, refl, sym, ap, subst, ◌∙◌, inl, inr, eq-eqb, lt-ltb}
-use Rattle.std.specs.Prelude.{ℤ, pos, ◌+ℤ◌, ◌-ℤ◌, ◌≤ℤ◌, ◌<ℤ◌, ◌⊎◌, int_lt}
-use Rattle.std.specs.List.{All, AllZip}
+use Rattle.std.proofs.Common.{◌≡◌, ◌≢◌, ℕ, ◌<◌, Bool, true, false, ◌&&◌, ◌||◌, nat_eq, List, [], ◌∷◌, ◌++◌, arith, refl, sym, ap, subst, ◌∙◌, inl, inr, eq-eqb, lt-ltb}
+use Rattle.std.specs.Prelude.{ℤ, pos, ◌≤ℤ◌, ◌<ℤ◌}
+use Rattle.std.specs.List.{All}
 use Rattle.std.proofs.lemmas.Int.{ints, by_lt_z}
 use Rattle.std.proofs.lemmas.Bool.{and_from}
 use Rattle.std.proofs.lemmas.List.Elements.{All-append, All-cons, All-nil, All-head, All-tail}
 use Rattle.semantics.specs.Setup.{Setup, along, group_of, item_count, local_id, group_id, place}
-use Rattle.semantics.specs.Linear.{value_of, IsMet, IsImpossible}
+use Rattle.semantics.specs.Linear.{value_of, IsMet}
 use Rattle.walk.specs.Symbols as symbols
 use Rattle.walk.specs.Symbols.{Which, First, Second, Symbol, Given, Length, Local, Group, New, number, symbol_of, Fact, constant, once, minus, equals}
 use Rattle.walk.specs.Elements.{Elements, element_of}
-use Rattle.walk.specs.Launching.{each_dimension, launch_facts, known, count_range}
+use Rattle.walk.specs.Launching.{launch_facts, known, count_range}
 use Rattle.walk.specs.Trees.{Access}
 use Rattle.walk.proofs.Integers.{lt_true}
 use Rattle.walk.proofs.Naming.{symbol_of-number}
@@ -20,7 +20,7 @@ use Rattle.walk.proofs.Worlds.{Walked, setup_of, View, meaning, Agrees}
 use Rattle.walk.proofs.Launched.{each_dimension-all, local-below, group_id-below, count_in, launch_known}
 use Rattle.walk.proofs.Known.{Fit, members}
 use Rattle.walk.proofs.Bodies.{Noted}
-use Rattle.walk.proofs.Twins.{twin, Twins, Alike, value_of-alike}
+use Rattle.walk.proofs.Twins.{twin, Twins, value_of-alike}
 use Rattle.walk.proofs.TwinTrees.{AreAlike, Twin}
 use Rattle.walk.proofs.TwinFacts.{groups-twin, given-twin, length-twin, local-twin, group-twin, new-twin}
 use Rattle.two_thread.specs.Pairs.{Scope, Within, Across, Order, Below, Above, Pair, id, less, order_fact, same_group, scope_facts, pair_facts, is_apart, pair_obligation, differs, two_orders, all_orders, conflict, where_so}

@@ -1,5 +1,5 @@
 -- Of any two accesses, one way round or the other, all pairs are in the list.
-use Rattle.std.proofs.Common.{◌≡◌, ℕ, zero, suc, ◌+◌, ◌<◌, Bool, true, false, ◌&&◌, ◌||◌, List, [], ◌∷◌, ◌++◌, map, length, arith, refl, sym, ap, subst, ◌∙◌, inl, inr}
+use Rattle.std.proofs.Common.{◌≡◌, ℕ, zero, suc, ◌+◌, ◌<◌, List, [], ◌∷◌, ◌++◌, map, length, arith, sym, subst, inl, inr}
 use Rattle.std.specs.Prelude.{◌⊎◌}
 use Rattle.std.specs.List.{All, AllZip}
 use Rattle.std.proofs.lemmas.List.Elements.{All-head, All-tail}
@@ -68,9 +68,10 @@ module _ {E : Type 0} (P : Pair E → Type 0) (sizes : Three ℕ) (c : Condition
   pairs_from-has b [] us ws h n l = absurd (omega arith)
   pairs_from-has b (k ∷ ks) us ws h zero l =
       let e : b ≡ b + 0 = omega arith in
-      let r = each-right P (pairs_in sizes c b us ws Within) (pairs_in sizes c b us ws Across ++ pairs_from sizes c (suc b) ks us ws) h in
-      (subst (λ m. Each P (pairs_in sizes c m us ws Within)) e (each-left P (pairs_in sizes c b us ws Within) (pairs_in sizes c b us ws Across ++ pairs_from sizes c (suc b) ks us ws) h),
-      subst (λ m. Each P (pairs_in sizes c m us ws Across)) e (each-left P (pairs_in sizes c b us ws Across) (pairs_from sizes c (suc b) ks us ws) r))
+      let r = each-right P (pairs_in sizes c b us ws Within) (pairs_in sizes c b us ws Across ++ pairs_from sizes c (suc b) ks us ws) h in (
+        subst (λ m. Each P (pairs_in sizes c m us ws Within)) e (each-left P (pairs_in sizes c b us ws Within) (pairs_in sizes c b us ws Across ++ pairs_from sizes c (suc b) ks us ws) h),
+        subst (λ m. Each P (pairs_in sizes c m us ws Across)) e (each-left P (pairs_in sizes c b us ws Across) (pairs_from sizes c (suc b) ks us ws) r),
+      )
   pairs_from-has b (k ∷ ks) us ws h (suc n) l =
       let e : suc b + n ≡ b + suc n = omega arith in
       let r = each-right P (pairs_in sizes c b us ws Within) (pairs_in sizes c b us ws Across ++ pairs_from sizes c (suc b) ks us ws) h in

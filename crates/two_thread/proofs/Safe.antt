@@ -1,5 +1,5 @@
 -- Where all is shown, a straight-line kernel is pair-safe.
-use Rattle.std.proofs.Common.{◌≡◌, ◌≢◌, ℕ, suc, ◌+◌, ◌<◌, ◌≤◌, ◌&&◌, Bool, true, List, [], ◌∷◌, ◌++◌, map, length, arith, refl, sym, ap, subst, ◌∙◌, inl, inr}
+use Rattle.std.proofs.Common.{◌≡◌, ◌≢◌, ℕ, suc, ◌+◌, ◌<◌, ◌≤◌, Bool, true, List, [], ◌∷◌, map, length, arith, refl, sym, ap, subst, inl, inr}
 use Rattle.std.specs.Prelude.{ℤ, ◌⊎◌}
 use Rattle.std.specs.List.{All, AllZip}
 use Rattle.std.proofs.lemmas.Bool.{and_parts, cases_eq}
@@ -9,7 +9,7 @@ use Rattle.semantics.specs.Conditions.{Conditions, Meets}
 use Rattle.semantics.specs.Setup.{Setup, group_of, item_count}
 use Rattle.semantics.specs.Solo.{after}
 use Rattle.semantics.specs.Solo as solo
-use Rattle.semantics.specs.Safety.{Clash, IsPairSafe}
+use Rattle.semantics.specs.Safety.{IsPairSafe}
 use Rattle.domain.specs.declared.Domain.{Ghosts}
 use Rattle.walk.specs.Symbols.{First, Second}
 use Rattle.walk.specs.Launching.{launch_facts, known}
@@ -23,7 +23,7 @@ use Rattle.walk.proofs.TwinTrees.{Twin}
 use Rattle.walk.proofs.TwinWalks.{accesses-same}
 use Rattle.two_thread.specs.Pairs.{Pair, Scope, Within, Across, pairs_in, pair_obligation}
 use Rattle.two_thread.specs.Shown.{item_accesses, item_claims, pairs, obligations, IsShown}
-use Rattle.two_thread.proofs.SoloStores.{tree_accesses, stands_in}
+use Rattle.two_thread.proofs.SoloStores.{stands_in}
 use Rattle.two_thread.proofs.Alone.{Seen, standing-quiet, standing-short, seen, arrives_never, never_waits}
 use Rattle.two_thread.proofs.Places.{locals-differ, groups-differ}
 use Rattle.two_thread.proofs.PairLists.{Each, each-all, all-each, each-left, each-right, each-map, Found, pairs_in-has, pairs_from-has}
@@ -74,6 +74,7 @@ module _ {E : Type 0} (w : Walked E) (straight : is_straight_body (length w.kern
     where
       found : (sc : Scope) → Each IsPairShown (pairs_in w.kernel.sizes w.conditions b firsts seconds sc) → Found IsPairShown w.kernel.sizes w.conditions sc b p.node q.node ⊎ Found IsPairShown w.kernel.sizes w.conditions sc b q.node p.node
       found sc h = pairs_in-has IsPairShown w.kernel.sizes w.conditions sc b firsts seconds twins h p.node q.node p.here q.here
+
       by : (group_of s i ≡ group_of s j) ⊎ (group_of s i ≢ group_of s j) → ⊥
       by (inl g) =
           let d = locals-differ s i j hi hj n g in

@@ -1,18 +1,15 @@
 -- A solo run of a straight-line kernel: it stores, or it has ended.
-use Rattle.std.proofs.Common.{◌≡◌, ◌≢◌, ℕ, suc, ◌+◌, ◌<◌, ◌≤◌, Bool, true, List, [], ◌∷◌, ◌++◌, map, length, slice_index_or, Option, Some, None, arith, refl, sym, ap, subst, ◌∙◌}
+use Rattle.std.proofs.Common.{◌≡◌, ℕ, suc, ◌+◌, true, List, [], ◌∷◌, ◌++◌, map, length, arith, refl, sym, ap, subst}
 use Rattle.std.specs.Prelude.{ℤ, pos}
 use Rattle.std.specs.List.{All, AllZip}
 use lib.ListN.{get_or-append}
-use Rattle.semantics.specs.Word.{Kind, Word, word, zero_word, Fault}
-use Rattle.semantics.specs.Core.{Site, Array, Term, Statement, Set, Store, If, Loop, Barrier, Return, Break, Continue, Statements, none, one}
+use Rattle.semantics.specs.Word.{Kind, Word, word, zero_word}
+use Rattle.semantics.specs.Core.{Site, Set, Store, If, Loop, Barrier, Return, Break, Continue, Statements, none, one}
 use Rattle.semantics.specs.Launch.{IsArgument}
-use Rattle.semantics.specs.Setup.{Setup}
-use Rattle.semantics.specs.Memory.{Cell}
-use Rattle.semantics.specs.Item.{Item, Entry, Status, Stopped, enter, status_of}
-use Rattle.semantics.specs.Ask.{Ask, Loads, Stores, Goes, Waits, Rests, ask}
-use Rattle.semantics.specs.Solo.{Access, opening, moved, move, after, touch, Touched, is_waiting, passed, arrived}
-use Rattle.semantics.proofs.Steps.{not_waiting}
-use Rattle.walk.specs.Symbols.{First, Fact}
+use Rattle.semantics.specs.Item.{Item, enter, status_of}
+use Rattle.semantics.specs.Ask.{Ask, Stores, Rests, ask}
+use Rattle.semantics.specs.Solo.{opening, moved, after}
+use Rattle.walk.specs.Symbols.{First}
 use Rattle.walk.specs.Launching.{launch_facts, item_facts}
 use Rattle.walk.specs.Trees as trees
 use Rattle.walk.specs.Trees.{accesses, claims}
@@ -22,7 +19,7 @@ use Rattle.walk.proofs.Worlds.{View, setup, walks}
 use Rattle.walk.proofs.Launched.{launch_known, item_known}
 use Rattle.walk.proofs.Journeys.{Shown}
 use Rattle.walk.proofs.Expressions.{AreGiven}
-use Rattle.walk.proofs.Bodies.{Noted, Placed, Stored, store_sound}
+use Rattle.walk.proofs.Bodies.{Noted, Placed, store_sound}
 
 -- the accesses of the tree, as those of the first item
 abbrev pub tree_accesses : {E : Type 0} → View E → List (trees.Access E)

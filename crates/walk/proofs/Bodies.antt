@@ -1,21 +1,21 @@
 -- What the walk of statements promises: where an item stands before them, and its access in the tree.
-use Rattle.std.proofs.Common.{◌≡◌, ℕ, suc, ◌+◌, ◌<◌, ◌&&◌, Bool, true, false, cond, List, [], ◌∷◌, length, nat_lt, slice_index_or, arith, refl, sym, ap, ◌∙◌, subst, inl, inr, lt-ltb}
+use Rattle.std.proofs.Common.{◌≡◌, ℕ, suc, ◌<◌, ◌&&◌, Bool, true, cond, List, [], ◌∷◌, length, slice_index_or, arith, refl, sym, ap, ◌∙◌, subst, inl, inr, lt-ltb}
 use Rattle.std.specs.Prelude.{ℤ, pos, negsuc, ◌-ℤ◌, ◌≤ℤ◌}
 use Rattle.std.proofs.lemmas.Int.{ints}
 use Rattle.std.proofs.lemmas.Bool.{and_parts}
-use Rattle.semantics.specs.Word.{Word, in_kind, as_kind}
-use Rattle.semantics.specs.Core.{Site, Space, Global, Local, Array, Term, Statement, Store, Statements, none, one}
+use Rattle.semantics.specs.Word.{Word, as_kind}
+use Rattle.semantics.specs.Core.{Site, Space, Global, Local, Array, Term, Store, Statements, one}
 use Rattle.semantics.specs.Setup.{Setup}
 use Rattle.semantics.specs.Memory.{Cell, extent, extent_in, owner_of, kind_at}
-use Rattle.semantics.specs.Evaluation.{Outcome, Gives, evaluate, Index, At, Outside, within}
+use Rattle.semantics.specs.Evaluation.{Outcome, evaluate, At, Outside, within}
 use Rattle.semantics.specs.Item.{Item, Entry, finished}
 use Rattle.semantics.specs.Ask.{Ask, Stores, on_value, stores, act}
 use Rattle.walk.specs.Symbols.{Length, Fact, constant, once, minus}
 use Rattle.walk.specs.Straight.{is_straight_term, is_straight_body, is_global}
 use Rattle.walk.specs.Trees.{Tree, Leaf, Touch, Access, accesses}
-use Rattle.walk.specs.Walks.{State, Value, Onward, value, claimed, claim, walk, in_buffer, walk_all}
+use Rattle.walk.specs.Walks.{State, Onward, claimed, claim, walk, in_buffer, walk_all}
 use Rattle.walk.proofs.Values.{value-once}
-use Rattle.walk.proofs.Worlds.{View, setup, walks, Agrees, Means, Knows, length_at}
+use Rattle.walk.proofs.Worlds.{View, setup, walks, Means, Knows, length_at}
 use Rattle.walk.proofs.Known.{Fit}
 use Rattle.walk.proofs.Journeys.{Has, Stands, Comes, Goes, gives, at_kind, stands_behind, told_by}
 use Rattle.walk.proofs.Ranges.{means-minus, means_constant}

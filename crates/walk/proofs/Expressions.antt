@@ -1,8 +1,8 @@
 -- What the walk of a term promises: no fault, and a form that has the term's value, which its kind has.
-use Rattle.std.proofs.Common.{◌≡◌, ℕ, ◌<◌, Bool, true, false, ◌&&◌, List, [], ◌∷◌, length, nat_lt, slice_index_or, refl, sym, ap, ◌∙◌, ltb-true, lt-ltb}
+use Rattle.std.proofs.Common.{◌≡◌, ℕ, ◌<◌, true, ◌&&◌, List, length, slice_index_or, refl, ap, ◌∙◌, ltb-true, lt-ltb}
 use Rattle.std.specs.Prelude.{ℤ, pos}
 use Rattle.std.proofs.lemmas.Bool.{and_parts}
-use Rattle.semantics.specs.Word.{Kind, Int, Uint, Word, word, zero_word, in_kind, as_kind, convert}
+use Rattle.semantics.specs.Word.{Kind, Int, Uint, Word, word, zero_word, as_kind, convert}
 use Rattle.semantics.specs.Core.{Term, Literal, Variable, Id, Load, Unary, Binary, Convert, Compare, Not, And, Or, Select, Minimum, Maximum}
 use Rattle.semantics.specs.Setup.{identity}
 use Rattle.semantics.specs.Evaluation.{Gives, evaluate, settled, operate, and_then}
@@ -11,8 +11,8 @@ use Rattle.walk.specs.Symbols.{Given, Fact, constant, once}
 use Rattle.walk.specs.Straight.{is_straight_term, is_exact}
 use Rattle.walk.specs.Walks.{State, Onward, value, walk, brought, exact, ranged, id_form}
 use Rattle.walk.proofs.Values.{value-once}
-use Rattle.walk.proofs.Worlds.{View, setup, walks, Means}
-use Rattle.walk.proofs.Journeys.{Stands, Comes, Goes, gives, goes_then, at_kind, at_once}
+use Rattle.walk.proofs.Worlds.{View, setup, walks}
+use Rattle.walk.proofs.Journeys.{Stands, Goes, gives, goes_then, at_kind, at_once}
 use Rattle.walk.proofs.Ranges.{means_constant, brought_sound}
 use Rattle.walk.proofs.Identities.{id-below, means_id, argument-is}
 use Rattle.walk.proofs.Operators.{operate_sound}

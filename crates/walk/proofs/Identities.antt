@@ -1,10 +1,10 @@
 -- The forms of ids and of arguments have their numbers, which their kinds have.
-use Rattle.std.proofs.Common.{◌≡◌, ℕ, zero, suc, ◌+◌, ◌*◌, ◌-◌, ◌<◌, ◌≤◌, ◌^◌, ◌&&◌, Bool, true, false, cond, nat_lt, nat_le, List, [], ◌∷◌, ◌++◌, length, slice_index_or, arith, refl, sym, ap, ◌∙◌, subst, ltb-true, ltb-false, lt-ltb}
-use Rattle.std.specs.Prelude.{ℤ, pos, ◌+ℤ◌, ◌*ℤ◌}
+use Rattle.std.proofs.Common.{◌≡◌, ℕ, zero, suc, ◌+◌, ◌*◌, ◌-◌, ◌<◌, ◌≤◌, ◌^◌, ◌&&◌, Bool, true, false, cond, nat_lt, nat_le, List, [], ◌∷◌, length, slice_index_or, arith, refl, sym, ap, ◌∙◌, subst, ltb-true, ltb-false}
+use Rattle.std.specs.Prelude.{ℤ, pos, ◌*ℤ◌}
 use Rattle.std.specs.List.{AllZip}
 use Rattle.std.proofs.lemmas.Int.{ints}
 use Rattle.std.proofs.lemmas.Bool.{and_parts, leb-true}
-use Rattle.semantics.specs.Word.{Kind, Int, Uint, Word, zero_word, in_kind}
+use Rattle.semantics.specs.Word.{Kind, Int, Word, zero_word, in_kind}
 use Rattle.semantics.specs.Core.{Function, GlobalId, LocalId, GroupId, GlobalSize, LocalSize, NumGroups}
 use Rattle.semantics.specs.Launch.{Three, IsArgument, IsCount}
 use Rattle.semantics.specs.Setup.{along, local_id, group_id, identity}
@@ -55,9 +55,11 @@ id-below {E} c f d = by f (size_most c.kernel.sizes c.sized d) (count_most c.lau
     local : (b : Bool) → nat_lt d 3 ≡ b → local_id (setup c) c.item d ≤ 1024
     local true e = let l = local-below (setup c) c.item c.place d (ltb-true d 3 e) in let m = size_most c.kernel.sizes c.sized d in omega (arith, l, m)
     local false e = let l : local_id (setup c) c.item d ≡ 0 = along-past _ d 0 (ltb-false d 3 e) in omega (arith, l)
+
     group : (b : Bool) → nat_lt d 3 ≡ b → group_id (setup c) c.item d ≤ 65536
     group true e = let l = group_id-below (setup c) c.item c.place d (ltb-true d 3 e) in let m = count_most c.launch.groups c.fits.count_x c.fits.count_y c.fits.count_z d in omega (arith, l, m)
     group false e = let l : group_id (setup c) c.item d ≡ 0 = along-past _ d 0 (ltb-false d 3 e) in omega (arith, l)
+
     by : (f : Function) → along c.kernel.sizes d 1 ≤ 1024 → along c.launch.groups d 1 ≤ 65536 → local_id (setup c) c.item d ≤ 1024 → group_id (setup c) c.item d ≤ 65536 → identity (setup c) c.item f d < 2 ^ 32
     by GlobalId n g l k = let p = product-most (group_id (setup c) c.item d) (65536 - group_id (setup c) c.item d) (along c.kernel.sizes d 1) (1024 - along c.kernel.sizes d 1) (omega arith) (omega arith) in omega (arith, p, l)
     by LocalId n g l k = omega (arith, l)

@@ -1,8 +1,8 @@
 -- Tests of whole numbers, and the ranges of kinds.
-use Rattle.std.proofs.Common.{◌≡◌, ℕ, ◌^◌, ◌<◌, Bool, true, false, cond, nat_lt, refl, ap, sym, ◌∙◌, arith, ltb-true, lt-ltb, Result, Ok, Err}
+use Rattle.std.proofs.Common.{◌≡◌, ◌^◌, ◌<◌, Bool, true, false, cond, refl, ap, sym, arith, ltb-true, lt-ltb, Ok, Err}
 use Rattle.std.specs.Prelude.{ℤ, pos, negsuc, ◌≤ℤ◌, ◌<ℤ◌, int_le, int_lt}
 use Rattle.std.proofs.lemmas.Int.{ints}
-use Rattle.semantics.specs.Word.{Kind, Int, Uint, Word, word, Fault, Overflow, in_kind, as_kind, settle}
+use Rattle.semantics.specs.Word.{Kind, Int, Uint, word, Overflow, in_kind, as_kind, settle}
 use Rattle.semantics.proofs.Words.{as_kind-same}
 use Rattle.walk.specs.Walks.{least, greatest}
 

@@ -1,14 +1,14 @@
 -- From a place in a tree to a later one, along what an item does.
-use Rattle.std.proofs.Common.{◌≡◌, ℕ, Bool, true, List, [], ◌∷◌, ◌++◌, refl, sym, ap, subst, inl, inr}
+use Rattle.std.proofs.Common.{◌≡◌, ℕ, Bool, true, List, [], ◌∷◌, ◌++◌, refl, sym, subst, inl, inr}
 use Rattle.std.specs.Prelude.{ℤ, pos, ◌≤ℤ◌, ◌⊎◌}
 use Rattle.std.specs.List.{All}
 use Rattle.std.proofs.lemmas.List.Elements.{All-append, All-cons, All-nil, All-head, All-tail}
-use Rattle.semantics.specs.Word.{Word, word, Kind, in_kind}
+use Rattle.semantics.specs.Word.{Word, Kind, in_kind}
 use Rattle.semantics.specs.Evaluation.{Outcome, Gives, and_then}
 use Rattle.semantics.specs.Linear.{value_of, IsMet, IsImpossible}
 use Rattle.walk.specs.Symbols.{Fact, denial}
-use Rattle.walk.specs.Trees.{Tree, Claim, Know, Touch, Obligation, Access, claims, accesses}
-use Rattle.walk.specs.Walks.{State, Value, value, Onward, elements_at, settles, claimed, claim, know_all}
+use Rattle.walk.specs.Trees.{Tree, Claim, Obligation, Access, claims, accesses}
+use Rattle.walk.specs.Walks.{State, value, Onward, elements_at, settles, claimed, claim, know_all}
 use Rattle.walk.proofs.Values.{claimed as denied}
 use Rattle.walk.proofs.Members.{settled_holds, by_number}
 use Rattle.walk.proofs.Worlds.{View, walks, Agrees, Means, Knows, own, agrees_itself, agrees_before}

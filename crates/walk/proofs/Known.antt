@@ -1,25 +1,24 @@
 -- The numbers of a launch, of ids and of new symbols are members of their elements.
-use Rattle.std.proofs.Common.{◌≡◌, ℕ, zero, suc, ◌+◌, ◌<◌, ◌≤◌, ◌&&◌, true, List, [], ◌∷◌, ◌++◌, map, length, slice_index_or, Option, Some, None, arith, refl, sym, ap, subst, ◌∙◌}
-use Rattle.std.specs.Prelude.{ℤ, pos, negsuc, ◌+ℤ◌, ◌-ℤ◌, ◌≤ℤ◌}
-use Rattle.std.specs.List.{All, AllZip}
+use Rattle.std.proofs.Common.{◌≡◌, ℕ, zero, suc, ◌<◌, ◌≤◌, true, List, [], ◌∷◌, ◌++◌, map, length, slice_index_or, Option, Some, None, arith, refl, ap, subst}
+use Rattle.std.specs.Prelude.{ℤ, pos, ◌-ℤ◌, ◌≤ℤ◌}
+use Rattle.std.specs.List.{AllZip}
 use Rattle.std.proofs.lemmas.Int.{ints}
 use Rattle.std.proofs.lemmas.Bool.{and_parts}
 use Rattle.semantics.specs.Word.{Kind, Word, zero_word}
-use Rattle.semantics.specs.Launch.{Three, Launch, IsBuffer}
-use Rattle.semantics.specs.Setup.{Setup, along, item_count, local_id, group_id}
+use Rattle.semantics.specs.Launch.{Launch, IsBuffer}
+use Rattle.semantics.specs.Setup.{Setup, item_count, local_id, group_id}
 use Rattle.semantics.specs.Conditions.{Range, Summand, Conditions, IsIn, IsLongEnough, Meets, sum_value}
-use Rattle.semantics.specs.Linear.{value_of}
 use Rattle.domain.specs.declared.Domain.{Ghosts}
 use Rattle.domain.specs.Members.{is_above, is_below}
 use Rattle.walk.specs.Symbols as symbols
 use Rattle.walk.specs.Symbols.{First, Second, Symbol, Given, Length, Local, Group, New}
-use Rattle.walk.specs.Elements.{Elements, nth, between, element, element_of}
+use Rattle.walk.specs.Elements.{nth, between, element_of}
 use Rattle.walk.specs.Launching.{sum_form, of_range, known_so_far, length_element, at_least_some, below, known}
 use Rattle.walk.proofs.Integers.{le_test}
 use Rattle.walk.proofs.Naming.{symbol_of-number}
 use Rattle.walk.proofs.Members.{Lawful, Members, by_number, between-has, element_of-has}
 use Rattle.walk.proofs.Launched.{local-below, group_id-below, sum_form-value}
-use Rattle.walk.proofs.Worlds.{Walked, setup_of, meaning, groups_at, given_at, length_at}
+use Rattle.walk.proofs.Worlds.{Walked, setup_of, meaning, groups_at}
 
 -- numbers are members of elements, place by place
 abbrev pub Fit : {E : Type 0} → Ghosts E → List E → List ℤ → Type 0

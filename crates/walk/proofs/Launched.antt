@@ -1,22 +1,22 @@
 -- The facts of a launch that meets the conditions, and of an item, hold.
-use Rattle.std.proofs.Common.{◌≡◌, ℕ, zero, suc, ◌+◌, ◌<◌, ◌≤◌, ◌%◌, true, List, [], ◌∷◌, ◌++◌, map, length, slice_index_or, arith, refl, sym, ap, ◌∙◌}
-use Rattle.std.specs.Prelude.{ℤ, pos, negsuc, ◌+ℤ◌, ◌-ℤ◌, ◌*ℤ◌, ◌≤ℤ◌}
+use Rattle.std.proofs.Common.{◌≡◌, ℕ, zero, suc, ◌+◌, ◌<◌, ◌%◌, List, [], ◌∷◌, ◌++◌, map, length, slice_index_or, arith, ap, ◌∙◌}
+use Rattle.std.specs.Prelude.{ℤ, pos, ◌+ℤ◌, ◌-ℤ◌, ◌*ℤ◌}
 use Rattle.std.specs.List.{All, AllZip}
 use Rattle.std.proofs.lemmas.Int.{ints}
 use Rattle.std.proofs.lemmas.List.Elements.{All-append, All-cons, All-nil, All-head, All-tail}
 use Rattle.semantics.specs.Word.{Kind, Word, zero_word}
-use Rattle.semantics.specs.Launch.{Three, product, Launch, IsBuffer}
+use Rattle.semantics.specs.Launch.{Three, Launch, IsBuffer}
 use Rattle.semantics.specs.Setup.{Setup, along, place, IsPlace, group_size, group_count, group_of, item_count, local_id, group_id}
 use Rattle.semantics.specs.Conditions.{Range, Summand, Constant, Argument, Groups, Requirement, Conditions, IsIn, IsLongEnough, IsRequired, Meets, summand_value, sum_value}
 use Rattle.semantics.specs.Linear.{value_of, IsMet}
 use Rattle.semantics.proofs.Groups.{group_size-pos, place-below, group-below}
 use Rattle.semantics.proofs.Places.{place-is}
-use Rattle.linear.specs.Exact.{sum, multiple}
+use Rattle.linear.specs.Exact.{sum}
 use Rattle.walk.specs.Symbols as symbols
 use Rattle.walk.specs.Symbols.{First, Symbol, Given, Length, Local, Group, number, Fact, constant, once, minus}
 use Rattle.walk.specs.Launching.{each_dimension, summand_form, sum_from, sum_form, ends, argument_facts, length_facts, required, count_range, launch_facts, id_facts, item_facts}
 use Rattle.walk.proofs.Values.{value-sum, value-multiple, value-minus, value-constant, value-once}
-use Rattle.walk.proofs.Worlds.{View, setup, groups_at, given_at, length_at, Agrees, Knows}
+use Rattle.walk.proofs.Worlds.{View, setup, groups_at, given_at, Knows}
 
 pub each_dimension-all : {A : Type 0} (P : A → Type 0) (f : ℕ → List A) → ((d : ℕ) → d < 3 → All P (f d)) → All P (each_dimension f)
 each_dimension-all P f h = All-append P (f 0) (f 1 ++ f 2) (h 0 (omega arith)) (All-append P (f 1) (f 2) (h 1 (omega arith)) (h 2 (omega arith)))

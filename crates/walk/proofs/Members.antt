@@ -1,11 +1,10 @@
 -- What elements say of the values of forms, by the domain's laws.
-use Rattle.std.proofs.Common.{◌≡◌, ℕ, Bool, true, false, ◌&&◌, ◌||◌, not, List, [], ◌∷◌, Option, Some, None, arith, refl, sym, ap, subst, ◌∙◌, inl, inr}
-use Rattle.std.specs.Prelude.{ℤ, pos, ◌+ℤ◌, ◌*ℤ◌, ◌≤ℤ◌, ◌<ℤ◌, int_le, int_lt, ◌⊎◌}
+use Rattle.std.proofs.Common.{◌≡◌, ℕ, Bool, true, false, ◌||◌, not, List, [], ◌∷◌, Option, Some, None, arith, subst, inl, inr}
+use Rattle.std.specs.Prelude.{ℤ, pos, ◌+ℤ◌, ◌*ℤ◌, ◌≤ℤ◌}
 use Rattle.std.proofs.lemmas.Int.{ints}
 use Rattle.std.proofs.lemmas.Bool.{and_parts, or_cases}
 use Rattle.semantics.specs.Linear.{Weighted, terms_value, value_of}
 use Rattle.domain.specs.declared.Domain.{Ghosts}
-use Rattle.domain.specs.declared.Bounds.{Bounds}
 use Rattle.domain.specs.Members.{is_above, is_below, is_within, leaves}
 use Rattle.walk.specs.Symbols.{Symbol, symbol_of, Fact}
 use Rattle.walk.specs.Elements.{Elements, element, with_terms, element_of, between, is_from_zero, is_above_zero, is_below_zero, is_settled, lacks_zero}

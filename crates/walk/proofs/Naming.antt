@@ -1,6 +1,6 @@
 -- A symbol has its number.
-use Rattle.std.proofs.Common.{◌≡◌, ℕ, ◌+◌, ◌*◌, ◌/◌, ◌%◌, ◌<◌, arith, refl, ap, ◌∙◌}
-use Rattle.walk.specs.Symbols.{Which, First, Second, Symbol, Groups, Given, Length, Local, Group, New, number, of_family, symbol_of}
+use Rattle.std.proofs.Common.{◌≡◌, ℕ, ◌+◌, ◌*◌, ◌/◌, ◌%◌, ◌<◌, arith, ap, ◌∙◌}
+use Rattle.walk.specs.Symbols.{First, Second, Symbol, Groups, Given, Length, Local, Group, New, number, of_family, symbol_of}
 
 family : (f i : ℕ) → f < 16 → symbol_of (f + 16 * i) ≡ of_family f i
 unfolding symbol_of

@@ -1,6 +1,6 @@
 -- What the walk of an operator promises, once its operands are walked.
-use Rattle.std.proofs.Common.{◌≡◌, ℕ, Bool, true, false, List, [], ◌∷◌, arith, refl, sym, ap, ◌∙◌}
-use Rattle.std.specs.Prelude.{ℤ, pos, ◌+ℤ◌, ◌*ℤ◌, Result, Ok}
+use Rattle.std.proofs.Common.{◌≡◌, ℕ, true, List, [], ◌∷◌, arith, refl, sym, ap, ◌∙◌}
+use Rattle.std.specs.Prelude.{ℤ, ◌+ℤ◌, ◌*ℤ◌, Result, Ok}
 use Rattle.std.proofs.lemmas.Int.{ints}
 use Rattle.semantics.specs.Word.{Kind, Word, word, Fault, Operator, Add, Subtract, Multiply, Divide, Remainder, BitAnd, BitOr, BitXor, in_kind, as_kind, settle, calculate}
 use Rattle.semantics.specs.Core.{Site}
@@ -15,10 +15,10 @@ use Rattle.walk.specs.Trees.{Tree}
 use Rattle.walk.specs.Walks.{State, Onward, value, elements_at, product, exact, ranged, brought}
 use Rattle.walk.proofs.Values.{value-sum, value-multiple}
 use Rattle.walk.proofs.Members.{element_of-has, by_number}
-use Rattle.walk.proofs.Worlds.{View, walks, Agrees, Means, own, agrees_itself}
+use Rattle.walk.proofs.Worlds.{View, walks, Means, own, agrees_itself}
 use Rattle.walk.proofs.Known.{members}
 use Rattle.walk.proofs.Journeys.{Stands, Comes, Goes, gives, at_kind, onward, at_once}
-use Rattle.walk.proofs.Ranges.{Settles, invent_sound, ranged_sound, brought_sound}
+use Rattle.walk.proofs.Ranges.{invent_sound, ranged_sound, brought_sound}
 
 means-sum : {E : Type 0} (c : View E) (news : List ℤ) (f g : Fact) (x y : ℤ) → Means c news f x → Means c news g y → Means c news (sum f g) (x +ℤ y)
 means-sum c news f g x y mf mg = λ v a. omega (arith, ints, value-sum v f g, mf v a, mg v a)
@@ -78,5 +78,7 @@ operate_sound {E} c launch facts op k site x y f g st go news rest ex ix iy mf m
     let d = r.comes in
     let t = ranged_sound k c launch d.path d.form d.state go d.more r.result d.stands d.means in
     let z = as_kind k r.result in
-    let all = onward c launch facts _ (at_kind k mid) (at_kind k go) news (as_kind k x.value) z a (onward c launch a.path _ (at_kind k (after a.form)) (at_kind k go) a.more (as_kind k y.value) z b (onward c launch b.path _ end (at_kind k go) b.more r.result z d t.comes)) in
+    let all = onward c launch facts (brought s' k (value x.kind f) st mid) (at_kind k mid) (at_kind k go) news (as_kind k x.value) z a
+    (onward c launch a.path (mid (value k a.form) a.state) (at_kind k (after a.form)) (at_kind k go) a.more (as_kind k y.value) z b
+    (onward c launch b.path (after a.form (value k b.form) b.state) end (at_kind k go) b.more r.result z d t.comes)) in
     gives (word k z) rest (settled-same (operate op k x y) (settle k r.result) (word k z) site rest r.same t.settles) (as_kind-in_kind k r.result) all

@@ -1,6 +1,6 @@
 -- What the range rule, a new symbol and an access promise.
 use Rattle.std.proofs.Common.{◌≡◌, ℕ, Bool, true, false, List, [], ◌∷◌, ◌++◌, length, Option, Some, None, arith, refl, sym, ap, ◌∙◌}
-use Rattle.std.specs.Prelude.{ℤ, pos, negsuc, ◌+ℤ◌, ◌-ℤ◌, ◌≤ℤ◌, Result, Ok}
+use Rattle.std.specs.Prelude.{ℤ, pos, ◌+ℤ◌, ◌-ℤ◌, ◌≤ℤ◌, Ok}
 use Rattle.std.specs.List.{All}
 use Rattle.std.proofs.lemmas.Int.{ints}
 use Rattle.std.proofs.lemmas.Bool.{and_parts}
@@ -13,11 +13,11 @@ use Rattle.domain.specs.Members.{is_above, is_below, is_within}
 use Rattle.walk.specs.Symbols.{First, New, number, Fact, constant, once, minus}
 use Rattle.walk.specs.Elements.{between}
 use Rattle.walk.specs.Trees.{Tree}
-use Rattle.walk.specs.Walks.{State, Onward, value, settles, claimed, claim, know_all, lower_fact, upper_fact, bound_facts, newest, with_new, invent, least, greatest, low_end, high_end, in_range, is_kept, kept_or_new, ranged, brought_from}
+use Rattle.walk.specs.Walks.{State, Onward, value, claimed, claim, know_all, lower_fact, upper_fact, bound_facts, newest, with_new, invent, least, greatest, low_end, high_end, in_range, is_kept, kept_or_new, ranged, brought_from}
 use Rattle.walk.proofs.Integers.{le_test, in_kind-between, in_kind-ends, settle-same}
 use Rattle.walk.proofs.Values.{value-minus, value-constant, value-once}
 use Rattle.walk.proofs.Members.{between-has}
-use Rattle.walk.proofs.Worlds.{View, walks, Agrees, Means, agrees_new}
+use Rattle.walk.proofs.Worlds.{View, walks, Means, agrees_new}
 use Rattle.walk.proofs.Known.{fit-length}
 use Rattle.walk.proofs.Journeys.{Stands, Comes, at_kind, at_once, stands_behind, stands_knowing, stands_anew, from_claim, from_facts, from_new, told_by}
 

@@ -1,13 +1,11 @@
 -- The elements of a form of the first item and of its like of the second one are equal, and so is what the domain settles.
 use Rattle.std.proofs.Common.{◌≡◌, ℕ, zero, suc, ◌+◌, ◌*◌, ◌/◌, ◌%◌, ◌<◌, List, [], ◌∷◌, arith, refl, sym, ap, ◌∙◌}
-use Rattle.std.specs.Prelude.{ℤ}
-use Rattle.semantics.specs.Linear.{Weighted}
 use Rattle.linear.specs.Exact.{Terms}
 use Rattle.domain.specs.declared.Domain.{Ghosts}
 use Rattle.walk.specs.Symbols.{First, Second, of_family, symbol_of, Fact}
 use Rattle.walk.specs.Elements.{Known, Elements, element, with_terms, element_of}
 use Rattle.walk.specs.Walks.{elements_of}
-use Rattle.walk.proofs.Twins.{twin, Twins, AreTwins, Alike}
+use Rattle.walk.proofs.Twins.{Twins, AreTwins, Alike}
 
 module _ {E : Type 0} (g : Ghosts E) (k : Known E) (es : List E) where
   abbrev one : Elements E

@@ -1,14 +1,13 @@
 -- The ids, bounds and new symbols of the first item, and their likes.
-use Rattle.std.proofs.Common.{◌≡◌, ℕ, ◌+◌, ◌*◌, ◌%◌, ◌/◌, ◌<◌, List, [], ◌∷◌, ◌++◌, Option, Some, None, arith, refl}
+use Rattle.std.proofs.Common.{ℕ, List, ◌++◌, Option, Some, None, arith}
 use Rattle.std.specs.Prelude.{ℤ, pos, ◌-ℤ◌}
-use Rattle.std.specs.List.{AllZip}
 use Rattle.semantics.specs.Launch.{Three}
 use Rattle.semantics.specs.Setup.{along}
 use Rattle.walk.specs.Symbols as symbols
 use Rattle.walk.specs.Symbols.{First, Second, Given, Length, Local, Group, New, number, Fact, constant, once, minus}
-use Rattle.walk.specs.Launching.{each_dimension, id_facts, item_facts}
+use Rattle.walk.specs.Launching.{id_facts, item_facts}
 use Rattle.walk.specs.Walks.{lower_fact, upper_fact}
-use Rattle.walk.proofs.Twins.{twin, Twins, Alike, constant-alike, once-alike, minus-alike}
+use Rattle.walk.proofs.Twins.{Twins, Alike, constant-alike, once-alike, minus-alike}
 use Rattle.walk.proofs.TwinTrees.{AreAlike, alike-append}
 
 -- numbers of a launch's symbols and of an item's

@@ -1,6 +1,6 @@
 -- Trees of the first item, and the same trees of the second one: their accesses correspond one by one.
-use Rattle.std.proofs.Common.{◌≡◌, ℕ, Bool, List, [], ◌∷◌, ◌++◌, refl}
-use Rattle.std.specs.List.{All, AllZip}
+use Rattle.std.proofs.Common.{◌≡◌, List, [], ◌∷◌, ◌++◌}
+use Rattle.std.specs.List.{AllZip}
 use Rattle.walk.specs.Symbols.{Fact}
 use Rattle.walk.specs.Trees.{Tree, Leaf, Claim, Know, Touch, Access, accesses}
 use Rattle.walk.specs.Walks.{know_all}

@@ -1,22 +1,21 @@
 -- The walks of the first and of the second item are the same.
-use Rattle.std.proofs.Common.{◌≡◌, ℕ, ◌+◌, ◌*◌, ◌%◌, ◌/◌, ◌<◌, Bool, true, false, ◌&&◌, ◌||◌, cond, nat_lt, List, [], ◌∷◌, ◌++◌, length, Option, Some, None, arith, refl, sym, ap, subst, ◌∙◌}
-use Rattle.std.specs.Prelude.{ℤ, pos, ◌-ℤ◌}
+use Rattle.std.proofs.Common.{◌≡◌, ℕ, ◌+◌, Bool, true, false, ◌&&◌, ◌||◌, cond, nat_lt, [], ◌∷◌, length, refl, sym, ap, subst, ◌∙◌}
+use Rattle.std.specs.Prelude.{pos}
 use Rattle.std.specs.List.{AllZip}
 use Rattle.semantics.specs.Word.{Kind, Int, Uint, Operator, Add, Subtract, Multiply, Divide, Remainder, BitAnd, BitOr, BitXor}
-use Rattle.semantics.specs.Core.{Function, GlobalId, LocalId, GroupId, GlobalSize, LocalSize, NumGroups, Term, Literal, Variable, Id, Load, Unary, Binary, Convert, Compare, Not, And, Or, Select, Minimum, Maximum, Statement, Set, Store, If, Loop, Barrier, Return, Break, Continue, Statements, none, one}
-use Rattle.semantics.specs.Launch.{Three, Kernel}
+use Rattle.semantics.specs.Core.{Function, GlobalId, LocalId, GroupId, GlobalSize, LocalSize, NumGroups, Term, Literal, Variable, Id, Load, Unary, Binary, Convert, Compare, Not, And, Or, Select, Minimum, Maximum, Set, Store, If, Loop, Barrier, Return, Break, Continue, Statements, none, one}
+use Rattle.semantics.specs.Launch.{Kernel}
 use Rattle.semantics.specs.Setup.{along}
 use Rattle.semantics.specs.Conditions.{Conditions}
 use Rattle.linear.specs.Exact.{Terms, sum, multiple}
 use Rattle.domain.specs.declared.Domain.{Ghosts}
-use Rattle.domain.specs.declared.Bounds.{Bounds}
 use Rattle.walk.specs.Symbols as symbols
 use Rattle.walk.specs.Symbols.{First, Second, Symbol, Given, Length, Local, Group, New, number, Fact, constant, once, minus}
 use Rattle.walk.specs.Elements.{between, element_of, is_from_zero}
-use Rattle.walk.specs.Launching.{each_dimension, id_facts, item_facts}
-use Rattle.walk.specs.Trees.{Tree, Leaf, Claim, Know, Touch, Access, accesses}
-use Rattle.walk.specs.Walks.{Setting, State, Value, Onward, value, elements_at, settles, claimed, claim, lower_fact, upper_fact, bound_facts, newest, with_new, invent, least, greatest, low_end, high_end, in_range, is_kept, kept_or_new, ranged, brought_from, product, exact, id_form, walk, in_buffer, walk_all, tree, setting}
-use Rattle.walk.proofs.Twins.{twin, Twins, AreTwins, Alike, constant-alike, once-alike, sum-alike, multiple-alike, minus-alike}
+use Rattle.walk.specs.Launching.{item_facts}
+use Rattle.walk.specs.Trees.{Tree, Leaf, accesses}
+use Rattle.walk.specs.Walks.{Setting, State, Onward, value, elements_at, settles, claimed, upper_fact, bound_facts, newest, with_new, invent, least, greatest, low_end, high_end, is_kept, kept_or_new, ranged, brought_from, product, exact, id_form, walk, walk_all, tree, setting}
+use Rattle.walk.proofs.Twins.{AreTwins, Alike, constant-alike, once-alike, sum-alike, multiple-alike, minus-alike}
 use Rattle.walk.proofs.TwinElements.{element_of-alike}
 use Rattle.walk.proofs.TwinTrees.{Same, Twin, know_all-same, accesses-twins}
 use Rattle.walk.proofs.TwinFacts.{groups-twin, given-twin, local-twin, group-twin, new-twin, lower-alike, upper-alike, item_facts-alike}

@@ -1,12 +1,10 @@
 -- Forms of the first item, and the same forms of the second one.
-use Rattle.std.proofs.Common.{◌≡◌, ℕ, zero, suc, ◌+◌, ◌*◌, ◌/◌, ◌%◌, ◌<◌, ◌≤◌, Bool, true, false, cond, nat_lt, List, [], ◌∷◌, arith, refl, sym, ap, ◌∙◌, subst, lt-ltb, inl, inr}
+use Rattle.std.proofs.Common.{◌≡◌, ℕ, zero, suc, ◌+◌, ◌*◌, ◌/◌, ◌%◌, ◌<◌, ◌≤◌, Bool, true, false, cond, nat_lt, [], ◌∷◌, arith, refl, sym, ap, ◌∙◌, subst, lt-ltb, inl, inr}
 use Rattle.std.specs.Prelude.{ℤ, pos, negsuc, ◌+ℤ◌, ◌*ℤ◌}
-use Rattle.std.specs.List.{AllZip}
-use Rattle.std.proofs.lemmas.Int.{ints}
 use Rattle.std.proofs.lemmas.Bool.{cases_lt, le-ltb}
 use Rattle.semantics.specs.Linear.{Weighted, terms_value, value_of}
 use Rattle.linear.specs.Exact.{Terms, put, merge, merge_one, multiples, sum, multiple}
-use Rattle.walk.specs.Symbols.{Symbol, number, Fact, constant, once, minus, equals}
+use Rattle.walk.specs.Symbols.{Symbol, number, Fact, constant, once, minus}
 
 -- the number of the second item's symbol; of the launch's, their own
 abbrev pub twin : ℕ → ℕ

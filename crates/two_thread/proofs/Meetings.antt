@@ -1,10 +1,10 @@
 -- Two items at their accesses of one element contradict what is shown of the pair.
-use Rattle.std.proofs.Common.{◌≡◌, ◌≢◌, ℕ, ◌<◌, Bool, true, false, ◌&&◌, ◌||◌, nat_eq, List, [], ◌∷◌, ◌++◌, arith, refl, sym, ap, subst, ◌∙◌, inl, inr, eq-eqb, lt-ltb}
-use Rattle.std.specs.Prelude.{ℤ, pos, ◌≤ℤ◌, ◌<ℤ◌}
+use Rattle.std.proofs.Common.{◌≡◌, ◌≢◌, ℕ, ◌<◌, Bool, true, false, ◌&&◌, ◌||◌, nat_eq, List, ◌∷◌, ◌++◌, arith, refl, sym, ap, subst, ◌∙◌, inl, inr, eq-eqb, lt-ltb}
+use Rattle.std.specs.Prelude.{ℤ, pos}
 use Rattle.std.specs.List.{All}
 use Rattle.std.proofs.lemmas.Int.{ints, by_lt_z}
 use Rattle.std.proofs.lemmas.Bool.{and_from}
-use Rattle.std.proofs.lemmas.List.Elements.{All-append, All-cons, All-nil, All-head, All-tail}
+use Rattle.std.proofs.lemmas.List.Elements.{All-append, All-cons, All-nil}
 use Rattle.semantics.specs.Setup.{Setup, along, group_of, item_count, local_id, group_id, place}
 use Rattle.semantics.specs.Linear.{value_of, IsMet}
 use Rattle.walk.specs.Symbols as symbols
@@ -14,31 +14,19 @@ use Rattle.walk.specs.Launching.{launch_facts, known, count_range}
 use Rattle.walk.specs.Trees.{Access}
 use Rattle.walk.proofs.Integers.{lt_true}
 use Rattle.walk.proofs.Naming.{symbol_of-number}
-use Rattle.walk.proofs.Values.{value-minus, value-constant, value-once, met_equals}
+use Rattle.walk.proofs.Values.{value-minus, value-once, met_equals}
 use Rattle.walk.proofs.Members.{Members, by_number, element_of-has, zero_lacks}
 use Rattle.walk.proofs.Worlds.{Walked, setup_of, View, meaning, Agrees}
 use Rattle.walk.proofs.Launched.{each_dimension-all, local-below, group_id-below, count_in, launch_known}
 use Rattle.walk.proofs.Known.{Fit, members}
 use Rattle.walk.proofs.Bodies.{Noted}
 use Rattle.walk.proofs.Twins.{twin, Twins, value_of-alike}
-use Rattle.walk.proofs.TwinTrees.{AreAlike, Twin}
+use Rattle.walk.proofs.TwinTrees.{Twin}
 use Rattle.walk.proofs.TwinFacts.{groups-twin, given-twin, length-twin, local-twin, group-twin, new-twin}
-use Rattle.two_thread.specs.Pairs.{Scope, Within, Across, Order, Below, Above, Pair, id, less, order_fact, same_group, scope_facts, pair_facts, is_apart, pair_obligation, differs, two_orders, all_orders, conflict, where_so}
+use Rattle.two_thread.specs.Pairs.{Scope, Within, Across, Order, Below, Above, Pair, id, order_fact, same_group, scope_facts, pair_facts, is_apart, pair_obligation, differs, two_orders, all_orders, conflict, where_so}
 use Rattle.two_thread.specs.Shown.{IsShown}
 use Rattle.two_thread.proofs.PairLists.{Each, each-dimension}
-
-facts-alike : (v : ℕ → ℤ) (fs gs : List Fact) → AreAlike fs gs → All (IsMet (λ n. v (twin n))) fs → All (IsMet v) gs
-facts-alike v [] [] p h = All-nil (IsMet v)
-facts-alike v [] (g ∷ gs) p h = elim p [ ]
-facts-alike v (f ∷ fs) [] p h = elim p [ ]
-facts-alike v (f ∷ fs) (g ∷ gs) p h = All-cons (IsMet v) g gs (subst (λ z. pos 0 ≤ℤ z) (value_of-alike v f g p.0) (All-head (IsMet (λ n. v (twin n))) f fs h)) (facts-alike v fs gs p.1 (All-tail (IsMet (λ n. v (twin n))) f fs h))
-
-less-met : (v : ℕ → ℤ) (s r : Symbol) → v (number s) <ℤ v (number r) → IsMet v (less (once s) (once r))
-less-met v s r h = omega (arith, ints, h, value-minus v (minus (once r) (once s)) (constant (pos 1)), value-minus v (once r) (once s), value-constant v (pos 1), value-once v s, value-once v r)
-
-where-so : {A : Type 0} (P : A → Type 0) (b : Bool) (xs : List A) → b ≡ true → Each P (where_so b xs) → Each P xs
-where-so P true xs e h = h
-where-so P false xs e h = cc
+use Rattle.two_thread.proofs.PairFacts.{facts-alike, less-met, where-so}
 
 module _ {E : Type 0} (w : Walked E) (i j : ℕ) (hi : i < item_count (setup_of w)) (hj : j < item_count (setup_of w)) (all more : List (Access E)) (b x : ℕ) (p : Noted (record { walked = w; item = i; place = hi }) all true b x) (q : Noted (record { walked = w; item = j; place = hj }) more true b x) (other : Access E) (like : Twin q.node other) where
   abbrev one : View E
@@ -99,9 +87,6 @@ module _ {E : Type 0} (w : Walked E) (i j : ℕ) (hi : i < item_count (setup_of 
       (All-append (IsMet v) p.node.facts (other.facts ++ (scope_facts sc ++ (order ∷ same))) (p.known v first-agrees)
       (All-append (IsMet v) other.facts (scope_facts sc ++ (order ∷ same)) (facts-alike v q.node.facts other.facts like.facts (q.known (λ n. v (twin n)) second-agrees))
       (All-append (IsMet v) (scope_facts sc) (order ∷ same) hs (All-cons (IsMet v) order same ho (met_equals v p.node.index other.index (first-index ∙ sym second-index))))))
-
-  both : Elements E
-  both = record { known = known w.domain w.kernel.sizes w.conditions; first = p.node.elements; second = other.elements }
 
   both-members : Members w.domain (record { known = known w.domain w.kernel.sizes w.conditions; first = p.node.elements; second = other.elements }) m
   both-members = members w i j hi hj p.node.elements other.elements p.news q.news p.fit (subst (λ es. Fit w.domain es q.news) (sym like.elements) q.fit)

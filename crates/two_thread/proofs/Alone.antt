@@ -15,7 +15,7 @@ use Rattle.walk.specs.Walks.{tree}
 use Rattle.walk.specs.Straight.{is_straight_body, steps}
 use Rattle.walk.proofs.Worlds.{View, setup, walks}
 use Rattle.walk.proofs.Journeys.{Shown}
-use Rattle.walk.proofs.Bodies.{Noted}
+use Rattle.walk.proofs.Stores.{Noted}
 use Rattle.two_thread.proofs.SoloStores.{Standing, Asks, rests, stores, tree_accesses, asks, stands_in}
 
 -- an access of a solo run

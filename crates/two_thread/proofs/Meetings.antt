@@ -18,8 +18,8 @@ use Rattle.walk.proofs.Values.{value-minus, value-once, met_equals}
 use Rattle.walk.proofs.Members.{Members, by_number, element_of-has, zero_lacks}
 use Rattle.walk.proofs.Worlds.{Walked, setup_of, View, meaning, Agrees}
 use Rattle.walk.proofs.Launched.{each_dimension-all, local-below, group_id-below, count_in, launch_known}
-use Rattle.walk.proofs.Known.{Fit, members}
-use Rattle.walk.proofs.Bodies.{Noted}
+use Rattle.walk.proofs.Fitting.{Fit, members}
+use Rattle.walk.proofs.Stores.{Noted}
 use Rattle.walk.proofs.Twins.{twin, Twins, value_of-alike}
 use Rattle.walk.proofs.TwinTrees.{Twin}
 use Rattle.walk.proofs.TwinFacts.{groups-twin, given-twin, length-twin, local-twin, group-twin, new-twin}

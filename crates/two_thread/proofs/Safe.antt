@@ -18,7 +18,7 @@ use Rattle.walk.specs.Straight.{are_sizes, is_straight, is_straight_body, steps}
 use Rattle.walk.proofs.Members.{Lawful}
 use Rattle.walk.proofs.Worlds.{Walked, View, setup_of}
 use Rattle.walk.proofs.Journeys.{Shown}
-use Rattle.walk.proofs.Bodies.{Noted}
+use Rattle.walk.proofs.Stores.{Noted}
 use Rattle.walk.proofs.TwinTrees.{Twin}
 use Rattle.walk.proofs.TwinWalks.{accesses-same}
 use Rattle.two_thread.specs.Pairs.{Pair, Scope, Within, Across, pairs_in, pair_obligation}

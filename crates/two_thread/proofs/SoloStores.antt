@@ -19,7 +19,7 @@ use Rattle.walk.proofs.Worlds.{View, setup, walks}
 use Rattle.walk.proofs.Launched.{launch_known, item_known}
 use Rattle.walk.proofs.Journeys.{Shown}
 use Rattle.walk.proofs.Expressions.{AreGiven}
-use Rattle.walk.proofs.Bodies.{Noted, Placed, store_sound}
+use Rattle.walk.proofs.Stores.{Noted, Placed, store_sound}
 
 -- the accesses of the tree, as those of the first item
 abbrev pub tree_accesses : {E : Type 0} → View E → List (trees.Access E)

@@ -13,7 +13,7 @@ use Rattle.walk.specs.Walks.{State, Onward, value, walk, brought, exact, ranged,
 use Rattle.walk.proofs.Values.{value-once}
 use Rattle.walk.proofs.Worlds.{View, setup, walks}
 use Rattle.walk.proofs.Journeys.{Stands, Goes, gives, goes_then, at_kind, at_once}
-use Rattle.walk.proofs.Ranges.{means_constant, brought_sound}
+use Rattle.walk.proofs.RangeRule.{means_constant, brought_sound}
 use Rattle.walk.proofs.Identities.{id-below, means_id, argument-is}
 use Rattle.walk.proofs.Operators.{operate_sound}
 

@@ -16,7 +16,7 @@ use Rattle.walk.specs.Walks.{id_form}
 use Rattle.walk.proofs.Values.{value-sum, value-multiple, value-once}
 use Rattle.walk.proofs.Worlds.{View, setup, walks, Means}
 use Rattle.walk.proofs.Launched.{local-below, group_id-below}
-use Rattle.walk.proofs.Ranges.{means_constant}
+use Rattle.walk.proofs.RangeRule.{means_constant}
 
 along-past : (t : Three ℕ) (d past : ℕ) → 3 ≤ d → along t d past ≡ past
 along-past t zero past h = absurd (omega arith)

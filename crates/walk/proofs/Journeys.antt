@@ -12,7 +12,7 @@ use Rattle.walk.specs.Walks.{State, value, Onward, elements_at, settles, claimed
 use Rattle.walk.proofs.Values.{claimed as denied}
 use Rattle.walk.proofs.Members.{settled_holds, by_number}
 use Rattle.walk.proofs.Worlds.{View, walks, Agrees, Means, Knows, own, agrees_itself, agrees_before}
-use Rattle.walk.proofs.Known.{Fit, fit-append, members}
+use Rattle.walk.proofs.Fitting.{Fit, fit-append, members}
 
 -- where it is needed, the domain settles it or its facts are impossible
 abbrev pub Shown : Obligation → Type 0

@@ -4,13 +4,13 @@ pub mod Naming
 pub mod Members
 pub mod Worlds
 pub mod Launched
-pub mod Known
+pub mod Fitting
 pub mod Journeys
-pub mod Ranges
+pub mod RangeRule
 pub mod Identities
 pub mod Operators
 pub mod Expressions
-pub mod Bodies
+pub mod Stores
 pub mod Twins
 pub mod TwinElements
 pub mod TwinTrees

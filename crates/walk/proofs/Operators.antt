@@ -16,9 +16,9 @@ use Rattle.walk.specs.Walks.{State, Onward, value, elements_at, product, exact, 
 use Rattle.walk.proofs.Values.{value-sum, value-multiple}
 use Rattle.walk.proofs.Members.{element_of-has, by_number}
 use Rattle.walk.proofs.Worlds.{View, walks, Means, own, agrees_itself}
-use Rattle.walk.proofs.Known.{members}
+use Rattle.walk.proofs.Fitting.{members}
 use Rattle.walk.proofs.Journeys.{Stands, Comes, Goes, gives, at_kind, onward, at_once}
-use Rattle.walk.proofs.Ranges.{invent_sound, ranged_sound, brought_sound}
+use Rattle.walk.proofs.RangeRule.{invent_sound, ranged_sound, brought_sound}
 
 means-sum : {E : Type 0} (c : View E) (news : List ℤ) (f g : Fact) (x y : ℤ) → Means c news f x → Means c news g y → Means c news (sum f g) (x +ℤ y)
 means-sum c news f g x y mf mg = λ v a. omega (arith, ints, value-sum v f g, mf v a, mg v a)

@@ -16,9 +16,9 @@ use Rattle.walk.specs.Trees.{Tree, Leaf, Touch, Access, accesses}
 use Rattle.walk.specs.Walks.{State, Onward, claimed, claim, walk, in_buffer, walk_all}
 use Rattle.walk.proofs.Values.{value-once}
 use Rattle.walk.proofs.Worlds.{View, setup, walks, Means, Knows, length_at}
-use Rattle.walk.proofs.Known.{Fit}
+use Rattle.walk.proofs.Fitting.{Fit}
 use Rattle.walk.proofs.Journeys.{Has, Stands, Comes, Goes, gives, at_kind, stands_behind, told_by}
-use Rattle.walk.proofs.Ranges.{means-minus, means_constant}
+use Rattle.walk.proofs.RangeRule.{means-minus, means_constant}
 use Rattle.walk.proofs.Expressions.{AreGiven, term_sound}
 
 -- a node of the tree for an access, with new numbers under which its facts hold and its index is the element

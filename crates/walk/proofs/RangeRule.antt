@@ -18,7 +18,7 @@ use Rattle.walk.proofs.Integers.{le_test, in_kind-between, in_kind-ends, settle-
 use Rattle.walk.proofs.Values.{value-minus, value-constant, value-once}
 use Rattle.walk.proofs.Members.{between-has}
 use Rattle.walk.proofs.Worlds.{View, walks, Means, agrees_new}
-use Rattle.walk.proofs.Known.{fit-length}
+use Rattle.walk.proofs.Fitting.{fit-length}
 use Rattle.walk.proofs.Journeys.{Stands, Comes, at_kind, at_once, stands_behind, stands_knowing, stands_anew, from_claim, from_facts, from_new, told_by}
 
 pub means-minus : {E : Type 0} (c : View E) (news : List ℤ) (f g : Fact) (x y z : ℤ) → Means c news f x → Means c news g y → z +ℤ y ≡ x → Means c news (minus f g) z

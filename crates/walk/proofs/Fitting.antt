@@ -13,7 +13,7 @@ use Rattle.domain.specs.Members.{is_above, is_below}
 use Rattle.walk.specs.Symbols as symbols
 use Rattle.walk.specs.Symbols.{First, Second, Symbol, Given, Length, Local, Group, New}
 use Rattle.walk.specs.Elements.{nth, between, element_of}
-use Rattle.walk.specs.Launching.{sum_form, of_range, known_so_far, length_element, at_least_some, below, known}
+use Rattle.walk.specs.Launching.{sum_form, of_range, known_so_far, from_least, at_least_some, below, known}
 use Rattle.walk.proofs.Integers.{le_test}
 use Rattle.walk.proofs.Naming.{symbol_of-number}
 use Rattle.walk.proofs.Members.{Lawful, Members, by_number, between-has, element_of-has}
@@ -64,13 +64,13 @@ module _ {E : Type 0} (g : Ghosts E) (laws : Lawful g) where
   at_least_some-has e None y z h a l = h
   at_least_some-has e (Some low) y z h a l = laws.at_least e low z h (let b = le_test low y a in omega (arith, ints))
 
-  length-has : (c : Conditions) (s : List Summand) (y : ℤ) (b : List ℤ) → g.has (element_of g (known_so_far g c) (sum_form s)) y ≡ true → y ≤ℤ pos (length b) → length b ≤ 4294967295 → g.has (length_element g c s) (pos (length b)) ≡ true
+  length-has : (c : Conditions) (s : List Summand) (y : ℤ) (b : List ℤ) → g.has (element_of g (known_so_far g c) (sum_form s)) y ≡ true → y ≤ℤ pos (length b) → length b ≤ 4294967295 → g.has (from_least g (known_so_far g c) s) (pos (length b)) ≡ true
   length-has c s y b h k m =
       let x = element_of g (known_so_far g c) (sum_form s) in
       at_least_some-has (between g (pos 0) (pos 4294967295)) (g.bounds_of x).low y (pos (length b)) (between-has g laws (pos 0) (pos 4294967295) (pos (length b)) (omega (arith, ints)) (omega (arith, ints)))
       (and_parts (is_above (g.bounds_of x).low y) (is_below (g.bounds_of x).high y) (laws.bounds x y h)).0 k
 
-  lengths-has : (c : Conditions) (l : Launch) → ((s : List Summand) → g.has (element_of g (known_so_far g c) (sum_form s)) (sum_value l s) ≡ true) → (ss : List (List Summand)) (ks : List Kind) (bs : List (List ℤ)) → AllZip (IsLongEnough l) ss bs → AllZip IsBuffer ks bs → (n : ℕ) → g.has (nth g (map (length_element g c) ss) n) (pos (length (slice_index_or bs n []))) ≡ true
+  lengths-has : (c : Conditions) (l : Launch) → ((s : List Summand) → g.has (element_of g (known_so_far g c) (sum_form s)) (sum_value l s) ≡ true) → (ss : List (List Summand)) (ks : List Kind) (bs : List (List ℤ)) → AllZip (IsLongEnough l) ss bs → AllZip IsBuffer ks bs → (n : ℕ) → g.has (nth g (map (from_least g (known_so_far g c)) ss) n) (pos (length (slice_index_or bs n []))) ≡ true
   lengths-has c l s [] ks [] h k n = laws.top (pos 0)
   lengths-has c l s [] ks (b ∷ bs) h k n = elim h [ ]
   lengths-has c l s (x ∷ ss) ks [] h k n = elim h [ ]

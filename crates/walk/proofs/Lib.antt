@@ -16,3 +16,8 @@ pub mod TwinElements
 pub mod TwinTrees
 pub mod TwinFacts
 pub mod TwinWalks
+pub mod Families
+pub mod Paths
+pub mod Leading
+pub mod Bodies
+pub mod Facts

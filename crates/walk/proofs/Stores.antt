@@ -11,7 +11,7 @@ use Rattle.semantics.specs.Evaluation.{Outcome, evaluate, At, Outside, within}
 use Rattle.semantics.specs.Item.{Item, Entry, finished}
 use Rattle.semantics.specs.Ask.{Ask, Stores, on_value, stores, act}
 use Rattle.walk.specs.Symbols.{Length, Fact, constant, once, minus}
-use Rattle.walk.specs.Straight.{is_straight_term, is_straight_body, is_global}
+use Rattle.walk.specs.Straight.{is_straight_term, is_straight_statement, is_straight_body, is_global}
 use Rattle.walk.specs.Trees.{Tree, Leaf, Touch, Access, accesses}
 use Rattle.walk.specs.Walks.{State, Onward, claimed, claim, walk, in_buffer, walk_all}
 use Rattle.walk.proofs.Values.{value-once}
@@ -102,17 +102,17 @@ pub store_sound : {E : Type 0} (c : View E) (launch : List Fact) (all : List (Ac
 store_sound {E} c launch all it n a site index e rest turns left given p =
     let w = walks c in
     let m = length c.kernel.arguments in
-    let h = and_parts (is_global a.space) (is_straight_term m index && (is_straight_term m e && is_straight_body m rest)) p.straight in
-    let h' = and_parts (is_straight_term m index) (is_straight_term m e && is_straight_body m rest) h.1 in
-    let h'' = and_parts (is_straight_term m e) (is_straight_body m rest) h'.1 in
+    let body = and_parts (is_straight_statement m (Store n a site index e)) (is_straight_body m rest) p.straight in
+    let h = and_parts (is_global a.space) (is_straight_term m index && is_straight_term m e) body.0 in
+    let terms = and_parts (is_straight_term m index) (is_straight_term m e) h.1 in
     let touch : Fact → State E → Tree E = λ f st3. Touch true a.number f st3.elements (walk_all w rest st3 end) in
     let last : Fact → Onward E = λ f y st2. in_buffer w a.number f st2 (touch f) in
     let mid : Onward E = λ x st1. walk w e st1 (last x.form) in
     let f : Word → List Word → Ask = λ k later. on_value (setup c) c.item it (evaluate (setup c) c.item e it.variables later) (λ v _. stores (setup c) c.item it a site (within (extent (setup c) a) k.value) v.value left) in
     on_goes c launch p.facts (walk w index p.state mid) mid p.news it (evaluate (setup c) c.item index it.variables it.answers) f (Stored c launch all it a site rest left)
-    (term_sound index c launch p.facts p.state mid p.news it.variables it.answers h'.0 given p.stands) (λ x later u.
+    (term_sound index c launch p.facts p.state mid p.news it.variables it.answers terms.0 given p.stands) (λ x later u.
     on_goes c launch u.path (walk w e u.state (last u.form)) (last u.form) u.more it (evaluate (setup c) c.item e it.variables later) (λ v _. stores (setup c) c.item it a site (within (extent (setup c) a) x.value) v.value left) (Stored c launch all it a site rest left)
-    (term_sound e c launch u.path u.state (last u.form) u.more it.variables later h''.0 given u.stands) (λ y _ d.
+    (term_sound e c launch u.path u.state (last u.form) u.more it.variables later terms.1 given u.stands) (λ y _ d.
     let i = inside c launch d.path a.number u.form d.state (touch u.form) d.more x.value d.stands (λ v g. u.means v (d.kept v g)) in
     record {
       index = i.index;
@@ -135,6 +135,6 @@ store_sound {E} c launch all it n a site index e rest turns left given p =
         state = claimed (claimed d.state);
         stands = record { fit = i.stands.fit; launched = i.stands.launched; known = i.stands.known; shown = i.stands.shown };
         touched = λ b g. p.touched b (u.touched b (d.touched b (inr g)));
-        straight = h''.1;
+        straight = body.1;
       };
     }))

@@ -33,9 +33,12 @@ argument_facts n [] = []
 argument_facts n (r ∷ rs) = ends r (once (Given n)) ++ argument_facts (suc n) rs
 
 -- a buffer is as long as its sum, and a `uint` counts its elements
+abbrev pub length_ends : ℕ → List Summand → List Fact
+length_ends b s = minus (once (Length b)) (sum_form s) ∷ minus (constant (pos 4294967295)) (once (Length b)) ∷ []
+
 abbrev pub length_facts : ℕ → List (List Summand) → List Fact
 length_facts b [] = []
-length_facts b (s ∷ ss) = minus (once (Length b)) (sum_form s) ∷ minus (constant (pos 4294967295)) (once (Length b)) ∷ length_facts (suc b) ss
+length_facts b (s ∷ ss) = length_ends b s ++ length_facts (suc b) ss
 
 abbrev pub required : Requirement → Fact
 required r = minus (sum_form r.left) (sum_form r.right)
@@ -51,11 +54,15 @@ launch_facts c =
     each_dimension (λ d. ends (count_range c d) (once (symbols.Groups d)))
     ++ (argument_facts 0 c.arguments ++ (length_facts 0 c.lengths ++ map required c.requires))
 
--- an item's ids are below the local sizes and the group counts
+-- an item's local id is below the local size, and its group id below the group count
+abbrev pub local_facts : Three ℕ → Which → ℕ → List Fact
+local_facts sizes w d = once (Local w d) ∷ minus (constant (pos (along sizes d 1) -ℤ pos 1)) (once (Local w d)) ∷ []
+
+abbrev pub group_facts : Which → ℕ → List Fact
+group_facts w d = once (Group w d) ∷ minus (minus (once (symbols.Groups d)) (once (Group w d))) (constant (pos 1)) ∷ []
+
 abbrev pub id_facts : Three ℕ → Which → ℕ → List Fact
-id_facts sizes w d =
-    once (Local w d) ∷ minus (constant (pos (along sizes d 1) -ℤ pos 1)) (once (Local w d))
-    ∷ once (Group w d) ∷ minus (minus (once (symbols.Groups d)) (once (Group w d))) (constant (pos 1)) ∷ []
+id_facts sizes w d = local_facts sizes w d ++ group_facts w d
 
 abbrev pub item_facts : Three ℕ → Which → List Fact
 item_facts sizes w = each_dimension (id_facts sizes w)
@@ -82,8 +89,8 @@ known_so_far g c = record {
 }
 
 -- what a `uint` counts, from the least value of the buffer's sum on
-abbrev pub length_element : {E : Type 0} → Ghosts E → Conditions → List Summand → E
-length_element g c s = at_least_some g (between g (pos 0) (pos 4294967295)) (g.bounds_of (element_of g (known_so_far g c) (sum_form s))).low
+abbrev pub from_least : {E : Type 0} → Ghosts E → Elements E → List Summand → E
+from_least g e s = at_least_some g (between g (pos 0) (pos 4294967295)) (g.bounds_of (element_of g e (sum_form s))).low
 
 -- 0 up to the number before n
 abbrev pub below : {E : Type 0} → Ghosts E → ℤ → E
@@ -93,7 +100,7 @@ abbrev pub known : {E : Type 0} → Ghosts E → Three ℕ → Conditions → Kn
 known g sizes c = record {
   counts = of_range g c.groups.x ∷ of_range g c.groups.y ∷ of_range g c.groups.z ∷ [];
   arguments = map (of_range g) c.arguments;
-  lengths = map (length_element g c) c.lengths;
+  lengths = map (from_least g (known_so_far g c)) c.lengths;
   locals = below g (pos sizes.x) ∷ below g (pos sizes.y) ∷ below g (pos sizes.z) ∷ [];
   groups = below g c.groups.x.high ∷ below g c.groups.y.high ∷ below g c.groups.z.high ∷ [];
 }

@@ -4,3 +4,7 @@ pub mod Launching
 pub mod Trees
 pub mod Walks
 pub mod Straight
+pub mod Collected
+pub mod View
+pub mod Before
+pub mod Leads

@@ -22,10 +22,13 @@ abbrev pub is_global : Space → Bool
 is_global Global = true
 is_global s = false
 
+abbrev pub is_straight_statement : (arguments : ℕ) → Statement → Bool
+is_straight_statement n (Store m a site index e) = is_global a.space && (is_straight_term n index && is_straight_term n e)
+is_straight_statement n s = false
+
 abbrev pub is_straight_body : (arguments : ℕ) → Statements → Bool
 is_straight_body n none = true
-is_straight_body n (one (Store m a site index e) rest) = is_global a.space && (is_straight_term n index && (is_straight_term n e && is_straight_body n rest))
-is_straight_body n (one s rest) = false
+is_straight_body n (one s rest) = is_straight_statement n s && is_straight_body n rest
 
 -- local sizes are those that a device has (OpenCL 1.2, 4.2 lets it choose; ours are at most 1,024)
 abbrev pub are_sizes : Three ℕ → Bool

@@ -131,39 +131,46 @@ product s ts [] f g st go = go (multiple g.constant f) st
 product s [] (u ∷ us) f g st go = go (multiple f.constant g) st
 product s (t ∷ ts) (u ∷ us) f g st go = invent s (s.domain.mul_of (element_of s.domain (elements_at s st) f) (element_of s.domain (elements_at s st) g)) st go
 
+abbrev pub id_inside : {E : Type 0} → Setting E → Function → ℕ → Fact
+id_inside s GlobalId d = sum (multiple (pos (along s.sizes d 1)) (once (symbols.Group s.item d))) (once (symbols.Local s.item d))
+id_inside s LocalId d = once (symbols.Local s.item d)
+id_inside s GroupId d = once (symbols.Group s.item d)
+id_inside s GlobalSize d = multiple (pos (along s.sizes d 1)) (once (symbols.Groups d))
+id_inside s LocalSize d = constant (pos (along s.sizes d 1))
+id_inside s NumGroups d = once (symbols.Groups d)
+
+abbrev pub id_outside : Function → Fact
+id_outside GlobalId = constant (pos 0)
+id_outside LocalId = constant (pos 0)
+id_outside GroupId = constant (pos 0)
+id_outside GlobalSize = constant (pos 1)
+id_outside LocalSize = constant (pos 1)
+id_outside NumGroups = constant (pos 1)
+
 -- past the third dimension an id is 0, and a size or count 1
 abbrev pub id_form : {E : Type 0} → Setting E → Function → ℕ → Fact
-id_form s f d = cond (nat_lt d 3) (inside f) (outside f)
-  where
-    inside : Function → Fact
-    inside GlobalId = sum (multiple (pos (along s.sizes d 1)) (once (symbols.Group s.item d))) (once (symbols.Local s.item d))
-    inside LocalId = once (symbols.Local s.item d)
-    inside GroupId = once (symbols.Group s.item d)
-    inside GlobalSize = multiple (pos (along s.sizes d 1)) (once (symbols.Groups d))
-    inside LocalSize = constant (pos (along s.sizes d 1))
-    inside NumGroups = once (symbols.Groups d)
-    outside : Function → Fact
-    outside GlobalId = constant (pos 0)
-    outside LocalId = constant (pos 0)
-    outside GroupId = constant (pos 0)
-    outside GlobalSize = constant (pos 1)
-    outside LocalSize = constant (pos 1)
-    outside NumGroups = constant (pos 1)
+id_form s f d = cond (nat_lt d 3) (id_inside s f d) (id_outside f)
+
+abbrev pub argument_kind : {E : Type 0} → Setting E → ℕ → Kind
+argument_kind s x = slice_index_or s.arguments x Int
 
 -- an exact result of two operands of one kind
 abbrev pub exact : {E : Type 0} → Setting E → Operator → Fact → Fact → State E → (Fact → State E → Tree E) → Tree E
 exact s Multiply f g st go = product s f.terms g.terms f g st go
 exact s op f g st go = go (sum f g) st
 
--- operands from left to right, then the conversion of the left one, of the right one, then the operator
+-- the conversion of the left operand, of the right one, then the operator
+abbrev pub joined : {E : Type 0} → Setting E → Operator → Kind → (left right : Value) → State E → Onward E → Tree E
+joined s op k x y st go =
+    brought s k x st (λ x' st1. brought s k y st1 (λ y' st2.
+    exact s op x'.form y'.form st2 (λ f st3. ranged s k f st3 go)))
+
+-- operands from left to right
 abbrev pub walk : {E : Type 0} → Setting E → Term → State E → Onward E → Tree E
 walk s (Literal k z) st go = go (value k (constant z)) st
-walk s (Variable x) st go = go (value (slice_index_or s.arguments x Int) (once (Given x))) st
+walk s (Variable x) st go = go (value (argument_kind s x) (once (Given x))) st
 walk s (Id f d) st go = go (value Uint (id_form s f d)) st
-walk s (Binary op k site a b) st go =
-    walk s a st (λ x st1. walk s b st1 (λ y st2.
-    brought s k x st2 (λ x' st3. brought s k y st3 (λ y' st4.
-    exact s op x'.form y'.form st4 (λ f st5. ranged s k f st5 go)))))
+walk s (Binary op k site a b) st go = walk s a st (λ x st1. walk s b st1 (λ y st2. joined s op k x y st2 go))
 walk s (Convert k site a) st go = walk s a st (λ x st1. brought s k x st1 go)
 walk s t st go = Leaf
 
@@ -172,12 +179,18 @@ abbrev pub in_buffer : {E : Type 0} → Setting E → ℕ → Fact → State E �
 in_buffer s b i st go = claim s true i st (λ st'. claim s true (minus (minus (once (Length b)) (constant (pos 1))) i) st' go)
 
 -- the index, the value, then the access
+abbrev pub walk_store : {E : Type 0} → Setting E → (buffer : ℕ) → (index value : Term) → State E → (State E → Tree E) → Tree E
+walk_store s b index e st go =
+    walk s index st (λ i st1. walk s e st1 (λ v st2.
+    in_buffer s b i.form st2 (λ st3. Touch true b i.form st3.elements (go st3))))
+
+abbrev pub walk_one : {E : Type 0} → Setting E → Statement → State E → (State E → Tree E) → Tree E
+walk_one s (Store n a site index e) st go = walk_store s a.number index e st go
+walk_one s t st go = Leaf
+
 abbrev pub walk_all : {E : Type 0} → Setting E → Statements → State E → (State E → Tree E) → Tree E
 walk_all s none st go = go st
-walk_all s (one (Store n a site index e) rest) st go =
-    walk s index st (λ i st1. walk s e st1 (λ v st2.
-    in_buffer s a.number i.form st2 (λ st3. Touch true a.number i.form st3.elements (walk_all s rest st3 go))))
-walk_all s (one t rest) st go = Leaf
+walk_all s (one t rest) st go = walk_one s t st (λ st'. walk_all s rest st' go)
 
 abbrev pub opening_state : {E : Type 0} → State E
 opening_state = record { claims = 0; elements = [] }

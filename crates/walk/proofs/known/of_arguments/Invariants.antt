@@ -1,0 +1,8 @@
+use Rattle.std.proofs.Common.{◌≡◌, ◌++◌, [], drop, map}
+use Rattle.launch.specs.View.{argument_range, length_sum}
+use Rattle.walk.specs.Launching.{of_range, from_least}
+use Rattle.walk.specs.View.{elements_seen}
+use Rattle.walk.proofs.known.of_arguments.Given as goal
+
+abbrev pub invariant-loop-range : goal.invariant-loop-range
+invariant-loop-range g l = l.elements.items ++ map (of_range g.D.Domain) (map argument_range (drop l.range-index l.ranges)) ≡ map (of_range g.D.Domain) (map argument_range l.ranges)

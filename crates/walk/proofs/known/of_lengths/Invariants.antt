@@ -1,0 +1,8 @@
+use Rattle.std.proofs.Common.{◌≡◌, ◌++◌, [], drop, map}
+use Rattle.launch.specs.View.{argument_range, length_sum}
+use Rattle.walk.specs.Launching.{of_range, from_least}
+use Rattle.walk.specs.View.{elements_seen}
+use Rattle.walk.proofs.known.of_lengths.Given as goal
+
+abbrev pub invariant-loop-length : goal.invariant-loop-length
+invariant-loop-length g l = l.elements.items ++ map (from_least g.D.Domain (elements_seen l.known [] [])) (map length_sum (drop l.length-index l.lengths)) ≡ map (from_least g.D.Domain (elements_seen l.known [] [])) (map length_sum l.lengths)

@@ -1,0 +1,8 @@
+use Rattle.std.proofs.Common.{◌≡◌, ◌++◌, drop, map}
+use Rattle.linear.specs.Forms.{form, forms}
+use Rattle.launch.specs.View.{summand, argument_range, length_sum, requirement}
+use Rattle.walk.specs.Launching as launching
+use Rattle.walk.proofs.launching.sum_form.Given as goal
+
+abbrev pub invariant-loop-summand : goal.invariant-loop-summand
+invariant-loop-summand l = launching.sum_from (form l.total) (map summand (drop l.summand-index l.fn.sum.terms.items)) ≡ launching.sum_form (map summand l.fn.sum.terms.items)

@@ -1,0 +1,19 @@
+use Rattle.std.proofs.Common.{◌∙◌, ◌≡◌, ap, rules, length}
+use Rattle.linear.specs.Forms.{form}
+use Rattle.walk.specs.View.{met, which, setting as seen}
+use Rattle.std.specs.Prelude.{ℕ}
+use Rattle.walk.specs.Symbols.{New, once}
+use Rattle.walk.specs.declared.path.Path.{Path}
+use Rattle.walk.proofs.Leading.{invents}
+use Rattle.walk.proofs.ranges.invent.Goals as goal
+
+-- as many new symbols as the path has
+pub count : {E : Type 0} (p : Path E) (n : ℕ) → n ≡ length p.elements.items → n ≡ length (met p).elements
+unfolding met
+count p n e = e
+
+pub returns : goal.returns
+returns g c =
+    let n : c.len-index.result ≡ length c.args.path.now.elements.items = search rules in
+    let e : form c.in_ok-newest.newest ≡ once (New (which c.args.item) c.len-index.result) = search rules in
+    invents (seen g.D.Domain c.args.setting.now c.args.item) c.args.element (form c.in_ok-newest.newest) c.bounds-bounds.result (met c.args.path.now) (met c.know_low.new.path) (met c.know_high.new.path) (met c.invent.new.self) (e ∙ ap (λ k. once (New (which c.args.item) k)) (count c.args.path.now _ n)) c.bounds-bounds.ensures c.in_ok-know_low.ensures.leads c.in_ok-know_low.ensures.state c.in_ok-know_high.ensures.leads c.in_ok-know_high.ensures.state c.in_ok-invent.ensures

@@ -1,0 +1,13 @@
+use Rattle.std.proofs.Common.{◌∙◌, ◌≡◌, ap, rules, length, SFits, w64}
+use Rattle.std.proofs.lemmas.Int.{to_z-of_z}
+use Rattle.linear.specs.Forms.{form}
+use Rattle.walk.specs.View.{met, which, setting as seen}
+use Rattle.walk.specs.Collected.{with_fact}
+use Rattle.walk.proofs.Leading.{knows_low}
+use Rattle.walk.proofs.ranges.know_low.Goals as goal
+
+pub returns-in_ok-know-clause-leads : goal.returns-in_ok-know-clause-leads
+returns-in_ok-know-clause-leads g c =
+    let f : SFits w64 c.in-Some.low = search rules in
+    let e = simp to_z-of_z at c.in_ok-fact.ensures in
+    knows_low (form c.args.of.now) c.args.low _ (met c.args.path.now) (met c.know.new.self) c.in-Some.is (c.in_ok-know.ensures ∙ ap (with_fact (met c.args.path.now)) e)

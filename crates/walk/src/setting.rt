@@ -1,0 +1,13 @@
+//! What a walk is of.
+
+use crate::elements::Known;
+use words::Kind;
+
+/// What the domain knows, the local sizes, the kinds of the value parameters, and, by its number, whether an obligation has an entry.
+#[derive(Drop)]
+pub struct Setting<D> {
+    pub known: Known<D>,
+    pub sizes: [u32; 3],
+    pub arguments: Vec<Kind>,
+    pub entries: Vec<bool>,
+}

@@ -1,0 +1,75 @@
+//! The steps of a path.
+
+ghost use Rattle.std.specs.Prelude.{◌≡◌, IfOk};
+ghost use Rattle.linear.specs.Forms.{form as form_seen, forms};
+ghost use Rattle.walk.specs.Collected.{opening, with_claim, with_fact, with_element, with_access};
+ghost use Rattle.walk.specs.View.{met};
+
+use crate::error::WalkError;
+use crate::path::{Access, Claim, Path};
+use linear::Form;
+use std::alloc::Global;
+
+impl<D: Copy> Path<D> {
+    #[tactic(auto, unfolding(crate::specs::View::met))]
+    /// With these facts, before the first step.
+    pub fn opening(alloc: Global, facts: Vec<Form>) -> Path<D>
+        ensures { met result ≡ opening (forms facts.items) }
+    {
+        Path {
+            facts,
+            elements: Vec::new(alloc),
+            claims: Vec::new(alloc),
+            accesses: Vec::new(alloc),
+        }
+    }
+
+    /// One claim more; at most 65,536 are made.
+    pub fn claim(&mut self, needed: bool, settled: bool, form: Form) -> Result<(), WalkError>
+        ensures { IfOk result (λ _. met self.new ≡ with_claim (met self.old) needed settled (form_seen form)) }
+    {
+        if self.claims.len() >= 65_536 {
+            return Err(WalkError::TooMany);
+        }
+        let facts = self.facts.len();
+        self.claims.push(Claim {
+            needed,
+            settled,
+            form,
+            facts,
+        })?;
+        Ok(())
+    }
+
+    /// One fact more.
+    pub fn know(&mut self, fact: Form) -> Result<(), WalkError>
+        ensures { IfOk result (λ _. met self.new ≡ with_fact (met self.old) (form_seen fact)) }
+    {
+        self.facts.push(fact)?;
+        Ok(())
+    }
+
+    /// One new symbol more.
+    pub fn invent(&mut self, element: D) -> Result<(), WalkError>
+        ensures { IfOk result (λ _. met self.new ≡ with_element (met self.old) element) }
+    {
+        self.elements.push(element)?;
+        Ok(())
+    }
+
+    /// One access more.
+    pub fn touch(&mut self, is_store: bool, buffer: u32, index: Form) -> Result<(), WalkError>
+        ensures { IfOk result (λ _. met self.new ≡ with_access (met self.old) is_store buffer (form_seen index) (met self.old).elements) }
+    {
+        let facts = self.facts.len();
+        let elements = self.elements.len();
+        self.accesses.push(Access {
+            is_store,
+            buffer,
+            index,
+            facts,
+            elements,
+        })?;
+        Ok(())
+    }
+}

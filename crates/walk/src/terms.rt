@@ -1,0 +1,224 @@
+//! The walk of a term.
+
+ghost use Rattle.std.specs.Prelude.{◌≡◌, ◌<◌, IfOk};
+ghost use Rattle.linear.specs.Forms.{form as form_seen};
+ghost use Rattle.words.specs.View.{kind as kind_seen};
+ghost use Rattle.syntax.specs.View.{operator as operator_seen};
+ghost use Rattle.types.specs.View.{term as term_seen, function as function_seen};
+ghost use Rattle.walk.specs.Walks as walks;
+ghost use Rattle.walk.specs.Elements as elements;
+ghost use Rattle.walk.specs.Collected.{state_of};
+ghost use Rattle.walk.specs.Leads.{Leads};
+ghost use Rattle.walk.specs.View.{met, is_number as is_number_seen, setting as seen, value as value_seen};
+
+use crate::elements::element_of;
+use crate::error::WalkError;
+use crate::forms::{Which, once_given, once_group, once_groups, once_local};
+use crate::path::Path;
+use crate::ranges::{Value, brought, invent, ranged};
+use crate::setting::Setting;
+use domain::Domain;
+use linear::Form;
+use std::alloc::Global;
+use syntax::tree::Operator;
+use types::core_tree::{Function, Term};
+use words::Kind;
+
+/// A form without terms.
+fn is_number(form: &Form) -> bool
+    ensures { result ≡ is_number_seen (form_seen form.now) }
+{
+    form.terms().is_empty()
+}
+
+#[tactic(auto, unfolding(crate::specs::View::met))]
+/// A form's element on the path.
+fn element_at<D: Domain>(setting: &Setting<D>, item: Which, path: &Path<D>, form: &Form) -> D
+    ensures { result ≡ elements.element_of D.Domain (walks.elements_at (seen D.Domain setting.now item) (state_of (met path.now))) (form_seen form.now) }
+{
+    match item {
+        Which::First => element_of(&setting.known, path.elements.as_slice(), &[], form),
+        Which::Second => element_of(&setting.known, &[], path.elements.as_slice(), form),
+    }
+}
+
+/// By a constant form exactly, else a new symbol.
+fn product<D: Domain>(
+    alloc: Global,
+    setting: &Setting<D>,
+    item: Which,
+    path: &mut Path<D>,
+    left: &Form,
+    right: &Form,
+) -> Result<Form, WalkError>
+    ensures { IfOk result (λ f. Leads (met path.old) (met path.new) (walks.product (seen D.Domain setting.now item) (form_seen left.now).terms (form_seen right.now).terms (form_seen left.now) (form_seen right.now)) (form_seen f)) }
+{
+    if is_number(right) {
+        let form = left.times(alloc, right.constant_part())?;
+        return Ok(form);
+    }
+    if is_number(left) {
+        let form = right.times(alloc, left.constant_part())?;
+        return Ok(form);
+    }
+    let element = element_at(setting, item, path, left).mul(element_at(setting, item, path, right));
+    invent(alloc, setting, item, path, element)
+}
+
+/// An exact result of two operands of one kind.
+fn exact<D: Domain>(
+    alloc: Global,
+    setting: &Setting<D>,
+    item: Which,
+    path: &mut Path<D>,
+    operator: Operator,
+    left: &Form,
+    right: &Form,
+) -> Result<Form, WalkError>
+    ensures { IfOk result (λ f. Leads (met path.old) (met path.new) (walks.exact (seen D.Domain setting.now item) (operator_seen operator) (form_seen left.now) (form_seen right.now)) (form_seen f)) }
+{
+    match operator {
+        Operator::Multiply => product(alloc, setting, item, path, left, right),
+        Operator::Add => {
+            let form = left.add(alloc, right)?;
+            Ok(form)
+        }
+        _ => Err(WalkError::Outside),
+    }
+}
+
+/// What a work-item function gives in a dimension below the third.
+fn id_inside<D: Domain>(
+    alloc: Global,
+    setting: &Setting<D>,
+    item: Which,
+    function: Function,
+    dimension: u32,
+) -> Result<Form, WalkError>
+    requires { dimension < 3 }
+    ensures { IfOk result (λ f. form_seen f ≡ walks.id_inside (seen D.Domain setting.now item) (function_seen function) dimension) }
+{
+    let size = setting.sizes[dimension as usize];
+    match function {
+        Function::GlobalId => {
+            let begin = once_group(alloc, item, dimension)?.times(alloc, size as i64)?;
+            let form = begin.add(alloc, &once_local(alloc, item, dimension)?)?;
+            Ok(form)
+        }
+        Function::LocalId => once_local(alloc, item, dimension),
+        Function::GroupId => once_group(alloc, item, dimension),
+        Function::GlobalSize => {
+            let form = once_groups(alloc, dimension)?.times(alloc, size as i64)?;
+            Ok(form)
+        }
+        Function::LocalSize => Ok(Form::constant(alloc, size as i64)),
+        Function::NumGroups => once_groups(alloc, dimension),
+    }
+}
+
+/// What a work-item function gives past the third dimension.
+fn id_outside(alloc: Global, function: Function) -> Form
+    ensures { form_seen result ≡ walks.id_outside (function_seen function) }
+{
+    match function {
+        Function::GlobalId | Function::LocalId | Function::GroupId => Form::constant(alloc, 0),
+        Function::GlobalSize | Function::LocalSize | Function::NumGroups => {
+            Form::constant(alloc, 1)
+        }
+    }
+}
+
+/// What a work-item function gives.
+fn id_form<D: Domain>(
+    alloc: Global,
+    setting: &Setting<D>,
+    item: Which,
+    function: Function,
+    dimension: u32,
+) -> Result<Form, WalkError>
+    ensures { IfOk result (λ f. form_seen f ≡ walks.id_form (seen D.Domain setting.now item) (function_seen function) dimension) }
+{
+    if dimension < 3 {
+        id_inside(alloc, setting, item, function, dimension)
+    } else {
+        Ok(id_outside(alloc, function))
+    }
+}
+
+#[tactic(auto, unfolding(crate::specs::View::met))]
+/// A value parameter's kind.
+fn argument_kind<D: Domain>(setting: &Setting<D>, item: Which, slot: u32) -> Kind
+    ensures { kind_seen result ≡ walks.argument_kind (seen D.Domain setting.now item) slot }
+{
+    match setting.arguments.get(slot as usize) {
+        Some(kind) => *kind,
+        None => Kind::Int,
+    }
+}
+
+/// The conversion of the left operand, of the right one, then the operator.
+fn joined<D: Domain>(
+    alloc: Global,
+    setting: &Setting<D>,
+    item: Which,
+    path: &mut Path<D>,
+    operator: Operator,
+    kind: Kind,
+    left: Value,
+    right: Value,
+) -> Result<Value, WalkError>
+    ensures { IfOk result (λ v. Leads (met path.old) (met path.new) (walks.joined (seen D.Domain setting.now item) (operator_seen operator) (kind_seen kind) (value_seen left) (value_seen right)) (value_seen v)) }
+{
+    let first = brought(alloc, setting, item, path, kind, left)?;
+    let second = brought(alloc, setting, item, path, kind, right)?;
+    let form = exact(alloc, setting, item, path, operator, &first.form, &second.form)?;
+    let value = ranged(alloc, setting, item, path, kind, form)?;
+    Ok(value)
+}
+
+/// The walk of a term; `Outside` at one that has not only numbers, value parameters, ids, sums, products and conversions.
+pub fn walk_term<D: Domain>(
+    alloc: Global,
+    setting: &Setting<D>,
+    item: Which,
+    path: &mut Path<D>,
+    term: &Term,
+) -> Result<Value, WalkError>
+    ensures { IfOk result (λ v. Leads (met path.old) (met path.new) (walks.walk (seen D.Domain setting.now item) (term_seen term.now)) (value_seen v)) }
+{
+    match term {
+        Term::Literal { kind, value } => Ok(Value {
+            kind: *kind,
+            form: Form::constant(alloc, *value as i64),
+        }),
+        Term::Variable { slot } => Ok(Value {
+            kind: argument_kind(setting, item, *slot),
+            form: once_given(alloc, *slot)?,
+        }),
+        Term::Id {
+            function,
+            dimension,
+        } => Ok(Value {
+            kind: Kind::Uint,
+            form: id_form(alloc, setting, item, *function, *dimension)?,
+        }),
+        Term::Binary {
+            operator,
+            kind,
+            left,
+            right,
+            ..
+        } => {
+            let first = walk_term(alloc, setting, item, path, left)?;
+            let second = walk_term(alloc, setting, item, path, right)?;
+            let value = joined(alloc, setting, item, path, *operator, *kind, first, second)?;
+            Ok(value)
+        }
+        Term::Convert { kind, of, .. } => {
+            let operand = walk_term(alloc, setting, item, path, of)?;
+            let value = brought(alloc, setting, item, path, *kind, operand)?;
+            Ok(value)
+        }
+        _ => Err(WalkError::Outside),
+    }
+}

@@ -1,0 +1,96 @@
+//! The walk of a kernel's body.
+
+ghost use Rattle.std.specs.Prelude.{◌≡◌, IfOk};
+ghost use Rattle.linear.specs.Forms.{form as form_seen, forms};
+ghost use Rattle.types.specs.View.{term as term_seen, statement as statement_seen, statements as statements_seen};
+ghost use Rattle.walk.specs.Walks as walks;
+ghost use Rattle.walk.specs.Collected.{collect, opening};
+ghost use Rattle.walk.specs.Leads.{Steps};
+ghost use Rattle.walk.specs.View.{met, setting as seen};
+
+use crate::error::WalkError;
+use crate::forms::{Which, less_number, once_length};
+use crate::path::Path;
+use crate::ranges::claim;
+use crate::setting::Setting;
+use crate::terms::walk_term;
+use domain::Domain;
+use linear::Form;
+use std::alloc::Global;
+use types::core_tree::{Statement, Term};
+
+/// An index is at least 0, and below its buffer's length.
+fn in_buffer<D: Domain>(
+    alloc: Global,
+    setting: &Setting<D>,
+    item: Which,
+    path: &mut Path<D>,
+    buffer: u32,
+    index: &Form,
+) -> Result<(), WalkError>
+    ensures { IfOk result (λ _. Steps (met path.old) (met path.new) (walks.in_buffer (seen D.Domain setting.now item) buffer (form_seen index.now))) }
+{
+    let last = less_number(alloc, &once_length(alloc, buffer)?, 1)?;
+    let room = last.sub(alloc, index)?;
+    let from_zero = index.copy(alloc)?;
+    claim(setting, item, path, true, from_zero)?;
+    claim(setting, item, path, true, room)?;
+    Ok(())
+}
+
+/// A store: the index, the value, then the access.
+fn walk_store<D: Domain>(
+    alloc: Global,
+    setting: &Setting<D>,
+    item: Which,
+    path: &mut Path<D>,
+    buffer: u32,
+    index: &Term,
+    value: &Term,
+) -> Result<(), WalkError>
+    ensures { IfOk result (λ _. Steps (met path.old) (met path.new) (walks.walk_store (seen D.Domain setting.now item) buffer (term_seen index.now) (term_seen value.now))) }
+{
+    let place = walk_term(alloc, setting, item, path, index)?;
+    walk_term(alloc, setting, item, path, value)?;
+    in_buffer(alloc, setting, item, path, buffer, &place.form)?;
+    path.touch(true, buffer, place.form)?;
+    Ok(())
+}
+
+/// The walk of a statement; `Outside` at one that is no store to a buffer.
+fn walk_statement<D: Domain>(
+    alloc: Global,
+    setting: &Setting<D>,
+    item: Which,
+    path: &mut Path<D>,
+    statement: &Statement,
+) -> Result<(), WalkError>
+    ensures { IfOk result (λ _. Steps (met path.old) (met path.new) (walks.walk_one (seen D.Domain setting.now item) (statement_seen statement.now))) }
+{
+    match statement {
+        Statement::Store {
+            array,
+            index,
+            value,
+            ..
+        } => walk_store(alloc, setting, item, path, array.number, index, value),
+        _ => Err(WalkError::Outside),
+    }
+}
+
+/// What an item meets from the body's beginning to its end, with what is known of it at first.
+pub fn walk<D: Domain>(
+    alloc: Global,
+    setting: &Setting<D>,
+    item: Which,
+    facts: Vec<Form>,
+    body: &[Statement],
+) -> Result<Path<D>, WalkError>
+    ensures { IfOk result (λ p. (met p).found ≡ collect (opening (forms facts.items)).found (walks.tree (seen D.Domain setting.now item) (statements_seen body.now))) }
+{
+    let mut path = Path::opening(alloc, facts);
+    for statement in body {
+        walk_statement(alloc, setting, item, &mut path, statement)?;
+    }
+    Ok(path)
+}

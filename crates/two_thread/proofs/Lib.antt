@@ -1,3 +1,10 @@
 pub mod Nth
 pub mod Growing
 pub mod Copies
+pub mod SoloStores
+pub mod Alone
+pub mod Places
+pub mod PairLists
+pub mod PairFacts
+pub mod Meetings
+pub mod Safe

@@ -1,6 +1,6 @@
 //! Assignments, declarations and what stands in parentheses behind a statement's word.
 
-ghost use Rattle.std.specs.Prelude.{◌≡◌, ◌≤◌, ◌+◌, string_bytes};
+ghost use Rattle.std.specs.Prelude.{◌≡◌, ◌≤◌, ◌+◌, ◌&&◌, nat_lt, nat_le, string_bytes};
 ghost use Rattle.syntax.specs.View.{site as site_of, expression, assignment, declaration, first, statement, index_of};
 ghost use Rattle.parser.specs.Reader.{run};
 ghost use Rattle.parser.specs.View.{lexemes, Reads};
@@ -56,7 +56,7 @@ fn assigned<'a>(
     Ok((assignment, rest))
 }
 
-#[tactic(auto, using(crate::proofs::Steps::part_steps))]
+#[tactic(auto, using(crate::proofs::Steps::part_steps), unfolding(crate::specs::Statements::index_reader))]
 fn index<'a>(
     alloc: Global,
     room: u32,
@@ -266,17 +266,18 @@ pub fn array<'a>(
     Ok((array, rest))
 }
 
+fn is_length(length: u32) -> bool
+    ensures { result ≡ (nat_lt 0 length && nat_le length 16384) }
+{
+    0 < length && length <= 16_384
+}
+
 fn array_length<'a>(tokens: &'a [Token<'a>]) -> Result<(u32, &'a [Token<'a>]), Stop<'a>>
     ensures { Reads (λ n. n) result (run (reads.length_reader) (lexemes tokens.now)) }
 {
     match number_of(kind_at(tokens)) {
         None => Err(Stop::Refused(ParseFault::Expected, tokens)),
-        Some(length) => {
-            if 0 < length && length <= 16_384 {
-                Ok((length, behind(tokens)))
-            } else {
-                Err(Stop::Refused(ParseFault::TooMany, tokens))
-            }
-        }
+        Some(length) if is_length(length) => Ok((length, behind(tokens))),
+        Some(_) => Err(Stop::Refused(ParseFault::TooMany, tokens)),
     }
 }

@@ -1,4 +1,7 @@
-use super::*;
+// Texts to tokens.
+
+use lexer::{TextError, lex};
+use std::alloc::Global;
 use std::test::Fail;
 
 /// What `lex` answers: `line:column kind` of each token, or the fault as it is printed.

@@ -44,46 +44,48 @@ fn times(alloc: Global, text: &str, count: u32) -> Result<String, Fail> {
     Ok(out)
 }
 
+const TREES: &[(&str, &str, &str)] = &[
+    ("", "}", "0"),
+    ("__global uint *a", "a[0] = 1u;\n}", "1"),
+    (
+        "global const int *a, uint n, __global uint *b",
+        "b[n] = a[n] ? 1u : n;\n}",
+        "1",
+    ),
+    (
+        "",
+        "if (1) x = 1; else y = 2; while (0) { z += 1u; }\n}",
+        "2",
+    ),
+    ("", "for (uint i = 0u; i < 4u; i += 1u) ; }", "10 3:36"),
+    (
+        "",
+        "for (uint i = 0u; i < 4u; i += 1u) { barrier(F | G); } { __local int t[4]; }\n}",
+        "2",
+    ),
+    ("", "a[0] = 1u\n}", "10 4:1"),
+    ("", "a[0] = (1u;\n}", "10 3:11"),
+    ("", "a[0] = atomic_add(1u, 1u);\n}", "1"),
+    ("", "barrier = 1;\n}", "10 3:9"),
+    ("", "if (1) uint x = 1u;\n}", "10 3:8"),
+    ("", "a[0] = 1u;\n} }", "10 4:3"),
+    ("", "a[0] = 1u;", "10 3:11"),
+    ("uint n,", "}", "10 2:15"),
+    ("", "__local uint t[0];\n}", "12 3:16"),
+    (
+        "",
+        "__local uint t[16384]; __local uint u[16385];\n}",
+        "12 3:39",
+    ),
+    ("", "return;\n}", "10 3:1"),
+];
+
 #[test]
 fn reads_and_refuses(rt: HostRuntime) -> Result<(), Fail> {
-    for (parameters, body, want) in [
-        ("", "}", "0"),
-        ("__global uint *a", "a[0] = 1u;\n}", "1"),
-        (
-            "global const int *a, uint n, __global uint *b",
-            "b[n] = a[n] ? 1u : n;\n}",
-            "1",
-        ),
-        (
-            "",
-            "if (1) x = 1; else y = 2; while (0) { z += 1u; }\n}",
-            "2",
-        ),
-        ("", "for (uint i = 0u; i < 4u; i += 1u) ; }", "10 3:36"),
-        (
-            "",
-            "for (uint i = 0u; i < 4u; i += 1u) { barrier(F | G); } { __local int t[4]; }\n}",
-            "2",
-        ),
-        ("", "a[0] = 1u\n}", "10 4:1"),
-        ("", "a[0] = (1u;\n}", "10 3:11"),
-        ("", "a[0] = atomic_add(1u, 1u);\n}", "1"),
-        ("", "barrier = 1;\n}", "10 3:9"),
-        ("", "if (1) uint x = 1u;\n}", "10 3:8"),
-        ("", "a[0] = 1u;\n} }", "10 4:3"),
-        ("", "a[0] = 1u;", "10 3:11"),
-        ("uint n,", "}", "10 2:15"),
-        ("", "__local uint t[0];\n}", "12 3:16"),
-        (
-            "",
-            "__local uint t[16384]; __local uint u[16385];\n}",
-            "12 3:39",
-        ),
-        ("", "return;\n}", "10 3:1"),
-    ] {
+    for (parameters, body, want) in TREES {
         assert_eq!(rt;
             shown(rt.alloc(), parameters, body)?.as_str(),
-            want,
+            *want,
             "in {body}"
         );
     }
@@ -109,74 +111,78 @@ fn binds_by_rank(rt: HostRuntime) -> Result<(), Fail> {
     Ok(())
 }
 
+const LIMITS: &[(&str, &str, &str, u32, &str)] = &[
+    ("x = ", "~", "1;}", 30, "1"),
+    ("x = ", "~", "1;}", 31, "11 3:36"),
+    ("x = 1", " + 1", ";}", 30, "1"),
+    ("x = 1", " + 1", ";}", 31, "11 3:5"),
+    ("x = ", "(", "1;", 63, "10 3:69"),
+    ("x = ", "(", "1;", 64, "11 3:68"),
+    ("", "a[0] = 1u;\n", "}", 512, "512"),
+    ("", "a[0] = 1u;\n", "}", 513, "12 515:1"),
+    ("", "x = 1u;\n", "for (x = 0; x; x = 1) {}}", 509, "510"),
+    (
+        "",
+        "x = 1u;\n",
+        "for (x = 0; x; x = 1) {}}",
+        510,
+        "12 513:1",
+    ),
+    ("", "uint x = 0u;\n", "}", 64, "64"),
+    ("", "uint x = 0u;\n", "}", 65, "12 67:6"),
+];
+
 #[test]
 fn refuses_past_limits(rt: HostRuntime) -> Result<(), Fail> {
-    for (front, part, back, count, want) in [
-        ("x = ", "~", "1;}", 30, "1"),
-        ("x = ", "~", "1;}", 31, "11 3:36"),
-        ("x = 1", " + 1", ";}", 30, "1"),
-        ("x = 1", " + 1", ";}", 31, "11 3:5"),
-        ("x = ", "(", "1;", 63, "10 3:69"),
-        ("x = ", "(", "1;", 64, "11 3:68"),
-        ("", "a[0] = 1u;\n", "}", 512, "512"),
-        ("", "a[0] = 1u;\n", "}", 513, "12 515:1"),
-        ("", "x = 1u;\n", "for (x = 0; x; x = 1) {}}", 509, "510"),
-        (
-            "",
-            "x = 1u;\n",
-            "for (x = 0; x; x = 1) {}}",
-            510,
-            "12 513:1",
-        ),
-        ("", "uint x = 0u;\n", "}", 64, "64"),
-        ("", "uint x = 0u;\n", "}", 65, "12 67:6"),
-    ] {
-        let inside = times(rt.alloc(), part, count)?;
+    for (front, part, back, count, want) in LIMITS {
+        let inside = times(rt.alloc(), part, *count)?;
         let body = format!(in rt.alloc(); "{front}{inside}{back}")?;
         assert_eq!(rt;
             shown(rt.alloc(), "", body.as_str())?.as_str(),
-            want,
+            *want,
             "{count} of {part}"
         );
     }
     Ok(())
 }
 
+const KERNELS: &[(&str, &str)] = &[
+    ("b[n] = a[n] + n;\n}", "1"),
+    (
+        "int x = get_local_id(0); b[0] = x ? max(x, (int)n) : -a[x & 3];\n}",
+        "2",
+    ),
+    (
+        "while (n) { n >>= 1; } { int x = 1; } for (int i = 0; !i; i += 1) { uint m = n << 3; }\n}",
+        "4",
+    ),
+    ("z = 1;\n}", "20 3:1 20"),
+    ("b[0] = z;\n}", "20 3:8 20"),
+    ("b[0] = f(1);\n}", "20 3:8 20"),
+    ("int n = 1;\n}", "21 3:5 21"),
+    ("__local int min[4];\n}", "21 3:13 21"),
+    ("b = 1;\n}", "22 3:1 22"),
+    ("n = b;\n}", "22 3:5 22"),
+    ("n[0] = 1;\n}", "22 3:1 22"),
+    ("n = n << 32;\n}", "22 3:7 22"),
+    ("n = max(n, 1);\n}", "22 3:5 22"),
+    ("a[1] = 1;\n}", "23 3:1 23"),
+    ("{ __local int t[4]; }\n}", "24 3:3 24"),
+    ("b[a[1]] += 1;\n}", "25 3:3 25"),
+    ("barrier(n);\n}", "26 3:9 26"),
+    (
+        "barrier(CLK_LOCAL_MEM_FENCE | CLK_LOCAL_MEM_FENCE);\n}",
+        "26 3:31 26",
+    ),
+    ("n = abs(1);\n}", "27 3:5 27"),
+    ("n = atomic_add(1u);\n}", "27 3:5 27"),
+    ("b[0] = 1u; @", "1 3:12 1"),
+    ("b[0] = z }", "10 3:10 10"),
+];
+
 #[test]
 fn types_and_refuses(rt: HostRuntime) -> Result<(), Fail> {
-    for (body, want) in [
-        ("b[n] = a[n] + n;\n}", "1"),
-        (
-            "int x = get_local_id(0); b[0] = x ? max(x, (int)n) : -a[x & 3];\n}",
-            "2",
-        ),
-        (
-            "while (n) { n >>= 1; } { int x = 1; } for (int i = 0; !i; i += 1) { uint m = n << 3; }\n}",
-            "4",
-        ),
-        ("z = 1;\n}", "20 3:1 20"),
-        ("b[0] = z;\n}", "20 3:8 20"),
-        ("b[0] = f(1);\n}", "20 3:8 20"),
-        ("int n = 1;\n}", "21 3:5 21"),
-        ("__local int min[4];\n}", "21 3:13 21"),
-        ("b = 1;\n}", "22 3:1 22"),
-        ("n = b;\n}", "22 3:5 22"),
-        ("n[0] = 1;\n}", "22 3:1 22"),
-        ("n = n << 32;\n}", "22 3:7 22"),
-        ("n = max(n, 1);\n}", "22 3:5 22"),
-        ("a[1] = 1;\n}", "23 3:1 23"),
-        ("{ __local int t[4]; }\n}", "24 3:3 24"),
-        ("b[a[1]] += 1;\n}", "25 3:3 25"),
-        ("barrier(n);\n}", "26 3:9 26"),
-        (
-            "barrier(CLK_LOCAL_MEM_FENCE | CLK_LOCAL_MEM_FENCE);\n}",
-            "26 3:31 26",
-        ),
-        ("n = abs(1);\n}", "27 3:5 27"),
-        ("n = atomic_add(1u);\n}", "27 3:5 27"),
-        ("b[0] = 1u; @", "1 3:12 1"),
-        ("b[0] = z }", "10 3:10 10"),
-    ] {
+    for (body, want) in KERNELS {
         assert_eq!(rt;
             read(
                 rt.alloc(),
@@ -184,7 +190,7 @@ fn types_and_refuses(rt: HostRuntime) -> Result<(), Fail> {
                 body
             )?
             .as_str(),
-            want,
+            *want,
             "in {body}"
         );
     }

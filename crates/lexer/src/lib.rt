@@ -26,14 +26,14 @@ use thiserror::Error;
 pub const LIMIT: usize = 65_536;
 
 /// A number with the kind that it is written in.
-#[derive(Clone, Copy, Debug, PartialEq, Eq)]
+#[derive(Clone, Copy, Debug)]
 pub enum Literal {
     Int(u32),
     Uint(u32),
 }
 
 /// What a token is; a name lends its text.
-#[derive(Clone, Copy, Debug, PartialEq, Eq)]
+#[derive(Clone, Copy, Debug)]
 pub enum TokenKind<'a> {
     Name(&'a str),
     Reserved(Reserved),
@@ -43,7 +43,7 @@ pub enum TokenKind<'a> {
 }
 
 /// A token: its text is `start..stop`, and its first byte stands at the line and column, each counted from 1.
-#[derive(Clone, Copy, Debug, PartialEq, Eq)]
+#[derive(Clone, Copy)]
 pub struct Token<'a> {
     pub kind: TokenKind<'a>,
     pub start: usize,
@@ -53,7 +53,7 @@ pub struct Token<'a> {
 }
 
 /// Why a text has no tokens.
-#[derive(Clone, Copy, Debug, PartialEq, Eq)]
+#[derive(Clone, Copy, Debug)]
 pub enum TextFault {
     BadByte,
     OpenComment,
@@ -311,6 +311,3 @@ fn comment_at(bytes: &[u8]) -> Piece<'_>
     }
     Piece::Bad(TextFault::OpenComment)
 }
-
-#[cfg(test)]
-mod tests;

@@ -6,7 +6,7 @@ ghost use Rattle.texts.specs.Reserved.{reserved_words};
 ghost use Rattle.lexer.specs.Spelling.{sign_entry, word_entry};
 
 /// A sign, named by what it looks like.
-#[derive(Clone, Copy, Debug, PartialEq, Eq)]
+#[derive(Clone, Copy, Debug)]
 pub enum Sign {
     LeftShiftEqual,
     RightShiftEqual,
@@ -54,7 +54,7 @@ pub enum Sign {
 }
 
 /// A reserved word; the five qualifiers are written with or without `__`.
-#[derive(Clone, Copy, Debug, PartialEq, Eq)]
+#[derive(Clone, Copy, Debug)]
 pub enum Reserved {
     Kernel,
     Global,

@@ -7,3 +7,4 @@ pub mod Locality
 pub mod Inversion
 pub mod Marks
 pub mod Sound
+pub mod HeadSteps

@@ -77,7 +77,7 @@ assigned_reader room depth n x at index =
     })))
 
 -- an index in brackets, if one stands here
-abbrev pub index_reader : (room depth : ℕ) → Reader (Option Expression)
+unfoldable pub index_reader : (room depth : ℕ) → Reader (Option Expression)
 index_reader room depth = Looks (λ t. cond (is_left_bracket t.kind) (bracket room (λ room. Then (expression_reader room depth) (λ i. Then (expects is_right_bracket) (λ closing. Gives (Some i))))) (Gives None))
 
 unfoldable pub assignment_reader : (room depth n : ℕ) → Reader Assignment

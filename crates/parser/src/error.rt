@@ -8,7 +8,7 @@ use syntax::tree::Site;
 use thiserror::Error;
 
 /// Another token is due, the tree or its brackets are too deep, or there is too much of something.
-#[derive(Debug, Clone, Copy, PartialEq, Eq)]
+#[derive(Debug, Clone, Copy)]
 pub enum ParseFault {
     Expected,
     TooDeep,

@@ -3,9 +3,10 @@
 ghost use Rattle.std.specs.Prelude.{◌≡◌, ℕ, suc, zero, ◌≤◌, ◌+◌, List, [], None, string_bytes};
 ghost use Rattle.std.specs.Option.{option_map};
 ghost use Rattle.lexer.specs.Seen.{kind};
+ghost use Rattle.texts.specs.Surface.{Conditional};
 ghost use Rattle.syntax.specs.View.{site as site_of, expression};
 ghost use Rattle.words.specs.View.{kind as number_kind};
-ghost use Rattle.parser.specs.Reader.{front, behind, run};
+ghost use Rattle.parser.specs.Reader.{front, behind, run, Took};
 ghost use Rattle.parser.specs.View.{lexemes, Reads, arguments_seen};
 ghost use Rattle.parser.specs.Expressions as reads;
 
@@ -21,6 +22,26 @@ use words::Kind;
 
 /// How many arguments are read after the first: a text within its limit has fewer.
 const MOST_ARGUMENTS: u32 = 65_536;
+
+// The tree with `?`, and what is left.
+fn conditional<'a>(
+    alloc: Global,
+    site: Site,
+    test: Expr,
+    taken: Expr,
+    skipped: Expr,
+    rest: &'a [Token<'a>],
+) -> Result<(Expr, &'a [Token<'a>]), Stop<'a>>
+    ensures { Reads expression result (Took (Conditional (site_of site) (expression test) (expression taken) (expression skipped)) (lexemes rest.now)) }
+{
+    let tree = Expr::Conditional {
+        site,
+        test: Box::new(alloc, test)?,
+        taken: Box::new(alloc, taken)?,
+        skipped: Box::new(alloc, skipped)?,
+    };
+    Ok((tree, rest))
+}
 
 /// An expression.
 #[cycle(expressions)]
@@ -78,13 +99,7 @@ fn whole<'a>(
     let (taken, rest) = expression(alloc, room, depth, behind(rest))?;
     let (_, rest) = pass(is_colon(kind_at(rest)), rest)?;
     let (skipped, rest) = expression(alloc, room, depth, rest)?;
-    let tree = Expr::Conditional {
-        site,
-        test: Box::new(alloc, test)?,
-        taken: Box::new(alloc, taken)?,
-        skipped: Box::new(alloc, skipped)?,
-    };
-    Ok((tree, rest))
+    conditional(alloc, site, test, taken, skipped, rest)
 }
 
 // Operands joined by signs of the rank or a lower one.

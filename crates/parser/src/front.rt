@@ -47,8 +47,10 @@ pub fn site_at(tokens: &[Token]) -> Site
 pub fn behind<'a>(tokens: &'a [Token<'a>]) -> &'a [Token<'a>]
     ensures { lexemes result.now ≡ behind (lexemes tokens.now) }
 {
-    let passed = if tokens.is_empty() { 0 } else { 1 };
-    &tokens[passed..]
+    match tokens {
+        [_, rest @ ..] => rest,
+        [] => tokens,
+    }
 }
 
 /// Over the token at the front, if it is the one that is due.

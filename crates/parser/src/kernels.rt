@@ -1,6 +1,6 @@
 //! A kernel's head, its parameters and its body.
 
-ghost use Rattle.std.specs.Prelude.{◌≡◌, ◌≤◌, ◌*◌, IfOk};
+ghost use Rattle.std.specs.Prelude.{◌≡◌, ◌≤◌, ◌*◌, ◌&&◌, nat_le, IfOk};
 ghost use Rattle.syntax.specs.View.{parameter as parameter_seen, kernel as kernel_seen};
 ghost use Rattle.parser.specs.Reader.{run};
 ghost use Rattle.parser.specs.View.{lexemes, Reads, parameters_seen, sizes_seen};
@@ -111,6 +111,13 @@ fn parameters<'a>(
     Err(Stop::Refused(ParseFault::TooMany, rest))
 }
 
+fn is_size(product: u32, size: u32) -> bool
+    requires { product ≤ 1024 }
+    ensures { result ≡ (nat_le 1 size && nat_le size 1024 && nat_le (product * size) 1024) }
+{
+    1 <= size && size <= 1024 && product * size <= 1024
+}
+
 // A local size; `product` is that of the sizes before it.
 fn size<'a>(product: u32, tokens: &'a [Token<'a>]) -> Result<(u32, &'a [Token<'a>]), Stop<'a>>
     requires { product ≤ 1024 }
@@ -119,13 +126,8 @@ fn size<'a>(product: u32, tokens: &'a [Token<'a>]) -> Result<(u32, &'a [Token<'a
 {
     match number_of(kind_at(tokens)) {
         None => Err(Stop::Refused(ParseFault::Expected, tokens)),
-        Some(size) => {
-            if 1 <= size && size <= 1024 && product * size <= 1024 {
-                Ok((size, behind(tokens)))
-            } else {
-                Err(Stop::Refused(ParseFault::TooMany, tokens))
-            }
-        }
+        Some(size) if is_size(product, size) => Ok((size, behind(tokens))),
+        Some(_) => Err(Stop::Refused(ParseFault::TooMany, tokens)),
     }
 }
 

@@ -16,8 +16,6 @@ pub mod laws;
 pub(crate) mod limits;
 pub(crate) mod parts;
 pub(crate) mod statements;
-#[cfg(test)]
-mod tests;
 
 use counts::{Counts, count_parameters, count_statements};
 use error::{ParseError, ParseFault, Stop};

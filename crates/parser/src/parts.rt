@@ -1,10 +1,11 @@
 //! Assignments, declarations and what stands in parentheses behind a statement's word.
 
-ghost use Rattle.std.specs.Prelude.{◌≡◌, ◌≤◌, ◌+◌, string_bytes};
+ghost use Rattle.std.specs.Prelude.{◌≡◌, ◌≤◌, ◌+◌, ◌&&◌, nat_lt, nat_le, string_bytes};
 ghost use Rattle.syntax.specs.View.{site as site_of, expression, assignment, declaration, first, statement, index_of};
 ghost use Rattle.parser.specs.Reader.{run};
 ghost use Rattle.parser.specs.View.{lexemes, Reads};
-ghost use Rattle.parser.specs.Heads.{head};
+ghost use Rattle.parser.specs.Expressions.{expression_reader, is_right_parenthesis as is_right_parenthesis_of};
+ghost use Rattle.parser.specs.Heads.{head, ended};
 ghost use Rattle.parser.specs.Statements as reads;
 
 use crate::error::{ParseFault, Stop};
@@ -56,7 +57,7 @@ fn assigned<'a>(
     Ok((assignment, rest))
 }
 
-#[tactic(auto, using(crate::proofs::Steps::part_steps))]
+#[tactic(auto, using(crate::proofs::Steps::part_steps), unfolding(crate::specs::Statements::index_reader))]
 fn index<'a>(
     alloc: Global,
     room: u32,
@@ -200,7 +201,54 @@ pub fn head_of_for<'a>(
     parts_of_for(alloc, room - 1, depth, number, behind(tokens))
 }
 
-#[tactic(auto, using(crate::proofs::Steps::part_steps), unfolding(crate::specs::Statements::parts_reader))]
+#[tactic(auto, using(crate::proofs::Steps::part_steps), unfolding(crate::specs::Heads::ended))]
+fn ended_first<'a>(
+    alloc: Global,
+    room: u32,
+    depth: u32,
+    number: u32,
+    tokens: &'a [Token<'a>],
+) -> Result<(First, &'a [Token<'a>]), Stop<'a>>
+    requires { depth ≤ 32 }
+    ensures { Reads first result (run (ended (reads.first_reader room depth number) reads.is_semicolon) (lexemes tokens.now)) }
+{
+    let (first, rest) = first_part(alloc, room, depth, number, tokens)?;
+    let (_, rest) = pass(is_semicolon(kind_at(rest)), rest)?;
+    Ok((first, rest))
+}
+
+#[tactic(auto, using(crate::proofs::Steps::part_steps), unfolding(crate::specs::Heads::ended))]
+fn ended_test<'a>(
+    alloc: Global,
+    room: u32,
+    depth: u32,
+    tokens: &'a [Token<'a>],
+) -> Result<(Expr, &'a [Token<'a>]), Stop<'a>>
+    requires { depth ≤ 32 }
+    ensures { Reads expression result (run (ended (expression_reader room depth) reads.is_semicolon) (lexemes tokens.now)) }
+{
+    let (test, rest) = expression(alloc, room, depth, tokens)?;
+    let (_, rest) = pass(is_semicolon(kind_at(rest)), rest)?;
+    Ok((test, rest))
+}
+
+#[tactic(auto, using(crate::proofs::Steps::part_steps), unfolding(crate::specs::Heads::ended))]
+fn ended_update<'a>(
+    alloc: Global,
+    room: u32,
+    depth: u32,
+    number: u32,
+    tokens: &'a [Token<'a>],
+) -> Result<(Assignment, &'a [Token<'a>]), Stop<'a>>
+    requires { depth ≤ 32 }
+    ensures { Reads assignment result (run (ended (reads.assignment_reader room depth number) is_right_parenthesis_of) (lexemes tokens.now)) }
+{
+    let (update, rest) = assignment(alloc, room, depth, number, tokens)?;
+    let (_, rest) = pass(is_right_parenthesis(kind_at(rest)), rest)?;
+    Ok((update, rest))
+}
+
+#[tactic(auto, using(crate::proofs::HeadSteps::head_steps))]
 fn parts_of_for<'a>(
     alloc: Global,
     room: u32,
@@ -212,12 +260,9 @@ fn parts_of_for<'a>(
     requires number { number ≤ 513 }
     ensures { Reads head result (run (reads.parts_reader room depth number) (lexemes tokens.now)) }
 {
-    let (first, rest) = first_part(alloc, room, depth, number, tokens)?;
-    let (_, rest) = pass(is_semicolon(kind_at(rest)), rest)?;
-    let (test, rest) = expression(alloc, room, depth, rest)?;
-    let (_, rest) = pass(is_semicolon(kind_at(rest)), rest)?;
-    let (update, rest) = assignment(alloc, room, depth, number + 1, rest)?;
-    let (_, rest) = pass(is_right_parenthesis(kind_at(rest)), rest)?;
+    let (first, rest) = ended_first(alloc, room, depth, number, tokens)?;
+    let (test, rest) = ended_test(alloc, room, depth, rest)?;
+    let (update, rest) = ended_update(alloc, room, depth, number + 1, rest)?;
     let head = Head {
         first,
         test,
@@ -266,17 +311,18 @@ pub fn array<'a>(
     Ok((array, rest))
 }
 
+fn is_length(length: u32) -> bool
+    ensures { result ≡ (nat_lt 0 length && nat_le length 16384) }
+{
+    0 < length && length <= 16_384
+}
+
 fn array_length<'a>(tokens: &'a [Token<'a>]) -> Result<(u32, &'a [Token<'a>]), Stop<'a>>
     ensures { Reads (λ n. n) result (run (reads.length_reader) (lexemes tokens.now)) }
 {
     match number_of(kind_at(tokens)) {
         None => Err(Stop::Refused(ParseFault::Expected, tokens)),
-        Some(length) => {
-            if 0 < length && length <= 16_384 {
-                Ok((length, behind(tokens)))
-            } else {
-                Err(Stop::Refused(ParseFault::TooMany, tokens))
-            }
-        }
+        Some(length) if is_length(length) => Ok((length, behind(tokens))),
+        Some(_) => Err(Stop::Refused(ParseFault::TooMany, tokens)),
     }
 }

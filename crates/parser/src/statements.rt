@@ -5,6 +5,7 @@ ghost use Rattle.std.specs.Prelude.{◌≡◌, ◌≤◌, ◌+◌};
 ghost use Rattle.syntax.specs.View.{site as site_of, expression};
 ghost use Rattle.parser.specs.Reader.{run, Looks};
 ghost use Rattle.parser.specs.View.{lexemes, Reads, numbered, all_numbered};
+ghost use Rattle.parser.specs.Heads.{choice_reader, counting_reader};
 ghost use Rattle.parser.specs.Statements as reads;
 
 use crate::error::{ParseFault, Stop};
@@ -98,17 +99,7 @@ fn below<'a>(
             Ok(((Stmt::Block { number, site, body }, next), rest))
         }
         TokenKind::Reserved(Reserved::If) => {
-            let (test, rest) = tested(alloc, room, depth, behind(tokens))?;
-            let ((taken, middle), rest) = body(alloc, room, depth, number + 1, rest)?;
-            let ((skipped, next), rest) = otherwise(alloc, room, depth, middle, rest)?;
-            let tree = Stmt::If {
-                number,
-                site,
-                test,
-                taken,
-                skipped,
-            };
-            Ok(((tree, next), rest))
+            choice(alloc, room, depth, number, site, behind(tokens))
         }
         TokenKind::Reserved(Reserved::While) => {
             let (test, rest) = tested(alloc, room, depth, behind(tokens))?;
@@ -125,20 +116,66 @@ fn below<'a>(
             if number > 510 {
                 return Err(Stop::Refused(ParseFault::TooMany, tokens));
             }
-            let (head, rest) = head_of_for(alloc, room, depth, number + 1, behind(tokens))?;
-            let ((body, next), rest) = body(alloc, room, depth, number + 3, rest)?;
-            let tree = Stmt::For {
-                number,
-                site,
-                first: head.first,
-                test: head.test,
-                update: head.update,
-                body,
-            };
-            Ok(((tree, next), rest))
+            counting(alloc, room, depth, number, site, behind(tokens))
         }
         _ => Err(Stop::Refused(ParseFault::Expected, tokens)),
     }
+}
+
+// Behind `if`.
+#[cycle(statements)]
+#[tactic(auto, using(crate::proofs::StatementSteps::statement_steps))]
+fn choice<'a>(
+    alloc: Global,
+    room: u32,
+    depth: u32,
+    number: u32,
+    site: Site,
+    tokens: &'a [Token<'a>],
+) -> Result<((Stmt, u32), &'a [Token<'a>]), Stop<'a>>
+    requires depth { depth ≤ 31 }
+    requires number { number ≤ 512 }
+    ensures { Reads numbered result (run (choice_reader (reads.body_reader depth) room depth number (site_of site)) (lexemes tokens.now)) }
+{
+    let (test, rest) = tested(alloc, room, depth, tokens)?;
+    let ((taken, middle), rest) = body(alloc, room, depth, number + 1, rest)?;
+    let ((skipped, next), rest) = otherwise(alloc, room, depth, middle, rest)?;
+    let tree = Stmt::If {
+        number,
+        site,
+        test,
+        taken,
+        skipped,
+    };
+    Ok(((tree, next), rest))
+}
+
+// Behind `for`.
+#[cycle(statements)]
+#[tactic(auto, using(crate::proofs::StatementSteps::statement_steps))]
+fn counting<'a>(
+    alloc: Global,
+    room: u32,
+    depth: u32,
+    number: u32,
+    site: Site,
+    tokens: &'a [Token<'a>],
+) -> Result<((Stmt, u32), &'a [Token<'a>]), Stop<'a>>
+    requires depth { depth ≤ 31 }
+    requires number { number ≤ 510 }
+    ensures { Reads numbered result (run (counting_reader (reads.body_reader depth) room depth number (site_of site)) (lexemes tokens.now)) }
+{
+    let (head, rest) = head_of_for(alloc, room, depth, number + 1, tokens)?;
+    let ((body, next), rest) = body(alloc, room, depth, number + 3, rest)?;
+    let tree = Stmt::For {
+        number,
+        site,
+        first: head.first,
+        test: head.test,
+        update: head.update,
+        body,
+    };
+    Ok(((tree, next), rest))
 }
 
 // What an `else` brings, if one stands here.

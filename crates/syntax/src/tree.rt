@@ -14,7 +14,7 @@ pub struct Site {
 }
 
 /// An arithmetic or bitwise operator on two numbers (C99 6.5.5, 6.5.6, 6.5.10 to 6.5.12).
-#[derive(Debug, Clone, Copy, PartialEq, Eq)]
+#[derive(Clone, Copy)]
 pub enum Operator {
     Add,
     Subtract,
@@ -27,7 +27,7 @@ pub enum Operator {
 }
 
 /// A comparison (C99 6.5.8, 6.5.9).
-#[derive(Debug, Clone, Copy, PartialEq, Eq)]
+#[derive(Clone, Copy)]
 pub enum Relation {
     Less,
     AtMost,
@@ -38,7 +38,7 @@ pub enum Relation {
 }
 
 /// A sign between two operands.
-#[derive(Debug, Clone, Copy, PartialEq, Eq)]
+#[derive(Clone, Copy)]
 pub enum InfixSign {
     Arithmetic(Operator),
     LeftShift,
@@ -49,7 +49,7 @@ pub enum InfixSign {
 }
 
 /// A sign in front of an operand.
-#[derive(Debug, Clone, Copy, PartialEq, Eq)]
+#[derive(Clone, Copy)]
 pub enum PrefixSign {
     Minus,
     LogicalNot,
@@ -57,7 +57,7 @@ pub enum PrefixSign {
 }
 
 /// The sign of an assignment: `=`, or `op=` with its operator.
-#[derive(Debug, Clone, Copy, PartialEq, Eq)]
+#[derive(Clone, Copy)]
 pub enum AssignSign {
     Plain,
     With(Operator),
@@ -66,7 +66,7 @@ pub enum AssignSign {
 }
 
 /// An expression. Parentheses leave no node.
-#[derive(Debug, PartialEq, Eq, Drop)]
+#[derive(Drop)]
 pub enum Expr {
     Number {
         site: Site,
@@ -114,7 +114,7 @@ pub enum Expr {
 }
 
 /// A private variable with its initialiser.
-#[derive(Debug, PartialEq, Eq, Drop)]
+#[derive(Drop)]
 pub struct Declaration {
     pub number: u32,
     pub site: Site,
@@ -125,7 +125,7 @@ pub struct Declaration {
 }
 
 /// To a variable, or with an index to an element; the site is that of the name.
-#[derive(Debug, PartialEq, Eq, Drop)]
+#[derive(Drop)]
 pub struct Assignment {
     pub number: u32,
     pub site: Site,
@@ -137,14 +137,14 @@ pub struct Assignment {
 }
 
 /// The first part of a `for`.
-#[derive(Debug, PartialEq, Eq, Drop)]
+#[derive(Drop)]
 pub enum First {
     Declares(Declaration),
     Assigns(Assignment),
 }
 
 /// A statement with its number in the source, from 1.
-#[derive(Debug, PartialEq, Eq, Drop)]
+#[derive(Drop)]
 pub enum Stmt {
     Declare(Declaration),
     DeclareArray {
@@ -190,7 +190,7 @@ pub enum Stmt {
 }
 
 /// A parameter.
-#[derive(Debug, PartialEq, Eq, Drop)]
+#[derive(Drop)]
 pub enum Parameter {
     Buffer {
         constant: bool,
@@ -206,7 +206,7 @@ pub enum Parameter {
 }
 
 /// A kernel: its name, its work-group size in three dimensions, its parameters and its body.
-#[derive(Debug, PartialEq, Eq, Drop)]
+#[derive(Drop)]
 pub struct Kernel {
     pub name: String,
     pub sizes: [u32; 3],

@@ -9,7 +9,7 @@ ghost use Rattle.texts.specs.TypeFaults as rules;
 ghost use Rattle.texts.specs.Typing as typing;
 ghost use Rattle.words.specs.View.{kind as kind_of};
 ghost use Rattle.syntax.specs.View.{site, expression, assign_sign, assignment};
-ghost use Rattle.types.specs.View.{array as array_of, statement};
+ghost use Rattle.types.specs.View.{array as array_of, statement, term};
 ghost use Rattle.types.specs.Names.{names, meaning_seen, scope_seen};
 ghost use Rattle.types.specs.Answers.{typed_term, Gives, IsTyped, IsArrayOf};
 
@@ -129,6 +129,25 @@ fn assigned_element(
     assigned(alloc, a, old, value)
 }
 
+fn store(
+    alloc: Global,
+    a: &Assignment,
+    element: (Array, Kind),
+    index: Term,
+    value: TypedTerm,
+) -> Result<Statement, TypeError>
+    ensures { Gives statement result (Ok (core.Store a.now.number (array_of element.0) (site a.now.site) (term index) (typing.bring (kind_of element.1) (site a.now.site) (typed_term value)))) }
+{
+    let value = bring(alloc, element.1, a.site, value)?;
+    Ok(Statement::Store {
+        number: a.number,
+        array: element.0,
+        site: a.site,
+        index,
+        value,
+    })
+}
+
 fn assign_element(
     alloc: Global,
     scope: &Scope,
@@ -143,13 +162,7 @@ fn assign_element(
     without_load(a, index)?;
     let value = type_of(alloc, visible, &a.value)?;
     let value = assigned_element(alloc, visible, a, index, element, value)?;
-    Ok(Statement::Store {
-        number: a.number,
-        array: element.0,
-        site: a.site,
-        index: typed.term,
-        value: bring(alloc, element.1, a.site, value)?,
-    })
+    store(alloc, a, element, typed.term, value)
 }
 
 /// The core statement of an assignment, or its first broken rule: of the target, of its index, of the value.

@@ -12,25 +12,19 @@ use crate::core_tree::Function;
 pub fn function_named(name: &str) -> Option<Function>
     ensures { function_seen result ≡ typing.function_named name.now }
 {
-    if name == "get_global_id" {
-        Some(Function::GlobalId)
-    } else if name == "get_local_id" {
-        Some(Function::LocalId)
-    } else if name == "get_group_id" {
-        Some(Function::GroupId)
-    } else if name == "get_global_size" {
-        Some(Function::GlobalSize)
-    } else if name == "get_local_size" {
-        Some(Function::LocalSize)
-    } else if name == "get_num_groups" {
-        Some(Function::NumGroups)
-    } else {
-        None
+    match name {
+        "get_global_id" => Some(Function::GlobalId),
+        "get_local_id" => Some(Function::LocalId),
+        "get_group_id" => Some(Function::GroupId),
+        "get_global_size" => Some(Function::GlobalSize),
+        "get_local_size" => Some(Function::LocalSize),
+        "get_num_groups" => Some(Function::NumGroups),
+        _ => None,
     }
 }
 
 /// `min` or `max`.
-#[derive(Debug, Clone, Copy, PartialEq, Eq)]
+#[derive(Clone, Copy)]
 pub enum Pick {
     Minimum,
     Maximum,
@@ -54,18 +48,21 @@ pub fn pick_named(name: &str) -> Option<Pick>
 fn is_left_out_name(name: &str) -> bool
     ensures { result ≡ scope.is_one_of typing.left_out_names name.now }
 {
-    name == "get_work_dim"
-        || name == "get_global_offset"
-        || name == "mem_fence"
-        || name == "read_mem_fence"
-        || name == "write_mem_fence"
-        || name == "mul24"
-        || name == "mad24"
-        || name == "abs"
-        || name == "clamp"
-        || name == "async_work_group_copy"
-        || name == "wait_group_events"
-        || name == "prefetch"
+    matches!(
+        name,
+        "get_work_dim"
+            | "get_global_offset"
+            | "mem_fence"
+            | "read_mem_fence"
+            | "write_mem_fence"
+            | "mul24"
+            | "mad24"
+            | "abs"
+            | "clamp"
+            | "async_work_group_copy"
+            | "wait_group_events"
+            | "prefetch"
+    )
 }
 
 /// Whether OpenCL C has a function of that name that this language leaves out.

@@ -4,21 +4,21 @@ use syntax::tree::{Operator, Relation, Site};
 use words::Kind;
 
 /// Where an array lies: a buffer parameter in global memory, a local array in local memory (OpenCL 1.2, 3.3).
-#[derive(Debug, Clone, Copy, PartialEq, Eq)]
+#[derive(Clone, Copy)]
 pub enum Space {
     Global,
     Local,
 }
 
 /// A buffer parameter or a local array, by its number among its like, from 0.
-#[derive(Debug, Clone, Copy, PartialEq, Eq)]
+#[derive(Clone, Copy)]
 pub struct Array {
     pub space: Space,
     pub number: u32,
 }
 
 /// A work-item function (OpenCL 1.2, 6.12.1).
-#[derive(Debug, Clone, Copy, PartialEq, Eq)]
+#[derive(Clone, Copy)]
 pub enum Function {
     GlobalId,
     LocalId,
@@ -29,7 +29,7 @@ pub enum Function {
 }
 
 /// An operator with one operand; a shift has its count, 0 to 31.
-#[derive(Debug, Clone, Copy, PartialEq, Eq)]
+#[derive(Clone, Copy)]
 pub enum UnaryOperator {
     Negate,
     Complement,
@@ -38,7 +38,7 @@ pub enum UnaryOperator {
 }
 
 /// An expression; an operator has the kind to which it brings its operands.
-#[derive(Debug, PartialEq, Eq, Drop)]
+#[derive(Drop)]
 pub enum Term {
     Literal {
         kind: Kind,
@@ -107,7 +107,7 @@ pub enum Term {
 }
 
 /// A statement with its number in the source. `Break` and `Continue` name their loop by its number.
-#[derive(Debug, PartialEq, Eq, Drop)]
+#[derive(Drop)]
 pub enum Statement {
     Set {
         number: u32,
@@ -152,7 +152,7 @@ pub enum Statement {
 }
 
 /// A local array of the kernel.
-#[derive(Debug, Clone, Copy, PartialEq, Eq)]
+#[derive(Clone, Copy)]
 pub struct LocalArray {
     pub kind: Kind,
     pub length: u32,
@@ -160,7 +160,7 @@ pub struct LocalArray {
 
 /// An elaborated kernel: local sizes, element kinds of the buffer parameters, kinds of the value parameters, which take the first
 /// slots, local arrays, kinds of the private variables, which take the slots that follow, and the body.
-#[derive(Debug, PartialEq, Eq, Drop)]
+#[derive(Drop)]
 pub struct Core {
     pub sizes: [u32; 3],
     pub buffers: Vec<Kind>,

@@ -19,19 +19,22 @@ use words::Kind;
 fn is_reserved(name: &str) -> bool
     ensures { result ≡ scoping.is_one_of scoping.reserved_names name.now }
 {
-    name == "get_global_id"
-        || name == "get_local_id"
-        || name == "get_group_id"
-        || name == "get_global_size"
-        || name == "get_local_size"
-        || name == "get_num_groups"
-        || name == "reqd_work_group_size"
-        || name == "get_work_dim"
-        || name == "CLK_LOCAL_MEM_FENCE"
-        || name == "CLK_GLOBAL_MEM_FENCE"
-        || name == "min"
-        || name == "max"
-        || name == "barrier"
+    matches!(
+        name,
+        "get_global_id"
+            | "get_local_id"
+            | "get_group_id"
+            | "get_global_size"
+            | "get_local_size"
+            | "get_num_groups"
+            | "reqd_work_group_size"
+            | "get_work_dim"
+            | "CLK_LOCAL_MEM_FENCE"
+            | "CLK_GLOBAL_MEM_FENCE"
+            | "min"
+            | "max"
+            | "barrier"
+    )
 }
 
 /// Whether a declaration may take the name: it is neither visible nor reserved.

@@ -7,7 +7,7 @@ use syntax::tree::Site;
 use thiserror::Error;
 
 /// A broken typing rule.
-#[derive(Debug, Clone, Copy, PartialEq, Eq)]
+#[derive(Debug, Clone, Copy)]
 pub enum TypeFault {
     UnknownName,
     NameTwice,

@@ -12,12 +12,8 @@ pub mod declarations;
 pub mod declared;
 pub mod elaboration;
 pub mod error;
-#[cfg(test)]
-mod kernel_tests;
 pub mod loads;
 pub mod scope;
 pub mod statements;
-#[cfg(test)]
-mod tests;
 pub mod typed;
 pub mod typing;

@@ -9,7 +9,7 @@ use crate::core_tree::{Array, LocalArray};
 use words::Kind;
 
 /// A private variable or value parameter, or a buffer parameter or local array.
-#[derive(Debug, Clone, Copy, PartialEq, Eq)]
+#[derive(Clone, Copy)]
 pub enum Meaning {
     Variable {
         slot: u32,
@@ -23,7 +23,7 @@ pub enum Meaning {
 }
 
 /// A visible name.
-#[derive(Debug, Clone, Copy)]
+#[derive(Clone, Copy)]
 pub struct Binding<'a> {
     pub name: &'a str,
     pub meaning: Meaning,

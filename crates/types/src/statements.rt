@@ -1,6 +1,6 @@
 //! Statements.
 
-ghost use Rattle.std.specs.Prelude.{◌≡◌, Bool};
+ghost use Rattle.std.specs.Prelude.{◌≡◌, Bool, Ok};
 ghost use Rattle.semantics.specs.Core as core;
 ghost use Rattle.texts.specs.Elaboration as elaboration;
 ghost use Rattle.texts.specs.Surface as surface;
@@ -100,6 +100,25 @@ fn elaborate_while<'a>(
     })
 }
 
+fn loop_with(
+    alloc: Global,
+    number: u32,
+    test: Term,
+    body: Vec<Statement>,
+    update: Statement,
+) -> Result<Statement, TypeError>
+    ensures { Gives statement result (Ok (core.Loop number (term test) (statements body.items) (elaboration.single (statement update)))) }
+{
+    let mut updates = Vec::new(alloc);
+    updates.push(update)?;
+    Ok(Statement::Loop {
+        number,
+        test,
+        body,
+        update: updates,
+    })
+}
+
 // What a `for` repeats, after its first part.
 #[cycle(statements)]
 #[tactic(auto, using(crate::proofs::Blocks::alone))]
@@ -117,14 +136,7 @@ fn elaborate_repeated<'a>(
     let update = elaborate_assignment(alloc, scope, update)?;
     let mut inside = Vec::new(alloc);
     elaborate_block(alloc, scope, body, &mut inside)?;
-    let mut updates = Vec::new(alloc);
-    updates.push(update)?;
-    Ok(Statement::Loop {
-        number,
-        test: test.term,
-        body: inside,
-        update: updates,
-    })
+    loop_with(alloc, number, test.term, inside, update)
 }
 
 #[cycle(statements)]

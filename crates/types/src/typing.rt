@@ -1,6 +1,6 @@
 //! The kinds and terms of expressions.
 
-ghost use Rattle.std.specs.Prelude.{◌≡◌, [], ◌∷◌, length, IfOk};
+ghost use Rattle.std.specs.Prelude.{◌≡◌, [], ◌∷◌, length, Ok, IfOk};
 ghost use Rattle.std.specs.Option.{option_map};
 ghost use Rattle.semantics.specs.Core as core;
 ghost use Rattle.semantics.specs.Word as word;
@@ -9,7 +9,7 @@ ghost use Rattle.texts.specs.TypeFaults as rules;
 ghost use Rattle.texts.specs.Typing as typing;
 ghost use Rattle.words.specs.View.{kind};
 ghost use Rattle.syntax.specs.View.{site, expression, expressions, infix_sign, prefix_sign};
-ghost use Rattle.types.specs.View.{term, unary_operator, function as function_of};
+ghost use Rattle.types.specs.View.{term, array as array_seen, unary_operator, function as function_of};
 ghost use Rattle.types.specs.Functions.{pick as pick_of};
 ghost use Rattle.types.specs.Names.{names, meaning_seen};
 ghost use Rattle.types.specs.Answers.{typed_term, IsTyped, IsArrayOf};
@@ -23,7 +23,7 @@ use syntax::tree::{Expr, InfixSign, PrefixSign, Site};
 use words::Kind;
 
 /// A term with its kind.
-#[derive(Debug, PartialEq, Eq, Drop)]
+#[derive(Drop)]
 pub struct TypedTerm {
     pub kind: Kind,
     pub term: Term,
@@ -58,8 +58,8 @@ fn prefix_term(
     sign: PrefixSign,
     at: Site,
     of: TypedTerm,
-) -> Result<TypedTerm, AllocError>
-    ensures { IfOk result (λ t. typed_term t ≡ typing.prefix_term (prefix_sign sign) (site at) (typed_term of)) }
+) -> Result<TypedTerm, TypeError>
+    ensures { IsTyped result (Ok (typing.prefix_term (prefix_sign sign) (site at) (typed_term of))) }
 {
     let kind = of.kind;
     let of = Box::new(alloc, of.term)?;
@@ -89,12 +89,43 @@ fn prefix_term(
     }
 }
 
+fn cast_term(alloc: Global, to: Kind, at: Site, of: TypedTerm) -> Result<TypedTerm, TypeError>
+    ensures { IsTyped result (Ok (typing.typed (kind to) (typing.bring (kind to) (site at) (typed_term of)))) }
+{
+    Ok(TypedTerm {
+        kind: to,
+        term: bring(alloc, to, at, of)?,
+    })
+}
+
+fn load_term(
+    alloc: Global,
+    at: Site,
+    element: (Array, Kind),
+    index: TypedTerm,
+) -> Result<TypedTerm, TypeError>
+    ensures { IsTyped result (Ok (typing.element_term (site at) (array_seen element.0, kind element.1) (typed_term index))) }
+{
+    let (array, kind) = element;
+    Ok(TypedTerm {
+        kind,
+        term: Term::Load {
+            array,
+            site: at,
+            index: Box::new(alloc, index.term)?,
+        },
+    })
+}
+
 // The count of a shift: a number in the text, 0 to 31, beside a `uint`.
 fn shift_count(left: Kind, right: &Expr) -> Option<u32>
     ensures { result ≡ typing.shift_count (kind left) (expression right.now) }
 {
-    match (left, right) {
-        (Kind::Uint, Expr::Number { value, .. }) if *value <= 31 => Some(*value),
+    let Kind::Uint = left else {
+        return None;
+    };
+    match right {
+        Expr::Number { value, .. } if *value <= 31 => Some(*value),
         _ => None,
     }
 }
@@ -104,8 +135,8 @@ fn shift_term(
     operator: UnaryOperator,
     at: Site,
     of: TypedTerm,
-) -> Result<TypedTerm, AllocError>
-    ensures { IfOk result (λ t. typed_term t ≡ typing.typed word.Uint (core.Unary (unary_operator operator) word.Uint (site at) (term of.term))) }
+) -> Result<TypedTerm, TypeError>
+    ensures { IsTyped result (Ok (typing.typed word.Uint (core.Unary (unary_operator operator) word.Uint (site at) (term of.term)))) }
 {
     Ok(TypedTerm {
         kind: Kind::Uint,
@@ -116,6 +147,49 @@ fn shift_term(
             of: Box::new(alloc, of.term)?,
         },
     })
+}
+
+fn left_shift(
+    alloc: Global,
+    at: Site,
+    operand: &Expr,
+    of: TypedTerm,
+) -> Result<TypedTerm, TypeError>
+    ensures { IsTyped result (typing.shift_term (site at) word.ShiftLeft (typed_term of) (typing.shift_count (kind of.kind) (expression operand.now))) }
+{
+    match shift_count(of.kind, operand) {
+        Some(count) => shift_term(alloc, UnaryOperator::ShiftLeft(count), at, of),
+        None => Err(TypeError::At {
+            fault: TypeFault::WrongType,
+            site: at,
+        }),
+    }
+}
+
+fn right_shift(
+    alloc: Global,
+    at: Site,
+    operand: &Expr,
+    of: TypedTerm,
+) -> Result<TypedTerm, TypeError>
+    ensures { IsTyped result (typing.shift_term (site at) word.ShiftRight (typed_term of) (typing.shift_count (kind of.kind) (expression operand.now))) }
+{
+    match shift_count(of.kind, operand) {
+        Some(count) => shift_term(alloc, UnaryOperator::ShiftRight(count), at, of),
+        None => Err(TypeError::At {
+            fault: TypeFault::WrongType,
+            site: at,
+        }),
+    }
+}
+
+fn boxes(alloc: Global, left: Term, right: Term) -> Result<(Box<Term>, Box<Term>), AllocError>
+    ensures left { IfOk result (λ both. both.0.value ≡ left) }
+    ensures right { IfOk result (λ both. both.1.value ≡ right) }
+{
+    let left = Box::new(alloc, left)?;
+    let right = Box::new(alloc, right)?;
+    Ok((left, right))
 }
 
 /// The term of an operator between two operands; `operand` is the right one in the text.
@@ -131,54 +205,57 @@ pub fn infix_term(
 {
     let kind = common(left.kind, right.kind);
     match sign {
-        InfixSign::Arithmetic(operator) => Ok(TypedTerm {
-            kind,
-            term: Term::Binary {
+        InfixSign::LeftShift => left_shift(alloc, at, operand, left),
+        InfixSign::RightShift => right_shift(alloc, at, operand, left),
+        InfixSign::Arithmetic(operator) => {
+            let (left, right) = boxes(alloc, left.term, right.term)?;
+            let term = Term::Binary {
                 operator,
                 kind,
                 site: at,
-                left: Box::new(alloc, left.term)?,
-                right: Box::new(alloc, right.term)?,
-            },
-        }),
-        InfixSign::LeftShift => match shift_count(left.kind, operand) {
-            Some(count) => Ok(shift_term(alloc, UnaryOperator::ShiftLeft(count), at, left)?),
-            None => Err(TypeError::At {
-                fault: TypeFault::WrongType,
-                site: at,
-            }),
-        },
-        InfixSign::RightShift => match shift_count(left.kind, operand) {
-            Some(count) => Ok(shift_term(alloc, UnaryOperator::ShiftRight(count), at, left)?),
-            None => Err(TypeError::At {
-                fault: TypeFault::WrongType,
-                site: at,
-            }),
-        },
-        InfixSign::Comparison(relation) => Ok(TypedTerm {
-            kind: Kind::Int,
-            term: Term::Compare {
-                relation,
-                kind,
-                left: Box::new(alloc, left.term)?,
-                right: Box::new(alloc, right.term)?,
-            },
-        }),
-        InfixSign::LogicalAnd => Ok(TypedTerm {
-            kind: Kind::Int,
-            term: Term::And {
-                left: Box::new(alloc, left.term)?,
-                right: Box::new(alloc, right.term)?,
-            },
-        }),
-        InfixSign::LogicalOr => Ok(TypedTerm {
-            kind: Kind::Int,
-            term: Term::Or {
-                left: Box::new(alloc, left.term)?,
-                right: Box::new(alloc, right.term)?,
-            },
-        }),
+                left,
+                right,
+            };
+            Ok(TypedTerm { kind, term })
+        }
+        InfixSign::Comparison(relation) => {
+            let (left, right) = boxes(alloc, left.term, right.term)?;
+            Ok(TypedTerm {
+                kind: Kind::Int,
+                term: Term::Compare {
+                    relation,
+                    kind,
+                    left,
+                    right,
+                },
+            })
+        }
+        InfixSign::LogicalAnd => {
+            let (left, right) = boxes(alloc, left.term, right.term)?;
+            Ok(TypedTerm {
+                kind: Kind::Int,
+                term: Term::And { left, right },
+            })
+        }
+        InfixSign::LogicalOr => {
+            let (left, right) = boxes(alloc, left.term, right.term)?;
+            Ok(TypedTerm {
+                kind: Kind::Int,
+                term: Term::Or { left, right },
+            })
+        }
     }
+}
+
+fn select_term(alloc: Global, test: Term, taken: Term, skipped: Term) -> Result<Term, AllocError>
+    ensures { IfOk result (λ t. term t ≡ core.Select (term test) (term taken) (term skipped)) }
+{
+    let (taken, skipped) = boxes(alloc, taken, skipped)?;
+    Ok(Term::Select {
+        test: Box::new(alloc, test)?,
+        taken,
+        skipped,
+    })
 }
 
 fn conditional_term(
@@ -187,19 +264,15 @@ fn conditional_term(
     test: TypedTerm,
     taken: TypedTerm,
     skipped: TypedTerm,
-) -> Result<TypedTerm, AllocError>
-    ensures { IfOk result (λ t. typed_term t ≡ typing.conditional_term (site at) (typed_term test) (typed_term taken) (typed_term skipped)) }
+) -> Result<TypedTerm, TypeError>
+    ensures { IsTyped result (Ok (typing.conditional_term (site at) (typed_term test) (typed_term taken) (typed_term skipped))) }
 {
     let kind = common(taken.kind, skipped.kind);
     let taken = bring(alloc, kind, at, taken)?;
     let skipped = bring(alloc, kind, at, skipped)?;
     Ok(TypedTerm {
         kind,
-        term: Term::Select {
-            test: Box::new(alloc, test.term)?,
-            taken: Box::new(alloc, taken)?,
-            skipped: Box::new(alloc, skipped)?,
-        },
+        term: select_term(alloc, test.term, taken, skipped)?,
     })
 }
 
@@ -244,8 +317,7 @@ fn pick_term(
         });
     }
     let kind = left.kind;
-    let left = Box::new(alloc, left.term)?;
-    let right = Box::new(alloc, right.term)?;
+    let (left, right) = boxes(alloc, left.term, right.term)?;
     match pick {
         Pick::Minimum => Ok(TypedTerm {
             kind,
@@ -362,16 +434,9 @@ pub fn type_of(alloc: Global, visible: &[Binding], e: &Expr) -> Result<TypedTerm
         }),
         Expr::Name { site, name } => variable_term(*site, meaning_of(visible, name.as_str())),
         Expr::Element { site, name, index } => {
-            let (array, kind) = array_of(*site, meaning_of(visible, name.as_str()))?;
+            let element = array_of(*site, meaning_of(visible, name.as_str()))?;
             let index = type_of(alloc, visible, index)?;
-            Ok(TypedTerm {
-                kind,
-                term: Term::Load {
-                    array,
-                    site: *site,
-                    index: Box::new(alloc, index.term)?,
-                },
-            })
+            load_term(alloc, *site, element, index)
         }
         Expr::Call {
             site,
@@ -380,14 +445,11 @@ pub fn type_of(alloc: Global, visible: &[Binding], e: &Expr) -> Result<TypedTerm
         } => call_term(alloc, visible, *site, name.as_str(), arguments.as_slice()),
         Expr::Prefix { site, sign, of } => {
             let of = type_of(alloc, visible, of)?;
-            Ok(prefix_term(alloc, *sign, *site, of)?)
+            prefix_term(alloc, *sign, *site, of)
         }
         Expr::Cast { site, kind, of } => {
             let of = type_of(alloc, visible, of)?;
-            Ok(TypedTerm {
-                kind: *kind,
-                term: bring(alloc, *kind, *site, of)?,
-            })
+            cast_term(alloc, *kind, *site, of)
         }
         Expr::Infix {
             site,
@@ -408,7 +470,7 @@ pub fn type_of(alloc: Global, visible: &[Binding], e: &Expr) -> Result<TypedTerm
             let test = type_of(alloc, visible, test)?;
             let taken = type_of(alloc, visible, taken)?;
             let skipped = type_of(alloc, visible, skipped)?;
-            Ok(conditional_term(alloc, *site, test, taken, skipped)?)
+            conditional_term(alloc, *site, test, taken, skipped)
         }
     }
 }

@@ -4,19 +4,19 @@ use Rattle.syntax.specs.View.{site, expression, first, assignment, statements}
 use Rattle.syntax.proofs.Rows.{seen_if, seen_while, seen_for, seen_block}
 use Rattle.parser.specs.Reader.{Reader, front, run, Took, carry}
 use Rattle.parser.specs.View.{lexemes}
+use Rattle.parser.specs.Heads.{choice_reader, counting_reader}
 use Rattle.parser.specs.Statements.{is_right_brace, items, item_reader, block_reader, body_reader, statement_by}
 use Rattle.parser.proofs.Lists.{append_statements, before, first-item, no-item, last-item, more-items, snoc-items}
 use Rattle.parser.proofs.Steps.{stops-carry, bracket-less}
 use Rattle.parser.proofs.StatementSteps.{block-is}
 use Rattle.parser.proofs.statements.+statements.Goals as goal
 
-pub below-returns-in_ok-body-in-Reserved-For : goal.below-returns-in_ok-body-in-Reserved-For
-below-returns-in_ok-body-in-Reserved-For t c =
-    let ts = lexemes c.args.tokens.now in
-    let head = c.in_ok-head-in-Reserved-For.head in
-    let body = c.in_ok-body-in-Reserved-For in
-    let read : run (statement_by (body_reader c.args.depth) (block_reader c.args.depth) c.args.room c.args.depth c.args.number (front ts).site (front ts).kind) ts ≡ Took (surface.For c.args.number (site c.site_at-site.result) (first head.first) (expression head.test) (assignment head.update) (statements body.body.items), body.next) (lexemes body.rest.now) = search rules in
-    read ∙ ap (λ s. Took (s, body.next) (lexemes body.rest.now)) (sym (seen_for c.args.number c.site_at-site.result head.first head.test head.update body.body))
+pub counting-returns : goal.counting-returns
+counting-returns t c =
+    let head = c.in_ok-head.head in
+    let body = c.in_ok-body in
+    let read : run (counting_reader (body_reader c.args.depth) c.args.room c.args.depth c.args.number (site c.args.site)) (lexemes c.args.tokens.now) ≡ Took (surface.For c.args.number (site c.args.site) (first head.first) (expression head.test) (assignment head.update) (statements body.body.items), body.next) (lexemes body.rest.now) = search rules in
+    read ∙ ap (λ s. Took (s, body.next) (lexemes body.rest.now)) (sym (seen_for c.args.number c.args.site head.first head.test head.update body.body))
 
 pub below-returns-in_ok-body-in-Reserved-While : goal.below-returns-in_ok-body-in-Reserved-While
 below-returns-in_ok-body-in-Reserved-While t c =
@@ -33,14 +33,13 @@ below-returns-in_ok-body-in-Sign-LeftBrace t c =
     let read : run (statement_by (body_reader c.args.depth) (block_reader c.args.depth) c.args.room c.args.depth c.args.number (front ts).site (front ts).kind) ts ≡ Took (surface.Block c.args.number (site c.site_at-site.result) (statements body.body.items), body.next) (lexemes body.rest.now) = search (rules, bracket-less) in
     read ∙ ap (λ s. Took (s, body.next) (lexemes body.rest.now)) (sym (seen_block c.args.number c.site_at-site.result body.body))
 
-pub below-returns-in_ok-skipped-in-Reserved-If : goal.below-returns-in_ok-skipped-in-Reserved-If
-below-returns-in_ok-skipped-in-Reserved-If t c =
-    let ts = lexemes c.args.tokens.now in
-    let test = c.in_ok-test-in-Reserved-If.test in
-    let taken = c.in_ok-taken-in-Reserved-If.taken in
-    let skipped = c.in_ok-skipped-in-Reserved-If in
-    let read : run (statement_by (body_reader c.args.depth) (block_reader c.args.depth) c.args.room c.args.depth c.args.number (front ts).site (front ts).kind) ts ≡ Took (surface.If c.args.number (site c.site_at-site.result) (expression test) (statements taken.items) (statements skipped.skipped.items), skipped.next) (lexemes skipped.rest.now) = search rules in
-    read ∙ ap (λ s. Took (s, skipped.next) (lexemes skipped.rest.now)) (sym (seen_if c.args.number c.site_at-site.result test taken skipped.skipped))
+pub choice-returns : goal.choice-returns
+choice-returns t c =
+    let test = c.in_ok-test.test in
+    let taken = c.in_ok-taken.taken in
+    let skipped = c.in_ok-skipped in
+    let read : run (choice_reader (body_reader c.args.depth) c.args.room c.args.depth c.args.number (site c.args.site)) (lexemes c.args.tokens.now) ≡ Took (surface.If c.args.number (site c.args.site) (expression test) (statements taken.items) (statements skipped.skipped.items), skipped.next) (lexemes skipped.rest.now) = search rules in
+    read ∙ ap (λ s. Took (s, skipped.next) (lexemes skipped.rest.now)) (sym (seen_if c.args.number c.args.site test taken skipped.skipped))
 
 pub block-returns : goal.block-returns
 block-returns t c =

@@ -12,6 +12,12 @@ decreases-statement l = l.depth * 20 + 5
 abbrev pub decreases-below : goal.decreases-below
 decreases-below l = (l.depth + 1) * 20
 
+abbrev pub decreases-choice : goal.decreases-choice
+decreases-choice l = l.depth * 20 + 18
+
+abbrev pub decreases-counting : goal.decreases-counting
+decreases-counting l = l.depth * 20 + 18
+
 abbrev pub decreases-otherwise : goal.decreases-otherwise
 decreases-otherwise l = l.depth * 20 + 15
 

@@ -135,7 +135,6 @@ elaborate_repeated-returns t c =
     let after = c.elaborate_block.new in
     let p = rw c.deref.ensures.value at c.in_ok-test.ensures in
     let q = rw c.new-inside.ensures.items at c.in_ok-elaborate_block.ensures in
-    let u = rw c.new-updates.ensures.items at c.in_ok-push.ensures.items in
-    let r = seen_loop c.args.number c.in_ok-test.test.term after.out c.push.new.self ∙ ap (λ v. Loop c.args.number (term c.in_ok-test.test.term) (statements after.out.items) (statements v)) u in
-    repeated-done (scope_seen c.args.scope.now) c.args.number (expression c.args.test.now) (assignment c.args.update.now) (stmts c.args.body.now) (typed_term c.in_ok-test.test) (statement c.in_ok-update.update) (all_seen after.out.items after.scope) p c.in_ok-update.ensures q
-    ∙ ap (λ s. Ok (elaborated (single s) (scope_seen after.scope))) (sym r)
+    let x = Loop c.args.number (term c.in_ok-test.test.term) (statements after.out.items) (single (statement c.in_ok-update.update)) in
+    rw (repeated-done (scope_seen c.args.scope.now) c.args.number (expression c.args.test.now) (assignment c.args.update.now) (stmts c.args.body.now) (typed_term c.in_ok-test.test) (statement c.in_ok-update.update) (all_seen after.out.items after.scope) p c.in_ok-update.ensures q)
+    (gives-alone c.loop_with.result (Ok x) (scope_seen after.scope) c.loop_with.ensures)

@@ -1,4 +1,7 @@
-use super::*;
+// Texts to tokens.
+
+use lexer::{TextError, lex};
+use std::alloc::Global;
 use std::test::Fail;
 
 /// What `lex` answers: `line:column kind` of each token, or the fault as it is printed.
@@ -52,75 +55,77 @@ fn reads_each_sign_and_reserved_word(rt: HostRuntime) -> Result<(), Fail> {
     Ok(())
 }
 
+const ROWS: &[(&str, &str)] = &[
+    ("", "1:1 End, "),
+    (
+        "<<<=",
+        "1:1 Sign(LeftShift), 1:3 Sign(LessEqual), 1:5 End, ",
+    ),
+    (
+        ">>>=",
+        "1:1 Sign(RightShift), 1:3 Sign(GreaterEqual), 1:5 End, ",
+    ),
+    (
+        "<<==",
+        "1:1 Sign(LeftShiftEqual), 1:4 Sign(Equal), 1:5 End, ",
+    ),
+    ("===", "1:1 Sign(EqualEqual), 1:3 Sign(Equal), 1:4 End, "),
+    ("!==", "1:1 Sign(NotEqual), 1:3 Sign(Equal), 1:4 End, "),
+    ("+++=", "1:1 Sign(PlusPlus), 1:3 Sign(PlusEqual), 1:5 End, "),
+    ("---", "1:1 Sign(MinusMinus), 1:3 Sign(Minus), 1:4 End, "),
+    ("&&&=", "1:1 Sign(AndAnd), 1:3 Sign(AndEqual), 1:5 End, "),
+    ("|||", "1:1 Sign(OrOr), 1:3 Sign(Or), 1:4 End, "),
+    ("*/=", "1:1 Sign(Star), 1:2 Sign(SlashEqual), 1:4 End, "),
+    ("^^=", "1:1 Sign(Caret), 1:2 Sign(CaretEqual), 1:4 End, "),
+    ("/ *", "1:1 Sign(Slash), 1:3 Sign(Star), 1:4 End, "),
+    (
+        "ifs If __if _",
+        "1:1 Name(\"ifs\"), 1:5 Name(\"If\"), 1:8 Name(\"__if\"), 1:13 Name(\"_\"), 1:14 End, ",
+    ),
+    ("0", "1:1 Number(Int(0)), 1:2 End, "),
+    ("0u 00", "4 1:4"),
+    ("2147483647", "1:1 Number(Int(2147483647)), 1:11 End, "),
+    ("2147483648", "3 1:1"),
+    ("2147483648U", "1:1 Number(Uint(2147483648)), 1:12 End, "),
+    ("4294967295u", "1:1 Number(Uint(4294967295)), 1:12 End, "),
+    ("4294967296u", "3 1:1"),
+    ("0x7fffFFFF", "1:1 Number(Int(2147483647)), 1:11 End, "),
+    ("0X80000000", "1:1 Number(Uint(2147483648)), 1:11 End, "),
+    ("0xFu", "1:1 Number(Uint(15)), 1:5 End, "),
+    ("0x0000000000000001", "1:1 Number(Int(1)), 1:19 End, "),
+    ("0x100000000", "3 1:1"),
+    ("a 08", "4 1:3"),
+    ("7x", "4 1:1"),
+    ("0x", "4 1:1"),
+    ("0xu", "4 1:1"),
+    ("1uu", "4 1:1"),
+    ("99999999999z", "4 1:1"),
+    ("1_", "4 1:1"),
+    ("1.5", "1 1:2"),
+    ("\n  /* a", "2 2:3"),
+    ("/*/", "2 1:1"),
+    ("/**/;", "1:5 Sign(Semicolon), 1:6 End, "),
+    ("/* \n\n*/ ;", "3:4 Sign(Semicolon), 3:5 End, "),
+    ("// é*/ /*\n;", "2:1 Sign(Semicolon), 2:2 End, "),
+    ("//", "1:3 End, "),
+    ("/* é */;", "1:9 Sign(Semicolon), 1:10 End, "),
+    (
+        "a\rb\r\nc\n\td",
+        "1:1 Name(\"a\"), 1:3 Name(\"b\"), 2:1 Name(\"c\"), 3:2 Name(\"d\"), 3:3 End, ",
+    ),
+    ("a\n @ 08 /*", "1 2:2"),
+    (
+        "x/=y/z",
+        "1:1 Name(\"x\"), 1:2 Sign(SlashEqual), 1:4 Name(\"y\"), 1:5 Sign(Slash), 1:6 Name(\"z\"), 1:7 End, ",
+    ),
+];
+
 #[test]
 fn reads_tokens_and_places(rt: HostRuntime) -> Result<(), Fail> {
-    for (text, want) in [
-        ("", "1:1 End, "),
-        (
-            "<<<=",
-            "1:1 Sign(LeftShift), 1:3 Sign(LessEqual), 1:5 End, ",
-        ),
-        (
-            ">>>=",
-            "1:1 Sign(RightShift), 1:3 Sign(GreaterEqual), 1:5 End, ",
-        ),
-        (
-            "<<==",
-            "1:1 Sign(LeftShiftEqual), 1:4 Sign(Equal), 1:5 End, ",
-        ),
-        ("===", "1:1 Sign(EqualEqual), 1:3 Sign(Equal), 1:4 End, "),
-        ("!==", "1:1 Sign(NotEqual), 1:3 Sign(Equal), 1:4 End, "),
-        ("+++=", "1:1 Sign(PlusPlus), 1:3 Sign(PlusEqual), 1:5 End, "),
-        ("---", "1:1 Sign(MinusMinus), 1:3 Sign(Minus), 1:4 End, "),
-        ("&&&=", "1:1 Sign(AndAnd), 1:3 Sign(AndEqual), 1:5 End, "),
-        ("|||", "1:1 Sign(OrOr), 1:3 Sign(Or), 1:4 End, "),
-        ("*/=", "1:1 Sign(Star), 1:2 Sign(SlashEqual), 1:4 End, "),
-        ("^^=", "1:1 Sign(Caret), 1:2 Sign(CaretEqual), 1:4 End, "),
-        ("/ *", "1:1 Sign(Slash), 1:3 Sign(Star), 1:4 End, "),
-        (
-            "ifs If __if _",
-            "1:1 Name(\"ifs\"), 1:5 Name(\"If\"), 1:8 Name(\"__if\"), 1:13 Name(\"_\"), 1:14 End, ",
-        ),
-        ("0", "1:1 Number(Int(0)), 1:2 End, "),
-        ("0u 00", "4 1:4"),
-        ("2147483647", "1:1 Number(Int(2147483647)), 1:11 End, "),
-        ("2147483648", "3 1:1"),
-        ("2147483648U", "1:1 Number(Uint(2147483648)), 1:12 End, "),
-        ("4294967295u", "1:1 Number(Uint(4294967295)), 1:12 End, "),
-        ("4294967296u", "3 1:1"),
-        ("0x7fffFFFF", "1:1 Number(Int(2147483647)), 1:11 End, "),
-        ("0X80000000", "1:1 Number(Uint(2147483648)), 1:11 End, "),
-        ("0xFu", "1:1 Number(Uint(15)), 1:5 End, "),
-        ("0x0000000000000001", "1:1 Number(Int(1)), 1:19 End, "),
-        ("0x100000000", "3 1:1"),
-        ("a 08", "4 1:3"),
-        ("7x", "4 1:1"),
-        ("0x", "4 1:1"),
-        ("0xu", "4 1:1"),
-        ("1uu", "4 1:1"),
-        ("99999999999z", "4 1:1"),
-        ("1_", "4 1:1"),
-        ("1.5", "1 1:2"),
-        ("\n  /* a", "2 2:3"),
-        ("/*/", "2 1:1"),
-        ("/**/;", "1:5 Sign(Semicolon), 1:6 End, "),
-        ("/* \n\n*/ ;", "3:4 Sign(Semicolon), 3:5 End, "),
-        ("// é*/ /*\n;", "2:1 Sign(Semicolon), 2:2 End, "),
-        ("//", "1:3 End, "),
-        ("/* é */;", "1:9 Sign(Semicolon), 1:10 End, "),
-        (
-            "a\rb\r\nc\n\td",
-            "1:1 Name(\"a\"), 1:3 Name(\"b\"), 2:1 Name(\"c\"), 3:2 Name(\"d\"), 3:3 End, ",
-        ),
-        ("a\n @ 08 /*", "1 2:2"),
-        (
-            "x/=y/z",
-            "1:1 Name(\"x\"), 1:2 Sign(SlashEqual), 1:4 Name(\"y\"), 1:5 Sign(Slash), 1:6 Name(\"z\"), 1:7 End, ",
-        ),
-    ] {
+    for (text, want) in ROWS {
         assert_eq!(rt;
             shown(rt.alloc(), text.as_bytes())?.as_str(),
-            want,
+            *want,
             "in {text}"
         );
     }

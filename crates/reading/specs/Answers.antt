@@ -1,0 +1,38 @@
+-- What the code answers, as the definition has it.
+use Rattle.std.specs.Prelude.{ℕ, ◌≡◌, Result, Ok, Err}
+use Rattle.texts.specs.Faults.{fault_number}
+use Rattle.texts.specs.ParseFaults.{parse_fault_number}
+use Rattle.texts.specs.TypeFaults.{type_fault_number}
+use Rattle.lexer.specs.Seen as lexer
+use Rattle.lexer.specs.declared.TextError.TheVariants as texts
+use Rattle.parser.specs.View as parser
+use Rattle.parser.specs.declared.error.ParseError.TheVariants as trees
+use Rattle.syntax.specs.View.{site, kernel}
+use Rattle.syntax.specs.declared.tree.Kernel as tree
+use Rattle.types.specs.Answers as types
+use Rattle.types.specs.View as core
+use Rattle.types.specs.declared.core_tree.Core.{Core}
+use Rattle.types.specs.declared.error.TypeError.TheVariants as typing
+use Rattle.reading.specs.Kernels.{Kernel, Read, OfText, OfTree, OfTypes}
+use Rattle.reading.specs.declared.KernelError.{KernelError}
+use Rattle.reading.specs.declared.KernelError.TheVariants as errors
+
+abbrev pub kernel_seen : tree.Kernel × Core → Kernel
+kernel_seen (tree, found) = record { tree = kernel tree; core = core.kernel found }
+
+-- an error is the definition's, unless memory was refused
+abbrev pub Refuses : KernelError → Read → Type 0
+Refuses (errors.Text (texts.At f line column)) answer = answer ≡ Err (OfText (lexer.fault f), record { line = line; column = column })
+Refuses (errors.Tree (trees.At f s)) answer = answer ≡ Err (OfTree (parser.fault f), site s)
+Refuses (errors.Types (typing.At f s)) answer = answer ≡ Err (OfTypes (types.fault f), site s)
+Refuses error answer = Unit {0}
+
+abbrev pub Gives : Result (tree.Kernel × Core) KernelError → Read → Type 0
+Gives (Ok typed) answer = answer ≡ Ok (kernel_seen typed)
+Gives (Err error) answer = Refuses error answer
+
+abbrev pub error_number : KernelError → ℕ
+error_number (errors.Text (texts.At f line column)) = fault_number (lexer.fault f)
+error_number (errors.Tree (trees.At f s)) = parse_fault_number (parser.fault f)
+error_number (errors.Types (typing.At f s)) = type_fault_number (types.fault f)
+error_number error = 90

@@ -1,0 +1,40 @@
+-- What the bytes of a kernel's text say: its tree and its core, or the first fault with its place: of the text, else of the tree, else
+-- of its types.
+use Rattle.std.specs.Prelude.{ℕ, List, Result, Ok, Err}
+use Rattle.semantics.specs.Launch as launch
+use Rattle.semantics.specs.Core.{Site}
+use Rattle.texts.specs.Faults.{TextFault}
+use Rattle.texts.specs.ParseFaults.{ParseFault}
+use Rattle.texts.specs.TypeFaults.{TypeFault, Checked}
+use Rattle.texts.specs.Tokens.{Lexed, tokens_of}
+use Rattle.texts.specs.Lexemes.{lexemes}
+use Rattle.texts.specs.Surface as surface
+use Rattle.texts.specs.Elaboration.{elaborate}
+use Rattle.parser.specs.Parsed.{Parsed, parsed}
+
+pub data Fault : Type 0 where
+  OfText : (fault : TextFault) → Fault
+  OfTree : (fault : ParseFault) → Fault
+  OfTypes : (fault : TypeFault) → Fault
+
+pub record Kernel : Type 0 where
+  pub tree : surface.Kernel
+  pub core : launch.Kernel
+
+abbrev pub Read : Type 0
+Read = Result Kernel (Fault × Site)
+
+abbrev pub of_types : surface.Kernel → Checked launch.Kernel → Read
+of_types tree (Ok core) = Ok (record { tree = tree; core = core })
+of_types tree (Err (fault, site)) = Err (OfTypes fault, site)
+
+abbrev pub of_tree : Parsed → Read
+of_tree (Ok tree) = of_types tree (elaborate tree)
+of_tree (Err (fault, site)) = Err (OfTree fault, site)
+
+abbrev pub of_tokens : Lexed → Read
+of_tokens (Ok tokens) = of_tree (parsed (lexemes tokens))
+of_tokens (Err (fault, site)) = Err (OfText fault, site)
+
+unfoldable pub read : List ℕ → Read
+read bytes = of_tokens (tokens_of bytes)

@@ -1,0 +1,9 @@
+//! The texts that say launch conditions and launches, read for a kernel, and the text of buffers. A reading gives exactly what the text
+//! says, or its first fault with its line; what is read fits the kernel.
+#![tactic(auto)]
+
+mod cursor;
+pub mod error;
+mod keyword;
+mod name;
+mod number;

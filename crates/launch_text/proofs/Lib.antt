@@ -1,0 +1,4 @@
+pub mod Sums
+pub mod Counts
+pub mod Rows
+pub mod Requirements

@@ -5,7 +5,7 @@ ghost use Rattle.std.specs.List.{prefix_len};
 ghost use Rattle.std.specs.Str.{bytes_eq};
 ghost use Rattle.texts.specs.LaunchWords as meaning;
 ghost use Rattle.syntax.specs.View.{parameter as parameter_of};
-ghost use Rattle.launch_text.specs.Answers.{cursor, Gives};
+ghost use Rattle.launch_text.specs.Answers.{cursor, same, Gives};
 ghost use Rattle.launch_text.specs.Forms.{form as form_of};
 
 use crate::cursor::Cursor;
@@ -129,4 +129,16 @@ pub fn due_parameter<'a>(
 {
     let after = due_blank(at, form, keyword)?;
     parameter(after, parameters, name)?.expect(" ")
+}
+
+/// At the text's end.
+#[tactic(auto, unfolding(texts::specs::LaunchWords::end_text))]
+pub fn end_text(at: Cursor<'_>) -> Result<(), LaunchTextError>
+    ensures { Gives same result (meaning.end_text (cursor at.entry)) }
+{
+    if at.rest.is_empty() {
+        Ok(())
+    } else {
+        Err(at.refused(LaunchFault::Expected))
+    }
 }

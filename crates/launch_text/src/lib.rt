@@ -2,8 +2,10 @@
 //! says, or its first fault with its line; what is read fits the kernel.
 #![tactic(auto)]
 
+mod conditions;
 mod cursor;
 pub mod error;
 mod keyword;
 mod name;
 mod number;
+mod sum;

@@ -1,12 +1,12 @@
 -- Reading a conditions text: its lines in order, each condition with its line, or the first fault.
-use Rattle.std.specs.Prelude.{ℕ, zero, suc, ◌+◌, ◌*◌, ℤ, pos, List, [], ◌∷◌, ◌++◌, map, length, cond, nat_le, nat_lt, int_le, Ok, Err, bytes_eq, codes}
+use Rattle.std.specs.Prelude.{ℕ, zero, suc, ◌+◌, ◌*◌, ℤ, pos, List, [], ◌∷◌, ◌++◌, map, length, cond, nat_le, nat_lt, int_le, Option, None, Some, Ok, Err, bytes_eq, codes}
 use Rattle.semantics.specs.Word.{Kind, Word}
 use Rattle.semantics.specs.Launch.{Three}
 use Rattle.semantics.specs.Conditions as meaning
 use Rattle.semantics.specs.Conditions.{Summand}
 use Rattle.texts.specs.Surface.{Parameter, Buffer, Value}
 use Rattle.texts.specs.LaunchFaults.{EmptyRange, LimitPassed, Cursor, cursor, Step, refused, then, expect, end_line}
-use Rattle.texts.specs.LaunchWords.{Conditions, natural_at, word_at, first_word, due, due_blank, due_parameter, head_line, end_text}
+use Rattle.texts.specs.LaunchWords.{Conditions, natural_at, word_at, first_word, due_blank, due_parameter, head_line, each, end_text}
 use Rattle.texts.specs.LaunchSums.{sum_at}
 
 -- both ends belong to a range
@@ -96,11 +96,13 @@ unfoldable pub argument_line : List Parameter → Kind → (name : List ℕ) →
 argument_line ps k name c =
     then (due_parameter Conditions (codes "arg") ps name c) (λ a. then (argument_at k a) (λ t. then (end_line t.1) (λ d. Ok (t.0, d))))
 
--- one line a value parameter, behind those that there are
-unfoldable pub argument_lines : List Parameter → List ArgumentRange → List Parameter → Cursor → Step (List ArgumentRange × Cursor)
-argument_lines ps ranges [] c = Ok (ranges, c)
-argument_lines ps ranges (Buffer constant k site name ∷ others) c = argument_lines ps ranges others c
-argument_lines ps ranges (Value k site name ∷ others) c = then (argument_line ps k name c) (λ t. argument_lines ps (ranges ++ t.0 ∷ []) others t.1)
+-- one line a value parameter
+abbrev pub argument_due : List Parameter → List ArgumentRange → Parameter → Option (Cursor → Step (ArgumentRange × Cursor))
+argument_due ps ranges (Buffer constant k site name) = None
+argument_due ps ranges (Value k site name) = Some (argument_line ps k name)
+
+abbrev pub argument_lines : List Parameter → Cursor → Step (List ArgumentRange × Cursor)
+argument_lines ps c = each (argument_due ps) [] ps c
 
 abbrev pub length_of : Kind → List Summand → (line : ℕ) → Length
 length_of k least line = record { kind = k; least = least; line = line }
@@ -111,11 +113,13 @@ length_line ps k name c =
     then (due_parameter Conditions (codes "length") ps name c) (λ a. then (expect (codes ">= ") a) (λ b. then (sum_at ps 8 [] b) (λ t.
     then (end_line t.1) (λ d. Ok (length_of k t.0 c.line, d)))))
 
--- one line a buffer parameter, behind those that there are
-unfoldable pub length_lines : List Parameter → List Length → List Parameter → Cursor → Step (List Length × Cursor)
-length_lines ps lengths [] c = Ok (lengths, c)
-length_lines ps lengths (Buffer constant k site name ∷ others) c = then (length_line ps k name c) (λ t. length_lines ps (lengths ++ t.0 ∷ []) others t.1)
-length_lines ps lengths (Value k site name ∷ others) c = length_lines ps lengths others c
+-- one line a buffer parameter
+abbrev pub length_due : List Parameter → List Length → Parameter → Option (Cursor → Step (Length × Cursor))
+length_due ps lengths (Buffer constant k site name) = Some (length_line ps k name)
+length_due ps lengths (Value k site name) = None
+
+abbrev pub length_lines : List Parameter → Cursor → Step (List Length × Cursor)
+length_lines ps c = each (length_due ps) [] ps c
 
 abbrev pub requirement_of : (left right : List Summand) (line : ℕ) → Requirement
 requirement_of left right line = record { left = left; right = right; line = line }
@@ -142,9 +146,9 @@ lined groups groups_line arguments lengths requires budget =
 -- all lines
 unfoldable pub conditions_at : List Parameter → Cursor → Step Lined
 conditions_at ps c =
-    then (head_line Conditions (codes "conditions") c) (λ a. then (groups_line a) (λ groups. then (argument_lines ps [] ps groups.1) (λ arguments.
-    then (length_lines ps [] ps arguments.1) (λ lengths. then (requirement_lines ps 16 [] lengths.1) (λ requires. then (budget_line requires.1) (λ budget.
-    end_text (lined groups.0 a.line arguments.0 lengths.0 requires.0 budget.0) budget.1))))))
+    then (head_line Conditions (codes "conditions") c) (λ a. then (groups_line a) (λ groups. then (argument_lines ps groups.1) (λ arguments.
+    then (length_lines ps arguments.1) (λ lengths. then (requirement_lines ps 16 [] lengths.1) (λ requires. then (budget_line requires.1) (λ budget.
+    then (end_text budget.1) (λ _. Ok (lined groups.0 a.line arguments.0 lengths.0 requires.0 budget.0))))))))
 
 -- the longest conditions text, in bytes
 abbrev pub conditions_limit : ℕ

@@ -1,11 +1,11 @@
 -- Reading a launch text: its lines in order, or the first fault.
-use Rattle.std.specs.Prelude.{ℕ, zero, suc, ◌-◌, ℤ, List, [], ◌∷◌, ◌++◌, map, length, replicate, cond, nat_lt, Ok, Err, codes}
+use Rattle.std.specs.Prelude.{ℕ, zero, suc, ◌-◌, ℤ, List, [], ◌∷◌, ◌++◌, map, length, replicate, sum, cond, nat_lt, Option, None, Some, Ok, Err, codes}
 use Rattle.semantics.specs.Word.{Kind, Word}
 use Rattle.semantics.specs.Launch as meaning
 use Rattle.semantics.specs.Launch.{Three}
 use Rattle.texts.specs.Surface.{Parameter, Buffer, Value}
 use Rattle.texts.specs.LaunchFaults.{LimitPassed, Cursor, cursor, Step, refused, then, sees, past, expect, end_line}
-use Rattle.texts.specs.LaunchWords.{Launch, natural_at, word_at, due_blank, due_parameter, head_line, end_text}
+use Rattle.texts.specs.LaunchWords.{Launch, natural_at, word_at, due_blank, due_parameter, head_line, each, end_text}
 
 -- what a launch text says: the words of buffers with their kinds
 pub record Given : Type 0 where
@@ -33,12 +33,13 @@ unfoldable pub argument_line : List Parameter → Kind → (name : List ℕ) →
 argument_line ps k name c =
     then (due_parameter Launch (codes "arg") ps name c) (λ a. then (word_at k a) (λ t. then (end_line t.1) (λ d. Ok (t.0, d))))
 
--- one line a value parameter, behind those that there are
-unfoldable pub argument_lines : List Parameter → List Word → List Parameter → Cursor → Step (List Word × Cursor)
-argument_lines ps arguments [] c = Ok (arguments, c)
-argument_lines ps arguments (Buffer constant k site name ∷ others) c = argument_lines ps arguments others c
-argument_lines ps arguments (Value k site name ∷ others) c =
-    then (argument_line ps k name c) (λ t. argument_lines ps (arguments ++ t.0 ∷ []) others t.1)
+-- one line a value parameter
+abbrev pub argument_due : List Parameter → List Word → Parameter → Option (Cursor → Step (Word × Cursor))
+argument_due ps arguments (Buffer constant k site name) = None
+argument_due ps arguments (Value k site name) = Some (argument_line ps k name)
+
+abbrev pub argument_lines : List Parameter → Cursor → Step (List Word × Cursor)
+argument_lines ps c = each (argument_due ps) [] ps c
 
 -- words with a blank before each, behind those that there are, at most as many as there is room for
 unfoldable pub list_at : Kind → (room : ℕ) → List Word → Cursor → Step (List Word × Cursor)
@@ -59,19 +60,23 @@ unfoldable pub buffer_line : List Parameter → (room : ℕ) → Kind → (name 
 buffer_line ps room k name c =
     then (due_parameter Launch (codes "buffer") ps name c) (λ a. then (words_at k room a) (λ t. then (end_line t.1) (λ d. Ok (t.0, d))))
 
--- one line a buffer parameter, behind those that there are
-unfoldable pub buffer_lines : List Parameter → (room : ℕ) → List (List Word) → List Parameter → Cursor → Step (List (List Word) × Cursor)
-buffer_lines ps room buffers [] c = Ok (buffers, c)
-buffer_lines ps room buffers (Buffer constant k site name ∷ others) c =
-    then (buffer_line ps room k name c) (λ t. buffer_lines ps (room - length t.0) (buffers ++ t.0 ∷ []) others t.1)
-buffer_lines ps room buffers (Value k site name ∷ others) c = buffer_lines ps room buffers others c
-
-unfoldable pub fill_line : Cursor → Step (ℕ × Cursor)
-fill_line c = then (due_blank Launch (codes "fill") c) (λ a. then (natural_at 0 2147483647 a) (λ t. then (end_line t.1) (λ d. Ok (t.0, d))))
-
 -- a text gives at most so many words of buffers in all
 abbrev pub most_words : ℕ
 most_words = 1048576
+
+abbrev pub words_of : List (List Word) → ℕ
+words_of buffers = sum (map length buffers)
+
+-- one line a buffer parameter
+abbrev pub buffer_due : List Parameter → List (List Word) → Parameter → Option (Cursor → Step (List Word × Cursor))
+buffer_due ps buffers (Buffer constant k site name) = Some (buffer_line ps (most_words - words_of buffers) k name)
+buffer_due ps buffers (Value k site name) = None
+
+abbrev pub buffer_lines : List Parameter → Cursor → Step (List (List Word) × Cursor)
+buffer_lines ps c = each (buffer_due ps) [] ps c
+
+unfoldable pub fill_line : Cursor → Step (ℕ × Cursor)
+fill_line c = then (due_blank Launch (codes "fill") c) (λ a. then (natural_at 0 2147483647 a) (λ t. then (end_line t.1) (λ d. Ok (t.0, d))))
 
 abbrev pub given : Three ℕ → List Word → List (List Word) → (fill : ℕ) → Given
 given groups arguments buffers fill = record { groups = groups; arguments = arguments; buffers = buffers; fill = fill }
@@ -79,9 +84,9 @@ given groups arguments buffers fill = record { groups = groups; arguments = argu
 -- all lines
 unfoldable pub launch_at : List Parameter → Cursor → Step Given
 launch_at ps c =
-    then (head_line Launch (codes "launch") c) (λ a. then (groups_line a) (λ groups. then (argument_lines ps [] ps groups.1) (λ arguments.
-    then (buffer_lines ps most_words [] ps arguments.1) (λ buffers. then (fill_line buffers.1) (λ fill.
-    end_text (given groups.0 arguments.0 buffers.0 fill.0) fill.1)))))
+    then (head_line Launch (codes "launch") c) (λ a. then (groups_line a) (λ groups. then (argument_lines ps groups.1) (λ arguments.
+    then (buffer_lines ps arguments.1) (λ buffers. then (fill_line buffers.1) (λ fill.
+    then (end_text fill.1) (λ _. Ok (given groups.0 arguments.0 buffers.0 fill.0)))))))
 
 -- the longest launch text, in bytes
 abbrev pub launch_limit : ℕ

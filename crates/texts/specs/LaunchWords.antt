@@ -1,5 +1,5 @@
 -- Numbers, names and first words of lines, read from the left.
-use Rattle.std.specs.Prelude.{ℕ, ◌+◌, ℤ, pos, negsuc, List, [], ◌∷◌, length, take, drop, Bool, true, false, cond, not, nat_eq, nat_le, int_le, ◌&&◌, ◌||◌, Option, None, Some, Result, Ok, Err, bytes_eq, codes}
+use Rattle.std.specs.Prelude.{ℕ, ◌+◌, ℤ, pos, negsuc, List, [], ◌∷◌, ◌++◌, length, take, drop, Bool, true, false, cond, not, nat_eq, nat_le, int_le, ◌&&◌, ◌||◌, Option, None, Some, Result, Ok, Err, bytes_eq, codes}
 use Rattle.std.specs.List.{prefix_len, starts_with}
 use Rattle.semantics.specs.Word.{Kind, Word, word, in_kind}
 use Rattle.texts.specs.Numbers.{is_decimal_digit}
@@ -106,6 +106,16 @@ unfoldable pub due_parameter : Form → (keyword : List ℕ) → List Parameter 
 due_parameter form keyword ps name c =
     then (due_blank form keyword c) (λ a. then (parameter_at ps name a) (expect (codes " ")))
 
+-- the line of a parameter, where one is due, and what follows
+abbrev pub go_on : {A : Type 0} → Option (Cursor → Step (A × Cursor)) → List A → Cursor → (List A → Cursor → Step (List A × Cursor)) → Step (List A × Cursor)
+go_on None done c others = others done c
+go_on (Some line) done c others = then (line c) (λ t. others (done ++ t.0 ∷ []) t.1)
+
+-- a line for each parameter of which one is due, behind those that there are
+unfoldable pub each : {A : Type 0} → (line : List A → Parameter → Option (Cursor → Step (A × Cursor))) → List A → List Parameter → Cursor → Step (List A × Cursor)
+each line done [] c = Ok (done, c)
+each line done (p ∷ ps) c = go_on (line done p) done c (λ more d. each line more ps d)
+
 -- the text's end
-unfoldable pub end_text : {A : Type 0} → A → Cursor → Step A
-end_text a c = cond (is_empty c.rest) (Ok a) (refused Expected c)
+unfoldable pub end_text : Cursor → Step (Unit {0})
+end_text c = cond (is_empty c.rest) (Ok tt) (refused Expected c)

@@ -2,3 +2,4 @@ pub mod Sums
 pub mod Counts
 pub mod Rows
 pub mod Requirements
+pub mod Lists

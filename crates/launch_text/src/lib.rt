@@ -6,6 +6,7 @@ mod conditions;
 mod cursor;
 pub mod error;
 mod keyword;
+mod launches;
 mod name;
 mod number;
 mod sum;

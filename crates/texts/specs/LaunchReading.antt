@@ -1,5 +1,5 @@
 -- Reading a launch text: its lines in order, or the first fault.
-use Rattle.std.specs.Prelude.{ℕ, zero, suc, ◌-◌, ℤ, List, [], ◌∷◌, ◌++◌, map, length, replicate, sum, cond, nat_lt, Option, None, Some, Ok, Err, codes}
+use Rattle.std.specs.Prelude.{ℕ, zero, suc, ◌-◌, ℤ, List, [], ◌∷◌, ◌++◌, map, length, replicate, sum_by, cond, nat_lt, Option, None, Some, Ok, Err, codes}
 use Rattle.semantics.specs.Word.{Kind, Word}
 use Rattle.semantics.specs.Launch as meaning
 use Rattle.semantics.specs.Launch.{Three}
@@ -65,7 +65,7 @@ abbrev pub most_words : ℕ
 most_words = 1048576
 
 abbrev pub words_of : List (List Word) → ℕ
-words_of buffers = sum (map length buffers)
+words_of buffers = sum_by length buffers
 
 -- one line a buffer parameter
 abbrev pub buffer_due : List Parameter → List (List Word) → Parameter → Option (Cursor → Step (List Word × Cursor))

@@ -3,3 +3,4 @@ pub mod Counts
 pub mod Rows
 pub mod Requirements
 pub mod Lists
+pub mod Texts

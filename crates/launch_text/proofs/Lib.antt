@@ -4,3 +4,9 @@ pub mod Rows
 pub mod Requirements
 pub mod Lists
 pub mod Texts
+pub mod Back
+pub mod Parameters
+pub mod FitsRead
+pub mod ConditionsFit
+pub mod LaunchFit
+pub mod LeastFits

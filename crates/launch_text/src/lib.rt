@@ -4,15 +4,15 @@
 
 mod conditions;
 mod cursor;
-mod error;
+pub mod error;
 mod keyword;
 mod launches;
+pub mod laws;
 mod name;
 mod number;
 mod reader;
 mod sum;
 mod writer;
 
-pub use error::{LaunchFault, LaunchTextError};
 pub use reader::{read_conditions, read_launch};
 pub use writer::write_buffers;

@@ -1,10 +1,15 @@
 //! The texts of a kernel's conditions and launches.
 
-ghost use Rattle.std.specs.Prelude.{◌≡◌};
+ghost use Rattle.std.specs.Prelude.{◌≡◌, IfOk};
+ghost use Rattle.semantics.specs.Launch.{Fits};
+ghost use Rattle.semantics.specs.Conditions.{ConditionsFit};
 ghost use Rattle.texts.specs.ConditionsReading as conditions;
 ghost use Rattle.texts.specs.LaunchReading as launches;
 ghost use Rattle.syntax.specs.View.{kernel as tree_of};
+ghost use Rattle.types.specs.View.{kernel as core_of};
+ghost use Rattle.launch.specs.View.{conditions as conditions_seen, launch as launch_seen};
 ghost use Rattle.launch_text.specs.Answers.{Gives};
+ghost use Rattle.launch_text.specs.Fits.{IsOf};
 ghost use Rattle.launch_text.specs.View as view;
 
 use crate::conditions::conditions_of;
@@ -22,9 +27,12 @@ pub fn read_conditions(
     text: &[u8],
 ) -> Result<Conditions, LaunchTextError>
     ensures value { Gives view.lined result (conditions.conditions_of (tree_of typed.now.0).parameters text.now) }
+    ensures of { IfOk result (λ c. IsOf (core_of typed.now.1) (view.lined c)) }
+    ensures fit { IfOk result (λ c. ConditionsFit (core_of typed.now.1) (conditions_seen c)) }
 {
     let tree = typed.kernel();
-    conditions_of(alloc, &tree.parameters, text)
+    let conditions = conditions_of(alloc, &tree.parameters, text)?;
+    Ok(conditions)
 }
 
 /// The launch of a kernel that a text says, or its first fault. The text is gone through once.
@@ -34,7 +42,9 @@ pub fn read_launch(
     text: &[u8],
 ) -> Result<Launch, LaunchTextError>
     ensures value { Gives view.launch result (launches.launch_of (tree_of typed.now.0).parameters text.now) }
+    ensures fit { IfOk result (λ l. Fits (core_of typed.now.1) (launch_seen l)) }
 {
     let tree = typed.kernel();
-    launch_of(alloc, &tree.parameters, text)
+    let launch = launch_of(alloc, &tree.parameters, text)?;
+    Ok(launch)
 }

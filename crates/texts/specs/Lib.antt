@@ -22,3 +22,9 @@ pub mod CertificateLines
 pub mod CertificateDrafts
 pub mod CertificateReading
 pub mod CertificateRules
+pub mod LaunchFaults
+pub mod LaunchWords
+pub mod LaunchSums
+pub mod ConditionsReading
+pub mod LaunchReading
+pub mod LaunchText

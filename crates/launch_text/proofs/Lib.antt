@@ -1,0 +1,12 @@
+pub mod Sums
+pub mod Counts
+pub mod Rows
+pub mod Requirements
+pub mod Lists
+pub mod Texts
+pub mod Back
+pub mod Parameters
+pub mod FitsRead
+pub mod ConditionsFit
+pub mod LaunchFit
+pub mod LeastFits

@@ -1,0 +1,121 @@
+-- The kinds of a kernel's parameters.
+use Rattle.std.proofs.Common.{◌≡◌, ℕ, ◌+◌, ◌<◌, Bool, true, false, List, [], ◌∷◌, ◌++◌, length, cond, Option, None, Some, Ok, Err, refl, ap, sym, ◌∙◌, append_assoc, subst, inl, inr, ◌⊎◌, arith}
+use Rattle.std.specs.Prelude.{bytes_eq}
+use Rattle.std.specs.List.{AllZip}
+use Rattle.std.proofs.lemmas.Bool.{cond_both}
+use Rattle.std.proofs.lemmas.List.{append-nil}
+use Rattle.semantics.specs.Core.{Site}
+use Rattle.semantics.specs.Word.{Kind}
+use Rattle.semantics.specs.Launch.{Kernel}
+use Rattle.texts.specs.Surface as surface
+use Rattle.texts.specs.Surface.{Parameter, Buffer, Value}
+use Rattle.texts.specs.TypeFaults as checks
+use Rattle.texts.specs.Scope.{Scope, empty_scope, declare_variable, declare_buffer, may_declare}
+use Rattle.texts.specs.Elaboration.{declare_parameter, declare_parameters, elaborate, elaborate_all}
+use Rattle.texts.specs.LaunchFaults.{Cursor, Step, then}
+use Rattle.texts.specs.LaunchWords.{go_on, each}
+use Rattle.texts.specs.LaunchSums.{value_number}
+use Rattle.launch_text.proofs.Back.{then_back}
+
+abbrev pub value_kind : Parameter → Option Kind
+value_kind (Buffer constant k site name) = None
+value_kind (Value k site name) = Some k
+
+abbrev pub buffer_kind : Parameter → Option Kind
+buffer_kind (Buffer constant k site name) = Some k
+buffer_kind (Value k site name) = None
+
+abbrev pub onto : Option Kind → List Kind → List Kind
+onto None ks = ks
+onto (Some k) ks = k ∷ ks
+
+abbrev pub kinds : (Parameter → Option Kind) → List Parameter → List Kind
+kinds of [] = []
+kinds of (p ∷ ps) = onto (of p) (kinds of ps)
+
+pub value_below : (b : ℕ) (ps : List Parameter) (name : List ℕ) (n : ℕ) → value_number b ps name ≡ Some n → n < b + length (kinds value_kind ps)
+value_below b [] name n h = absurd cc
+value_below b (Buffer constant k site own ∷ ps) name n h = value_below b ps name n h
+value_below b (Value k site own ∷ ps) name n h =
+    cond_both (bytes_eq own name) (Some b) (value_number (b + 1) ps name) (λ o. o ≡ Some n → n < b + length (k ∷ kinds value_kind ps))
+    (λ _ e. let q : b ≡ n = cc in omega arith) (λ _ e. omega (arith, value_below (b + 1) ps name n e)) h
+
+checked_back : {A B : Type 0} (s : checks.Checked A) (go : A → checks.Checked B) (b : B) → checks.then s go ≡ Ok b → (a : A) × (s ≡ Ok a) × (go a ≡ Ok b)
+checked_back (Ok a) go b e = (a, refl, e)
+checked_back (Err f) go b e = absurd cc
+
+-- what is declared of one parameter
+abbrev IsDeclared : Scope → Scope → List Kind → List Kind → Type 0
+IsDeclared before after slots buffers = (after.slots ≡ before.slots ++ slots) × (after.buffers ≡ before.buffers ++ buffers)
+
+checked_when : {A : Type 0} (h : Bool) (f : checks.TypeFault) (site : Site) (a b : A) → checks.when h f site a ≡ Ok b → a ≡ b
+checked_when true f site a b e = cc
+checked_when false f site a b e = absurd cc
+
+declared_one : (p : Parameter) (before after : Scope) → declare_parameter before p ≡ Ok after → IsDeclared before after (onto (value_kind p) []) (onto (buffer_kind p) [])
+declared_one (Buffer constant k site name) before after e =
+    let q = checked_when (may_declare before name) _ site _ after e in
+    (ap (λ s. s.slots) (sym q) ∙ sym (append-nil before.slots), ap (λ s. s.buffers) (sym q))
+declared_one (Value k site name) before after e =
+    let q = checked_when (may_declare before name) _ site _ after e in
+    (ap (λ s. s.slots) (sym q), ap (λ s. s.buffers) (sym q) ∙ sym (append-nil before.buffers))
+
+one_more : (before after all : List Kind) (o : Option Kind) (others : List Kind) → after ≡ before ++ onto o [] → all ≡ after ++ others → all ≡ before ++ onto o others
+one_more before after all None others p q = q ∙ ap (λ ks. ks ++ others) (p ∙ append-nil before)
+one_more before after all (Some k) others p q = q ∙ ap (λ ks. ks ++ others) p ∙ append_assoc before (k ∷ []) others
+
+declared_all : (ps : List Parameter) (before after : Scope) → declare_parameters before ps ≡ Ok after → IsDeclared before after (kinds value_kind ps) (kinds buffer_kind ps)
+declared_all [] before after e =
+    let q : before ≡ after = cc in
+    (ap (λ s. s.slots) (sym q) ∙ sym (append-nil before.slots), ap (λ s. s.buffers) (sym q) ∙ sym (append-nil before.buffers))
+declared_all (p ∷ ps) before after e =
+    let inner = checked_back (declare_parameter before p) _ after e in
+    let one = declared_one p before inner.0 inner.1 in
+    let all = declared_all ps inner.0 after inner.2 in
+    (one_more before.slots inner.0.slots after.slots (value_kind p) (kinds value_kind ps) one.0 all.0, one_more before.buffers inner.0.buffers after.buffers (buffer_kind p) (kinds buffer_kind ps) one.1 all.1)
+
+made : (a b : Kernel) → (let r : checks.Checked Kernel = Ok a in r ≡ Ok b) → a ≡ b
+made a b e = cc
+
+pub kernel_back : (tree : surface.Kernel) (k : Kernel) → elaborate tree ≡ Ok k → (k.arguments ≡ kinds value_kind tree.parameters) × (k.buffers ≡ kinds buffer_kind tree.parameters)
+unfolding elaborate
+kernel_back tree k e =
+    let outer = checked_back (declare_parameters empty_scope tree.parameters) _ k e in
+    let body = checked_back (elaborate_all true outer.0 tree.body) _ k outer.2 in
+    let all = declared_all tree.parameters empty_scope outer.0 outer.1 in
+    let q = made _ k body.2 in
+    (ap (λ m. m.arguments) (sym q) ∙ all.0, ap (λ m. m.buffers) (sym q) ∙ all.1)
+
+-- a line that is read gives what fits its parameter's kind; of other parameters there is none
+pub record Skips {A : Type 0} (line : List A → Parameter → Option (Cursor → Step (A × Cursor))) (of : Parameter → Option Kind) (done : List A) (p : Parameter) : Type 0 where
+  pub no_line : line done p ≡ None
+  pub no_kind : of p ≡ None
+
+pub record Reads {A : Type 0} (line : List A → Parameter → Option (Cursor → Step (A × Cursor))) (of : Parameter → Option Kind) (P : Kind → A → Type 0) (done : List A) (p : Parameter) : Type 0 where
+  pub own : Cursor → Step (A × Cursor)
+  pub kind : Kind
+  pub is_line : line done p ≡ Some own
+  pub is_kind : of p ≡ Some kind
+  pub good : (c : Cursor) (t : A × Cursor) → own c ≡ Ok t → P kind t.0
+
+zip_push : {A B : Type 0} (P : A → B → Type 0) (xs : List A) (ys : List B) (x : A) (y : B) → AllZip P xs ys → P x y → AllZip P (xs ++ x ∷ []) (ys ++ y ∷ [])
+zip_push P [] [] x y h p = (p, tt)
+zip_push P [] (b ∷ ys) x y h p = absurd h
+zip_push P (a ∷ xs) [] x y h p = absurd h
+zip_push P (a ∷ xs) (b ∷ ys) x y h p = (h.0, zip_push P xs ys x y h.1 p)
+
+pub each_back : {A : Type 0} (line : List A → Parameter → Option (Cursor → Step (A × Cursor))) (of : Parameter → Option Kind) (P : Kind → A → Type 0) (one : (done : List A) (p : Parameter) → Skips line of done p ⊎ Reads line of P done p) (ks : List Kind) (done : List A) (ps : List Parameter) (c : Cursor) (t : List A × Cursor) → AllZip P ks done → each line done ps c ≡ Ok t → AllZip P (ks ++ kinds of ps) t.0
+unfolding each
+each_back line of P one ks done [] c t h e =
+    let q : (done, c) ≡ t = cc in
+    subst (λ r. AllZip P (ks ++ []) r.0) q (rw append-nil h)
+each_back {A} line of P one ks done (p ∷ ps) c t h e =
+    elim (one done p) [
+      | inl s ↦
+        let f : each line done ps c ≡ Ok t = ap (λ o. go_on o done c (λ more d. each line more ps d)) (sym s.no_line) ∙ e in
+        subst (λ o. AllZip P (ks ++ onto o (kinds of ps)) t.0) (sym s.no_kind) (each_back line of P one ks done ps c t h f)
+      | inr r ↦
+        let f : then (r.own c) (λ u. each line (done ++ u.0 ∷ []) ps u.1) ≡ Ok t = ap (λ o. go_on o done c (λ more d. each line more ps d)) (sym r.is_line) ∙ e in
+        let u = then_back (r.own c) _ t f in
+        subst (λ o. AllZip P (ks ++ onto o (kinds of ps)) t.0) (sym r.is_kind) (rw append_assoc at (each_back line of P one (ks ++ r.kind ∷ []) (done ++ u.0.0 ∷ []) ps u.0.1 t (zip_push P ks done r.kind u.0.0 h (r.good c u.0 u.1)) u.2))
+    ]

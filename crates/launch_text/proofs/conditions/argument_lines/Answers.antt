@@ -1,0 +1,45 @@
+use Rattle.std.proofs.Common.{rules, ◌≡◌, ◌+◌, ◌∷◌, drop, map, List, Some, refl, ap, sym, ◌∙◌, arith}
+use Rattle.std.specs.Prelude.{Option}
+use Rattle.std.proofs.lemmas.List.{map_push}
+use Rattle.words.specs.View.{kind}
+use Rattle.texts.specs.LaunchFaults as texts
+use Rattle.texts.specs.LaunchWords.{each}
+use Rattle.texts.specs.ConditionsReading as meaning
+use Rattle.syntax.specs.View.{parameter}
+use Rattle.launch_text.specs.Answers.{cursor, read}
+use Rattle.launch_text.specs.View as view
+use Rattle.launch_text.proofs.Rows.{each_over, each_skips, each_due}
+use Rattle.launch_text.proofs.conditions.argument_lines.Goals as goal
+
+pub loop-parameter-preserved-in-Buffer : goal.loop-parameter-preserved-in-Buffer
+loop-parameter-preserved-in-Buffer c =
+    let ps = map parameter c.args.parameters.now in
+    let done = view.arguments c.loop-parameter.ranges in
+    c.loop-parameter.invariant
+    ∙ each_skips (meaning.argument_due ps) done parameter c.args.parameters.now c.loop-parameter.parameter-index c.parameter-item.result (cursor c.loop-parameter.rest) c.loop-parameter-test.true c.parameter-item.is
+    (ap (λ p. meaning.argument_due ps done (parameter p)) c.in-Buffer.is)
+
+pub returns-in_err-range : goal.returns-in_err-range
+returns-in_err-range c =
+    let ps = map parameter c.args.parameters.now in
+    let done = view.arguments c.loop-parameter.ranges in
+    let k = kind c.in-Value.kind in
+    rw (c.loop-parameter.invariant
+    ∙ each_due (meaning.argument_due ps) done parameter c.args.parameters.now c.loop-parameter.parameter-index c.parameter-item.result (cursor c.loop-parameter.rest) (meaning.argument_line ps k c.as_str.result.now) c.loop-parameter-test.true c.parameter-item.is
+    (ap (λ p. meaning.argument_due ps done (parameter p)) c.in-Value.is ∙ ap (λ n. Some (meaning.argument_line ps k n)) (sym c.as_str.ensures.value))) (search rules)
+
+pub loop-parameter-preserved : goal.loop-parameter-preserved
+loop-parameter-preserved c =
+    let ps = map parameter c.args.parameters.now in
+    let done = view.arguments c.loop-parameter.ranges in
+    let k = kind c.in-Value.kind in
+    let rest = map parameter (drop (c.loop-parameter.parameter-index + 1) c.args.parameters.now) in
+    c.loop-parameter.invariant
+    ∙ each_due (meaning.argument_due ps) done parameter c.args.parameters.now c.loop-parameter.parameter-index c.parameter-item.result (cursor c.loop-parameter.rest) (meaning.argument_line ps k c.as_str.result.now) c.loop-parameter-test.true c.parameter-item.is
+    (ap (λ p. meaning.argument_due ps done (parameter p)) c.in-Value.is ∙ ap (λ n. Some (meaning.argument_line ps k n)) (sym c.as_str.ensures.value))
+    ∙ rw c.in_ok-range.ensures (ap (λ (rs : List meaning.ArgumentRange). each (meaning.argument_due ps) rs rest (cursor c.in_ok-range.after)) (sym (ap (map view.argument) c.in_ok-push.ensures.items ∙ map_push view.argument c.loop-parameter.ranges.items c.in_ok-range.range)))
+
+pub returns : goal.returns
+returns c =
+    let ps = map parameter c.args.parameters.now in
+    c.loop-parameter.invariant ∙ each_over (meaning.argument_due ps) (view.arguments c.loop-parameter.ranges) parameter c.args.parameters.now c.loop-parameter.parameter-index (cursor c.loop-parameter.rest) c.loop-parameter-test.false

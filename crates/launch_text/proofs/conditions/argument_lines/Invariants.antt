@@ -1,0 +1,12 @@
+use Rattle.std.proofs.Common.{◌≡◌, drop, map}
+use Rattle.texts.specs.LaunchWords.{each}
+use Rattle.texts.specs.ConditionsReading.{argument_due, argument_lines}
+use Rattle.syntax.specs.View.{parameter}
+use Rattle.launch_text.specs.Answers.{cursor}
+use Rattle.launch_text.specs.View.{arguments}
+use Rattle.launch_text.proofs.conditions.argument_lines.Given as goal
+
+abbrev pub invariant-loop-parameter : goal.invariant-loop-parameter
+invariant-loop-parameter l =
+    argument_lines (map parameter l.parameters) (cursor l.at)
+    ≡ each (argument_due (map parameter l.parameters)) (arguments l.ranges) (map parameter (drop l.parameter-index l.parameters)) (cursor l.rest)

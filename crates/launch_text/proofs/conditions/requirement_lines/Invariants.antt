@@ -1,0 +1,13 @@
+use Rattle.std.proofs.Common.{◌≡◌, [], map}
+use Rattle.texts.specs.ConditionsReading.{requirement_lines}
+use Rattle.syntax.specs.View.{parameter}
+use Rattle.launch_text.specs.Answers.{cursor}
+use Rattle.launch_text.specs.View.{requirements}
+use Rattle.launch_text.proofs.conditions.requirement_lines.Given as goal
+
+abbrev pub invariant-lines : goal.invariant-lines
+invariant-lines l =
+    requirement_lines (map parameter l.parameters) 16 [] (cursor l.at) ≡ requirement_lines (map parameter l.parameters) l.room (requirements l.requirements) (cursor l.rest)
+
+abbrev pub decreases-lines : goal.decreases-lines
+decreases-lines l = l.room

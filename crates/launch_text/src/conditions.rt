@@ -1,0 +1,260 @@
+//! Conditions of their text.
+
+ghost use Rattle.std.specs.Prelude.{◌≡◌, ◌*◌, [], map};
+ghost use Rattle.words.specs.View.{kind as kind_of, value_of};
+ghost use Rattle.texts.specs.ConditionsReading as meaning;
+ghost use Rattle.syntax.specs.View.{parameter as parameter_of};
+ghost use Rattle.launch_text.specs.Answers.{cursor, read, same, Gives};
+ghost use Rattle.launch_text.specs.View as view;
+
+use crate::cursor::Cursor;
+use crate::error::{LaunchFault, LaunchTextError};
+use crate::keyword::{Form, begins, due_blank, due_parameter, end_text, head_line};
+use crate::number::{natural, word};
+use crate::sum::sum;
+use launch::conditions::{ArgumentRange, Conditions, CountRange, CountRanges, Length, Requirement};
+use std::alloc::Global;
+use syntax::tree::Parameter;
+use words::Kind;
+
+/// The longest text that is read, in bytes.
+pub const CONDITIONS_LIMIT: usize = 65_536;
+
+const MOST_GROUPS: u64 = 65_536;
+const MOST_GROUPS_TOGETHER: u64 = 1_048_576;
+const MOST_REQUIREMENTS: usize = 16;
+const MOST_STEPS: u64 = 1_000_000_000_000;
+
+#[tactic(auto, unfolding(texts::specs::ConditionsReading::counts_at))]
+fn counts(at: Cursor<'_>) -> Result<(CountRange, Cursor<'_>), LaunchTextError>
+    ensures { Gives (read view.counts) result (meaning.counts_at (cursor at.entry)) }
+{
+    let (low, after) = natural(at, 1, MOST_GROUPS)?;
+    let (high, after) = natural(after.expect("..")?, 1, MOST_GROUPS)?;
+    if high < low {
+        return Err(after.refused(LaunchFault::EmptyRange));
+    }
+    let range = CountRange {
+        low: low as u32,
+        high: high as u32,
+    };
+    Ok((range, after))
+}
+
+#[tactic(auto, unfolding(texts::specs::ConditionsReading::three_counts_at))]
+fn three_counts(at: Cursor<'_>) -> Result<(CountRanges, Cursor<'_>), LaunchTextError>
+    ensures { Gives (read view.three_counts) result (meaning.three_counts_at (cursor at.entry)) }
+{
+    let (x, after) = counts(at)?;
+    let (y, after) = counts(after.expect(" ")?)?;
+    let (z, after) = counts(after.expect(" ")?)?;
+    Ok((CountRanges { x, y, z }, after))
+}
+
+#[tactic(auto, using(crate::proofs::Counts::fits))]
+fn most_groups(x: CountRange, y: CountRange, z: CountRange) -> u64
+    ensures { result ≡ x.high * y.high * z.high }
+{
+    x.high as u64 * y.high as u64 * z.high as u64
+}
+
+#[tactic(auto, unfolding(texts::specs::ConditionsReading::groups_line))]
+fn groups_line(at: Cursor<'_>) -> Result<(CountRanges, Cursor<'_>), LaunchTextError>
+    ensures { Gives (read view.three_counts) result (meaning.groups_line (cursor at.entry)) }
+{
+    let (ranges, after) = three_counts(due_blank(at, Form::Conditions, "groups")?)?;
+    if most_groups(ranges.x, ranges.y, ranges.z) > MOST_GROUPS_TOGETHER {
+        return Err(after.refused(LaunchFault::LimitPassed));
+    }
+    Ok((ranges, after.end_line()?))
+}
+
+#[tactic(auto, unfolding(texts::specs::ConditionsReading::argument_at))]
+fn argument(
+    at: Cursor<'_>,
+    kind: Kind,
+) -> Result<(ArgumentRange, Cursor<'_>), LaunchTextError>
+    ensures { Gives (read view.argument) result (meaning.argument_at (kind_of kind) (cursor at.entry)) }
+{
+    let (low, after) = word(at, kind)?;
+    let (high, after) = word(after.expect("..")?, kind)?;
+    if low.value() > high.value() {
+        return Err(after.refused(LaunchFault::EmptyRange));
+    }
+    let range = ArgumentRange {
+        low,
+        high,
+        line: at.line,
+    };
+    Ok((range, after))
+}
+
+#[tactic(auto, unfolding(texts::specs::ConditionsReading::argument_line))]
+fn argument_line<'a>(
+    at: Cursor<'a>,
+    parameters: &[Parameter],
+    kind: Kind,
+    name: &str,
+) -> Result<(ArgumentRange, Cursor<'a>), LaunchTextError>
+    ensures { Gives (read view.argument) result (meaning.argument_line (map parameter_of parameters.now) (kind_of kind) name.now (cursor at.entry)) }
+{
+    let after = due_parameter(at, Form::Conditions, "arg", parameters, name)?;
+    let (range, after) = argument(after, kind)?;
+    Ok((range, after.end_line()?))
+}
+
+fn argument_lines<'a>(
+    alloc: Global,
+    at: Cursor<'a>,
+    parameters: &[Parameter],
+) -> Result<(Vec<ArgumentRange>, Cursor<'a>), LaunchTextError>
+    ensures { Gives (read view.arguments) result (meaning.argument_lines (map parameter_of parameters.now) (cursor at.entry)) }
+{
+    let mut ranges = Vec::new(alloc);
+    let mut rest = at;
+    for parameter in parameters {
+        let (kind, name) = match parameter {
+            Parameter::Buffer { .. } => continue,
+            Parameter::Value { kind, name, .. } => (*kind, name.as_str()),
+        };
+        let (range, after) = argument_line(rest, parameters, kind, name)?;
+        ranges.push(range)?;
+        rest = after;
+    }
+    Ok((ranges, rest))
+}
+
+#[tactic(auto, unfolding(texts::specs::ConditionsReading::length_line))]
+fn length_line<'a>(
+    alloc: Global,
+    at: Cursor<'a>,
+    parameters: &[Parameter],
+    kind: Kind,
+    name: &str,
+) -> Result<(Length, Cursor<'a>), LaunchTextError>
+    ensures { Gives (read view.length) result (meaning.length_line (map parameter_of parameters.now) (kind_of kind) name.now (cursor at.entry)) }
+{
+    let after = due_parameter(at, Form::Conditions, "length", parameters, name)?;
+    let (least, after) = sum(alloc, after.expect(">= ")?, parameters)?;
+    let after = after.end_line()?;
+    let length = Length {
+        kind,
+        least,
+        line: at.line,
+    };
+    Ok((length, after))
+}
+
+fn length_lines<'a>(
+    alloc: Global,
+    at: Cursor<'a>,
+    parameters: &[Parameter],
+) -> Result<(Vec<Length>, Cursor<'a>), LaunchTextError>
+    ensures { Gives (read view.lengths) result (meaning.length_lines (map parameter_of parameters.now) (cursor at.entry)) }
+{
+    let mut lengths = Vec::new(alloc);
+    let mut rest = at;
+    for parameter in parameters {
+        let (kind, name) = match parameter {
+            Parameter::Buffer { kind, name, .. } => (*kind, name.as_str()),
+            Parameter::Value { .. } => continue,
+        };
+        let (length, after) = length_line(alloc, rest, parameters, kind, name)?;
+        lengths.push(length)?;
+        rest = after;
+    }
+    Ok((lengths, rest))
+}
+
+#[tactic(auto, unfolding(texts::specs::ConditionsReading::requirement_line))]
+fn requirement_line<'a>(
+    alloc: Global,
+    at: Cursor<'a>,
+    parameters: &[Parameter],
+) -> Result<(Requirement, Cursor<'a>), LaunchTextError>
+    ensures { Gives (read view.requirement) result (meaning.requirement_line (map parameter_of parameters.now) (cursor at.entry)) }
+{
+    let after = due_blank(at, Form::Conditions, "require")?;
+    let (left, after) = sum(alloc, after, parameters)?;
+    let (right, after) = sum(alloc, after.expect(" >= ")?, parameters)?;
+    let after = after.end_line()?;
+    let requirement = Requirement {
+        left,
+        right,
+        line: at.line,
+    };
+    Ok((requirement, after))
+}
+
+fn requirement_lines<'a>(
+    alloc: Global,
+    at: Cursor<'a>,
+    parameters: &[Parameter],
+) -> Result<(Vec<Requirement>, Cursor<'a>), LaunchTextError>
+    ensures { Gives (read view.requirements) result (meaning.requirement_lines (map parameter_of parameters.now) 16 [] (cursor at.entry)) }
+{
+    let mut requirements = Vec::new(alloc);
+    let mut room = MOST_REQUIREMENTS;
+    let mut rest = at;
+    'lines: while begins(rest, "require") {
+        if room == 0 {
+            return Err(rest.refused(LaunchFault::LimitPassed));
+        }
+        let (requirement, after) = requirement_line(alloc, rest, parameters)?;
+        requirements.push(requirement)?;
+        room -= 1;
+        rest = after;
+    }
+    Ok((requirements, rest))
+}
+
+#[tactic(auto, unfolding(texts::specs::ConditionsReading::budget_line))]
+fn budget_line(at: Cursor<'_>) -> Result<(u64, Cursor<'_>), LaunchTextError>
+    ensures { Gives (read same) result (meaning.budget_line (cursor at.entry)) }
+{
+    let after = due_blank(at, Form::Conditions, "budget")?;
+    let (budget, after) = natural(after, 1, MOST_STEPS)?;
+    Ok((budget, after.end_line()?))
+}
+
+#[tactic(auto, unfolding(texts::specs::ConditionsReading::conditions_at))]
+fn conditions<'a>(
+    alloc: Global,
+    at: Cursor<'a>,
+    parameters: &[Parameter],
+) -> Result<Conditions, LaunchTextError>
+    ensures { Gives view.lined result (meaning.conditions_at (map parameter_of parameters.now) (cursor at.entry)) }
+{
+    let head = head_line(at, Form::Conditions, "conditions")?;
+    let (groups, after) = groups_line(head)?;
+    let (arguments, after) = argument_lines(alloc, after, parameters)?;
+    let (lengths, after) = length_lines(alloc, after, parameters)?;
+    let (requirements, after) = requirement_lines(alloc, after, parameters)?;
+    let (budget, after) = budget_line(after)?;
+    end_text(after)?;
+    Ok(Conditions {
+        groups,
+        groups_line: head.line,
+        arguments,
+        lengths,
+        requirements,
+        budget,
+    })
+}
+
+/// The conditions of a text, for a kernel of these parameters.
+pub fn conditions_of(
+    alloc: Global,
+    parameters: &[Parameter],
+    text: &[u8],
+) -> Result<Conditions, LaunchTextError>
+    ensures { Gives view.lined result (meaning.conditions_of (map parameter_of parameters.now) text.now) }
+{
+    if text.len() > CONDITIONS_LIMIT {
+        return Err(LaunchTextError::Refused {
+            fault: LaunchFault::LimitPassed,
+            line: 1,
+        });
+    }
+    conditions(alloc, Cursor { line: 1, rest: text }, parameters)
+}

@@ -1,0 +1,18 @@
+//! The texts that say launch conditions and launches, read for a kernel, and the text of buffers. A reading gives exactly what the text
+//! says, or its first fault with its line; what is read fits the kernel.
+#![tactic(auto)]
+
+mod conditions;
+mod cursor;
+pub mod error;
+mod keyword;
+mod launches;
+pub mod laws;
+mod name;
+mod number;
+mod reader;
+mod sum;
+mod writer;
+
+pub use reader::{read_conditions, read_launch};
+pub use writer::write_buffers;

@@ -1,0 +1,159 @@
+-- Reading a conditions text: its lines in order, each condition with its line, or the first fault.
+use Rattle.std.specs.Prelude.{ℕ, zero, suc, ◌+◌, ◌*◌, ℤ, pos, List, [], ◌∷◌, ◌++◌, map, length, cond, nat_le, nat_lt, int_le, Option, None, Some, Ok, Err, bytes_eq, codes}
+use Rattle.semantics.specs.Word.{Kind, Word}
+use Rattle.semantics.specs.Launch.{Three}
+use Rattle.semantics.specs.Conditions as meaning
+use Rattle.semantics.specs.Conditions.{Summand}
+use Rattle.texts.specs.Surface.{Parameter, Buffer, Value}
+use Rattle.texts.specs.LaunchFaults.{EmptyRange, LimitPassed, Cursor, cursor, Step, refused, then, expect, end_line}
+use Rattle.texts.specs.LaunchWords.{Conditions, natural_at, word_at, first_word, due_blank, due_parameter, head_line, each, end_text}
+use Rattle.texts.specs.LaunchSums.{sum_at}
+
+-- both ends belong to a range
+pub record CountRange : Type 0 where
+  pub low : ℕ
+  pub high : ℕ
+
+pub record ArgumentRange : Type 0 where
+  pub low : Word
+  pub high : Word
+  pub line : ℕ
+
+-- a buffer of a kind has at least as many elements as a sum
+pub record Length : Type 0 where
+  pub kind : Kind
+  pub least : List Summand
+  pub line : ℕ
+
+pub record Requirement : Type 0 where
+  pub left : List Summand
+  pub right : List Summand
+  pub line : ℕ
+
+-- what a conditions text says, each condition with its line
+pub record Lined : Type 0 where
+  pub groups : Three CountRange
+  pub groups_line : ℕ
+  pub arguments : List ArgumentRange
+  pub lengths : List Length
+  pub requires : List Requirement
+  pub budget : ℕ
+
+-- the conditions themselves
+abbrev pub counts_meant : CountRange → meaning.Range
+counts_meant r = record { low = pos r.low; high = pos r.high }
+
+abbrev pub argument_meant : ArgumentRange → meaning.Range
+argument_meant r = record { low = r.low.value; high = r.high.value }
+
+abbrev pub length_meant : Length → List Summand
+length_meant l = l.least
+
+abbrev pub requirement_meant : Requirement → meaning.Requirement
+requirement_meant r = record { left = r.left; right = r.right }
+
+abbrev pub meant : Lined → meaning.Conditions
+meant c = record {
+  groups = record { x = counts_meant c.groups.x; y = counts_meant c.groups.y; z = counts_meant c.groups.z };
+  arguments = map argument_meant c.arguments;
+  lengths = map length_meant c.lengths;
+  requires = map requirement_meant c.requires;
+  budget = c.budget;
+}
+
+abbrev pub counts_between : (low high : ℕ) → CountRange
+counts_between low high = record { low = low; high = high }
+
+-- `L..H`
+unfoldable pub counts_at : Cursor → Step (CountRange × Cursor)
+counts_at c =
+    then (natural_at 1 65536 c) (λ low. then (expect (codes "..") low.1) (λ d. then (natural_at 1 65536 d) (λ high.
+    cond (nat_le low.0 high.0) (Ok (counts_between low.0 high.0, high.1)) (refused EmptyRange high.1))))
+
+abbrev pub words_between : (low high : Word) (line : ℕ) → ArgumentRange
+words_between low high line = record { low = low; high = high; line = line }
+
+unfoldable pub argument_at : Kind → Cursor → Step (ArgumentRange × Cursor)
+argument_at k c =
+    then (word_at k c) (λ low. then (expect (codes "..") low.1) (λ d. then (word_at k d) (λ high.
+    cond (int_le low.0.value high.0.value) (Ok (words_between low.0 high.0 c.line, high.1)) (refused EmptyRange high.1))))
+
+abbrev pub three : {A : Type 0} → A → A → A → Three A
+three x y z = record { x = x; y = y; z = z }
+
+unfoldable pub three_counts_at : Cursor → Step (Three CountRange × Cursor)
+three_counts_at c =
+    then (counts_at c) (λ x. then (expect (codes " ") x.1) (λ d. then (counts_at d) (λ y. then (expect (codes " ") y.1) (λ e. then (counts_at e) (λ z.
+    Ok (three x.0 y.0 z.0, z.1))))))
+
+-- the counts are at most 1,048,576 together
+unfoldable pub groups_line : Cursor → Step (Three CountRange × Cursor)
+groups_line c =
+    then (due_blank Conditions (codes "groups") c) (λ a. then (three_counts_at a) (λ t.
+    cond (nat_lt 1048576 (t.0.x.high * t.0.y.high * t.0.z.high)) (refused LimitPassed t.1) (then (end_line t.1) (λ d. Ok (t.0, d)))))
+
+unfoldable pub argument_line : List Parameter → Kind → (name : List ℕ) → Cursor → Step (ArgumentRange × Cursor)
+argument_line ps k name c =
+    then (due_parameter Conditions (codes "arg") ps name c) (λ a. then (argument_at k a) (λ t. then (end_line t.1) (λ d. Ok (t.0, d))))
+
+-- one line a value parameter
+abbrev pub argument_due : List Parameter → List ArgumentRange → Parameter → Option (Cursor → Step (ArgumentRange × Cursor))
+argument_due ps ranges (Buffer constant k site name) = None
+argument_due ps ranges (Value k site name) = Some (argument_line ps k name)
+
+abbrev pub argument_lines : List Parameter → Cursor → Step (List ArgumentRange × Cursor)
+argument_lines ps c = each (argument_due ps) [] ps c
+
+abbrev pub length_of : Kind → List Summand → (line : ℕ) → Length
+length_of k least line = record { kind = k; least = least; line = line }
+
+-- a sum has at most 8 terms
+unfoldable pub length_line : List Parameter → Kind → (name : List ℕ) → Cursor → Step (Length × Cursor)
+length_line ps k name c =
+    then (due_parameter Conditions (codes "length") ps name c) (λ a. then (expect (codes ">= ") a) (λ b. then (sum_at ps 8 [] b) (λ t.
+    then (end_line t.1) (λ d. Ok (length_of k t.0 c.line, d)))))
+
+-- one line a buffer parameter
+abbrev pub length_due : List Parameter → List Length → Parameter → Option (Cursor → Step (Length × Cursor))
+length_due ps lengths (Buffer constant k site name) = Some (length_line ps k name)
+length_due ps lengths (Value k site name) = None
+
+abbrev pub length_lines : List Parameter → Cursor → Step (List Length × Cursor)
+length_lines ps c = each (length_due ps) [] ps c
+
+abbrev pub requirement_of : (left right : List Summand) (line : ℕ) → Requirement
+requirement_of left right line = record { left = left; right = right; line = line }
+
+unfoldable pub requirement_line : List Parameter → Cursor → Step (Requirement × Cursor)
+requirement_line ps c =
+    then (due_blank Conditions (codes "require") c) (λ a. then (sum_at ps 8 [] a) (λ left. then (expect (codes " >= ") left.1) (λ b.
+    then (sum_at ps 8 [] b) (λ right. then (end_line right.1) (λ d. Ok (requirement_of left.0 right.0 c.line, d))))))
+
+-- as many as there are, at most as many as there is room for
+unfoldable pub requirement_lines : List Parameter → (room : ℕ) → List Requirement → Cursor → Step (List Requirement × Cursor)
+requirement_lines ps zero requires c = cond (bytes_eq (first_word c.rest) (codes "require")) (refused LimitPassed c) (Ok (requires, c))
+requirement_lines ps (suc room) requires c =
+    cond (bytes_eq (first_word c.rest) (codes "require")) (then (requirement_line ps c) (λ t. requirement_lines ps room (requires ++ t.0 ∷ []) t.1)) (Ok (requires, c))
+
+unfoldable pub budget_line : Cursor → Step (ℕ × Cursor)
+budget_line c =
+    then (due_blank Conditions (codes "budget") c) (λ a. then (natural_at 1 1000000000000 a) (λ t. then (end_line t.1) (λ d. Ok (t.0, d))))
+
+abbrev pub lined : Three CountRange → (groups_line : ℕ) → List ArgumentRange → List Length → List Requirement → ℕ → Lined
+lined groups groups_line arguments lengths requires budget =
+    record { groups = groups; groups_line = groups_line; arguments = arguments; lengths = lengths; requires = requires; budget = budget }
+
+-- all lines
+unfoldable pub conditions_at : List Parameter → Cursor → Step Lined
+conditions_at ps c =
+    then (head_line Conditions (codes "conditions") c) (λ a. then (groups_line a) (λ groups. then (argument_lines ps groups.1) (λ arguments.
+    then (length_lines ps arguments.1) (λ lengths. then (requirement_lines ps 16 [] lengths.1) (λ requires. then (budget_line requires.1) (λ budget.
+    then (end_text budget.1) (λ _. Ok (lined groups.0 a.line arguments.0 lengths.0 requires.0 budget.0))))))))
+
+-- the longest conditions text, in bytes
+abbrev pub conditions_limit : ℕ
+conditions_limit = 65536
+
+-- what a text says of a kernel with these parameters, or its first fault and the number of the line
+abbrev pub conditions_of : List Parameter → List ℕ → Step Lined
+conditions_of ps text = cond (nat_lt conditions_limit (length text)) (Err (LimitPassed, 1)) (conditions_at ps (cursor 1 text))

@@ -8,10 +8,12 @@ use Rattle.texts.specs.Surface.{Parameter, Buffer, Value}
 use Rattle.texts.specs.LaunchWords.{name_of}
 use Rattle.texts.specs.LaunchReading.{Given, most_words, words_of}
 
+-- the kind of a value parameter
 abbrev pub value_kind : Parameter → Option Kind
 value_kind (Buffer constant k site name) = None
 value_kind (Value k site name) = Some k
 
+-- the kind of a buffer parameter's elements
 abbrev pub buffer_kind : Parameter → Option Kind
 buffer_kind (Buffer constant k site name) = Some k
 buffer_kind (Value k site name) = None
@@ -20,14 +22,17 @@ abbrev pub onto : Option Kind → List Kind → List Kind
 onto None ks = ks
 onto (Some k) ks = k ∷ ks
 
+-- the kinds of those parameters that have one, in order
 abbrev pub kinds : (Parameter → Option Kind) → List Parameter → List Kind
 kinds of [] = []
 kinds of (p ∷ ps) = onto (of p) (kinds of ps)
 
+-- names that the texts can spell
 abbrev pub AreNamed : List Parameter → Type 0
 AreNamed [] = Unit {0}
 AreNamed (p ∷ ps) = (is_identifier (name_of p) ≡ true) × AreNamed ps
 
+-- words of a kind
 abbrev pub AreWords : Kind → List Word → Type 0
 AreWords k [] = Unit {0}
 AreWords k (w ∷ ws) = IsArgument k w × AreWords k ws

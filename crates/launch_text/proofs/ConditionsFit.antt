@@ -1,5 +1,5 @@
 -- Conditions that are read are of the kernel for which they are read.
-use Rattle.std.proofs.Common.{◌≡◌, ℕ, zero, suc, ◌<◌, ◌≤◌, cond, nat_le, nat_lt, ◌*◌, List, [], ◌∷◌, ◌++◌, length, map, Option, Some, None, Ok, refl, ap, sym, ◌∙◌, subst, inl, inr, ◌⊎◌, arith}
+use Rattle.std.proofs.Common.{◌≡◌, ℕ, zero, suc, nat_le, nat_lt, ◌*◌, List, [], ◌∷◌, ◌++◌, length, map, Ok, refl, ap, ◌∙◌, subst, inl, inr, ◌⊎◌}
 use Rattle.std.specs.Prelude.{int_le, codes, bytes_eq}
 use Rattle.std.specs.List.{All, AllZip}
 use Rattle.std.proofs.lemmas.Bool.{cond_both}
@@ -11,12 +11,13 @@ use Rattle.semantics.specs.Conditions as meaning
 use Rattle.semantics.specs.Conditions.{Summand, IsNamed, ConditionsFit}
 use Rattle.texts.specs.Surface.{Parameter, Buffer, Value}
 use Rattle.texts.specs.LaunchFaults.{LimitPassed, Cursor, Step, cursor, refused, then, expect, end_line}
-use Rattle.texts.specs.LaunchWords.{natural_at, word_at, each, head_line, end_text, due_blank, due_parameter, first_word}
+use Rattle.texts.specs.LaunchWords.{natural_at, word_at, head_line, end_text, due_blank, due_parameter, first_word}
 use Rattle.texts.specs.LaunchSums.{sum_at}
-use Rattle.texts.specs.ConditionsReading.{CountRange, ArgumentRange, Length, Requirement, Lined, meant, length_meant, requirement_meant, counts_at, three_counts_at, groups_line, argument_at, argument_line, argument_due, argument_lines, length_of, length_line, length_due, length_lines, requirement_line, requirement_lines, budget_line, lined, conditions_at, conditions_of}
+use Rattle.texts.specs.ConditionsReading.{CountRange, ArgumentRange, Length, Requirement, Lined, length_meant, requirement_meant, counts_at, three_counts_at, groups_line, argument_at, argument_line, argument_due, argument_lines, length_of, length_line, length_due, length_lines, requirement_line, requirement_lines, budget_line, lined, conditions_at, conditions_of}
 use Rattle.launch_text.specs.Fits.{AreCounts, IsRange, IsLength, IsOf}
 use Rattle.launch_text.proofs.Back.{then_back, same_back, when_back, unless_back, natural_back, word_back}
-use Rattle.launch_text.proofs.Parameters.{kinds, value_kind, buffer_kind, Skips, Reads, each_back}
+use Rattle.launch_text.specs.Parameters.{kinds, value_kind, buffer_kind}
+use Rattle.launch_text.proofs.Parameters.{Skips, Reads, each_back}
 use Rattle.launch_text.proofs.FitsRead.{sum_named}
 
 counts_fit : (c : Cursor) (t : CountRange × Cursor) → counts_at c ≡ Ok t → AreCounts t.0

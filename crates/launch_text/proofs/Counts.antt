@@ -1,5 +1,5 @@
 -- Counts together fit 64 bits.
-use Rattle.std.proofs.Common.{ℕ, ◌*◌, ◌≤◌, arith}
+use Rattle.std.proofs.Common.{ℕ, ◌*◌, ◌≤◌}
 use Rattle.std.proofs.Math.Nat.{mul-le-mul}
 
 pub fits : (x y z : ℕ) → x ≤ 65536 → y ≤ 65536 → z ≤ 65536 → (x * y ≤ 4294967296) × (x * y * z ≤ 281474976710656)

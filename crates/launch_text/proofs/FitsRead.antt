@@ -1,20 +1,18 @@
 -- What is read is of the kernel for which it is read.
-use Rattle.std.proofs.Common.{◌≡◌, ℕ, zero, suc, ◌+◌, ◌-◌, ◌<◌, ◌≤◌, ◌^◌, Bool, true, false, cond, nat_lt, nat_le, int_le, List, [], ◌∷◌, ◌++◌, length, map, Option, None, Some, Ok, Err, refl, ap, sym, ◌∙◌, subst, inl, inr, ◌⊎◌, arith}
-use Rattle.std.specs.Prelude.{ℤ, pos, codes, bytes_eq, replicate}
-use Rattle.std.specs.List.{All, AllZip}
+use Rattle.std.proofs.Common.{◌≡◌, ℕ, zero, suc, ◌<◌, List, [], ◌∷◌, ◌++◌, length, Option, None, Some, Ok, refl, ap, subst, arith}
+use Rattle.std.specs.Prelude.{ℤ, pos, codes}
+use Rattle.std.specs.List.{All}
 use Rattle.std.proofs.lemmas.Bool.{cond_both}
-use Rattle.std.proofs.lemmas.List.{length-map, length-append, length-replicate}
-use Rattle.std.proofs.lemmas.List.Elements.{All-nil, All-cons, All-push}
-use Rattle.semantics.specs.Word.{Kind, Word, in_kind}
-use Rattle.semantics.specs.Launch.{Kernel, Launch, IsCount, IsArgument, IsBuffer, Fits}
-use Rattle.semantics.specs.Conditions.{Summand, Constant, Argument, Groups, IsNamed, ConditionsFit}
-use Rattle.texts.specs.Surface.{Parameter, Buffer, Value}
-use Rattle.texts.specs.LaunchFaults.{Cursor, Step, refused, then, sees, past, expect, end_line, cursor}
-use Rattle.texts.specs.LaunchWords as words
-use Rattle.texts.specs.LaunchWords.{factor_at, name_at, is_known, natural_at, word_at, each, head_line, end_text, due_blank, due_parameter, first_word}
+use Rattle.std.proofs.lemmas.List.Elements.{All-push}
+use Rattle.semantics.specs.Launch.{Kernel}
+use Rattle.semantics.specs.Conditions.{Summand, Constant, Argument, Groups, IsNamed}
+use Rattle.texts.specs.Surface.{Parameter}
+use Rattle.texts.specs.LaunchFaults.{Cursor, Step, refused, sees, past}
+use Rattle.texts.specs.LaunchWords.{factor_at, name_at, is_known}
 use Rattle.texts.specs.LaunchSums.{value_number, argument_found, argument_at, symbol_at, begins_number, term_at, sum_at}
-use Rattle.launch_text.proofs.Back.{then_back, when_back, unless_back, natural_back, word_back}
-use Rattle.launch_text.proofs.Parameters.{kinds, value_kind, value_below}
+use Rattle.launch_text.proofs.Back.{then_back}
+use Rattle.launch_text.specs.Parameters.{kinds, value_kind}
+use Rattle.launch_text.proofs.Parameters.{value_below}
 
 named : (kernel : Kernel) (ps : List Parameter) → kernel.arguments ≡ kinds value_kind ps → (factor : ℤ) (name : List ℕ) (o : Option ℕ) (c : Cursor) (t : Summand × Cursor) → value_number 0 ps name ≡ o → argument_found ps factor name o c ≡ Ok t → IsNamed kernel t.0
 named kernel ps k factor name (Some n) c t h e =

@@ -1,6 +1,6 @@
 -- A launch that is read is one of the kernel for which it is read.
-use Rattle.std.proofs.Common.{◌≡◌, ℕ, zero, suc, ◌+◌, ◌-◌, ◌<◌, ◌≤◌, ◌^◌, true, cond, nat_lt, List, [], ◌∷◌, ◌++◌, length, map, Option, Some, None, Ok, refl, ap, sym, ◌∙◌, subst, inl, inr, ◌⊎◌, arith}
-use Rattle.std.specs.Prelude.{ℤ, codes, replicate}
+use Rattle.std.proofs.Common.{◌≡◌, ℕ, zero, suc, ◌+◌, ◌-◌, ◌<◌, ◌≤◌, ◌^◌, true, nat_lt, List, [], ◌∷◌, ◌++◌, length, map, Ok, refl, ap, subst, inl, inr, ◌⊎◌, arith}
+use Rattle.std.specs.Prelude.{codes, replicate}
 use Rattle.std.specs.List.{All, AllZip}
 use Rattle.std.proofs.lemmas.Bool.{cond_both}
 use Rattle.std.proofs.lemmas.List.{length-map, length-append, map_push}
@@ -9,10 +9,11 @@ use Rattle.semantics.specs.Word.{Kind, Word, in_kind}
 use Rattle.semantics.specs.Launch.{Kernel, Three, IsCount, IsArgument, IsBuffer, Fits}
 use Rattle.texts.specs.Surface.{Parameter, Buffer, Value}
 use Rattle.texts.specs.LaunchFaults.{LimitPassed, Cursor, Step, cursor, refused, then, sees, past, expect, end_line}
-use Rattle.texts.specs.LaunchWords.{natural_at, word_at, each, head_line, end_text, due_blank, due_parameter}
+use Rattle.texts.specs.LaunchWords.{natural_at, word_at, head_line, end_text, due_blank, due_parameter}
 use Rattle.texts.specs.LaunchReading.{Given, number, meant, counts, groups_line, argument_line, argument_due, argument_lines, list_at, fill_at, words_at, most_words, words_of, buffer_line, buffer_due, buffer_lines, fill_line, given, launch_at, launch_of}
-use Rattle.launch_text.proofs.Back.{then_back, same_back, when_back, unless_back, natural_back, word_back}
-use Rattle.launch_text.proofs.Parameters.{kinds, value_kind, buffer_kind, Skips, Reads, each_back}
+use Rattle.launch_text.proofs.Back.{then_back, same_back, unless_back, natural_back, word_back}
+use Rattle.launch_text.specs.Parameters.{kinds, value_kind, buffer_kind}
+use Rattle.launch_text.proofs.Parameters.{Skips, Reads, each_back}
 
 abbrev AreThree : Three ℕ → Type 0
 AreThree t = IsCount t.x × IsCount t.y × IsCount t.z

@@ -1,25 +1,21 @@
 -- The least launch is one of the kernel whose conditions it meets; and what the code's conditions and launches mean.
-use Rattle.std.proofs.Common.{◌≡◌, ℕ, zero, suc, ◌+◌, ◌<◌, ◌≤◌, ◌^◌, true, false, Bool, cond, nat_le, List, [], ◌∷◌, length, map, replicate, Option, Some, None, Ok, refl, ap, sym, ◌∙◌, subst, arith}
-use Rattle.std.specs.Prelude.{ℤ, pos, sum, sum_by, Vec}
+use Rattle.std.proofs.Common.{◌≡◌, ℕ, zero, suc, ◌≤◌, true, false, Bool, cond, nat_le, List, [], ◌∷◌, map, Option, Some, None, refl, ap, ◌∙◌, subst, arith}
+use Rattle.std.specs.Prelude.{ℤ, pos, sum}
 use Rattle.std.specs.List.{All, AllZip}
-use Rattle.std.specs.declared.alloc.Global.{Global}
 use Rattle.std.proofs.lemmas.Bool.Decides.{nat_tests}
 use Rattle.std.proofs.lemmas.List.{length-replicate}
 use Rattle.std.proofs.lemmas.List.Sums.{sum_by-cons}
 use Rattle.std.proofs.lemmas.List.Elements.{All-nil, All-cons}
-use Rattle.semantics.specs.Word.{Kind, Int, Uint, Word, in_kind}
+use Rattle.semantics.specs.Word.{Kind, Int, Uint, in_kind}
 use Rattle.semantics.specs.Launch.{Kernel, Launch, IsArgument, IsBuffer, Fits}
-use Rattle.semantics.specs.Conditions as meaning
 use Rattle.texts.specs.ConditionsReading as reading
 use Rattle.texts.specs.LaunchReading as launches
 use Rattle.words.specs.View.{word}
-use Rattle.words.specs.declared.word.Word.{Word as Code}
 use Rattle.launch.specs.View as seen
 use Rattle.launch.specs.Unmet.{unmet_requirements}
 use Rattle.launch.specs.Least.{low, least_with, least_length, least_lengths, zeros, zero_buffers, probed, probe}
 use Rattle.launch.specs.declared.conditions.ArgumentRange.{ArgumentRange}
 use Rattle.launch.specs.declared.conditions.Length.{Length}
-use Rattle.launch.specs.declared.conditions.Requirement.{Requirement}
 use Rattle.launch.specs.declared.conditions.Conditions.{Conditions}
 use Rattle.launch.specs.declared.launches.Launch.{Launch as CodeLaunch}
 use Rattle.launch_text.specs.View as view

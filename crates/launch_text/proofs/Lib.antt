@@ -10,3 +10,6 @@ pub mod FitsRead
 pub mod ConditionsFit
 pub mod LaunchFit
 pub mod LeastFits
+pub mod Forth
+pub mod LinesForth
+pub mod LaunchForth

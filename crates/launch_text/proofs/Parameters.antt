@@ -1,5 +1,5 @@
 -- The kinds of a kernel's parameters.
-use Rattle.std.proofs.Common.{◌≡◌, ℕ, ◌+◌, ◌<◌, Bool, true, false, List, [], ◌∷◌, ◌++◌, length, cond, Option, None, Some, Ok, Err, refl, ap, sym, ◌∙◌, append_assoc, subst, inl, inr, ◌⊎◌, arith}
+use Rattle.std.proofs.Common.{◌≡◌, ℕ, ◌+◌, ◌<◌, Bool, true, false, List, [], ◌∷◌, ◌++◌, length, Option, None, Some, Ok, Err, refl, ap, sym, ◌∙◌, append_assoc, subst, inl, inr, ◌⊎◌, arith}
 use Rattle.std.specs.Prelude.{bytes_eq}
 use Rattle.std.specs.List.{AllZip}
 use Rattle.std.proofs.lemmas.Bool.{cond_both}
@@ -10,28 +10,13 @@ use Rattle.semantics.specs.Launch.{Kernel}
 use Rattle.texts.specs.Surface as surface
 use Rattle.texts.specs.Surface.{Parameter, Buffer, Value}
 use Rattle.texts.specs.TypeFaults as checks
-use Rattle.texts.specs.Scope.{Scope, empty_scope, declare_variable, declare_buffer, may_declare}
+use Rattle.texts.specs.Scope.{Scope, empty_scope, may_declare}
 use Rattle.texts.specs.Elaboration.{declare_parameter, declare_parameters, elaborate, elaborate_all}
 use Rattle.texts.specs.LaunchFaults.{Cursor, Step, then}
 use Rattle.texts.specs.LaunchWords.{go_on, each}
 use Rattle.texts.specs.LaunchSums.{value_number}
+use Rattle.launch_text.specs.Parameters.{value_kind, buffer_kind, onto, kinds}
 use Rattle.launch_text.proofs.Back.{then_back}
-
-abbrev pub value_kind : Parameter → Option Kind
-value_kind (Buffer constant k site name) = None
-value_kind (Value k site name) = Some k
-
-abbrev pub buffer_kind : Parameter → Option Kind
-buffer_kind (Buffer constant k site name) = Some k
-buffer_kind (Value k site name) = None
-
-abbrev pub onto : Option Kind → List Kind → List Kind
-onto None ks = ks
-onto (Some k) ks = k ∷ ks
-
-abbrev pub kinds : (Parameter → Option Kind) → List Parameter → List Kind
-kinds of [] = []
-kinds of (p ∷ ps) = onto (of p) (kinds of ps)
 
 pub value_below : (b : ℕ) (ps : List Parameter) (name : List ℕ) (n : ℕ) → value_number b ps name ≡ Some n → n < b + length (kinds value_kind ps)
 value_below b [] name n h = absurd cc
@@ -112,10 +97,10 @@ each_back line of P one ks done [] c t h e =
 each_back {A} line of P one ks done (p ∷ ps) c t h e =
     elim (one done p) [
       | inl s ↦
-        let f : each line done ps c ≡ Ok t = ap (λ o. go_on o done c (λ more d. each line more ps d)) (sym s.no_line) ∙ e in
-        subst (λ o. AllZip P (ks ++ onto o (kinds of ps)) t.0) (sym s.no_kind) (each_back line of P one ks done ps c t h f)
+          let f : each line done ps c ≡ Ok t = ap (λ o. go_on o done c (λ more d. each line more ps d)) (sym s.no_line) ∙ e in
+          subst (λ o. AllZip P (ks ++ onto o (kinds of ps)) t.0) (sym s.no_kind) (each_back line of P one ks done ps c t h f)
       | inr r ↦
-        let f : then (r.own c) (λ u. each line (done ++ u.0 ∷ []) ps u.1) ≡ Ok t = ap (λ o. go_on o done c (λ more d. each line more ps d)) (sym r.is_line) ∙ e in
-        let u = then_back (r.own c) _ t f in
-        subst (λ o. AllZip P (ks ++ onto o (kinds of ps)) t.0) (sym r.is_kind) (rw append_assoc at (each_back line of P one (ks ++ r.kind ∷ []) (done ++ u.0.0 ∷ []) ps u.0.1 t (zip_push P ks done r.kind u.0.0 h (r.good c u.0 u.1)) u.2))
+          let f : then (r.own c) (λ u. each line (done ++ u.0 ∷ []) ps u.1) ≡ Ok t = ap (λ o. go_on o done c (λ more d. each line more ps d)) (sym r.is_line) ∙ e in
+          let u = then_back (r.own c) _ t f in
+          subst (λ o. AllZip P (ks ++ onto o (kinds of ps)) t.0) (sym r.is_kind) (rw append_assoc at (each_back line of P one (ks ++ r.kind ∷ []) (done ++ u.0.0 ∷ []) ps u.0.1 t (zip_push P ks done r.kind u.0.0 h (r.good c u.0 u.1)) u.2))
     ]

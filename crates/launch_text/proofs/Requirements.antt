@@ -1,5 +1,5 @@
 -- Lines of requirements, one after another.
-use Rattle.std.proofs.Common.{◌≡◌, ℕ, zero, suc, ◌-◌, List, [], ◌∷◌, ◌++◌, true, false, cond, nat_eq, Ok, refl, ap, ◌∙◌, arith, sub-one}
+use Rattle.std.proofs.Common.{◌≡◌, ℕ, zero, suc, ◌-◌, List, [], ◌∷◌, ◌++◌, true, false, Ok, refl, sub-one}
 use Rattle.std.specs.Prelude.{codes, bytes_eq}
 use Rattle.texts.specs.Surface.{Parameter}
 use Rattle.texts.specs.LaunchFaults.{Cursor, LimitPassed, refused, then}

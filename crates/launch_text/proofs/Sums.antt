@@ -1,9 +1,9 @@
 -- Sums, a term at a time.
-use Rattle.std.proofs.Common.{◌≡◌, ℕ, zero, suc, ◌-◌, ◌<◌, List, [], ◌∷◌, ◌++◌, true, false, cond, Ok, Err, refl, ap, ◌∙◌, arith, sub-one}
+use Rattle.std.proofs.Common.{◌≡◌, ℕ, zero, suc, ◌-◌, ◌<◌, List, [], ◌∷◌, ◌++◌, true, false, cond, Ok, refl, ◌∙◌, arith, sub-one}
 use Rattle.std.specs.Prelude.{codes}
 use Rattle.semantics.specs.Conditions.{Summand}
 use Rattle.texts.specs.Surface.{Parameter}
-use Rattle.texts.specs.LaunchFaults.{Cursor, Step, LimitPassed, refused, then, sees, past}
+use Rattle.texts.specs.LaunchFaults.{Cursor, LimitPassed, refused, then, sees, past}
 use Rattle.texts.specs.LaunchSums.{term_at, sum_at}
 
 pub sum_step : (ps : List Parameter) (room : ℕ) (terms : List Summand) (c : Cursor) → 0 < room → sum_at ps room terms c ≡ then (term_at ps c) (λ t. cond (sees (codes " + ") t.1) (sum_at ps (room - 1) (terms ++ t.0 ∷ []) (past 3 t.1)) (Ok (terms ++ t.0 ∷ [], t.1)))

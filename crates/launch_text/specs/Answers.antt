@@ -2,7 +2,6 @@
 use Rattle.std.specs.Prelude.{◌≡◌, ℕ, List, Result, Ok, Err}
 use denote.Ref.{Bor}
 use Rattle.texts.specs.LaunchFaults as texts
-use Rattle.texts.specs.LaunchWords as words
 use Rattle.launch_text.specs.declared.error.LaunchFault.{LaunchFault}
 use Rattle.launch_text.specs.declared.error.LaunchFault.TheVariants as faults
 use Rattle.launch_text.specs.declared.error.LaunchTextError.{LaunchTextError}

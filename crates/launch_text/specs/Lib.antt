@@ -2,3 +2,4 @@ pub mod Answers
 pub mod Forms
 pub mod View
 pub mod Fits
+pub mod Parameters

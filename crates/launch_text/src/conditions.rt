@@ -21,8 +21,11 @@ use words::Kind;
 pub const CONDITIONS_LIMIT: usize = 65_536;
 
 const MOST_GROUPS: u64 = 65_536;
+
 const MOST_GROUPS_TOGETHER: u64 = 1_048_576;
+
 const MOST_REQUIREMENTS: usize = 16;
+
 const MOST_STEPS: u64 = 1_000_000_000_000;
 
 #[tactic(auto, unfolding(texts::specs::ConditionsReading::counts_at))]
@@ -70,10 +73,7 @@ fn groups_line(at: Cursor<'_>) -> Result<(CountRanges, Cursor<'_>), LaunchTextEr
 }
 
 #[tactic(auto, unfolding(texts::specs::ConditionsReading::argument_at))]
-fn argument(
-    at: Cursor<'_>,
-    kind: Kind,
-) -> Result<(ArgumentRange, Cursor<'_>), LaunchTextError>
+fn argument(at: Cursor<'_>, kind: Kind) -> Result<(ArgumentRange, Cursor<'_>), LaunchTextError>
     ensures { Gives (read view.argument) result (meaning.argument_at (kind_of kind) (cursor at.entry)) }
 {
     let (low, after) = word(at, kind)?;
@@ -256,5 +256,12 @@ pub fn conditions_of(
             line: 1,
         });
     }
-    conditions(alloc, Cursor { line: 1, rest: text }, parameters)
+    conditions(
+        alloc,
+        Cursor {
+            line: 1,
+            rest: text,
+        },
+        parameters,
+    )
 }

@@ -21,7 +21,9 @@ pub const LAUNCH_LIMIT: usize = 4_194_304;
 
 /// What the buffers of a text have in all, at most.
 const MOST_WORDS: usize = 1_048_576;
+
 const MOST_GROUPS: u64 = 65_536;
+
 const MOST_FILL: u64 = 2_147_483_647;
 
 #[tactic(auto, unfolding(texts::specs::LaunchReading::groups_line))]
@@ -221,5 +223,12 @@ pub fn launch_of(
             line: 1,
         });
     }
-    launch(alloc, Cursor { line: 1, rest: text }, parameters)
+    launch(
+        alloc,
+        Cursor {
+            line: 1,
+            rest: text,
+        },
+        parameters,
+    )
 }

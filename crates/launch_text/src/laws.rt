@@ -1,6 +1,10 @@
 //! Laws of the two texts.
 
-ghost use Rattle.std.specs.Prelude.{◌≡◌, Some};
+ghost use Rattle.std.specs.Prelude.{◌≡◌, ◌≤◌, List, length, Ok, Some};
+ghost use Rattle.texts.specs.Surface.{Parameter};
+ghost use Rattle.texts.specs.LaunchReading.{Given, launch_limit, launch_of};
+ghost use Rattle.texts.specs.LaunchText.{launch_text};
+ghost use Rattle.launch_text.specs.Parameters.{IsGiven};
 ghost use Rattle.semantics.specs.Launch.{Kernel, Launch, Fits};
 ghost use Rattle.launch.specs.Least.{probe};
 ghost use Rattle.launch.specs.declared.conditions.Conditions.{Conditions};
@@ -10,4 +14,9 @@ ghost use Rattle.launch_text.specs.View.{lined};
 /// The launch at the least values is one of the kernel whose conditions it meets.
 pub fn a_least_launch_fits()
     ensures { (kernel : Kernel) (c : Conditions) (l : Launch) → IsOf kernel (lined c) → probe c ≡ Some l → Fits kernel l }
+{}
+
+/// A launch is read of its text.
+pub fn a_launch_is_read_back()
+    ensures { (ps : List Parameter) (l : Given) → IsGiven ps l → length (launch_text ps l) ≤ launch_limit → launch_of ps (launch_text ps l) ≡ Ok l }
 {}

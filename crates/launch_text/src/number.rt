@@ -65,11 +65,7 @@ fn natural_within(least: u64, most: u64, number: i64) -> Option<u64>
 
 /// A number from `least` to `most`.
 #[tactic(auto, unfolding(texts::specs::LaunchWords::natural_at))]
-pub fn natural(
-    at: Cursor<'_>,
-    least: u64,
-    most: u64,
-) -> Result<(u64, Cursor<'_>), LaunchTextError>
+pub fn natural(at: Cursor<'_>, least: u64, most: u64) -> Result<(u64, Cursor<'_>), LaunchTextError>
     ensures value { Gives (read same) result (meaning.natural_at least most (cursor at.entry)) }
     ensures above { IfOk result (λ r. least ≤ r.0) }
     ensures below { IfOk result (λ r. r.0 ≤ most) }

@@ -36,11 +36,7 @@ pub fn read_conditions(
 }
 
 /// The launch of a kernel that a text says, or its first fault. The text is gone through once.
-pub fn read_launch(
-    alloc: Global,
-    typed: &Typed,
-    text: &[u8],
-) -> Result<Launch, LaunchTextError>
+pub fn read_launch(alloc: Global, typed: &Typed, text: &[u8]) -> Result<Launch, LaunchTextError>
     ensures value { Gives view.launch result (launches.launch_of (tree_of typed.now.0).parameters text.now) }
     ensures fit { IfOk result (λ l. Fits (core_of typed.now.1) (launch_seen l)) }
 {

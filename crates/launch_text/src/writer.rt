@@ -62,11 +62,7 @@ fn push_buffers(
 }
 
 /// The text of a kernel's buffers: a line `buffer NAME list W W ..` for each buffer parameter.
-pub fn write_buffers(
-    alloc: Global,
-    typed: &Typed,
-    buffers: &Buffers,
-) -> Result<Vec<u8>, AllocError>
+pub fn write_buffers(alloc: Global, typed: &Typed, buffers: &Buffers) -> Result<Vec<u8>, AllocError>
     ensures { IfOk result (λ v. v.items ≡ text.buffers_text (tree_of typed.now.0).parameters (view.buffers buffers.now.words)) }
 {
     let tree = typed.kernel();

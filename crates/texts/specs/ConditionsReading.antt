@@ -1,5 +1,5 @@
 -- Reading a conditions text: its lines in order, each condition with its line, or the first fault.
-use Rattle.std.specs.Prelude.{ℕ, zero, suc, ◌+◌, ◌*◌, ℤ, pos, List, [], ◌∷◌, ◌++◌, map, length, cond, nat_le, nat_lt, int_le, Option, None, Some, Ok, Err, bytes_eq, codes}
+use Rattle.std.specs.Prelude.{ℕ, zero, suc, ◌*◌, pos, List, [], ◌∷◌, ◌++◌, map, length, cond, nat_le, nat_lt, int_le, Option, None, Some, Ok, Err, bytes_eq, codes}
 use Rattle.semantics.specs.Word.{Kind, Word}
 use Rattle.semantics.specs.Launch.{Three}
 use Rattle.semantics.specs.Conditions as meaning

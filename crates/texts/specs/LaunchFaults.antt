@@ -1,5 +1,5 @@
 -- Texts of conditions and of launches (ours): why a text is none, and what is read of one from its left.
-use Rattle.std.specs.Prelude.{ℕ, ◌+◌, List, [], ◌∷◌, length, drop, Bool, true, false, cond, nat_eq, Option, None, Some, Result, Ok, Err, codes}
+use Rattle.std.specs.Prelude.{ℕ, ◌+◌, List, [], ◌∷◌, length, drop, Bool, cond, nat_eq, Option, None, Some, Result, Ok, Err}
 use Rattle.std.specs.List.{starts_with}
 use Rattle.texts.specs.Lines.{line_feed}
 

@@ -1,12 +1,12 @@
 -- Numbers, names and first words of lines, read from the left.
-use Rattle.std.specs.Prelude.{ℕ, ◌+◌, ℤ, pos, negsuc, List, [], ◌∷◌, ◌++◌, length, take, drop, Bool, true, false, cond, not, nat_eq, nat_le, int_le, ◌&&◌, ◌||◌, Option, None, Some, Result, Ok, Err, bytes_eq, codes}
+use Rattle.std.specs.Prelude.{ℕ, ◌+◌, ℤ, pos, negsuc, List, [], ◌∷◌, ◌++◌, length, take, drop, Bool, false, cond, not, nat_eq, nat_le, ◌&&◌, ◌||◌, Option, None, Some, Result, Ok, Err, bytes_eq, codes}
 use Rattle.std.specs.List.{prefix_len, starts_with}
 use Rattle.semantics.specs.Word.{Kind, Word, word, in_kind}
 use Rattle.texts.specs.Numbers.{is_decimal_digit}
 use Rattle.texts.specs.Tokens.{is_letter, is_word_byte}
 use Rattle.texts.specs.Lines.{line_feed, blank, is_empty, NumberFault, NoDecimal, TooLarge, integer_of}
 use Rattle.texts.specs.Surface.{Parameter, Buffer, Value}
-use Rattle.texts.specs.LaunchFaults.{Expected, UnknownName, MissingLine, EmptyRange, LimitPassed, Cursor, cursor, Step, refused, then, found, sees, past, expect, end_line}
+use Rattle.texts.specs.LaunchFaults.{Expected, UnknownName, MissingLine, LimitPassed, Cursor, Step, refused, then, found, past, expect, end_line}
 
 -- how many bytes the number at the front has: digits, behind a `-` where there is one
 abbrev pub number_length : List ℕ → ℕ

@@ -1,12 +1,10 @@
-use Rattle.std.proofs.Common.{rules, ◌≡◌, ◌+◌, ◌∷◌, drop, map, List, Some, refl, ap, sym, ◌∙◌, arith}
-use Rattle.std.specs.Prelude.{Option}
+use Rattle.std.proofs.Common.{rules, ◌+◌, drop, map, List, Some, ap, sym, ◌∙◌}
 use Rattle.std.proofs.lemmas.List.{map_push}
 use Rattle.words.specs.View.{kind}
-use Rattle.texts.specs.LaunchFaults as texts
 use Rattle.texts.specs.LaunchWords.{each}
 use Rattle.texts.specs.ConditionsReading as meaning
 use Rattle.syntax.specs.View.{parameter}
-use Rattle.launch_text.specs.Answers.{cursor, read}
+use Rattle.launch_text.specs.Answers.{cursor}
 use Rattle.launch_text.specs.View as view
 use Rattle.launch_text.proofs.Rows.{each_over, each_skips, each_due}
 use Rattle.launch_text.proofs.conditions.argument_lines.Goals as goal

@@ -1,12 +1,11 @@
-use Rattle.std.proofs.Common.{rules, ◌≡◌, ◌+◌, ◌-◌, ◌∷◌, drop, length, map, List, Some, ap, sym, ◌∙◌, arith}
+use Rattle.std.proofs.Common.{rules, ◌+◌, ◌-◌, drop, map, List, Some, ap, sym, ◌∙◌, arith}
 use Rattle.std.proofs.lemmas.List.{map_push, length-map}
 use Rattle.semantics.specs.Word.{Word}
 use Rattle.words.specs.View.{kind, word}
-use Rattle.texts.specs.LaunchFaults as texts
 use Rattle.texts.specs.LaunchWords.{each}
 use Rattle.texts.specs.LaunchReading as meaning
 use Rattle.syntax.specs.View.{parameter}
-use Rattle.launch_text.specs.Answers.{cursor, read}
+use Rattle.launch_text.specs.Answers.{cursor}
 use Rattle.launch_text.specs.View as view
 use Rattle.launch_text.proofs.Lists.{words-push}
 use Rattle.launch_text.proofs.Rows.{each_over, each_skips, each_due}
@@ -19,9 +18,9 @@ loop-parameter-preserved-in-Value c =
     record {
       left = c.loop-parameter.invariant.left;
       same =
-        c.loop-parameter.invariant.same
-        ∙ each_skips (meaning.buffer_due ps) done parameter c.args.parameters.now c.loop-parameter.parameter-index c.parameter-item.result (cursor c.loop-parameter.rest) c.loop-parameter-test.true c.parameter-item.is
-        (ap (λ p. meaning.buffer_due ps done (parameter p)) c.in-Value.is);
+          c.loop-parameter.invariant.same
+          ∙ each_skips (meaning.buffer_due ps) done parameter c.args.parameters.now c.loop-parameter.parameter-index c.parameter-item.result (cursor c.loop-parameter.rest) c.loop-parameter-test.true c.parameter-item.is
+          (ap (λ p. meaning.buffer_due ps done (parameter p)) c.in-Value.is);
     }
 
 pub returns-in_err-buffer : goal.returns-in_err-buffer
@@ -45,12 +44,12 @@ loop-parameter-preserved c =
     record {
       left = omega (arith, c.saturating_sub-room.ensures, c.len.ensures, c.loop-parameter.invariant.left, ap meaning.words_of more, words-push done (view.words c.in_ok-buffer.buffer), length-map c.in_ok-buffer.buffer.items word);
       same =
-        c.loop-parameter.invariant.same
-        ∙ each_due (meaning.buffer_due ps) done parameter c.args.parameters.now c.loop-parameter.parameter-index c.parameter-item.result (cursor c.loop-parameter.rest) (meaning.buffer_line ps c.loop-parameter.room k c.as_str.result.now) c.loop-parameter-test.true c.parameter-item.is
-        (ap (λ p. meaning.buffer_due ps done (parameter p)) c.in-Buffer.is
-        ∙ ap (λ n. Some (meaning.buffer_line ps (meaning.most_words - meaning.words_of done) k n)) (sym c.as_str.ensures.value)
-        ∙ ap (λ m. Some (meaning.buffer_line ps m k c.as_str.result.now)) (sym c.loop-parameter.invariant.left))
-        ∙ rw c.in_ok-buffer.ensures (ap (λ (bs : List (List Word)). each (meaning.buffer_due ps) bs rest (cursor c.in_ok-buffer.after)) (sym more));
+          c.loop-parameter.invariant.same
+          ∙ each_due (meaning.buffer_due ps) done parameter c.args.parameters.now c.loop-parameter.parameter-index c.parameter-item.result (cursor c.loop-parameter.rest) (meaning.buffer_line ps c.loop-parameter.room k c.as_str.result.now) c.loop-parameter-test.true c.parameter-item.is
+          (ap (λ p. meaning.buffer_due ps done (parameter p)) c.in-Buffer.is
+          ∙ ap (λ n. Some (meaning.buffer_line ps (meaning.most_words - meaning.words_of done) k n)) (sym c.as_str.ensures.value)
+          ∙ ap (λ m. Some (meaning.buffer_line ps m k c.as_str.result.now)) (sym c.loop-parameter.invariant.left))
+          ∙ rw c.in_ok-buffer.ensures (ap (λ (bs : List (List Word)). each (meaning.buffer_due ps) bs rest (cursor c.in_ok-buffer.after)) (sym more));
     }
 
 pub returns : goal.returns

@@ -10,6 +10,6 @@ abbrev pub invariant-loop-parameter : goal.invariant-loop-parameter
 invariant-loop-parameter l = record {
   left : l.room ≡ most_words - words_of (buffers l.buffers);
   same :
-    buffer_lines (map parameter l.parameters) (cursor l.at)
-    ≡ each (buffer_due (map parameter l.parameters)) (buffers l.buffers) (map parameter (drop l.parameter-index l.parameters)) (cursor l.rest);
+      buffer_lines (map parameter l.parameters) (cursor l.at)
+      ≡ each (buffer_due (map parameter l.parameters)) (buffers l.buffers) (map parameter (drop l.parameter-index l.parameters)) (cursor l.rest);
 }

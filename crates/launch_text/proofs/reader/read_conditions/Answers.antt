@@ -3,7 +3,6 @@ use Rattle.semantics.specs.Conditions as meaning
 use Rattle.texts.specs.ConditionsReading.{conditions_of}
 use Rattle.syntax.specs.View.{kernel as tree_of, parameter}
 use Rattle.types.specs.View.{kernel as core_of}
-use Rattle.launch_text.specs.Fits.{IsOf}
 use Rattle.launch_text.specs.View as view
 use Rattle.launch_text.proofs.Parameters.{kernel_back}
 use Rattle.launch_text.proofs.ConditionsFit.{conditions_fit}
@@ -16,8 +15,8 @@ returns-clause-of c =
     let own = kernel_back tree (core_of c.args.typed.now.1) c.kernel-tree.ensures.typed in
     let text = c.args.text.now in
     let read : conditions_of tree.parameters text ≡ Ok (view.lined c.in_ok-conditions.conditions) =
-        ap (λ k. conditions_of (tree_of k).parameters text) (sym c.kernel-tree.ensures.value)
-        ∙ ap (λ ps. conditions_of (map parameter ps) text) (sym c.deref.ensures.value) ∙ c.in_ok-conditions.ensures in
+    ap (λ k. conditions_of (tree_of k).parameters text) (sym c.kernel-tree.ensures.value)
+    ∙ ap (λ ps. conditions_of (map parameter ps) text) (sym c.deref.ensures.value) ∙ c.in_ok-conditions.ensures in
     conditions_fit (core_of c.args.typed.now.1) tree.parameters own.0 own.1 text (view.lined c.in_ok-conditions.conditions) read
 
 pub returns-clause-fit : goal.returns-clause-fit

@@ -15,7 +15,7 @@ returns-clause-fit c =
     let own = kernel_back tree (core_of c.args.typed.now.1) c.kernel-tree.ensures.typed in
     let text = c.args.text.now in
     let read : launch_of tree.parameters text ≡ Ok (view.launch c.in_ok-launch.launch) =
-        ap (λ k. launch_of (tree_of k).parameters text) (sym c.kernel-tree.ensures.value)
-        ∙ ap (λ ps. launch_of (map parameter ps) text) (sym c.deref.ensures.value) ∙ c.in_ok-launch.ensures in
+    ap (λ k. launch_of (tree_of k).parameters text) (sym c.kernel-tree.ensures.value)
+    ∙ ap (λ ps. launch_of (map parameter ps) text) (sym c.deref.ensures.value) ∙ c.in_ok-launch.ensures in
     let fit = launch_fits (core_of c.args.typed.now.1) tree.parameters own.0 own.1 text (view.launch c.in_ok-launch.launch) read in
     subst (λ (x : meaning.Launch). meaning.Fits (core_of c.args.typed.now.1) x) (launch_meant c.in_ok-launch.launch) fit

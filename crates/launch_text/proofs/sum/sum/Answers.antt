@@ -1,4 +1,4 @@
-use Rattle.std.proofs.Common.{rules, ◌-◌, ◌∷◌, ◌++◌, map, List, Ok, ap, sym, ◌∙◌, arith}
+use Rattle.std.proofs.Common.{rules, ◌-◌, map, List, Ok, ap, sym, ◌∙◌, arith}
 use Rattle.std.proofs.lemmas.List.{map_push}
 use Rattle.semantics.specs.Conditions.{Summand}
 use Rattle.texts.specs.LaunchFaults as texts
@@ -27,10 +27,10 @@ loop-room-preserved c =
     record {
       few = omega (arith, c.loop-room.invariant.few, c.in_ok-push.ensures.len);
       same =
-        c.loop-room.invariant.same
-        ∙ sum_goes ps c.loop-room.room (map summand c.loop-room.terms.items) (cursor c.loop-room.rest) (read summand (c.in_ok-term.term, c.in_ok-term.after)) c.loop-room-test.true c.in_ok-term.ensures c.in-Some.ensures.0
-        ∙ ap (λ (ts : List Summand). sum_at ps (c.loop-room.room - 1) ts (texts.past 3 (cursor c.in_ok-term.after))) (sym (ap (map summand) c.in_ok-push.ensures.items ∙ map_push summand c.loop-room.terms.items c.in_ok-term.term))
-        ∙ ap (sum_at ps (c.loop-room.room - 1) (map summand c.push.new.self.items)) (sym c.in-Some.ensures.1);
+          c.loop-room.invariant.same
+          ∙ sum_goes ps c.loop-room.room (map summand c.loop-room.terms.items) (cursor c.loop-room.rest) (read summand (c.in_ok-term.term, c.in_ok-term.after)) c.loop-room-test.true c.in_ok-term.ensures c.in-Some.ensures.0
+          ∙ ap (λ (ts : List Summand). sum_at ps (c.loop-room.room - 1) ts (texts.past 3 (cursor c.in_ok-term.after))) (sym (ap (map summand) c.in_ok-push.ensures.items ∙ map_push summand c.loop-room.terms.items c.in_ok-term.term))
+          ∙ ap (sum_at ps (c.loop-room.room - 1) (map summand c.push.new.self.items)) (sym c.in-Some.ensures.1);
     }
 
 pub returns : goal.returns

@@ -1,4 +1,4 @@
-use Rattle.std.proofs.Common.{◌≡◌, ◌+◌, ◌≤◌, [], map, vec_len}
+use Rattle.std.proofs.Common.{◌≡◌, ◌+◌, [], map, vec_len}
 use Rattle.texts.specs.LaunchSums.{sum_at}
 use Rattle.syntax.specs.View.{parameter}
 use Rattle.launch.specs.View.{summand}

@@ -9,6 +9,6 @@ abbrev pub invariant-loop-parameter : goal.invariant-loop-parameter
 invariant-loop-parameter l = record {
   few : l.at ≤ l.parameter-index;
   same :
-    string_bytes l.out ++ text.buffers_text (map parameter (drop l.parameter-index l.parameters)) (map view.words (drop l.at l.buffers))
-    ≡ string_bytes l.initial.out ++ text.buffers_text (map parameter l.parameters) (map view.words l.buffers);
+      string_bytes l.out ++ text.buffers_text (map parameter (drop l.parameter-index l.parameters)) (map view.words (drop l.at l.buffers))
+      ≡ string_bytes l.initial.out ++ text.buffers_text (map parameter l.parameters) (map view.words l.buffers);
 }

@@ -1,0 +1,49 @@
+-- The kinds of a kernel's value parameters and buffer parameters, in order, and launches with just these.
+use Rattle.std.specs.Prelude.{◌≡◌, ◌≤◌, ◌<◌, ◌^◌, true, List, [], ◌∷◌, Option, None, Some}
+use Rattle.std.specs.List.{AllZip}
+use Rattle.semantics.specs.Word.{Kind, Word}
+use Rattle.semantics.specs.Launch.{IsCount, IsArgument}
+use Rattle.texts.specs.CertificateForms.{is_identifier}
+use Rattle.texts.specs.Surface.{Parameter, Buffer, Value}
+use Rattle.texts.specs.LaunchWords.{name_of}
+use Rattle.texts.specs.LaunchReading.{Given, most_words, words_of}
+
+-- the kind of a value parameter
+abbrev pub value_kind : Parameter → Option Kind
+value_kind (Buffer constant k site name) = None
+value_kind (Value k site name) = Some k
+
+-- the kind of a buffer parameter's elements
+abbrev pub buffer_kind : Parameter → Option Kind
+buffer_kind (Buffer constant k site name) = Some k
+buffer_kind (Value k site name) = None
+
+abbrev pub onto : Option Kind → List Kind → List Kind
+onto None ks = ks
+onto (Some k) ks = k ∷ ks
+
+-- the kinds of those parameters that have one, in order
+abbrev pub kinds : (Parameter → Option Kind) → List Parameter → List Kind
+kinds of [] = []
+kinds of (p ∷ ps) = onto (of p) (kinds of ps)
+
+-- names that the texts can spell
+abbrev pub AreNamed : List Parameter → Type 0
+AreNamed [] = Unit {0}
+AreNamed (p ∷ ps) = (is_identifier (name_of p) ≡ true) × AreNamed ps
+
+-- words of a kind
+abbrev pub AreWords : Kind → List Word → Type 0
+AreWords k [] = Unit {0}
+AreWords k (w ∷ ws) = IsArgument k w × AreWords k ws
+
+-- a launch of a kernel with these parameters whose text gives at most 1,048,576 words
+pub record IsGiven (ps : List Parameter) (l : Given) : Type 0 where
+  pub names : AreNamed ps
+  pub count_x : IsCount l.groups.x
+  pub count_y : IsCount l.groups.y
+  pub count_z : IsCount l.groups.z
+  pub arguments : AllZip IsArgument (kinds value_kind ps) l.arguments
+  pub buffers : AllZip AreWords (kinds buffer_kind ps) l.buffers
+  pub few : words_of l.buffers ≤ most_words
+  pub fill : l.fill < 2 ^ 31

@@ -9,7 +9,7 @@ use Rattle.walk.specs.Trees.{Access}
 use Rattle.walk.specs.Launching.{each_dimension}
 use Rattle.walk.proofs.Journeys.{Has}
 use Rattle.walk.proofs.TwinTrees.{Twin}
-use Rattle.two_thread.specs.Pairs.{Scope, Within, Across, Pair, all_orders, conflict, where_so, with_each, pairs_in, pairs_from}
+use Rattle.two_thread.specs.Pairs.{Scope, Within, Across, Pair, all_orders, conflict, where_so, with_each, pairs_in, pairs_of, pairs_from}
 
 abbrev pub Each : {A : Type 0} → (A → Type 0) → List A → Type 0
 Each P [] = Unit {0}
@@ -68,12 +68,10 @@ module _ {E : Type 0} (P : Pair E → Type 0) (sizes : Three ℕ) (c : Condition
   pairs_from-has b [] us ws h n l = absurd (omega arith)
   pairs_from-has b (k ∷ ks) us ws h zero l =
       let e : b ≡ b + 0 = omega arith in
-      let r = each-right P (pairs_in sizes c b us ws Within) (pairs_in sizes c b us ws Across ++ pairs_from sizes c (suc b) ks us ws) h in (
-        subst (λ m. Each P (pairs_in sizes c m us ws Within)) e (each-left P (pairs_in sizes c b us ws Within) (pairs_in sizes c b us ws Across ++ pairs_from sizes c (suc b) ks us ws) h),
-        subst (λ m. Each P (pairs_in sizes c m us ws Across)) e (each-left P (pairs_in sizes c b us ws Across) (pairs_from sizes c (suc b) ks us ws) r),
-      )
+      let f = each-left P (pairs_of sizes c b us ws) (pairs_from sizes c (suc b) ks us ws) h in
+      (subst (λ m. Each P (pairs_in sizes c m us ws Within)) e (each-left P (pairs_in sizes c b us ws Within) (pairs_in sizes c b us ws Across) f),
+      subst (λ m. Each P (pairs_in sizes c m us ws Across)) e (each-right P (pairs_in sizes c b us ws Within) (pairs_in sizes c b us ws Across) f))
   pairs_from-has b (k ∷ ks) us ws h (suc n) l =
       let e : suc b + n ≡ b + suc n = omega arith in
-      let r = each-right P (pairs_in sizes c b us ws Within) (pairs_in sizes c b us ws Across ++ pairs_from sizes c (suc b) ks us ws) h in
-      let q = pairs_from-has (suc b) ks us ws (each-right P (pairs_in sizes c b us ws Across) (pairs_from sizes c (suc b) ks us ws) r) n (omega arith) in
+      let q = pairs_from-has (suc b) ks us ws (each-right P (pairs_of sizes c b us ws) (pairs_from sizes c (suc b) ks us ws) h) n (omega arith) in
       (subst (λ m. Each P (pairs_in sizes c m us ws Within)) e q.0, subst (λ m. Each P (pairs_in sizes c m us ws Across)) e q.1)

@@ -38,8 +38,9 @@ one_ends (suc a) (suc b) (suc i) h = elim (one_ends a b i (omega arith)) [ inl k
 
 pub in_end : {E : Type 0} (sizes : Three ℕ) (c : Conditions) (b : ℕ) (us vs : List (Access E)) (s : Scope) (i : ℕ) (out all : List (Pair E)) → min (length us) (length vs) ≤ i → out ++ pairs_in sizes c b (drop i us) (drop i vs) s ≡ all → out ≡ all
 in_end sizes c b us vs s i out all h e = elim (one_ends (length us) (length vs) i h) [
-  inl k ↦ sym (ap (λ l. out ++ pairs_in sizes c b l (drop i vs) s) (drop_of_length-le us k) ∙ append-nil out) ∙ e
-  | inr k ↦ sym (ap (λ l. out ++ pairs_in sizes c b (drop i us) l s) (drop_of_length-le vs k) ∙ ap (λ l. out ++ l) (no_more sizes c b (drop i us) s) ∙ append-nil out) ∙ e ]
+  | inl k ↦ sym (ap (λ l. out ++ pairs_in sizes c b l (drop i vs) s) (drop_of_length-le us k) ∙ append-nil out) ∙ e
+  | inr k ↦ sym (ap (λ l. out ++ pairs_in sizes c b (drop i us) l s) (drop_of_length-le vs k) ∙ ap (λ l. out ++ l) (no_more sizes c b (drop i us) s) ∙ append-nil out) ∙ e
+]
 
 pub from_step : {E A : Type 0} (sizes : Three ℕ) (c : Conditions) (b : ℕ) (ks : List A) (us vs : List (Access E)) (i : ℕ) (old new all : List (Pair E)) → (k : A) → i < length ks → new ≡ old ++ pairs_of sizes c b us vs → old ++ pairs_from sizes c b (drop i ks) us vs ≡ all → new ++ pairs_from sizes c (suc b) (drop (i + 1) ks) us vs ≡ all
 from_step sizes c b ks us vs i old new all k h d e = carried old new (pairs_of sizes c b us vs) (pairs_from sizes c (suc b) (drop (i + 1) ks) us vs) all d (ap (λ l. old ++ pairs_from sizes c b l us vs) (sym (front ks i k h)) ∙ e)

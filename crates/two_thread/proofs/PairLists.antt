@@ -68,9 +68,10 @@ module _ {E : Type 0} (P : Pair E → Type 0) (sizes : Three ℕ) (c : Condition
   pairs_from-has b [] us ws h n l = absurd (omega arith)
   pairs_from-has b (k ∷ ks) us ws h zero l =
       let e : b ≡ b + 0 = omega arith in
-      let f = each-left P (pairs_of sizes c b us ws) (pairs_from sizes c (suc b) ks us ws) h in
-      (subst (λ m. Each P (pairs_in sizes c m us ws Within)) e (each-left P (pairs_in sizes c b us ws Within) (pairs_in sizes c b us ws Across) f),
-      subst (λ m. Each P (pairs_in sizes c m us ws Across)) e (each-right P (pairs_in sizes c b us ws Within) (pairs_in sizes c b us ws Across) f))
+      let f = each-left P (pairs_of sizes c b us ws) (pairs_from sizes c (suc b) ks us ws) h in (
+        subst (λ m. Each P (pairs_in sizes c m us ws Within)) e (each-left P (pairs_in sizes c b us ws Within) (pairs_in sizes c b us ws Across) f),
+        subst (λ m. Each P (pairs_in sizes c m us ws Across)) e (each-right P (pairs_in sizes c b us ws Within) (pairs_in sizes c b us ws Across) f),
+      )
   pairs_from-has b (k ∷ ks) us ws h (suc n) l =
       let e : suc b + n ≡ b + suc n = omega arith in
       let q = pairs_from-has (suc b) ks us ws (each-right P (pairs_of sizes c b us ws) (pairs_from sizes c (suc b) ks us ws) h) n (omega arith) in

@@ -1,14 +1,13 @@
 -- What is to be shown of two items: that no two of their accesses, one of them a store, are of one element.
-use Rattle.std.specs.Prelude.{ℕ, suc, ◌-◌, ℤ, pos, List, [], ◌∷◌, ◌++◌, map, length, Bool, true, false, ◌&&◌, ◌||◌, cond, nat_eq, nat_lt, int_lt}
-use Rattle.semantics.specs.Launch.{Three, Kernel}
+use Rattle.std.specs.Prelude.{ℕ, suc, pos, List, [], ◌∷◌, ◌++◌, Bool, true, false, ◌&&◌, ◌||◌, nat_eq, nat_lt, int_lt}
+use Rattle.semantics.specs.Launch.{Three}
 use Rattle.semantics.specs.Setup.{along}
 use Rattle.semantics.specs.Conditions.{Conditions}
 use Rattle.domain.specs.declared.Domain.{Ghosts}
 use Rattle.walk.specs.Symbols.{Which, First, Second, Symbol, Local, Group, Fact, constant, once, minus, equals}
 use Rattle.walk.specs.Elements.{Known, element_of, lacks_zero}
-use Rattle.walk.specs.Launching.{each_dimension, launch_facts, item_facts, known, count_range}
-use Rattle.walk.specs.Trees.{Access, Obligation, accesses}
-use Rattle.walk.specs.Walks.{setting, tree}
+use Rattle.walk.specs.Launching.{each_dimension, count_range}
+use Rattle.walk.specs.Trees.{Access, Obligation}
 
 -- items of one group, which differ in a local id, or of two groups, which differ in a group id
 pub data Scope : Type 0 where

@@ -1,6 +1,5 @@
 -- All that is to be shown of a kernel under conditions, in the order of its numbers: the claims of one item, then the pairs.
 use Rattle.std.specs.Prelude.{◌≡◌, ◌⊎◌, ℕ, List, ◌++◌, map, Bool, true}
-use Rattle.std.specs.List.{All}
 use Rattle.semantics.specs.Launch.{Kernel}
 use Rattle.semantics.specs.Conditions.{Conditions}
 use Rattle.semantics.specs.Linear.{IsImpossible}

@@ -14,7 +14,8 @@ use domain::{Domain, Residue};
 use linear::Form;
 use std::alloc::Global;
 use walk::{
-    Claim, Known, Path, WalkError, Which, element_of, less_number, number_less, once_group, once_local,
+    Claim, Known, Path, WalkError, Which, element_of, less_number, number_less, once_group,
+    once_local,
 };
 
 #[tactic(auto, using(crate::proofs::Copies::copies))]
@@ -40,7 +41,12 @@ fn copy_all(alloc: Global, facts: &mut Vec<Form>, more: &[Form]) -> Result<(), W
 
 #[tactic(auto, using(crate::proofs::Copies::copies))]
 /// Both say of two forms that they are equal.
-fn push_equals(alloc: Global, facts: &mut Vec<Form>, left: &Form, right: &Form) -> Result<(), WalkError>
+fn push_equals(
+    alloc: Global,
+    facts: &mut Vec<Form>,
+    left: &Form,
+    right: &Form,
+) -> Result<(), WalkError>
     ensures { IfOk result (λ _. forms facts.new.items ≡ forms facts.old.items ++ symbols.equals (form_seen left.now) (form_seen right.now)) }
 {
     let above = left.sub(alloc, right)?;

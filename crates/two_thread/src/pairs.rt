@@ -133,9 +133,27 @@ fn all_orders<D: Copy>(
     let x = differs(sizes, conditions, scope, 0);
     two_orders(found, first, second, x, pair)?;
     let y = differs(sizes, conditions, scope, 1);
-    two_orders(found, first, second, y, Pair { dimension: 1, ..pair })?;
+    two_orders(
+        found,
+        first,
+        second,
+        y,
+        Pair {
+            dimension: 1,
+            ..pair
+        },
+    )?;
     let z = differs(sizes, conditions, scope, 2);
-    two_orders(found, first, second, z, Pair { dimension: 2, ..pair })?;
+    two_orders(
+        found,
+        first,
+        second,
+        z,
+        Pair {
+            dimension: 2,
+            ..pair
+        },
+    )?;
     Ok(())
 }
 
@@ -211,8 +229,24 @@ fn pairs_of<D: Copy>(
 ) -> Result<(), WalkError>
     ensures { IfOk result (λ _. Adds (seen_accesses first.now) (seen_accesses second.now) found.old.items found.new.items (specs.pairs_of (three sizes) (conditions_seen conditions.now) buffer (seen_accesses first.now) (seen_accesses second.now))) }
 {
-    pairs_in(found, sizes, conditions, first, second, Scope::Within, buffer)?;
-    pairs_in(found, sizes, conditions, first, second, Scope::Across, buffer)?;
+    pairs_in(
+        found,
+        sizes,
+        conditions,
+        first,
+        second,
+        Scope::Within,
+        buffer,
+    )?;
+    pairs_in(
+        found,
+        sizes,
+        conditions,
+        first,
+        second,
+        Scope::Across,
+        buffer,
+    )?;
     Ok(())
 }
 

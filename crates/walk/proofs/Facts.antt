@@ -1,8 +1,7 @@
 -- Lists of facts that grow at the end.
-use Rattle.std.proofs.Common.{◌≡◌, ◌++◌, List, [], ◌∷◌, append_assoc, refl, sym, ap, ◌∙◌}
+use Rattle.std.proofs.Common.{◌≡◌, ◌++◌, List, [], ◌∷◌, append_assoc, ap, ◌∙◌}
 use Rattle.linear.specs.Forms.{form, forms}
 use Rattle.linear.specs.declared.form.Form.{Form}
-use Rattle.walk.specs.Symbols.{Fact}
 use Rattle.walk.proofs.Paths.{forms_more}
 
 pub two_more : (a b c : List Form) (f g : Form) → b ≡ a ++ f ∷ [] → c ≡ b ++ g ∷ [] → forms c ≡ forms a ++ form f ∷ form g ∷ []

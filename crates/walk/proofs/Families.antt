@@ -1,6 +1,6 @@
 -- The last family has all larger numbers.
-use Rattle.std.proofs.Common.{◌≡◌, ◌≢◌, ℕ, zero, suc, ◌≤◌, ◌/◌, ◌%◌, refl, ap, ◌∙◌, arith}
-use Rattle.walk.specs.Symbols.{Symbol, New, Second, of_family, symbol_of}
+use Rattle.std.proofs.Common.{◌≡◌, ℕ, zero, suc, ◌≤◌, ◌/◌, ◌%◌, refl, ap, arith}
+use Rattle.walk.specs.Symbols.{New, Second, of_family, symbol_of}
 
 pub of_symbol : (n f : ℕ) → n % 16 ≡ f → symbol_of n ≡ of_family f (n / 16)
 unfolding symbol_of

@@ -1,6 +1,6 @@
 -- Steps of a path that lead where the walk leads on.
-use Rattle.std.proofs.Common.{◌≡◌, ℕ, suc, ◌+◌, Bool, true, false, List, [], ◌∷◌, ◌++◌, length, length-append, add-one, refl, sym, ap, ◌∙◌}
-use Rattle.std.specs.Prelude.{ℤ, pos, Option, Some, None}
+use Rattle.std.proofs.Common.{◌≡◌, ℕ, suc, Bool, true, false, List, [], ◌∷◌, ◌++◌, length, length-append, add-one, sym, ap, ◌∙◌}
+use Rattle.std.specs.Prelude.{ℤ, pos, Option, Some}
 use Rattle.semantics.specs.Word.{Kind, Uint}
 use Rattle.semantics.specs.Core.{Term}
 use Rattle.domain.specs.declared.Bounds.{Bounds}

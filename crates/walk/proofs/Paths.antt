@@ -1,5 +1,5 @@
 -- A path with one claim, fact, new symbol or access more.
-use Rattle.std.proofs.Common.{◌≡◌, ℕ, suc, ◌+◌, ◌≤◌, Bool, List, [], ◌∷◌, ◌++◌, length, take, map, refl, sym, ap, subst, ◌∙◌, append-nil}
+use Rattle.std.proofs.Common.{◌≡◌, ℕ, suc, ◌≤◌, List, [], ◌∷◌, ◌++◌, length, take, map, refl, sym, ap, subst, ◌∙◌, append-nil}
 use Rattle.std.specs.List.{All}
 use Rattle.std.proofs.lemmas.List.{take-append-le, map-append}
 use Rattle.std.proofs.lemmas.List.Elements.{All-head, All-tail}
@@ -7,8 +7,6 @@ use Rattle.std.proofs.Math.Seq.{take-length}
 use Rattle.linear.specs.Forms.{form, forms}
 use Rattle.linear.specs.declared.form.Form.{Form}
 use Rattle.walk.specs.Symbols.{Fact}
-use Rattle.walk.specs.Trees as trees
-use Rattle.walk.specs.Collected.{Claimed}
 use Rattle.walk.specs.Before.{HasFacts, HasAll}
 use Rattle.walk.specs.View.{claim_seen, access_seen}
 use Rattle.walk.specs.declared.path.Claim.{Claim}

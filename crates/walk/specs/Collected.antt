@@ -1,5 +1,5 @@
 -- A tree without choices as four lists.
-use Rattle.std.specs.Prelude.{◌≡◌, ℕ, List, [], ◌∷◌, ◌++◌, length, Bool}
+use Rattle.std.specs.Prelude.{ℕ, List, [], ◌∷◌, ◌++◌, length, Bool}
 use Rattle.walk.specs.Symbols.{Fact}
 use Rattle.walk.specs.Trees.{Tree, Leaf, Claim, Know, Touch, Access}
 use Rattle.walk.specs.Walks.{State}

@@ -1,9 +1,9 @@
 -- What an abstract domain knows of symbols and forms.
-use Rattle.std.specs.Prelude.{ℕ, ℤ, pos, List, [], ◌∷◌, Bool, true, false, ◌||◌, not, slice_index_or, int_le, int_lt, Option, Some, None}
-use Rattle.semantics.specs.Linear.{Weighted, Form}
+use Rattle.std.specs.Prelude.{ℕ, ℤ, pos, List, [], ◌∷◌, Bool, false, ◌||◌, not, slice_index_or, int_le, int_lt, Option, Some, None}
+use Rattle.semantics.specs.Linear.{Weighted}
 use Rattle.domain.specs.declared.Domain.{Ghosts}
 use Rattle.domain.specs.Members.{leaves}
-use Rattle.walk.specs.Symbols.{Which, First, Second, Symbol, Groups, Given, Length, Local, Group, New, symbol_of, Fact}
+use Rattle.walk.specs.Symbols.{First, Second, Symbol, Groups, Given, Length, Local, Group, New, symbol_of, Fact}
 
 -- the elements of a launch's symbols, and of the ids of its items
 pub record Known (E : Type 0) : Type 0 where

@@ -1,6 +1,6 @@
 -- Straight-line kernels: the body is a list of stores to buffers, whose terms have numbers, value parameters, ids, sums, products
 -- and conversions.
-use Rattle.std.specs.Prelude.{ℕ, suc, List, length, Bool, true, false, ◌&&◌, nat_lt, nat_le}
+use Rattle.std.specs.Prelude.{ℕ, suc, length, Bool, true, false, ◌&&◌, nat_lt, nat_le}
 use Rattle.semantics.specs.Word.{Operator, Add, Multiply, in_kind}
 use Rattle.semantics.specs.Core.{Space, Global, Term, Literal, Variable, Id, Binary, Convert, Statement, Store, Statements, none, one}
 use Rattle.semantics.specs.Launch.{Three, Kernel}

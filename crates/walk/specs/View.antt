@@ -1,5 +1,5 @@
 -- What the code's values stand for.
-use Rattle.std.specs.Prelude.{ℕ, ◌≤◌, List, [], ◌∷◌, map, take, Bool, true, false, slice_index, slice_index_or, length}
+use Rattle.std.specs.Prelude.{ℕ, List, [], ◌∷◌, map, take, Bool, true, false, slice_index, slice_index_or}
 use Rattle.semantics.specs.Launch.{Three}
 use Rattle.domain.specs.declared.Domain.{Ghosts}
 use Rattle.words.specs.View.{kind}

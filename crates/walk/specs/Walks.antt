@@ -1,8 +1,8 @@
 -- The walk of a straight-line kernel: the tree of its body. A walk is written with what goes on from its form, so that trees of
 -- choices can be told in the same way.
-use Rattle.std.specs.Prelude.{ℕ, suc, ◌+◌, ◌*◌, ◌<◌, ℤ, pos, negsuc, List, [], ◌∷◌, ◌++◌, length, map, Bool, true, false, ◌&&◌, ◌||◌, cond, nat_lt, slice_index_or, Option, Some, None}
-use Rattle.semantics.specs.Word.{Kind, Int, Uint, in_kind, Operator, Add, Multiply}
-use Rattle.semantics.specs.Core.{Space, Global, Local, Array, Function, GlobalId, LocalId, GroupId, GlobalSize, LocalSize, NumGroups, Term, Literal, Variable, Id, Binary, Convert, Statement, Store, Statements, none, one}
+use Rattle.std.specs.Prelude.{ℕ, suc, ◌+◌, ℤ, pos, negsuc, List, [], ◌∷◌, ◌++◌, length, Bool, true, false, ◌&&◌, ◌||◌, cond, nat_lt, slice_index_or, Option, Some, None}
+use Rattle.semantics.specs.Word.{Kind, Int, Uint, Operator, Multiply}
+use Rattle.semantics.specs.Core.{Function, GlobalId, LocalId, GroupId, GlobalSize, LocalSize, NumGroups, Term, Literal, Variable, Id, Binary, Convert, Statement, Store, Statements, none, one}
 use Rattle.semantics.specs.Launch.{Three, Kernel}
 use Rattle.semantics.specs.Setup.{along}
 use Rattle.semantics.specs.Linear.{Weighted}

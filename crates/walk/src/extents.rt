@@ -89,7 +89,12 @@ fn known_so_far<D: Domain>(alloc: Global, conditions: &Conditions) -> Result<Kno
     ensures { IfOk result (λ k. elements_seen k [] [] ≡ launching.known_so_far D.Domain (conditions_seen conditions.now)) }
 {
     let groups = conditions.groups;
-    let counts = three_of(alloc, of_count(groups.x), of_count(groups.y), of_count(groups.z))?;
+    let counts = three_of(
+        alloc,
+        of_count(groups.x),
+        of_count(groups.y),
+        of_count(groups.z),
+    )?;
     let arguments = of_arguments(alloc, conditions.arguments.as_slice())?;
     Ok(Known {
         counts,
@@ -112,7 +117,12 @@ pub fn known<D: Domain>(
     let lengths = of_lengths(alloc, &so_far, conditions.lengths.as_slice())?;
     let groups = conditions.groups;
     let locals = three_of(alloc, below(sizes[0]), below(sizes[1]), below(sizes[2]))?;
-    let ids = three_of(alloc, below(groups.x.high), below(groups.y.high), below(groups.z.high))?;
+    let ids = three_of(
+        alloc,
+        below(groups.x.high),
+        below(groups.y.high),
+        below(groups.z.high),
+    )?;
     Ok(Known {
         counts: so_far.counts,
         arguments: so_far.arguments,

@@ -158,11 +158,7 @@ fn length_fact(
 }
 
 /// The buffers are as long as their sums.
-fn length_facts(
-    alloc: Global,
-    facts: &mut Vec<Form>,
-    lengths: &[Length],
-) -> Result<(), WalkError>
+fn length_facts(alloc: Global, facts: &mut Vec<Form>, lengths: &[Length]) -> Result<(), WalkError>
     ensures { IfOk result (λ _. forms facts.new.items ≡ forms facts.old.items ++ launching.length_facts 0 (map length_sum lengths.now)) }
 {
     let mut buffer = 0u32;

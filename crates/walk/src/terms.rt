@@ -171,7 +171,15 @@ fn joined<D: Domain>(
 {
     let first = brought(alloc, setting, item, path, kind, left)?;
     let second = brought(alloc, setting, item, path, kind, right)?;
-    let form = exact(alloc, setting, item, path, operator, &first.form, &second.form)?;
+    let form = exact(
+        alloc,
+        setting,
+        item,
+        path,
+        operator,
+        &first.form,
+        &second.form,
+    )?;
     let value = ranged(alloc, setting, item, path, kind, form)?;
     Ok(value)
 }

@@ -1,4 +1,4 @@
-use Rattle.std.proofs.Common.{ap, sym, ◌∙◌, nat_eq}
+use Rattle.std.proofs.Common.{ap, sym, ◌∙◌}
 use Rattle.walk.specs.Trees as trees
 use Rattle.walk.specs.declared.path.Access.{Access}
 use Rattle.two_thread.proofs.Nth.{nth_seen}

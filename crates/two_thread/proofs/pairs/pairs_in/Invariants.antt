@@ -1,8 +1,8 @@
-use Rattle.std.proofs.Common.{◌≡◌, ◌++◌, ◌≤◌, drop, map}
+use Rattle.std.proofs.Common.{◌≡◌, ◌++◌, drop, map}
 use Rattle.launch.specs.View.{conditions}
 use Rattle.walk.specs.View.{three}
 use Rattle.two_thread.specs.Pairs as specs
-use Rattle.two_thread.specs.View.{scope, pair, nth_access, seen_accesses}
+use Rattle.two_thread.specs.View.{scope, pair, seen_accesses}
 use Rattle.two_thread.proofs.pairs.pairs_in.Given as goal
 
 abbrev pub invariant-loop-i : goal.invariant-loop-i

@@ -1,4 +1,4 @@
-use Rattle.std.proofs.Common.{rules, arith, ◌<◌, ◌≤◌, ◌⊎◌, inl, inr, length, map, subst, sym}
+use Rattle.std.proofs.Common.{arith, ◌<◌, ◌≤◌, length, map}
 use Rattle.launch.specs.View.{conditions}
 use Rattle.walk.specs.View.{three}
 use Rattle.two_thread.specs.View.{scope, pair, nth_access, seen_accesses}

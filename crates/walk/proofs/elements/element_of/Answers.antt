@@ -1,4 +1,4 @@
-use Rattle.std.proofs.Common.{◌≡◌, sym, ap, ◌∙◌, drop, ◌+◌}
+use Rattle.std.proofs.Common.{sym, ap, ◌∙◌, drop, ◌+◌}
 use Rattle.linear.specs.Terms.{terms}
 use Rattle.linear.proofs.Lists.{terms-drop, no_term}
 use Rattle.walk.specs.Elements.{with_terms}

@@ -1,7 +1,6 @@
-use Rattle.std.proofs.Common.{◌≡◌, ◌++◌, [], drop, map}
-use Rattle.launch.specs.View.{argument_range, length_sum}
-use Rattle.walk.specs.Launching.{of_range, from_least}
-use Rattle.walk.specs.View.{elements_seen}
+use Rattle.std.proofs.Common.{◌≡◌, ◌++◌, drop, map}
+use Rattle.launch.specs.View.{argument_range}
+use Rattle.walk.specs.Launching.{of_range}
 use Rattle.walk.proofs.extents.of_arguments.Given as goal
 
 abbrev pub invariant-loop-range : goal.invariant-loop-range

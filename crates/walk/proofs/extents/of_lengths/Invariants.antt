@@ -1,6 +1,6 @@
 use Rattle.std.proofs.Common.{◌≡◌, ◌++◌, [], drop, map}
-use Rattle.launch.specs.View.{argument_range, length_sum}
-use Rattle.walk.specs.Launching.{of_range, from_least}
+use Rattle.launch.specs.View.{length_sum}
+use Rattle.walk.specs.Launching.{from_least}
 use Rattle.walk.specs.View.{elements_seen}
 use Rattle.walk.proofs.extents.of_lengths.Given as goal
 

@@ -1,6 +1,6 @@
 use Rattle.std.proofs.Common.{◌≡◌, ◌++◌, drop, map}
-use Rattle.linear.specs.Forms.{form, forms}
-use Rattle.launch.specs.View.{summand, argument_range, length_sum, requirement}
+use Rattle.linear.specs.Forms.{forms}
+use Rattle.launch.specs.View.{argument_range}
 use Rattle.walk.specs.Launching as launching
 use Rattle.walk.proofs.launching.argument_facts.Given as goal
 

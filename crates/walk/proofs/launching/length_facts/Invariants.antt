@@ -1,6 +1,6 @@
 use Rattle.std.proofs.Common.{◌≡◌, ◌++◌, drop, map}
-use Rattle.linear.specs.Forms.{form, forms}
-use Rattle.launch.specs.View.{summand, argument_range, length_sum, requirement}
+use Rattle.linear.specs.Forms.{forms}
+use Rattle.launch.specs.View.{length_sum}
 use Rattle.walk.specs.Launching as launching
 use Rattle.walk.proofs.launching.length_facts.Given as goal
 

@@ -1,6 +1,5 @@
-use Rattle.std.proofs.Common.{◌∙◌, ◌≡◌, ap, rules, length}
 use Rattle.linear.specs.Forms.{form}
-use Rattle.walk.specs.View.{met, which, setting as seen}
+use Rattle.walk.specs.View.{met, setting as seen}
 use Rattle.words.specs.View.{kind}
 use Rattle.walk.proofs.Leading.{range_steps}
 use Rattle.walk.proofs.ranges.in_range.Goals as goal

@@ -1,7 +1,7 @@
-use Rattle.std.proofs.Common.{◌∙◌, ◌≡◌, ap, rules, length, SFits, w64}
+use Rattle.std.proofs.Common.{◌∙◌, ap, rules, SFits, w64}
 use Rattle.std.proofs.lemmas.Int.{to_z-of_z}
 use Rattle.linear.specs.Forms.{form}
-use Rattle.walk.specs.View.{met, which, setting as seen}
+use Rattle.walk.specs.View.{met}
 use Rattle.walk.specs.Collected.{with_fact}
 use Rattle.walk.proofs.Leading.{knows_high}
 use Rattle.walk.proofs.ranges.know_high.Goals as goal

@@ -1,4 +1,4 @@
-use Rattle.std.proofs.Common.{rules, arith, ◌≤◌, length, sym, ◌∙◌}
+use Rattle.std.proofs.Common.{rules, ◌≤◌, length, sym, ◌∙◌}
 use Rattle.walk.specs.View.{met, setting as seen}
 use Rattle.walk.proofs.Bodies.{body_end}
 use Rattle.walk.proofs.walking.walk.Goals as goal

@@ -1,0 +1,19 @@
+-- What it means that a kernel is accepted under conditions.
+use Rattle.std.specs.Prelude.{ℕ, ◌<◌}
+use Rattle.semantics.specs.Launch.{Kernel, Launch, Fits, product}
+use Rattle.semantics.specs.Conditions.{Conditions, Meets}
+use Rattle.semantics.specs.Setup.{Setup}
+use Rattle.semantics.specs.Safety.{IsPairSafe}
+use Rattle.semantics.specs.Headline.{Headline}
+
+abbrev pub at : Kernel → Launch → Setup
+at k l = record { kernel = k; launch = l }
+
+-- a work-group has work-items, and at each launch that meets the conditions the kernel is pair-safe within the budget
+pub record IsAccepted (k : Kernel) (c : Conditions) : Type 0 where
+  pub has_items : 0 < product k.sizes
+  pub is_pair_safe : (l : Launch) → Fits k l → Meets c l → IsPairSafe (at k l) c.budget
+
+-- and the headline holds there
+abbrev pub HasHeadline : Kernel → Conditions → Type 0
+HasHeadline k c = (l : Launch) → Fits k l → Meets c l → Headline (at k l) c.budget

@@ -1,0 +1,60 @@
+//! Why a kernel is refused.
+
+ghost use Rattle.std.specs.Prelude.{◌≡◌};
+
+use certificate::error::CertError;
+use launch_text::error::LaunchTextError;
+use reading::KernelError;
+use std::alloc::{AllocError, AllocFailed};
+use thiserror::Error;
+use walk::WalkError;
+
+/// Why a kernel is refused, or want of memory.
+#[derive(Debug, Drop, Error)]
+pub enum CheckError {
+    #[error("{0}")]
+    Kernel(KernelError),
+    #[error("{0}")]
+    Conditions(LaunchTextError),
+    #[error("{0}")]
+    Certificate(CertError),
+    /// An obligation is not shown; 0 where the certificate tells of what the kernel lacks, or the kernel is not straight-line.
+    #[error("52 {0}")]
+    NotShown(u64),
+    #[error("{0}")]
+    Walk(WalkError),
+    #[error("56")]
+    OverBudget,
+    #[error("out of memory")]
+    Memory,
+}
+
+impl From<WalkError> for CheckError {
+    ghost use Rattle.cert_check.specs.declared.error.CheckError.TheVariants.{Walk};
+
+    ghost from_gives = { λ e r. r ≡ Walk e };
+
+    fn from(e: WalkError) -> CheckError {
+        CheckError::Walk(e)
+    }
+}
+
+impl From<AllocError> for CheckError {
+    ghost use Rattle.cert_check.specs.declared.error.CheckError.TheVariants.{Memory};
+
+    ghost from_gives = { λ _ e. e ≡ Memory };
+
+    fn from(_: AllocError) -> CheckError {
+        CheckError::Memory
+    }
+}
+
+impl<T: Drop> From<AllocFailed<T>> for CheckError {
+    ghost use Rattle.cert_check.specs.declared.error.CheckError.TheVariants.{Memory};
+
+    ghost from_gives = { λ _ e. e ≡ Memory };
+
+    fn from(_: AllocFailed<T>) -> CheckError {
+        CheckError::Memory
+    }
+}

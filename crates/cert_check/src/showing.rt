@@ -1,0 +1,194 @@
+//! Obligations one by one, in the order of their numbers.
+
+ghost use Rattle.std.specs.Prelude.{◌≡◌, ◌≤◌, ◌<◌, ◌⊎◌, IfOk, IsTrue, map, length, true};
+ghost use Rattle.std.specs.List.{All};
+ghost use Rattle.semantics.specs.Linear.{IsImpossible};
+ghost use Rattle.linear.specs.Forms.{forms};
+ghost use Rattle.walk.specs.View.{known_seen};
+ghost use Rattle.two_thread.specs.Pairs as specs;
+ghost use Rattle.two_thread.specs.Shown.{IsShown};
+ghost use Rattle.two_thread.specs.View.{pair as pair_seen, seen_accesses};
+ghost use Rattle.cert_check.specs.Owing.{owed, nth_claim, seen_claims};
+
+use crate::error::CheckError;
+use certificate::tree::{Claim as Word, Entry, Scaled, Step};
+use cut_proof::{Derivation, Line, refutes};
+use domain::Domain;
+use linear::Form;
+use std::alloc::{AllocError, Global};
+use two_thread::{Pair, claim_facts, is_apart, pair_facts};
+use walk::{Claim, Known, Path};
+
+/// A number of a line or a fact; one that is none, or too large to be one, is 0, which names nothing.
+fn line_number(number: i64) -> u32 {
+    if number < 0 || number > 4_294_967_295 {
+        0
+    } else {
+        number as u32
+    }
+}
+
+/// The derivation of an entry.
+fn derivation_of(alloc: Global, steps: &[Step]) -> Result<Derivation, AllocError> {
+    let mut lines = Vec::new(alloc);
+    for step in steps {
+        lines.push(line_of(alloc, step)?)?;
+    }
+    Ok(Derivation { lines })
+}
+
+/// A line of a derivation.
+fn line_of(alloc: Global, step: &Step) -> Result<Line, AllocError> {
+    match step {
+        Step::Given(fact) => Ok(Line::Given(line_number(*fact))),
+        Step::Sum(parts) => {
+            let mut weighted = Vec::new(alloc);
+            for part in parts.as_slice() {
+                weighted.push((part.factor, line_number(part.line)))?;
+            }
+            Ok(Line::Sum(weighted))
+        }
+        Step::Divide(by) => Ok(Line::Div(by.factor, line_number(by.line))),
+    }
+}
+
+/// The entry says `show`, and its derivation refutes the facts.
+fn is_refuted(alloc: Global, facts: &[Form], entry: &Entry) -> Result<bool, AllocError>
+    ensures { IfOk result (λ b. IsTrue b → IsImpossible (forms facts.now)) }
+{
+    match entry.claim {
+        Word::Show => {
+            let derivation = derivation_of(alloc, entry.steps.as_slice())?;
+            refutes(alloc, facts, &derivation)
+        }
+        _ => Ok(false),
+    }
+}
+
+/// The largest number of an obligation.
+const LAST: usize = 65_536;
+
+/// By the number of an obligation, the place of its entry, counted from 1; 0 where it has none.
+pub fn places_of(alloc: Global, entries: &[Entry]) -> Result<Vec<usize>, AllocError> {
+    let mut places = vec![in alloc; 0usize; 65_537]?;
+    for i in 0..entries.len() {
+        let number = entries[i].obligation;
+        if number <= LAST as u64 {
+            places[number as usize] = i + 1;
+        }
+    }
+    Ok(places)
+}
+
+/// Whether the obligation of each number has an entry.
+pub fn flags_of(alloc: Global, places: &[usize]) -> Result<Vec<bool>, AllocError> {
+    let mut flags = Vec::new(alloc);
+    for place in places {
+        flags.push(*place > 0)?;
+    }
+    Ok(flags)
+}
+
+/// The entry of an obligation, if it has one.
+fn entry_at<'a>(entries: &'a [Entry], places: &[usize], number: usize) -> Option<&'a Entry> {
+    match places.get(number) {
+        None | Some(0) => None,
+        Some(place) => entries.get(*place - 1),
+    }
+}
+
+/// A claim is settled, or refuted by its entry, or is not needed and has no entry.
+fn show_claim<D: Copy>(
+    alloc: Global,
+    launch: &[Form],
+    path: &Path<D>,
+    i: usize,
+    entry: Option<&Entry>,
+) -> Result<(), CheckError>
+    requires { i < length path.now.claims.items }
+    ensures { IfOk result (λ _. IsShown (owed (forms launch.now) (nth_claim (seen_claims path.now) i))) }
+{
+    let claim = &path.claims[i];
+    if claim.settled {
+        return Ok(());
+    }
+    let Some(entry) = entry else {
+        if claim.needed {
+            return Err(CheckError::NotShown(i as u64 + 1));
+        }
+        return Ok(());
+    };
+    let facts = claim_facts(alloc, launch, path, claim)?;
+    if is_refuted(alloc, facts.as_slice(), entry)? {
+        return Ok(());
+    }
+    Err(CheckError::NotShown(i as u64 + 1))
+}
+
+/// The claims of a path, by their numbers from 1.
+pub fn show_claims<D: Copy>(
+    alloc: Global,
+    launch: &[Form],
+    path: &Path<D>,
+    entries: &[Entry],
+    places: &[usize],
+) -> Result<(), CheckError>
+    ensures { IfOk result (λ _. All IsShown (map (owed (forms launch.now)) (seen_claims path.now))) }
+{
+    for i in 0..path.claims.len() {
+        let entry = entry_at(entries, places, i + 1);
+        show_claim(alloc, launch, path, i, entry)?;
+    }
+    Ok(())
+}
+
+/// A pair is settled, or refuted by its entry.
+fn show_pair<D: Domain>(
+    alloc: Global,
+    launch: &[Form],
+    known: &Known<D>,
+    first: &Path<D>,
+    second: &Path<D>,
+    pair: Pair,
+    number: usize,
+    entry: Option<&Entry>,
+) -> Result<(), CheckError>
+    ensures { IfOk result (λ _. IsShown (specs.pair_obligation D.Domain (known_seen known.now) (forms launch.now) (pair_seen (seen_accesses first.now) (seen_accesses second.now) pair))) }
+{
+    if pair.first >= first.accesses.len() || pair.second >= second.accesses.len() {
+        return Err(CheckError::NotShown(number as u64));
+    }
+    if is_apart(alloc, known, first, second, pair)? {
+        return Ok(());
+    }
+    let Some(entry) = entry else {
+        return Err(CheckError::NotShown(number as u64));
+    };
+    let facts = pair_facts(alloc, launch, first, second, pair)?;
+    if is_refuted(alloc, facts.as_slice(), entry)? {
+        return Ok(());
+    }
+    Err(CheckError::NotShown(number as u64))
+}
+
+/// Pairs, by their numbers behind those of the claims.
+pub fn show_pairs<D: Domain>(
+    alloc: Global,
+    launch: &[Form],
+    known: &Known<D>,
+    first: &Path<D>,
+    second: &Path<D>,
+    pairs: &[Pair],
+    entries: &[Entry],
+    places: &[usize],
+) -> Result<(), CheckError>
+    ensures { IfOk result (λ _. All IsShown (map (specs.pair_obligation D.Domain (known_seen known.now) (forms launch.now)) (map (pair_seen (seen_accesses first.now) (seen_accesses second.now)) pairs.now))) }
+{
+    let claims = first.claims.len();
+    for i in 0..pairs.len() {
+        let number = claims + i + 1;
+        let entry = entry_at(entries, places, number);
+        show_pair(alloc, launch, known, first, second, pairs[i], number, entry)?;
+    }
+    Ok(())
+}

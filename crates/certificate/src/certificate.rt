@@ -9,7 +9,7 @@ use crate::tree::{Bound, Entry, Place};
 
 /// What is said of places, how loops end, and what shows each obligation: names and numbers that can be written, and
 /// places, loops and obligations that rise.
-#[derive(Debug, Drop)]
+#[derive(Drop)]
 pub struct Certificate {
     parts: Parts,
     ghost proper: { is_certificate (parts_of parts) ≡ true },

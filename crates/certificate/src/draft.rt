@@ -14,7 +14,7 @@ use crate::tree::{Anchor, Bound, Claim, Entry, Place, Spot, Step};
 use std::alloc::Global;
 
 /// The parts that are settled.
-#[derive(Debug, Drop)]
+#[derive(Drop)]
 pub struct Parts {
     pub places: Vec<Place>,
     pub bounds: Vec<Bound>,
@@ -22,7 +22,7 @@ pub struct Parts {
 }
 
 /// What is open behind them.
-#[derive(Debug, Drop)]
+#[derive(Drop)]
 pub enum Open {
     Nothing,
     InPlace(Place),
@@ -30,7 +30,7 @@ pub enum Open {
     Ended,
 }
 
-#[derive(Debug, Drop)]
+#[derive(Drop)]
 pub struct Draft {
     pub settled: Parts,
     pub opened: Open,

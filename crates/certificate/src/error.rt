@@ -6,7 +6,7 @@ use std::alloc::{AllocError, AllocFailed};
 use thiserror::Error;
 
 /// Why a text is no certificate.
-#[derive(Clone, Copy, Debug, PartialEq, Eq)]
+#[derive(Clone, Copy, Debug)]
 pub enum CertFault {
     BadLine,
     OtherVersion,
@@ -57,7 +57,7 @@ impl<T: Drop> From<AllocFailed<T>> for CertError {
 }
 
 /// A line that says nothing, or want of memory.
-#[derive(Debug, Drop)]
+#[derive(Drop)]
 pub enum LineError {
     Bad,
     Memory,

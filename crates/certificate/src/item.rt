@@ -18,7 +18,7 @@ use lines::pieces::Pieces;
 use std::alloc::Global;
 
 /// What a line between the first and the last says.
-#[derive(Debug, Drop)]
+#[derive(Drop)]
 pub enum Item {
     Place(Spot),
     Same(String),

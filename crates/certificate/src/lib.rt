@@ -14,6 +14,3 @@ mod writer;
 pub use certificate::Certificate;
 pub use reader::{LIMIT, read};
 pub use writer::write;
-
-#[cfg(test)]
-mod tests;

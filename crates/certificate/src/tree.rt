@@ -1,7 +1,7 @@
 //! Certificates.
 
 /// One of the three dimensions of a launch.
-#[derive(Clone, Copy, Debug, PartialEq, Eq, Drop)]
+#[derive(Clone, Copy, Drop)]
 pub enum Dimension {
     First,
     Second,
@@ -9,7 +9,7 @@ pub enum Dimension {
 }
 
 /// A symbol, by what it is called.
-#[derive(Debug, Drop)]
+#[derive(Drop)]
 pub enum Name {
     Variable(String),
     AtAnchor(String),
@@ -23,42 +23,42 @@ pub enum Name {
 }
 
 /// A symbol with its coefficient.
-#[derive(Debug, Drop)]
+#[derive(Drop)]
 pub struct Term {
     pub coefficient: i64,
     pub name: Name,
 }
 
 /// A sum of terms and a constant.
-#[derive(Debug, Drop)]
+#[derive(Drop)]
 pub struct Form {
     pub terms: Vec<Term>,
     pub constant: i64,
 }
 
 /// Where the items of a group meet: at their first step, or at a barrier statement.
-#[derive(Clone, Copy, Debug, PartialEq, Eq, Drop)]
+#[derive(Clone, Copy, Drop)]
 pub enum Anchor {
     KernelEntry,
     Barrier(u64),
 }
 
 /// An anchor, or the test of a loop on the way from it.
-#[derive(Clone, Copy, Debug, PartialEq, Eq, Drop)]
+#[derive(Clone, Copy, Drop)]
 pub struct Spot {
     pub anchor: Anchor,
     pub head: Option<u64>,
 }
 
 /// A form that the modulus divides.
-#[derive(Debug, Drop)]
+#[derive(Drop)]
 pub struct Congruence {
     pub modulus: u64,
     pub form: Form,
 }
 
 /// What is said of a spot: names on which the items of a group agree, forms that are at least 0, and congruences.
-#[derive(Debug, Drop)]
+#[derive(Drop)]
 pub struct Place {
     pub spot: Spot,
     pub same: Vec<String>,
@@ -67,14 +67,14 @@ pub struct Place {
 }
 
 /// How each turn of a loop makes its form less: by a step at least, or at most half.
-#[derive(Clone, Copy, Debug, PartialEq, Eq, Drop)]
+#[derive(Clone, Copy, Drop)]
 pub enum Descent {
     Down(u64),
     Halve,
 }
 
 /// How a loop ends: its form is at most `most` where it opens.
-#[derive(Debug, Drop)]
+#[derive(Drop)]
 pub struct Bound {
     pub number: u64,
     pub descent: Descent,
@@ -83,7 +83,7 @@ pub struct Bound {
 }
 
 /// Which claim of an obligation is shown.
-#[derive(Debug, Drop)]
+#[derive(Drop)]
 pub enum Claim {
     Show,
     Positive,
@@ -92,14 +92,14 @@ pub enum Claim {
 }
 
 /// A line of a derivation, and what it is multiplied or divided by.
-#[derive(Clone, Copy, Debug, PartialEq, Eq, Drop)]
+#[derive(Clone, Copy, Drop)]
 pub struct Scaled {
     pub factor: i64,
     pub line: i64,
 }
 
 /// A line of a derivation. Facts and lines are counted from 1; a number that names none may stand here.
-#[derive(Debug, Drop)]
+#[derive(Drop)]
 pub enum Step {
     Given(i64),
     Sum(Vec<Scaled>),
@@ -107,7 +107,7 @@ pub enum Step {
 }
 
 /// What shows an obligation.
-#[derive(Debug, Drop)]
+#[derive(Drop)]
 pub struct Entry {
     pub obligation: u64,
     pub claim: Claim,

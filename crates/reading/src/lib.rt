@@ -15,6 +15,8 @@ use types::error::TypeError;
 use types::typed::Typed;
 
 #[cfg(test)]
+mod certificate_tests;
+#[cfg(test)]
 mod kernel_tests;
 #[cfg(test)]
 mod token_tests;

@@ -1,6 +1,6 @@
 // The certificate of a kernel without loops, written back; each kind of line; and what is refused.
-use super::*;
-use crate::error::{CertError, CertFault};
+use certificate::error::CertError;
+use certificate::{read, write};
 use std::alloc::Global;
 use std::test::Fail;
 
@@ -85,50 +85,51 @@ fn parts_are_there(rt: HostRuntime) -> Result<(), Fail> {
     Ok(())
 }
 
+const REFUSED: &[(&[u8], (u8, usize))] = &[
+    (b"", (50, 1)),
+    (b"certificate 9\nend\n", (51, 1)),
+    (b"certificate 01\nend\n", (50, 1)),
+    (b"certificate 1", (50, 1)),
+    (b"certificate 1\nend\n\n", (50, 3)),
+    (b"certificate 1\nend\nx", (50, 3)),
+    (
+        b"certificate 1\nob 3 show\ng 34\ng 39\ng 40\ns 064 1 1 2 1 3\nend\n",
+        (50, 6),
+    ),
+    (b"certificate 1\nob 3 show\ns 1 2 1 1\nend\n", (50, 3)),
+    (b"certificate 1\nob 3 show\ns\nend\n", (50, 3)),
+    (b"certificate 1\nob 0 show\nend\n", (50, 2)),
+    (b"certificate 1\nob 2 show\nob 2 show\nend\n", (50, 3)),
+    (b"certificate 1\nob 2  show\nend\n", (50, 2)),
+    (b"certificate 1\nplace entry\nend\n", (50, 3)),
+    (b"certificate 1\nplace b2\nfact 0*i + 1\nend\n", (50, 3)),
+    (
+        b"certificate 1\nplace b2\nfact 1*j + 1*i + 1\nend\n",
+        (50, 3),
+    ),
+    (b"certificate 1\nplace b2\nfact 1\nsame i\nend\n", (50, 4)),
+    (b"certificate 1\nplace b2\nfact -0\nend\n", (50, 3)),
+    (
+        b"certificate 1\nplace b2\nfact 1\nplace b1\nfact 1\nend\n",
+        (50, 4),
+    ),
+    (b"certificate 1\nplace b2\nmod 1 1\nend\n", (50, 3)),
+    (
+        b"certificate 1\nloop 2 halve 1 1\nplace b1\nfact 1\nend\n",
+        (50, 3),
+    ),
+    (b"certificate 1\nloop 2 down 0 1 1\nend\n", (50, 2)),
+    (b"certificate 1\nend 1\n", (50, 2)),
+];
+
 #[test]
 fn bad_lines_are_refused(rt: HostRuntime) -> Result<(), Fail> {
     let alloc = rt.alloc();
     // Without its last line, and without its last line feed.
     assert_eq!(rt; refusal(alloc, &STORE[..STORE.len() - 4]), Some((50, 24)));
     assert_eq!(rt; refusal(alloc, &STORE[..STORE.len() - 1]), Some((50, 24)));
-    let cases: [(&[u8], (u8, usize)); 22] = [
-        (b"", (50, 1)),
-        (b"certificate 9\nend\n", (51, 1)),
-        (b"certificate 01\nend\n", (50, 1)),
-        (b"certificate 1", (50, 1)),
-        (b"certificate 1\nend\n\n", (50, 3)),
-        (b"certificate 1\nend\nx", (50, 3)),
-        (
-            b"certificate 1\nob 3 show\ng 34\ng 39\ng 40\ns 064 1 1 2 1 3\nend\n",
-            (50, 6),
-        ),
-        (b"certificate 1\nob 3 show\ns 1 2 1 1\nend\n", (50, 3)),
-        (b"certificate 1\nob 3 show\ns\nend\n", (50, 3)),
-        (b"certificate 1\nob 0 show\nend\n", (50, 2)),
-        (b"certificate 1\nob 2 show\nob 2 show\nend\n", (50, 3)),
-        (b"certificate 1\nob 2  show\nend\n", (50, 2)),
-        (b"certificate 1\nplace entry\nend\n", (50, 3)),
-        (b"certificate 1\nplace b2\nfact 0*i + 1\nend\n", (50, 3)),
-        (
-            b"certificate 1\nplace b2\nfact 1*j + 1*i + 1\nend\n",
-            (50, 3),
-        ),
-        (b"certificate 1\nplace b2\nfact 1\nsame i\nend\n", (50, 4)),
-        (b"certificate 1\nplace b2\nfact -0\nend\n", (50, 3)),
-        (
-            b"certificate 1\nplace b2\nfact 1\nplace b1\nfact 1\nend\n",
-            (50, 4),
-        ),
-        (b"certificate 1\nplace b2\nmod 1 1\nend\n", (50, 3)),
-        (
-            b"certificate 1\nloop 2 halve 1 1\nplace b1\nfact 1\nend\n",
-            (50, 3),
-        ),
-        (b"certificate 1\nloop 2 down 0 1 1\nend\n", (50, 2)),
-        (b"certificate 1\nend 1\n", (50, 2)),
-    ];
-    for (text, expected) in cases {
-        assert_eq!(rt; refusal(alloc, text), Some(expected));
+    for (text, expected) in REFUSED {
+        assert_eq!(rt; refusal(alloc, text), Some(*expected));
     }
     Ok(())
 }

@@ -1,12 +1,16 @@
 -- Obligations shown one by one.
 use Rattle.std.proofs.Common.{◌≡◌, ◌≢◌, ℕ, zero, suc, ◌+◌, ◌<◌, ◌≤◌, Bool, true, false, List, [], ◌∷◌, ◌++◌, length, map, take, get_or, refl, sym, ap, subst, ◌∙◌, ◌⊎◌, inl, inr, arith}
 use Rattle.std.proofs.lemmas.Bool.{false≢true}
+use Rattle.std.specs.Prelude.{IsTrue}
 use Rattle.std.specs.List.{All}
 use Rattle.std.proofs.lemmas.List.{get_or-map, length-map}
 use Rattle.std.proofs.lemmas.List.Elements.{All-from_get_or, All-get_or}
 use Rattle.semantics.specs.Linear.{IsImpossible}
 use Rattle.linear.specs.Forms.{form, forms}
 use Rattle.linear.specs.declared.form.Form.{Form}
+use Rattle.types.specs.View.{statements}
+use Rattle.types.specs.declared.core_tree.Statement.{Statement}
+use Rattle.walk.specs.Straight.{steps}
 use Rattle.walk.specs.Symbols.{Fact, denial}
 use Rattle.walk.specs.Trees.{Obligation}
 use Rattle.walk.specs.Before.{HasFacts}
@@ -49,3 +53,22 @@ all_shown f xs d n h s = All-from_get_or IsShown (map f xs) (f d) (λ i l.
 pub map_twice : {A B C : Type 0} (g : B → C) (f : A → B) (xs : List A) → map (λ x. g (f x)) xs ≡ map g (map f xs)
 map_twice g f [] = refl
 map_twice g f (x ∷ xs) = ap (λ l. g (f x) ∷ l) (map_twice g f xs)
+
+pub refuted : (b : Bool) (xs ys : List Form) → xs ≡ ys → (IsTrue b → IsImpossible (forms xs)) → b ≡ true → IsImpossible (forms ys)
+refuted b xs ys e f h = subst (λ l. IsImpossible (forms l)) e (f h)
+
+pub length_claims : {E : Type 0} (p : Path E) → length (seen_claims p) ≡ length p.claims.items
+unfolding met
+length_claims p = length-map p.claims.items (claim_seen (forms p.facts.items))
+
+-- where it is inside, no default is asked
+pub at_place : {A : Type 0} (xs : List A) (i : ℕ) (d e : A) → i < length xs → get_or xs i e ≡ get_or xs i d
+at_place [] i d e h = absurd (omega arith)
+at_place (x ∷ xs) zero d e h = refl
+at_place (x ∷ xs) (suc i) d e h = at_place xs i d e (omega arith)
+
+pub steps-length : (b : List Statement) → steps (statements b) ≡ length b
+steps-length [] = refl
+steps-length (s ∷ b) = ap suc (steps-length b)
+
+pub ruleset lengths = (steps-length)

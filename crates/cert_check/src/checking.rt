@@ -7,10 +7,11 @@ ghost use Rattle.launch.specs.View.{conditions as conditions_seen};
 ghost use Rattle.launch_text.specs.View.{lined};
 ghost use Rattle.texts.specs.ConditionsReading.{conditions_of};
 ghost use Rattle.syntax.specs.View.{kernel as tree_seen};
-ghost use Rattle.types.specs.View.{kernel as core_seen};
+ghost use Rattle.types.specs.View.{kernel as core_seen, statements};
 ghost use Rattle.reading.specs.Kernels.{read};
 ghost use Rattle.reading.specs.Answers.{kernel_seen};
 ghost use Rattle.walk.specs.View.{three};
+ghost use Rattle.walk.specs.Straight.{steps};
 ghost use Rattle.two_thread.specs.Shown.{obligations, IsShown};
 ghost use Rattle.cert_check.specs.Accepting.{IsAccepted, HasHeadline};
 ghost use Rattle.cert_check.specs.View.{typed_of, kept};
@@ -30,7 +31,7 @@ use reduction::headline;
 use std::alloc::Global;
 use two_thread::laws::what_is_shown_is_pair_safe;
 use two_thread::all_pairs;
-use types::core_tree::Core;
+use types::core_tree::{Core, Statement};
 use walk::{Setting, WalkError, Which, is_straight, item_facts, known, launch_facts, walk};
 
 /// All that is to be shown is shown.
@@ -93,6 +94,14 @@ fn has_items(sizes: [u32; 3]) -> bool
     sizes[0] > 0 && sizes[1] > 0 && sizes[2] > 0
 }
 
+#[tactic(auto, using(crate::proofs::OneByOne::lengths))]
+/// How many steps each item takes.
+fn steps_of(body: &[Statement]) -> u64
+    ensures { result ≡ steps (statements body.now) }
+{
+    body.len() as u64
+}
+
 /// A straight-line kernel under conditions, with the entries of its certificate.
 fn accept<D: Domain>(
     alloc: Global,
@@ -106,7 +115,7 @@ fn accept<D: Domain>(
         return Err(CheckError::NotShown(0));
     }
     show_all::<D>(alloc, core, conditions, entries)?;
-    if core.body.len() as u64 > conditions.budget {
+    if steps_of(core.body.as_slice()) > conditions.budget {
         return Err(CheckError::OverBudget);
     }
     what_is_shown_is_pair_safe::<D>();

@@ -1,0 +1,3 @@
+pub mod OneByOne
+pub mod Collecting
+pub mod Headlines

@@ -5,6 +5,9 @@ use Rattle.walk.specs.Trees.{Obligation}
 use Rattle.walk.specs.Collected.{Claimed}
 use Rattle.walk.specs.View.{met}
 use Rattle.walk.specs.declared.path.Path.{Path}
+use Rattle.two_thread.specs.declared.pairs.Pair.{Pair}
+use Rattle.two_thread.specs.declared.pairs.Scope.TheVariants.{Within}
+use Rattle.two_thread.specs.declared.pairs.Order.TheVariants.{Below}
 
 abbrev pub owed : (launch : List Fact) → Claimed → Obligation
 owed launch c = record { needed = c.needed; settled = c.settled; facts = launch ++ (c.facts ++ denial c.claim ∷ []) }
@@ -18,3 +21,6 @@ no_claim = record { needed = false; settled = false; claim = constant (pos 0); f
 
 abbrev pub nth_claim : List Claimed → ℕ → Claimed
 nth_claim cs n = get_or cs n no_claim
+
+abbrev pub no_pair : Pair
+no_pair = record { first = 0; second = 0; scope = Within; dimension = 0; order = Below }

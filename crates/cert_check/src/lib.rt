@@ -2,6 +2,13 @@
 //! headline holds there.
 #![tactic(auto)]
 
+mod accepted;
+mod checking;
 pub mod error;
+mod keeping;
 mod showing;
+#[cfg(test)]
+mod tests;
 
+pub use accepted::Accepted;
+pub use checking::check;

@@ -65,16 +65,12 @@ fn is_refuted(alloc: Global, facts: &[Form], entry: &Entry) -> Result<bool, Allo
     }
 }
 
-/// The largest number of an obligation.
-const LAST: usize = 65_536;
-
 /// By the number of an obligation, the place of its entry, counted from 1; 0 where it has none.
 pub fn places_of(alloc: Global, entries: &[Entry]) -> Result<Vec<usize>, AllocError> {
     let mut places = vec![in alloc; 0usize; 65_537]?;
     for i in 0..entries.len() {
-        let number = entries[i].obligation;
-        if number <= LAST as u64 {
-            places[number as usize] = i + 1;
+        if let Some(place) = places.get_mut(entries[i].obligation as usize) {
+            *place = i + 1;
         }
     }
     Ok(places)

@@ -1,0 +1,8 @@
+use Rattle.std.proofs.Common.{◌<◌, ℕ}
+use Rattle.linear.specs.Forms.{forms}
+use Rattle.two_thread.specs.Shown.{IsShown}
+use Rattle.cert_check.specs.Owing.{owed, seen_claims, nth_claim}
+use Rattle.cert_check.proofs.showing.show_claims.Given as goal
+
+abbrev pub invariant-loop-i : goal.invariant-loop-i
+invariant-loop-i g l = (k : ℕ) → k < l.i → IsShown (owed (forms l.launch) (nth_claim (seen_claims l.path) k))

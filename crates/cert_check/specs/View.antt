@@ -1,0 +1,11 @@
+-- What an accepted kernel keeps.
+use Rattle.syntax.specs.declared.tree.Kernel.{Kernel}
+use Rattle.types.specs.declared.core_tree.Core.{Core}
+use Rattle.launch.specs.declared.conditions.Conditions.{Conditions}
+use Rattle.cert_check.specs.declared.accepted.Accepted.{Accepted}
+
+abbrev pub typed_of : Accepted → Kernel × Core
+typed_of a = a.typed
+
+abbrev pub kept : Accepted → Conditions
+kept a = a.conditions

@@ -1,0 +1,16 @@
+//! Kernels that are accepted.
+
+ghost use Rattle.types.specs.View.{kernel as core_seen};
+ghost use Rattle.launch.specs.View.{conditions as conditions_seen};
+ghost use Rattle.cert_check.specs.Accepting.{IsAccepted};
+
+use launch::conditions::Conditions;
+use types::typed::Typed;
+
+/// A kernel with conditions under which it was accepted: at each launch that meets them it is pair-safe within the budget.
+#[derive(Drop)]
+pub struct Accepted {
+    pub(crate) typed: Typed,
+    pub(crate) conditions: Conditions,
+    pub(crate) ghost promise: { IsAccepted (core_seen typed.1) (conditions_seen conditions) },
+}

@@ -1,5 +1,5 @@
 -- What the code has collected is what is to be shown.
-use Rattle.std.proofs.Common.{◌≡◌, ℕ, zero, suc, Bool, List, [], ◌∷◌, ◌++◌, map, append_assoc, append-nil, refl, sym, ap, subst, ◌∙◌}
+use Rattle.std.proofs.Common.{◌≡◌, ℕ, suc, Bool, List, [], ◌∷◌, ◌++◌, map, append_assoc, append-nil, refl, sym, ap, subst, ◌∙◌}
 use Rattle.std.specs.List.{All}
 use Rattle.std.proofs.lemmas.List.{map-append}
 use Rattle.std.proofs.lemmas.List.Elements.{All-append}
@@ -9,9 +9,9 @@ use Rattle.domain.specs.declared.Domain.{Ghosts}
 use Rattle.walk.specs.Symbols.{Fact, First, Second}
 use Rattle.walk.specs.Elements.{Known}
 use Rattle.walk.specs.Launching.{launch_facts, item_facts, known}
-use Rattle.walk.specs.Trees.{Tree, Leaf, Claim, Know, Touch, Access, Obligation, claims, accesses}
+use Rattle.walk.specs.Trees.{Tree, Leaf, Claim, Know, Touch, Access, claims, accesses}
 use Rattle.walk.specs.Walks.{Setting, setting, tree}
-use Rattle.walk.specs.Collected.{Found, Met, Claimed, collect, opening, add_claim, add_fact, add_access}
+use Rattle.walk.specs.Collected.{Found, Met, collect, opening, add_claim, add_fact, add_access}
 use Rattle.two_thread.specs.Pairs.{Pair, pairs_from, pairs_of, pair_obligation}
 use Rattle.two_thread.specs.Shown.{IsShown, obligations, item_claims, item_accesses}
 use Rattle.cert_check.specs.Owing.{owed}
@@ -46,10 +46,10 @@ pub all_is_shown : {E : Type 0} (g : Ghosts E) (k : Kernel) (c : Conditions) (h 
     All IsShown (map (owed launch) first.found.claims) → All IsShown (map (pair_obligation g kn launch) ps) → All IsShown (obligations g k c h)
 all_is_shown g k c h launch of_first of_second kn s t first second ps e es et ef eg d1 d2 ek ep a b =
     let cs : map (owed launch) first.found.claims ≡ item_claims g k c h =
-        ap (λ (x : Found _). map (owed launch) x.claims) d1 ∙ claims-collected launch (opening of_first).found (tree s k.body) ∙ (λ i. claims (e i) (ef i) (tree (es i) k.body)) in
+    ap (λ (x : Found _). map (owed launch) x.claims) d1 ∙ claims-collected launch (opening of_first).found (tree s k.body) ∙ (λ i. claims (e i) (ef i) (tree (es i) k.body)) in
     let us : first.found.accesses ≡ item_accesses g k c h First =
-        ap (λ (x : Found _). x.accesses) d1 ∙ accesses-collected (opening of_first).found (tree s k.body) ∙ (λ i. accesses (ef i) (tree (es i) k.body)) in
+    ap (λ (x : Found _). x.accesses) d1 ∙ accesses-collected (opening of_first).found (tree s k.body) ∙ (λ i. accesses (ef i) (tree (es i) k.body)) in
     let vs : second.found.accesses ≡ item_accesses g k c h Second =
-        ap (λ (x : Found _). x.accesses) d2 ∙ accesses-collected (opening of_second).found (tree t k.body) ∙ (λ i. accesses (eg i) (tree (et i) k.body)) in
+    ap (λ (x : Found _). x.accesses) d2 ∙ accesses-collected (opening of_second).found (tree t k.body) ∙ (λ i. accesses (eg i) (tree (et i) k.body)) in
     All-append IsShown (item_claims g k c h) _ (subst (All IsShown) cs a)
     (subst (All IsShown) (λ i. map (pair_obligation g (ek i) (e i)) ((ep ∙ (λ j. pairs_from k.sizes c 0 k.buffers (us j) (vs j))) i)) b)

@@ -1,5 +1,5 @@
 -- What it means that a kernel is accepted under conditions.
-use Rattle.std.specs.Prelude.{ℕ, ◌<◌}
+use Rattle.std.specs.Prelude.{◌<◌}
 use Rattle.semantics.specs.Launch.{Kernel, Launch, Fits, product}
 use Rattle.semantics.specs.Conditions.{Conditions, Meets}
 use Rattle.semantics.specs.Setup.{Setup}

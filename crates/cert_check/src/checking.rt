@@ -29,8 +29,8 @@ use product::Product;
 use reading::read_kernel;
 use reduction::headline;
 use std::alloc::Global;
-use two_thread::laws::what_is_shown_is_pair_safe;
 use two_thread::all_pairs;
+use two_thread::laws::what_is_shown_is_pair_safe;
 use types::core_tree::{Core, Statement};
 use walk::{Setting, WalkError, Which, is_straight, item_facts, known, launch_facts, walk};
 

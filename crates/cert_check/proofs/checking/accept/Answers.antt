@@ -1,4 +1,4 @@
-use Rattle.std.proofs.Common.{rules, arith, ◌≡◌, ◌≤◌, true, sym, ◌∙◌}
+use Rattle.std.proofs.Common.{rules, ◌≡◌, ◌≤◌, true}
 use Rattle.types.specs.View.{kernel, statements}
 use Rattle.launch.specs.View.{conditions}
 use Rattle.walk.specs.Straight.{is_straight, steps}

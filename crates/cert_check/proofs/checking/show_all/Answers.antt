@@ -1,4 +1,4 @@
-use Rattle.std.proofs.Common.{◌≡◌, ℕ, Bool, false, ap, subst, sym, ◌∙◌, map, slice_index_or}
+use Rattle.std.proofs.Common.{◌≡◌, ℕ, Bool, false, ap, subst, ◌∙◌, map, slice_index_or}
 use Rattle.std.specs.List.{All}
 use Rattle.linear.specs.Forms.{forms}
 use Rattle.words.specs.View.{kind}
@@ -39,5 +39,5 @@ returns g c =
     let ep = c.in_ok-pairs.ensures ∙ ap (λ b. pairs_from (three core.sizes) cs 0 b us vs) c.as_slice-buffers.ensures.value ∙ pairs_from-map (three core.sizes) cs 0 kind core.buffers.items us vs in
     let a = subst (λ l. All IsShown (map (owed (forms l)) (seen_claims first))) c.as_slice-3.ensures.value c.in_ok-show_claims.ensures in
     let b = subst (λ l. All IsShown (map (pair_obligation d (known_seen c.in_ok-known.field-0) (forms launch)) (map (pair us vs) l))) c.as_slice-6.ensures.value
-        (subst (λ l. All IsShown (map (pair_obligation d (known_seen c.in_ok-known.field-0) (forms l)) (map (pair us vs) c.as_slice-6.result.now))) c.as_slice-5.ensures.value c.in_ok-show_pairs.ensures) in
+    (subst (λ l. All IsShown (map (pair_obligation d (known_seen c.in_ok-known.field-0) (forms l)) (map (pair us vs) c.as_slice-6.result.now))) c.as_slice-5.ensures.value c.in_ok-show_pairs.ensures) in
     (h, all_is_shown d k cs h (forms launch) (forms c.in_ok-of_first.of_first.items) (forms c.in_ok-of_second.of_second.items) (known_seen c.in_ok-known.field-0) (setting d s items.First) (setting d s items.Second) (met first) (met second) ps c.in_ok-launch.ensures es et c.in_ok-of_first.ensures c.in_ok-of_second.ensures d1 d2 c.in_ok-known.ensures ep a b)

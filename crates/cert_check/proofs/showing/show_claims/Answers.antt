@@ -1,5 +1,4 @@
-use Rattle.std.proofs.Common.{rules, arith, ◌≤◌, ◌≡◌, length, sym, ◌∙◌, subst}
-use Rattle.std.proofs.lemmas.List.{length-map}
+use Rattle.std.proofs.Common.{arith, ◌≤◌, length}
 use Rattle.linear.specs.Forms.{forms}
 use Rattle.cert_check.specs.Owing.{owed, seen_claims, no_claim}
 use Rattle.cert_check.proofs.OneByOne.{all_shown, length_claims}

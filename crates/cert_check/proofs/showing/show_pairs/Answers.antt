@@ -1,4 +1,4 @@
-use Rattle.std.proofs.Common.{arith, ◌≤◌, ◌<◌, ◌≡◌, ℕ, length, map, get_or, subst}
+use Rattle.std.proofs.Common.{arith, ◌≤◌, length, get_or, subst}
 use Rattle.std.specs.List.{All}
 use Rattle.linear.specs.Forms.{forms}
 use Rattle.walk.specs.View.{known_seen}

@@ -1,3 +1,4 @@
 pub mod Accepting
 pub mod Owing
 pub mod View
+pub mod Refusing

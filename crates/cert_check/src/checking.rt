@@ -14,10 +14,11 @@ ghost use Rattle.walk.specs.View.{three};
 ghost use Rattle.walk.specs.Straight.{steps};
 ghost use Rattle.two_thread.specs.Shown.{obligations, IsShown};
 ghost use Rattle.cert_check.specs.Accepting.{IsAccepted, HasHeadline};
+ghost use Rattle.cert_check.specs.Refusing.{Tells};
 ghost use Rattle.cert_check.specs.View.{typed_of, kept};
 
 use crate::accepted::Accepted;
-use crate::error::CheckError;
+use crate::error::{CheckError, ShowError};
 use crate::showing::{flags_of, places_of, show_claims, show_pairs};
 use certificate::tree::Entry;
 use congruence::Congruence;
@@ -40,7 +41,7 @@ fn show_all<D: Domain>(
     core: &Core,
     conditions: &Conditions,
     entries: &[Entry],
-) -> Result<(), CheckError>
+) -> Result<(), ShowError>
     ensures { IfOk result (λ _. (h : ℕ → Bool) × All IsShown (obligations D.Domain (core_seen core.now) (conditions_seen conditions.now) h)) }
 {
     let places = places_of(alloc, entries)?;
@@ -60,7 +61,7 @@ fn show_all<D: Domain>(
     let pairs = all_pairs(alloc, core.sizes, conditions, buffers, &first, &second)?;
     let last = first.claims.len() + pairs.len();
     if last > 65_536 {
-        return Err(CheckError::Walk(WalkError::TooMany));
+        return Err(ShowError::Walk(WalkError::TooMany));
     }
     show_claims(alloc, launch.as_slice(), &first, entries, places.as_slice())?;
     show_pairs(
@@ -74,7 +75,7 @@ fn show_all<D: Domain>(
         places.as_slice(),
     )?;
     if any_past(entries, last as u64) {
-        return Err(CheckError::NotShown(0));
+        return Err(ShowError::NotShown(0));
     }
     Ok(())
 }
@@ -108,15 +109,15 @@ fn accept<D: Domain>(
     core: &Core,
     conditions: &Conditions,
     entries: &[Entry],
-) -> Result<(), CheckError>
+) -> Result<(), ShowError>
     ensures { IfOk result (λ _. IsAccepted (core_seen core.now) (conditions_seen conditions.now)) }
 {
     if !has_items(core.sizes) || !is_straight(core) {
-        return Err(CheckError::NotShown(0));
+        return Err(ShowError::NotShown(0));
     }
     show_all::<D>(alloc, core, conditions, entries)?;
     if steps_of(core.body.as_slice()) > conditions.budget {
-        return Err(CheckError::OverBudget);
+        return Err(ShowError::OverBudget);
     }
     what_is_shown_is_pair_safe::<D>();
     Ok(())
@@ -133,6 +134,7 @@ pub fn check(
 ) -> Result<Accepted, CheckError>
     ensures kernel { IfOk result (λ a. read kernel.now ≡ Ok (kernel_seen (typed_of a))) }
     ensures conditions { IfOk result (λ a. conditions_of (tree_seen (typed_of a).0).parameters conditions.now ≡ Ok (lined (kept a))) }
+    ensures refused { Tells result kernel.now conditions.now certificate.now }
     ensures pair { IfOk result (λ a. IsAccepted (core_seen (typed_of a).1) (conditions_seen (kept a))) }
     ensures headline { IfOk result (λ a. HasHeadline (core_seen (typed_of a).1) (conditions_seen (kept a))) }
 {
@@ -149,10 +151,13 @@ pub fn check(
         Err(error) => return Err(CheckError::Certificate(error)),
     };
     if !certificate.places().is_empty() || !certificate.bounds().is_empty() {
-        return Err(CheckError::NotShown(0));
+        return Err(CheckError::Show(ShowError::NotShown(0)));
     }
     let entries = certificate.entries();
-    accept::<Product<Interval, Congruence>>(alloc, typed.core(), &conditions, entries)?;
+    match accept::<Product<Interval, Congruence>>(alloc, typed.core(), &conditions, entries) {
+        Ok(()) => {}
+        Err(error) => return Err(CheckError::Show(error)),
+    }
     headline();
     Ok(Accepted::of(typed, conditions))
 }

@@ -10,7 +10,7 @@ ghost use Rattle.two_thread.specs.Shown.{IsShown};
 ghost use Rattle.two_thread.specs.View.{pair as pair_seen, seen_accesses};
 ghost use Rattle.cert_check.specs.Owing.{owed, nth_claim, seen_claims};
 
-use crate::error::CheckError;
+use crate::error::ShowError;
 use certificate::tree::{Claim as Word, Entry, Scaled, Step};
 use cut_proof::{Derivation, Line, refutes};
 use domain::Domain;
@@ -100,7 +100,7 @@ fn show_claim<D: Copy>(
     path: &Path<D>,
     i: usize,
     entry: Option<&Entry>,
-) -> Result<(), CheckError>
+) -> Result<(), ShowError>
     requires { i < length path.now.claims.items }
     ensures { IfOk result (λ _. IsShown (owed (forms launch.now) (nth_claim (seen_claims path.now) i))) }
 {
@@ -110,7 +110,7 @@ fn show_claim<D: Copy>(
     }
     let Some(entry) = entry else {
         if claim.needed {
-            return Err(CheckError::NotShown(i as u64 + 1));
+            return Err(ShowError::NotShown(i as u64 + 1));
         }
         return Ok(());
     };
@@ -118,7 +118,7 @@ fn show_claim<D: Copy>(
     if is_refuted(alloc, facts.as_slice(), entry)? {
         return Ok(());
     }
-    Err(CheckError::NotShown(i as u64 + 1))
+    Err(ShowError::NotShown(i as u64 + 1))
 }
 
 /// The claims of a path, by their numbers from 1.
@@ -128,7 +128,7 @@ pub fn show_claims<D: Copy>(
     path: &Path<D>,
     entries: &[Entry],
     places: &[usize],
-) -> Result<(), CheckError>
+) -> Result<(), ShowError>
     ensures { IfOk result (λ _. All IsShown (map (owed (forms launch.now)) (seen_claims path.now))) }
 {
     for i in 0..path.claims.len() {
@@ -148,23 +148,23 @@ fn show_pair<D: Domain>(
     pair: Pair,
     number: usize,
     entry: Option<&Entry>,
-) -> Result<(), CheckError>
+) -> Result<(), ShowError>
     ensures { IfOk result (λ _. IsShown (specs.pair_obligation D.Domain (known_seen known.now) (forms launch.now) (pair_seen (seen_accesses first.now) (seen_accesses second.now) pair))) }
 {
     if pair.first >= first.accesses.len() || pair.second >= second.accesses.len() {
-        return Err(CheckError::NotShown(number as u64));
+        return Err(ShowError::NotShown(number as u64));
     }
     if is_apart(alloc, known, first, second, pair)? {
         return Ok(());
     }
     let Some(entry) = entry else {
-        return Err(CheckError::NotShown(number as u64));
+        return Err(ShowError::NotShown(number as u64));
     };
     let facts = pair_facts(alloc, launch, first, second, pair)?;
     if is_refuted(alloc, facts.as_slice(), entry)? {
         return Ok(());
     }
-    Err(CheckError::NotShown(number as u64))
+    Err(ShowError::NotShown(number as u64))
 }
 
 /// Pairs, by their numbers behind those of the claims.
@@ -177,7 +177,7 @@ pub fn show_pairs<D: Domain>(
     pairs: &[Pair],
     entries: &[Entry],
     places: &[usize],
-) -> Result<(), CheckError>
+) -> Result<(), ShowError>
     ensures { IfOk result (λ _. All IsShown (map (specs.pair_obligation D.Domain (known_seen known.now) (forms launch.now)) (map (pair_seen (seen_accesses first.now) (seen_accesses second.now)) pairs.now))) }
 {
     let claims = first.claims.len();

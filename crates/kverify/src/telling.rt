@@ -1,7 +1,7 @@
 //! What the program says of three texts.
 
 use cert_check::check;
-use cert_check::error::CheckError;
+use cert_check::error::{CheckError, ShowError};
 use certificate::error::{CertError, CertFault};
 use launch_text::error::LaunchTextError;
 use std::alloc::{AllocError, Global};
@@ -21,8 +21,7 @@ fn is_memory(error: &CheckError) -> bool {
         CheckError::Kernel(error) => error.number() == 90,
         CheckError::Conditions(LaunchTextError::Memory)
         | CheckError::Certificate(CertError::Memory)
-        | CheckError::Walk(WalkError::Memory)
-        | CheckError::Memory => true,
+        | CheckError::Show(ShowError::Walk(WalkError::Memory) | ShowError::Memory) => true,
         _ => false,
     }
 }

@@ -1,0 +1,32 @@
+-- What a refusal says of the three texts: those before the refused one are read, and its fault is the first of its text.
+use Rattle.std.specs.Prelude.{◌≡◌, ℕ, List, Result, Ok, Err}
+use Rattle.texts.specs.ConditionsReading.{Lined, conditions_of}
+use Rattle.texts.specs.CertificateReading as certificates
+use Rattle.syntax.specs.View.{kernel as tree_seen}
+use Rattle.syntax.specs.declared.tree.Kernel.{Kernel}
+use Rattle.types.specs.declared.core_tree.Core.{Core}
+use Rattle.reading.specs.Kernels.{read}
+use Rattle.reading.specs.Answers as reading
+use Rattle.launch_text.specs.Answers as launches
+use Rattle.certificate.specs.Certificates.{Says}
+use Rattle.cert_check.specs.declared.accepted.Accepted.{Accepted}
+use Rattle.cert_check.specs.declared.error.CheckError.{CheckError}
+use Rattle.cert_check.specs.declared.error.CheckError.TheVariants as errors
+
+-- the kernel is read, to this tree and core
+abbrev pub IsRead : Kernel × Core → (kernel : List ℕ) → Type 0
+IsRead typed kernel = read kernel ≡ Ok (reading.kernel_seen typed)
+
+-- and the conditions, of its parameters
+abbrev pub AreRead : Kernel × Core → Lined → (kernel conditions : List ℕ) → Type 0
+AreRead typed found kernel conditions = IsRead typed kernel × (conditions_of (tree_seen typed.0).parameters conditions ≡ Ok found)
+
+abbrev pub Refuses : CheckError → (kernel conditions certificate : List ℕ) → Type 0
+Refuses (errors.Kernel e) kernel conditions certificate = reading.Refuses e (read kernel)
+Refuses (errors.Conditions e) kernel conditions certificate = (typed : Kernel × Core) × IsRead typed kernel × launches.Refuses e (conditions_of (tree_seen typed.0).parameters conditions)
+Refuses (errors.Certificate e) kernel conditions certificate = (typed : Kernel × Core) × (found : Lined) × AreRead typed found kernel conditions × Says (Err e) (certificates.certificate_of certificate)
+Refuses (errors.Show e) kernel conditions certificate = (typed : Kernel × Core) × (found : Lined) × AreRead typed found kernel conditions
+
+abbrev pub Tells : Result Accepted CheckError → (kernel conditions certificate : List ℕ) → Type 0
+Tells (Ok a) kernel conditions certificate = Unit {0}
+Tells (Err e) kernel conditions certificate = Refuses e kernel conditions certificate

@@ -1,5 +1,8 @@
 //! What the program says of three texts.
 
+ghost use Rattle.std.specs.Prelude.{ℕ, List};
+ghost use Rattle.kverify.specs.Telling.{Promises};
+
 use cert_check::check;
 use cert_check::error::{CheckError, ShowError};
 use certificate::error::{CertError, CertFault};
@@ -40,23 +43,36 @@ fn is_version(error: &CheckError) -> bool {
 }
 
 /// The line that tells a refusal: its number, and its place where it has one.
-fn refusal(alloc: Global, error: &CheckError) -> Result<Verdict, AllocError> {
-    if is_memory(error) {
-        return Ok(Verdict::OutOfMemory);
-    }
+fn refusal(alloc: Global, error: &CheckError) -> Result<String, AllocError> {
     if is_version(error) {
-        return Ok(Verdict::Refused(format!(in alloc; "refused 51")?));
+        Ok(format!(in alloc; "refused 51")?)
+    } else {
+        Ok(format!(in alloc; "refused {error}")?)
     }
-    Ok(Verdict::Refused(format!(in alloc; "refused {error}")?))
+}
+
+/// What is said where a kernel is not accepted.
+fn unaccepted(alloc: Global, error: &CheckError) -> Verdict
+    ensures { (kernel conditions : List ℕ) → Promises result kernel conditions }
+{
+    if is_memory(error) {
+        return Verdict::OutOfMemory;
+    }
+    match refusal(alloc, error) {
+        Ok(line) => Verdict::Refused(line),
+        Err(_) => Verdict::OutOfMemory,
+    }
 }
 
 /// The verdict on a kernel, its conditions and its certificate.
-pub fn verdict_of(alloc: Global, kernel: &[u8], conditions: &[u8], certificate: &[u8]) -> Verdict {
+pub fn verdict_of(alloc: Global, kernel: &[u8], conditions: &[u8], certificate: &[u8]) -> Verdict
+    ensures { Promises result kernel.now conditions.now }
+{
     match check(alloc, kernel, conditions, certificate) {
-        Ok(_) => Verdict::Accepted,
-        Err(error) => match refusal(alloc, &error) {
-            Ok(verdict) => verdict,
-            Err(_) => Verdict::OutOfMemory,
-        },
+        Ok(accepted) => {
+            drop(accepted);
+            Verdict::Accepted
+        }
+        Err(error) => unaccepted(alloc, &error),
     }
 }

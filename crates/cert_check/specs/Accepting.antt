@@ -1,10 +1,11 @@
 -- What it means that a kernel is accepted under conditions.
-use Rattle.std.specs.Prelude.{◌<◌}
+use Rattle.std.specs.Prelude.{◌≡◌, ◌<◌, ◌≤◌, length, true}
 use Rattle.semantics.specs.Launch.{Kernel, Launch, Fits, product}
 use Rattle.semantics.specs.Conditions.{Conditions, Meets}
 use Rattle.semantics.specs.Setup.{Setup}
 use Rattle.semantics.specs.Safety.{IsPairSafe}
 use Rattle.semantics.specs.Headline.{Headline}
+use Rattle.walk.specs.Straight as straight
 
 abbrev pub at : Kernel → Launch → Setup
 at k l = record { kernel = k; launch = l }
@@ -13,6 +14,13 @@ at k l = record { kernel = k; launch = l }
 pub record IsAccepted (k : Kernel) (c : Conditions) : Type 0 where
   pub has_items : 0 < product k.sizes
   pub is_pair_safe : (l : Launch) → Fits k l → Meets c l → IsPairSafe (at k l) c.budget
+
+-- the conditions have the kernel's parameters; the kernel is a straight-line one, whose items take no more steps than the budget
+pub record IsStraightUnder (k : Kernel) (c : Conditions) : Type 0 where
+  pub arguments : length c.arguments ≡ length k.arguments
+  pub buffers : length c.lengths ≡ length k.buffers
+  pub is_straight : straight.is_straight k ≡ true
+  pub is_short : straight.steps k.body ≤ c.budget
 
 -- and the headline holds there
 abbrev pub HasHeadline : Kernel → Conditions → Type 0

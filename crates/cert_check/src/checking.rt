@@ -3,6 +3,7 @@
 ghost use Rattle.std.specs.Prelude.{◌≡◌, ◌<◌, ℕ, Bool, Ok, IfOk, IsTrue};
 ghost use Rattle.std.specs.List.{All};
 ghost use Rattle.semantics.specs.Launch.{product};
+ghost use Rattle.semantics.specs.Conditions.{ConditionsFit};
 ghost use Rattle.launch.specs.View.{conditions as conditions_seen};
 ghost use Rattle.launch_text.specs.View.{lined};
 ghost use Rattle.texts.specs.ConditionsReading.{conditions_of};
@@ -13,7 +14,7 @@ ghost use Rattle.reading.specs.Answers.{kernel_seen};
 ghost use Rattle.walk.specs.View.{three};
 ghost use Rattle.walk.specs.Straight.{steps};
 ghost use Rattle.two_thread.specs.Shown.{obligations, IsShown};
-ghost use Rattle.cert_check.specs.Accepting.{IsAccepted, HasHeadline};
+ghost use Rattle.cert_check.specs.Accepting.{IsAccepted, IsStraightUnder, HasHeadline};
 ghost use Rattle.cert_check.specs.Refusing.{Tells};
 ghost use Rattle.cert_check.specs.View.{typed_of, kept};
 
@@ -110,7 +111,9 @@ fn accept<D: Domain>(
     conditions: &Conditions,
     entries: &[Entry],
 ) -> Result<(), ShowError>
-    ensures { IfOk result (λ _. IsAccepted (core_seen core.now) (conditions_seen conditions.now)) }
+    requires { ConditionsFit (core_seen core.now) (conditions_seen conditions.now) }
+    ensures promise { IfOk result (λ _. IsAccepted (core_seen core.now) (conditions_seen conditions.now)) }
+    ensures shape { IfOk result (λ _. IsStraightUnder (core_seen core.now) (conditions_seen conditions.now)) }
 {
     if !has_items(core.sizes) || !is_straight(core) {
         return Err(ShowError::NotShown(0));

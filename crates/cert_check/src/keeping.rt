@@ -3,7 +3,7 @@
 ghost use Rattle.std.specs.Prelude.{◌≡◌};
 ghost use Rattle.types.specs.View.{kernel as core_seen};
 ghost use Rattle.launch.specs.View.{conditions as conditions_seen};
-ghost use Rattle.cert_check.specs.Accepting.{IsAccepted};
+ghost use Rattle.cert_check.specs.Accepting.{IsAccepted, IsStraightUnder};
 ghost use Rattle.cert_check.specs.View.{typed_of, kept};
 
 use crate::accepted::Accepted;
@@ -13,7 +13,8 @@ use types::typed::Typed;
 impl Accepted {
     /// A kernel with conditions under which it is accepted, as the caller has shown.
     pub(crate) fn of(typed: Typed, conditions: Conditions) -> Accepted
-        requires { IsAccepted (core_seen typed.1) (conditions_seen conditions) }
+        requires promise { IsAccepted (core_seen typed.1) (conditions_seen conditions) }
+        requires shape { IsStraightUnder (core_seen typed.1) (conditions_seen conditions) }
         ensures typed { typed_of result ≡ typed }
         ensures conditions { kept result ≡ conditions }
     {
@@ -24,13 +25,16 @@ impl Accepted {
     pub fn typed(&self) -> &Typed
         ensures value { result.now ≡ typed_of self.now }
         ensures accepted { IsAccepted (core_seen (typed_of self.now).1) (conditions_seen (kept self.now)) }
+        ensures shape { IsStraightUnder (core_seen (typed_of self.now).1) (conditions_seen (kept self.now)) }
     {
         &self.typed
     }
 
     /// The conditions.
     pub fn conditions(&self) -> &Conditions
-        ensures { result.now ≡ kept self.now }
+        ensures value { result.now ≡ kept self.now }
+        ensures accepted { IsAccepted (core_seen (typed_of self.now).1) (conditions_seen (kept self.now)) }
+        ensures shape { IsStraightUnder (core_seen (typed_of self.now).1) (conditions_seen (kept self.now)) }
     {
         &self.conditions
     }

@@ -1,0 +1,31 @@
+use Rattle.std.proofs.Common.{sym, ◌∙◌, subst, ap, length, refl}
+use Rattle.types.specs.View.{kernel}
+use Rattle.launch.specs.View.{launch, conditions}
+use Rattle.semantics.specs.Conditions.{Meets}
+use Rattle.cert_check.specs.Accepting.{at}
+use Rattle.cert_check.specs.View.{typed_of, kept}
+use Rattle.executor.proofs.Kernels.{some-items, arguments-alike, buffers-alike}
+use Rattle.executor.proofs.Buffered.{every-end}
+use Rattle.executor.proofs.running.run.Goals as goal
+
+pub meets-requires-clause-arguments : goal.meets-requires-clause-arguments
+meets-requires-clause-arguments g c =
+    let a = c.conditions.result.now.arguments in
+    let b = c.args.launch.now.arguments in
+    a.ok.0 ∙ ap (λ x. length x.arguments.items) c.conditions.ensures.value ∙ arguments-alike (kernel (typed_of c.args.accepted.now).1) (kept c.args.accepted.now).arguments.items b.items c.conditions.ensures.shape.arguments c.requires.arguments ∙ sym b.ok.0
+
+pub meets-requires-clause-buffers : goal.meets-requires-clause-buffers
+meets-requires-clause-buffers g c =
+    let a = c.conditions.result.now.lengths in
+    let b = c.args.launch.now.buffers.words in
+    a.ok.0 ∙ ap (λ x. length x.lengths.items) c.conditions.ensures.value ∙ buffers-alike (kernel (typed_of c.args.accepted.now).1) (kept c.args.accepted.now).lengths.items b.items c.conditions.ensures.shape.buffers c.requires.buffers ∙ sym b.ok.0
+
+pub returns-clause-every : goal.returns-clause-every
+returns-clause-every g c =
+    let k = kernel (typed_of c.args.accepted.now).1 in
+    let l = launch c.args.launch.now in
+    let bound = (conditions (kept c.args.accepted.now)).budget in
+    let m : Meets (conditions (kept c.args.accepted.now)) l = subst (λ x. Meets (conditions x) l) c.conditions.ensures.value (c.in_ok-meets.ensures.met.0 refl) in
+    every-end (at k l) bound c.in_ok-buffers.buffers
+    (c.headline.ensures (at k l) bound (some-items k l c.conditions.ensures.accepted.has_items) (c.conditions.ensures.accepted.is_pair_safe l c.requires m))
+    c.in_ok-buffers.ensures

@@ -1,0 +1,4 @@
+pub mod Runs
+pub mod View
+pub mod Stores
+pub mod Results

@@ -1,0 +1,49 @@
+//! Why a run is refused.
+
+ghost use Rattle.std.specs.Prelude.{◌≡◌};
+
+use launch::error::ConditionError;
+use std::alloc::{AllocError, AllocFailed};
+use thiserror::Error;
+
+/// The launch does not meet its conditions, or there are too few or too many workers, or want of memory.
+#[derive(Debug, Drop, Error)]
+pub enum RunError {
+    #[error("{0}")]
+    Condition(ConditionError),
+    /// There are 1 to 64 workers.
+    #[error("70")]
+    Workers,
+    #[error("out of memory")]
+    Memory,
+}
+
+impl From<ConditionError> for RunError {
+    ghost use Rattle.executor.specs.declared.error.RunError.TheVariants.{Condition};
+
+    ghost from_gives = { λ e r. r ≡ Condition e };
+
+    fn from(e: ConditionError) -> RunError {
+        RunError::Condition(e)
+    }
+}
+
+impl From<AllocError> for RunError {
+    ghost use Rattle.executor.specs.declared.error.RunError.TheVariants.{Memory};
+
+    ghost from_gives = { λ _ e. e ≡ Memory };
+
+    fn from(_: AllocError) -> RunError {
+        RunError::Memory
+    }
+}
+
+impl<T: Drop> From<AllocFailed<T>> for RunError {
+    ghost use Rattle.executor.specs.declared.error.RunError.TheVariants.{Memory};
+
+    ghost from_gives = { λ _ e. e ≡ Memory };
+
+    fn from(_: AllocFailed<T>) -> RunError {
+        RunError::Memory
+    }
+}

@@ -1,0 +1,71 @@
+//! The run of a launch.
+
+ghost use Rattle.std.specs.Prelude.{◌≡◌, ◌≤◌, ℕ, IfOk, map, length};
+ghost use Rattle.semantics.specs.Launch.{Fits};
+ghost use Rattle.types.specs.View.{kernel as core_seen};
+ghost use Rattle.launch.specs.View.{launch as launch_seen};
+ghost use Rattle.cert_check.specs.View.{typed_of, kept};
+ghost use Rattle.cert_check.specs.Accepting.{at};
+ghost use Rattle.write_log.specs.Written.{words_of};
+ghost use Rattle.executor.specs.Results.{Answers, IsResultOf, EndsEvery};
+
+use crate::error::RunError;
+use crate::group::{product_of, run_group};
+use cert_check::Accepted;
+use launch::launches::{Buffers, Launch};
+use launch::meets::meets;
+use reduction::headline;
+use std::alloc::{AllocError, Global};
+use std::sync::Wait;
+use std::thread::Threads;
+use words::Gate;
+use write_log::apply;
+
+/// The buffers of a launch once more.
+fn copy(alloc: Global, buffers: &Buffers) -> Result<Buffers, AllocError>
+    ensures { IfOk result (λ b. words_of b ≡ words_of buffers.now) }
+{
+    let mut words = Vec::with_capacity(alloc, buffers.words.len())?;
+    for row in &buffers.words {
+        words.push(Vec::from_slice(alloc, row.as_slice())?)?;
+    }
+    Ok(Buffers { words })
+}
+
+/// Runs the groups one after another.
+fn run_groups(alloc: Global, accepted: &Accepted, launch: &Launch) -> Result<Buffers, AllocError>
+    requires { Fits (core_seen (typed_of accepted.now).1) (launch_seen launch.now) }
+    ensures { IfOk result (λ b. IsResultOf (at (core_seen (typed_of accepted.now).1) (launch_seen launch.now)) (kept accepted.now).budget b) }
+{
+    let mut buffers = copy(alloc, &launch.buffers)?;
+    for group in 0..product_of(launch.groups) {
+        let log = run_group(alloc, accepted, launch, group)?;
+        apply(&mut buffers, &log);
+    }
+    Ok(buffers)
+}
+
+/// Runs an accepted kernel at a launch that fits it: the result by rounds, whatever the number of workers, and so what each
+/// interleaving of all work-items that is over ends with. The groups run one after another on the calling thread, and the gate is
+/// told nothing.
+pub fn run<R: Threads + Wait + Sync, G: Gate>(
+    _rt: &R,
+    alloc: Global,
+    accepted: &Accepted,
+    launch: &Launch,
+    workers: u32,
+    _gate: &G,
+) -> Result<Buffers, RunError>
+    requires { Fits (core_seen (typed_of accepted.now).1) (launch_seen launch.now) }
+    ensures answers { Answers (kept accepted.now) (launch_seen launch.now) workers result }
+    ensures value { IfOk result (λ b. IsResultOf (at (core_seen (typed_of accepted.now).1) (launch_seen launch.now)) (kept accepted.now).budget b) }
+    ensures every { IfOk result (λ b. EndsEvery (at (core_seen (typed_of accepted.now).1) (launch_seen launch.now)) b) }
+{
+    meets(accepted.conditions(), launch)?;
+    if workers < 1 || workers > 64 {
+        return Err(RunError::Workers);
+    }
+    let buffers = run_groups(alloc, accepted, launch)?;
+    headline();
+    Ok(buffers)
+}

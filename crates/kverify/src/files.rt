@@ -1,0 +1,25 @@
+//! Files by their names.
+
+ghost use Rattle.std.specs.Prelude.{◌≡◌, ◌≤◌, ◌+◌, ℕ, List, Option, IfOk, IfSome, length, take};
+
+/// Why there are no bytes.
+#[derive(Clone, Copy, Debug, PartialEq, Eq)]
+pub enum FileFault {
+    /// There is no such file, or it cannot be read or written.
+    Failed,
+    Memory,
+}
+
+/// Files by their names.
+pub trait Files {
+    /// What a file has, where that is known.
+    ghost contents: { Self → List ℕ → Option (List ℕ) };
+
+    /// The bytes of a file, at most one more than `limit`.
+    fn read(&mut self, name: &str, limit: u64) -> Result<Vec<u8>, FileFault>
+        ensures bytes { IfOk result (λ v. IfSome (contents self.old name.now) (λ b. v.items ≡ take (limit + 1) b)) }
+        ensures same { (n : List ℕ) → contents self.new n ≡ contents self.old n };
+
+    /// Puts bytes into a file, in the place of what it has.
+    fn write(&mut self, name: &str, bytes: &[u8]) -> Result<(), FileFault>;
+}

@@ -1,0 +1,56 @@
+//! Files in memory.
+
+ghost use Rattle.std.specs.Prelude.{◌≡◌};
+ghost use Rattle.std.specs.Option.{option_map};
+ghost use Rattle.std.specs.BTreeMap.{get_by_text};
+
+use crate::files::{FileFault, Files};
+use std::alloc::{AllocError, Global};
+use std::collections::BTreeMap;
+
+/// Files in memory, by their names.
+#[derive(Drop)]
+pub struct Held {
+    alloc: Global,
+    files: BTreeMap<String, Vec<u8>>,
+}
+
+impl Held {
+    /// No file.
+    pub fn new(alloc: Global) -> Held {
+        Held {
+            alloc,
+            files: BTreeMap::new(alloc),
+        }
+    }
+
+    /// A file's bytes as they would be held, or the fault.
+    fn put(&mut self, name: &str, bytes: &[u8]) -> Result<(), AllocError> {
+        let name = String::from_str(self.alloc, name)?;
+        let bytes = Vec::from_slice(self.alloc, bytes)?;
+        self.files.insert(name, bytes)?;
+        Ok(())
+    }
+}
+
+impl Files for Held {
+    ghost contents = { λ h name. option_map (λ v. v.items) (get_by_text h.files name) };
+
+    fn read(&mut self, name: &str, limit: u64) -> Result<Vec<u8>, FileFault> {
+        let Some(bytes) = self.files.get(name) else {
+            return Err(FileFault::Failed);
+        };
+        let most = (bytes.len() as u64).min(limit.saturating_add(1)) as usize;
+        match Vec::from_slice(self.alloc, &bytes[..most]) {
+            Ok(bytes) => Ok(bytes),
+            Err(_) => Err(FileFault::Memory),
+        }
+    }
+
+    fn write(&mut self, name: &str, bytes: &[u8]) -> Result<(), FileFault> {
+        match self.put(name, bytes) {
+            Ok(()) => Ok(()),
+            Err(_) => Err(FileFault::Memory),
+        }
+    }
+}

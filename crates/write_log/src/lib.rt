@@ -1,0 +1,8 @@
+//! What a work-group has written to the buffers, and writing it to them: of each element the last number alone.
+#![tactic(auto)]
+
+mod log;
+#[cfg(test)]
+mod tests;
+
+pub use log::{WriteLog, apply};

@@ -9,6 +9,8 @@ mod files;
 mod first;
 mod held;
 mod telling;
+#[cfg(test)]
+mod tests;
 mod tool;
 
 use disk::Disk;

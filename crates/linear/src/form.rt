@@ -5,14 +5,14 @@ ghost use Rattle.linear.specs.Exact.{sum, multiple, form_without, coefficient_of
 ghost use Rattle.linear.specs.Terms.{terms, are_rising, are_i64};
 
 use super::merge::{coefficient_at, combine_terms, divide_terms, without_symbol};
-use super::term::{Symbol, Term, combine};
+use super::term::{Symbol, Term, TermList, combine};
 use std::alloc::{AllocError, AllocFailed, Global};
 use thiserror::Error;
 
 /// A sum of terms and a constant.
 #[derive(Debug, Drop)]
 pub struct Form {
-    terms: Vec<Term>,
+    terms: TermList,
     constant: i64,
     ghost rising: { are_rising terms.items ≡ true },
     ghost in_range: { are_i64 terms.items ≡ true },
@@ -72,7 +72,7 @@ impl Form {
         ensures { form result ≡ record { terms = []; constant = constant } }
     {
         Form {
-            terms: Vec::new(alloc),
+            terms: TermList::new(alloc),
             constant,
         }
     }
@@ -81,7 +81,7 @@ impl Form {
     pub fn symbol(alloc: Global, symbol: Symbol) -> Result<Form, AllocError>
         ensures { IfOk result (λ f. form f ≡ record { terms = record { coefficient = pos 1; symbol = symbol.number } ∷ []; constant = pos 0 }) }
     {
-        let mut terms = Vec::new(alloc);
+        let mut terms = TermList::new(alloc);
         terms.push(Term {
             symbol,
             coefficient: 1,
@@ -107,7 +107,7 @@ impl Form {
     pub fn copy(&self, alloc: Global) -> Result<Form, AllocError>
         ensures { IfOk result (λ f. form f ≡ form self.now) }
     {
-        let terms = Vec::from_slice(alloc, self.terms.as_slice())?;
+        let terms = TermList::from_slice(alloc, self.terms.as_slice())?;
         Ok(Form {
             terms,
             constant: self.constant,

@@ -4,16 +4,11 @@ ghost use Rattle.linear.specs.Exact.{merge, multiples, without, coefficient_of, 
 ghost use Rattle.linear.specs.Terms.{terms, are_rising, are_i64};
 
 use super::form::LinearError;
-use super::term::{Symbol, Term, divide, keep, keep_multiple, keep_sum};
+use super::term::{Symbol, Term, TermList, divide, keep, keep_multiple, keep_sum};
 use std::alloc::{AllocError, Global};
 
 /// The terms of one list and multiples of those of another, those of one symbol as one.
-pub fn combine_terms(
-    alloc: Global,
-    a: &[Term],
-    k: i64,
-    b: &[Term],
-) -> Result<Vec<Term>, LinearError>
+pub fn combine_terms(alloc: Global, a: &[Term], k: i64, b: &[Term]) -> Result<TermList, LinearError>
     requires left { are_rising a.now ≡ true }
     requires right { are_rising b.now ≡ true }
     requires left_fits { are_i64 a.now ≡ true }
@@ -21,7 +16,7 @@ pub fn combine_terms(
     ensures fits { IfOk result (λ out. fits_terms (terms out.items) ≡ true) }
     ensures too_large { IsErrOf result LinearError.TooLarge → fits_terms (merge (terms a.now) (multiples k (terms b.now))) ≡ false }
 {
-    let mut out = Vec::new(alloc);
+    let mut out = TermList::new(alloc);
     let mut i = 0;
     let mut j = 0;
     while j < b.len() {
@@ -43,11 +38,11 @@ pub fn combine_terms(
 }
 
 /// The terms but that of a symbol.
-pub fn without_symbol(alloc: Global, a: &[Term], symbol: Symbol) -> Result<Vec<Term>, AllocError>
+pub fn without_symbol(alloc: Global, a: &[Term], symbol: Symbol) -> Result<TermList, AllocError>
     ensures exact { IfOk result (λ out. terms out.items ≡ without symbol.number (terms a.now)) }
     ensures fits { IfOk result (λ out. fits_terms (terms out.items) ≡ true) }
 {
-    let mut out = Vec::new(alloc);
+    let mut out = TermList::new(alloc);
     for t in a {
         if t.symbol.number != symbol.number {
             keep(&mut out, *t)?;
@@ -69,15 +64,11 @@ pub fn coefficient_at(a: &[Term], symbol: Symbol) -> i64
 }
 
 /// Each term divided, where all divide.
-pub fn divide_terms(
-    alloc: Global,
-    a: &[Term],
-    divisor: i64,
-) -> Result<Option<Vec<Term>>, AllocError>
+pub fn divide_terms(alloc: Global, a: &[Term], divisor: i64) -> Result<Option<TermList>, AllocError>
     requires { pos 0 <ℤ divisor }
     ensures { IfOk result (λ r. MatchOption r (all_divide divisor (terms a.now) ≡ false) (λ out. (all_divide divisor (terms a.now) ≡ true) × (terms out.items ≡ quotients divisor (terms a.now)) × (fits_terms (terms out.items) ≡ true))) }
 {
-    let mut out = Vec::new(alloc);
+    let mut out = TermList::new(alloc);
     for t in a {
         let Some(t) = divide(*t, divisor) else {
             return Ok(None);

@@ -5,20 +5,24 @@ ghost use Rattle.linear.specs.Exact.{Terms, fits_i64, fits_terms, put, divides};
 ghost use Rattle.linear.specs.Terms.{term, terms};
 
 use super::form::LinearError;
+use smallvec::SmallVec;
 use std::alloc::AllocError;
 
 /// What a number stands for, by its number in a table of the caller's.
-#[derive(Clone, Copy, Debug, PartialEq, Eq, PartialOrd, Ord)]
+#[derive(Clone, Copy, Debug, Default, PartialEq, Eq, PartialOrd, Ord)]
 pub struct Symbol {
     pub number: u32,
 }
 
 /// A symbol with its coefficient.
-#[derive(Clone, Copy, Debug, PartialEq, Eq)]
+#[derive(Clone, Copy, Debug, Default, PartialEq, Eq)]
 pub struct Term {
     pub symbol: Symbol,
     pub coefficient: i64,
 }
+
+/// Terms, of which a form has few: four and fewer lie in the form itself.
+pub type TermList = SmallVec<Term, 4>;
 
 /// A number and a multiple of another one, which are small enough for `i128`.
 fn wide(x: i64, k: i64, y: i64) -> i128
@@ -73,7 +77,7 @@ pub fn divide(t: Term, divisor: i64) -> Option<Term>
 }
 
 /// Adds a term at the end.
-pub fn keep(out: &mut Vec<Term>, t: Term) -> Result<(), AllocError>
+pub fn keep(out: &mut TermList, t: Term) -> Result<(), AllocError>
     ensures kept { OnOk result ((rest : Terms) → terms out.new.items ++ rest ≡ terms out.old.items ++ term t ∷ rest) }
     ensures fits { OnOk result (fits_terms (terms out.old.items) ≡ true → fits_terms (terms out.new.items) ≡ true) }
 {
@@ -82,7 +86,7 @@ pub fn keep(out: &mut Vec<Term>, t: Term) -> Result<(), AllocError>
 }
 
 /// Adds a term at the end, unless its coefficient is 0.
-fn keep_some(out: &mut Vec<Term>, t: Term) -> Result<(), AllocError>
+fn keep_some(out: &mut TermList, t: Term) -> Result<(), AllocError>
     ensures kept { OnOk result ((rest : Terms) → terms out.new.items ++ rest ≡ terms out.old.items ++ put t.coefficient t.symbol.number rest) }
     ensures fits { OnOk result (fits_terms (terms out.old.items) ≡ true → fits_terms (terms out.new.items) ≡ true) }
 {
@@ -93,7 +97,7 @@ fn keep_some(out: &mut Vec<Term>, t: Term) -> Result<(), AllocError>
 }
 
 /// Adds a term and a multiple of one of the same symbol at the end, as one.
-pub fn keep_sum(out: &mut Vec<Term>, x: Term, k: i64, y: Term) -> Result<(), LinearError>
+pub fn keep_sum(out: &mut TermList, x: Term, k: i64, y: Term) -> Result<(), LinearError>
     ensures kept { OnOk result ((rest : Terms) → terms out.new.items ++ rest ≡ terms out.old.items ++ put (x.coefficient +ℤ k *ℤ y.coefficient) x.symbol.number rest) }
     ensures fits { OnOk result (fits_terms (terms out.old.items) ≡ true → fits_terms (terms out.new.items) ≡ true) }
     ensures too_large { IsErrOf result LinearError.TooLarge → fits_i64 (x.coefficient +ℤ k *ℤ y.coefficient) ≡ false }
@@ -106,7 +110,7 @@ pub fn keep_sum(out: &mut Vec<Term>, x: Term, k: i64, y: Term) -> Result<(), Lin
 }
 
 /// Adds a multiple of a term at the end.
-pub fn keep_multiple(out: &mut Vec<Term>, k: i64, y: Term) -> Result<(), LinearError>
+pub fn keep_multiple(out: &mut TermList, k: i64, y: Term) -> Result<(), LinearError>
     ensures kept { OnOk result ((rest : Terms) → terms out.new.items ++ rest ≡ terms out.old.items ++ put (k *ℤ y.coefficient) y.symbol.number rest) }
     ensures fits { OnOk result (fits_terms (terms out.old.items) ≡ true → fits_terms (terms out.new.items) ≡ true) }
     ensures too_large { IsErrOf result LinearError.TooLarge → fits_i64 (k *ℤ y.coefficient) ≡ false }

@@ -1,7 +1,9 @@
 -- The code's certificates as those of the definitions, and its answers.
-use Rattle.std.specs.Prelude.{◌≡◌, Result, Ok, Err}
+use Rattle.std.specs.Prelude.{◌≡◌, Option, Result, Ok, Err}
 use Rattle.texts.specs.Certificate as certificates
 use Rattle.texts.specs.CertificateReading as reading
+use Rattle.texts.specs.CertificateForms.{when}
+use Rattle.texts.specs.CertificateRules.{is_certificate}
 use Rattle.certificate.specs.declared.certificate.Certificate.{Certificate}
 use Rattle.certificate.specs.declared.error.CertError.{CertError}
 use Rattle.certificate.specs.declared.error.CertError.TheVariants as errors
@@ -19,3 +21,7 @@ Refuses errors.Memory answer = Unit {0}
 abbrev pub Says : Result Certificate CertError → reading.Read → Type 0
 Says (Ok c) answer = answer ≡ Ok (certificate c)
 Says (Err e) answer = Refuses e answer
+
+-- a certificate that has a text, length aside
+abbrev pub proper : certificates.Certificate → Option certificates.Certificate
+proper c = when (is_certificate c) c

@@ -5,7 +5,9 @@ ghost use Rattle.texts.specs.CertificateRules.{is_certificate};
 ghost use Rattle.certificate.specs.Drafts.{parts as parts_of};
 
 use crate::draft::Parts;
+use crate::rules::is_certificate as is_proper;
 use crate::tree::{Bound, Entry, Place};
+use std::alloc::{AllocError, Global};
 
 /// What is said of places, how loops end, and what shows each obligation: names and numbers that can be written, and
 /// places, loops and obligations that rise.
@@ -16,10 +18,12 @@ pub struct Certificate {
 }
 
 impl Certificate {
-    ghost use Rattle.std.specs.Prelude.{◌≡◌, true, map};
+    ghost use Rattle.std.specs.Prelude.{◌≡◌, true, map, IfOk};
+    ghost use Rattle.std.specs.Option.{option_map};
+    ghost use Rattle.texts.specs.CertificateDrafts.{certificate as of_parts};
     ghost use Rattle.texts.specs.CertificateRules.{is_certificate};
     ghost use Rattle.certificate.specs.View as view;
-    ghost use Rattle.certificate.specs.Certificates.{certificate};
+    ghost use Rattle.certificate.specs.Certificates.{certificate, proper};
     ghost use Rattle.certificate.specs.Drafts as drafts;
 
     pub(crate) fn of(parts: Parts) -> Certificate
@@ -27,6 +31,26 @@ impl Certificate {
         ensures { certificate result ≡ drafts.parts parts }
     {
         Certificate { parts }
+    }
+
+    /// The certificate of these parts, where the format, length aside, has a text for it.
+    pub fn new(
+        alloc: Global,
+        places: Vec<Place>,
+        bounds: Vec<Bound>,
+        entries: Vec<Entry>,
+    ) -> Result<Option<Certificate>, AllocError>
+        ensures { IfOk result (λ r. option_map certificate r ≡ proper (of_parts (map view.place places.items) (map view.bound bounds.items) (map view.entry entries.items))) }
+    {
+        let parts = Parts {
+            places,
+            bounds,
+            entries,
+        };
+        if !is_proper(alloc, &parts)? {
+            return Ok(None);
+        }
+        Ok(Some(Certificate::of(parts)))
     }
 
     /// What is said of places, in the order of the text.

@@ -58,7 +58,7 @@ fn head_is_before(left: Option<u64>, right: Option<u64>) -> bool
     }
 }
 
-fn spot_is_before(left: Spot, right: Spot) -> bool
+pub fn spot_is_before(left: Spot, right: Spot) -> bool
     ensures { result ≡ drafting.spot_is_before (view.spot left) (view.spot right) }
 {
     anchor_is_before(left.anchor, right.anchor)
@@ -117,7 +117,7 @@ fn entry_fits(settled: &Parts, obligation: u64) -> bool
     entry_follows(settled.entries.as_slice(), obligation)
 }
 
-fn has_line(place: &Place) -> bool
+pub fn has_line(place: &Place) -> bool
     ensures { result ≡ drafting.has_line (view.place place.now) }
 {
     !(place.same.is_empty() && (place.facts.is_empty() && place.congruences.is_empty()))

@@ -3,10 +3,13 @@
 
 mod certificate;
 mod draft;
+mod entries;
 pub mod error;
 mod item;
 mod name;
+mod proper;
 mod reader;
+mod rules;
 pub mod tree;
 mod word;
 mod writer;

@@ -25,7 +25,7 @@ fn push_dimension(out: &mut String, dimension: Dimension) -> Result<(), AllocErr
     }
 }
 
-fn push_name(out: &mut String, name: &Name) -> Result<(), AllocError>
+pub fn push_name(out: &mut String, name: &Name) -> Result<(), AllocError>
     ensures { OnOk result (string_bytes out.new ≡ string_bytes out.old ++ text.name_text (view.name name.now)) }
 {
     match name {

@@ -2,3 +2,4 @@ pub mod Merging
 pub mod Quotients
 pub mod Lists
 pub mod Results
+pub mod Widths

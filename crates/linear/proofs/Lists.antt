@@ -1,12 +1,13 @@
 -- The code's terms one by one, and their ranges.
-use Rattle.std.proofs.Common.{◌≡◌, ℕ, zero, suc, ◌+◌, ◌<◌, Bool, true, false, ◌&&◌, List, [], ◌∷◌, ◌++◌, length, drop, get_or, add-one, drop-cons, append_assoc, append-nil, arith, refl, ap, sym, ◌∙◌, SFits, w64, ◌⊎◌, inl, inr, ◌≤◌, length-drop}
-use Rattle.std.specs.Prelude.{ℤ, pos, negsuc, ◌+ℤ◌}
+use Rattle.std.proofs.Common.{◌≡◌, ℕ, zero, suc, ◌+◌, ◌<◌, Bool, true, false, ◌&&◌, List, [], ◌∷◌, ◌++◌, length, drop, get_or, add-one, drop-cons, append_assoc, arith, refl, ap, sym, subst, ◌∙◌, SFits, w64, ◌⊎◌, inl, inr, ◌≤◌}
+use Rattle.std.specs.Prelude.{ℤ, pos, negsuc, ◌+ℤ◌, ◌*ℤ◌}
 use Rattle.std.proofs.lemmas.Bool.Decides.{nat_tests}
-use Rattle.semantics.specs.Linear.{Weighted}
+use Rattle.std.proofs.lemmas.List.{drop_all}
+use Rattle.std.proofs.Math.Seq.{drop-nil}
 use Rattle.linear.specs.declared.term.Term.{Term}
-use Rattle.linear.specs.Exact.{Terms, fits_i64, fits_terms, put, merge, merge_one}
-use Rattle.linear.specs.Terms.{term, terms}
-use Rattle.linear.proofs.Merging.{merge_below, merge_above, merge_same}
+use Rattle.linear.specs.Exact.{Terms, fits_i64, fits_terms, put, merge, multiples}
+use Rattle.linear.specs.Terms.{term, terms, are_rising}
+use Rattle.linear.proofs.Merging.{IsRising, rising_true, rising_from, rising-multiples, merge_under, merge_put_above, merge_put_same}
 
 -- what an index past the end would give
 abbrev pub no_term : Term
@@ -45,7 +46,7 @@ unfit-put (pos (suc n)) s ts h = ap (λ b. b && fits_terms ts) h
 unfit-put (negsuc n) s ts h = ap (λ b. b && fits_terms ts) h
 
 -- a coefficient that is no i64 stays in the result
-pub unfit : (out rest all : Terms) (z : ℤ) (s : ℕ) → out ++ put z s rest ≡ all → fits_i64 z ≡ false → fits_terms all ≡ false
+unfit : (out rest all : Terms) (z : ℤ) (s : ℕ) → out ++ put z s rest ≡ all → fits_i64 z ≡ false → fits_terms all ≡ false
 unfit out rest all z s e h = ap fits_terms (sym e) ∙ fits-append out (put z s rest) ∙ unfit-front _ _ (unfit-put z s rest h)
 
 -- one more term
@@ -72,40 +73,67 @@ fits_drop zero a h = h
 fits_drop (suc i) [] h = refl
 fits_drop (suc i) (t ∷ a) h = fits_drop i a (later _ _ h)
 
--- what is left of both lists is added at the end
-pub fits_rest : (out mid end a b : List Term) (i j : ℕ) → mid ≡ out ++ drop i a → end ≡ mid ++ drop j b → fits_terms (terms out) ≡ true → fits_terms (terms a) ≡ true → fits_terms (terms b) ≡ true → fits_terms (terms end) ≡ true
-fits_rest out mid end a b i j e f p q r = fits_both mid (drop j b) end f (fits_both out (drop i a) mid e p (fits_drop i a q)) (fits_drop j b r)
+-- what is left of a list is added at the end
+pub fits_rest : (out end a : List Term) (i : ℕ) → end ≡ out ++ drop i a → fits_terms (terms out) ≡ true → fits_terms (terms a) ≡ true → fits_terms (terms end) ≡ true
+fits_rest out end a i e p q = fits_both out (drop i a) end e p (fits_drop i a q)
 
 merge-none : (a : Terms) → merge a [] ≡ a
 merge-none [] = refl
 merge-none (x ∷ a) = ap (λ ts. x ∷ ts) (merge-none a)
 
-one_is_over : (a b : List Term) → (length a ≡ 0) ⊎ (length b ≡ 0) → terms a ++ terms b ≡ merge (terms a) (terms b)
-one_is_over [] b h = refl
-one_is_over (x ∷ a) [] h = append-nil (terms (x ∷ a)) ∙ sym (merge-none (terms (x ∷ a)))
-one_is_over (x ∷ a) (y ∷ b) h = elim h [ inl e ↦ absurd (omega arith) | inr e ↦ absurd (omega arith) ]
+terms-past : (b : List Term) (j : ℕ) → length b ≤ j → terms (drop j b) ≡ []
+terms-past b j h = ap terms (drop_all j b h)
 
-pub merged_rest : (out mid end a b : List Term) (i j : ℕ) (all : Terms) → mid ≡ out ++ drop i a → end ≡ mid ++ drop j b → (length a ≤ i) ⊎ (length b ≤ j) → terms out ++ merge (terms (drop i a)) (terms (drop j b)) ≡ all → terms end ≡ all
-merged_rest out mid end a b i j all e f h k =
-    let ends = elim h as (λ _. (length (drop i a) ≡ 0) ⊎ (length (drop j b) ≡ 0)) [ inl l ↦ inl (omega (arith, length-drop i a)) | inr l ↦ inr (omega (arith, length-drop j b)) ] in
-    ap terms f ∙ terms-append mid (drop j b) ∙ ap (λ ts. ts ++ terms (drop j b)) (ap terms e ∙ terms-append out (drop i a)) ∙ append_assoc (terms out) (terms (drop i a)) (terms (drop j b)) ∙ ap (λ ts. terms out ++ ts) (one_is_over (drop i a) (drop j b) ends) ∙ k
+pub merged_rest : (k : ℤ) (out end a b : List Term) (i j : ℕ) (all : Terms) → end ≡ out ++ drop i a → length b ≤ j → terms out ++ merge (terms (drop i a)) (multiples k (terms (drop j b))) ≡ all → terms end ≡ all
+merged_rest k out end a b i j all e h same =
+    ap terms e ∙ terms-append out (drop i a) ∙ ap (λ ts. terms out ++ ts) (sym (merge-none (terms (drop i a)))) ∙ ap (λ ts. terms out ++ merge (terms (drop i a)) (multiples k ts)) (sym (terms-past b j h)) ∙ same
 
 -- one turn of the merging
-pub takes_left : (out out' : Terms) (x y : Weighted ℕ) (a b da db all : Terms) → da ≡ x ∷ a → db ≡ y ∷ b → x.symbol < y.symbol → ((rest : Terms) → out' ++ rest ≡ out ++ x ∷ rest) → out ++ merge da db ≡ all → out' ++ merge a db ≡ all
-takes_left out out' x y a b da db all p q l k e =
-    let m : merge da db ≡ x ∷ merge a db = ap (λ ts. merge ts db) p ∙ ap (merge_one x (merge a)) q ∙ merge_below x (merge a) y b l ∙ ap (λ ts. x ∷ merge a ts) (sym q) in
-    k (merge a db) ∙ ap (λ ts. out ++ ts) (sym m) ∙ e
+pub taken : (F : Terms → Terms) (out out' rest rest' all : Terms) → ((more : Terms) → out' ++ more ≡ out ++ F more) → rest ≡ F rest' → out ++ rest ≡ all → out' ++ rest' ≡ all
+taken F out out' rest rest' all k e same = k rest' ∙ ap (λ ts. out ++ ts) (sym e) ∙ same
 
-pub takes_right : (out out' : Terms) (x y : Weighted ℕ) (a b da db all : Terms) → da ≡ x ∷ a → db ≡ y ∷ b → y.symbol < x.symbol → ((rest : Terms) → out' ++ rest ≡ out ++ y ∷ rest) → out ++ merge da db ≡ all → out' ++ merge da b ≡ all
-takes_right out out' x y a b da db all p q l k e =
-    let m : merge da db ≡ y ∷ merge da b = ap (λ ts. merge ts db) p ∙ ap (merge_one x (merge a)) q ∙ merge_above x (merge a) y b l ∙ ap (λ ts. y ∷ merge ts b) (sym p) in
-    k (merge da b) ∙ ap (λ ts. out ++ ts) (sym m) ∙ e
+unfit_at : (out rest more all : Terms) (z : ℤ) (s : ℕ) → rest ≡ put z s more → out ++ rest ≡ all → fits_i64 z ≡ false → fits_terms all ≡ false
+unfit_at out rest more all z s e same h = unfit out more all z s (ap (λ ts. out ++ ts) (sym e) ∙ same) h
 
-pub alike : (x y : Weighted ℕ) (a b da db : Terms) → da ≡ x ∷ a → db ≡ y ∷ b → x.symbol ≡ y.symbol → merge da db ≡ put (x.coefficient +ℤ y.coefficient) x.symbol (merge a b)
-alike x y a b da db p q l = ap (λ ts. merge ts db) p ∙ ap (merge_one x (merge a)) q ∙ merge_same x (merge a) y b l
+rising_drop : (i : ℕ) (a : List Term) → IsRising 0 (terms a) → IsRising 0 (terms (drop i a))
+rising_drop zero a r = r
+rising_drop (suc i) [] r = tt
+rising_drop (suc i) (t ∷ a) r = rising_drop i a (rising_from (suc t.symbol.number) 0 (terms a) (omega arith) r.2)
 
-pub takes_both : (out out' : Terms) (x y t : Weighted ℕ) (a b da db all : Terms) → da ≡ x ∷ a → db ≡ y ∷ b → x.symbol ≡ y.symbol → t ≡ record { coefficient = x.coefficient +ℤ y.coefficient; symbol = x.symbol } → ((rest : Terms) → out' ++ rest ≡ out ++ put t.coefficient t.symbol rest) → out ++ merge da db ≡ all → out' ++ merge a b ≡ all
-takes_both out out' x y t a b da db all p q l u k e = k (merge a b) ∙ ap (λ w. out ++ put w.coefficient w.symbol (merge a b)) u ∙ ap (λ ts. out ++ ts) (sym (alike x y a b da db p q l)) ∙ e
+rising_at : (a : List Term) (i : ℕ) → i < length a → are_rising a ≡ true → IsRising 0 (term (get_or a i no_term) ∷ terms (drop (i + 1) a))
+rising_at a i h r = subst (IsRising 0) (terms-drop a i no_term h) (rising_drop i a (rising_true 0 (terms a) r))
 
-pub unfit_alike : (out : Terms) (x y : Weighted ℕ) (a b da db all : Terms) → da ≡ x ∷ a → db ≡ y ∷ b → x.symbol ≡ y.symbol → fits_i64 (x.coefficient +ℤ y.coefficient) ≡ false → out ++ merge da db ≡ all → fits_terms all ≡ false
-unfit_alike out x y a b da db all p q l h e = unfit out (merge a b) all (x.coefficient +ℤ y.coefficient) x.symbol (ap (λ ts. out ++ ts) (sym (alike x y a b da db p q l)) ∙ e) h
+pub merge_left : (k : ℤ) (a b : List Term) (i j : ℕ) → are_rising b ≡ true → i < length a → j < length b → (get_or a i no_term).symbol.number < (get_or b j no_term).symbol.number
+    → merge (terms (drop i a)) (multiples k (terms (drop j b))) ≡ term (get_or a i no_term) ∷ merge (terms (drop (i + 1) a)) (multiples k (terms (drop j b)))
+merge_left k a b i j r p q h =
+    let y = term (get_or b j no_term) in
+    let t = rising_at b j q r in
+    let u : IsRising y.symbol (multiples k (terms (drop j b))) = subst (λ ts. IsRising y.symbol (multiples k ts)) (sym (terms-drop b j no_term q)) (rising-multiples y.symbol k (y ∷ terms (drop (j + 1) b)) (omega arith, t.1, t.2)) in
+    ap (λ ts. merge ts (multiples k (terms (drop j b)))) (terms-drop a i no_term p) ∙ merge_under (term (get_or a i no_term)) (terms (drop (i + 1) a)) (multiples k (terms (drop j b))) y.symbol h u
+
+pub merge_both : (k : ℤ) (a b : List Term) (i j : ℕ) → are_rising a ≡ true → are_rising b ≡ true → i < length a → j < length b → (get_or a i no_term).symbol.number ≡ (get_or b j no_term).symbol.number
+    → merge (terms (drop i a)) (multiples k (terms (drop j b))) ≡ put ((get_or a i no_term).coefficient +ℤ k *ℤ (get_or b j no_term).coefficient) (get_or a i no_term).symbol.number (merge (terms (drop (i + 1) a)) (multiples k (terms (drop (j + 1) b))))
+merge_both k a b i j ra rb p q h =
+    let x = term (get_or a i no_term) in
+    let y = term (get_or b j no_term) in
+    let s = rising_at a i p ra in
+    let t = rising_at b j q rb in
+    ap (λ ts. merge ts (multiples k (terms (drop j b)))) (terms-drop a i no_term p) ∙ ap (λ ts. merge (x ∷ terms (drop (i + 1) a)) (multiples k ts)) (terms-drop b j no_term q)
+    ∙ merge_put_same x (terms (drop (i + 1) a)) (k *ℤ y.coefficient) y.symbol (multiples k (terms (drop (j + 1) b))) h s.1 (rising-multiples (suc y.symbol) k (terms (drop (j + 1) b)) t.2)
+
+above : (a : List Term) (i s : ℕ) (z : ℤ) (b : Terms) → (length a ≤ i) ⊎ (s < (get_or a i no_term).symbol.number) → merge (terms (drop i a)) (put z s b) ≡ put z s (merge (terms (drop i a)) b)
+above [] i s z b h = ap (λ ts. merge (terms ts) (put z s b)) (drop-nil i) ∙ ap (λ ts. put z s (merge (terms ts) b)) (sym (drop-nil i))
+above (t ∷ a) zero s z b h = elim h [ inl e ↦ absurd (omega arith) | inr e ↦ merge_put_above (term t) (terms a) z s b e ]
+above (t ∷ a) (suc i) s z b h = above a i s z b (elim h as (λ _. (length a ≤ i) ⊎ (s < (get_or a i no_term).symbol.number)) [ inl e ↦ inl (omega arith) | inr e ↦ inr e ])
+
+pub merge_right : (k : ℤ) (a b : List Term) (i j : ℕ) → j < length b → (length a ≤ i) ⊎ ((get_or b j no_term).symbol.number < (get_or a i no_term).symbol.number)
+    → merge (terms (drop i a)) (multiples k (terms (drop j b))) ≡ put (k *ℤ (get_or b j no_term).coefficient) (get_or b j no_term).symbol.number (merge (terms (drop i a)) (multiples k (terms (drop (j + 1) b))))
+merge_right k a b i j q h = ap (λ ts. merge (terms (drop i a)) (multiples k ts)) (terms-drop b j no_term q) ∙ above a i _ _ _ h
+
+pub unfit_both : (k : ℤ) (a b : List Term) (i j : ℕ) → are_rising a ≡ true → are_rising b ≡ true → i < length a → j < length b → (get_or a i no_term).symbol.number ≡ (get_or b j no_term).symbol.number
+    → (out all : Terms) → out ++ merge (terms (drop i a)) (multiples k (terms (drop j b))) ≡ all → fits_i64 ((get_or a i no_term).coefficient +ℤ k *ℤ (get_or b j no_term).coefficient) ≡ false → fits_terms all ≡ false
+unfit_both k a b i j ra rb p q h out all = unfit_at out _ (merge (terms (drop (i + 1) a)) (multiples k (terms (drop (j + 1) b)))) all ((get_or a i no_term).coefficient +ℤ k *ℤ (get_or b j no_term).coefficient) (get_or a i no_term).symbol.number (merge_both k a b i j ra rb p q h)
+
+pub unfit_right : (k : ℤ) (a b : List Term) (i j : ℕ) → j < length b → (length a ≤ i) ⊎ ((get_or b j no_term).symbol.number < (get_or a i no_term).symbol.number)
+    → (out all : Terms) → out ++ merge (terms (drop i a)) (multiples k (terms (drop j b))) ≡ all → fits_i64 (k *ℤ (get_or b j no_term).coefficient) ≡ false → fits_terms all ≡ false
+unfit_right k a b i j q h out all = unfit_at out _ (merge (terms (drop i a)) (multiples k (terms (drop (j + 1) b)))) all (k *ℤ (get_or b j no_term).coefficient) (get_or b j no_term).symbol.number (merge_right k a b i j q h)

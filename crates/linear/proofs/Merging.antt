@@ -1,13 +1,13 @@
 -- What merged and multiplied terms are worth, and that they rise.
 use Rattle.std.proofs.Common.{◌≡◌, ◌≢◌, ℕ, zero, suc, ◌<◌, ◌≤◌, Bool, true, false, not, ◌&&◌, [], ◌∷◌, arith, refl, ap, sym, subst, ◌∙◌}
-use Rattle.std.specs.Prelude.{ℤ, pos, negsuc, ◌+ℤ◌, ◌*ℤ◌, nat_lt, nat_le}
+use Rattle.std.specs.Prelude.{ℤ, pos, negsuc, ◌+ℤ◌, ◌*ℤ◌, nat_lt, nat_le, nat_eq}
 use Rattle.std.specs.Ordering.{int_eq}
 use Rattle.std.proofs.lemmas.Int.{ints}
 use Rattle.std.proofs.lemmas.Bool.{lt-ltb}
 use Rattle.std.proofs.lemmas.Bool.Decides.{nat_tests, Decides-int_eq}
 use Rattle.semantics.specs.Linear.{Weighted, terms_value}
 use Rattle.semantics.proofs.Integers.{add-mul, mul-add, mul_assoc}
-use Rattle.linear.specs.Exact.{Terms, is_rising, put, merge_one, merge, multiples}
+use Rattle.linear.specs.Exact.{Terms, is_rising, put, merge_one, merge, multiples, without, coefficient_of, with_value}
 
 not_below : (x y : ℕ) → y ≤ x → nat_lt x y ≡ false
 not_below x y h = grind (arith, nat_tests)
@@ -123,3 +123,76 @@ rising-merge n (x ∷ a) b p q = rising-merge_one x (merge a) (λ b' q'. rising-
 pub rising-multiples : (n : ℕ) (k : ℤ) (ts : Terms) → IsRising n ts → IsRising n (multiples k ts)
 rising-multiples n k [] r = tt
 rising-multiples n k (t ∷ ts) r = rising-put n (k *ℤ t.coefficient) t.symbol (multiples k ts) r.0 (rising-multiples (suc t.symbol) k ts r.2)
+
+-- terms are merged with multiples of others: a multiple may be 0, and then there is no term
+pub merge_under : (x : Weighted ℕ) (a b : Terms) (n : ℕ) → x.symbol < n → IsRising n b → merge (x ∷ a) b ≡ x ∷ merge a b
+merge_under x a [] n h r = refl
+merge_under x a (y ∷ b) n h r = merge_below x (merge a) y b (omega (arith, r.0))
+
+pub merge_put_above : (x : Weighted ℕ) (a : Terms) (z : ℤ) (s : ℕ) (b : Terms) → s < x.symbol → merge (x ∷ a) (put z s b) ≡ put z s (merge (x ∷ a) b)
+merge_put_above x a (pos zero) s b h = refl
+merge_put_above x a (pos (suc n)) s b h = merge_above x (merge a) _ b h
+merge_put_above x a (negsuc n) s b h = merge_above x (merge a) _ b h
+
+put_some : (z : ℤ) (s : ℕ) (ts : Terms) → z ≢ pos 0 → put z s ts ≡ record { coefficient = z; symbol = s } ∷ ts
+put_some (pos zero) s ts h = absurd (h refl)
+put_some (pos (suc n)) s ts h = refl
+put_some (negsuc n) s ts h = refl
+
+put_same : (x : Weighted ℕ) (z : ℤ) (ts : Terms) → z ≡ x.coefficient → x.coefficient ≢ pos 0 → put z x.symbol ts ≡ x ∷ ts
+put_same x z ts e h = ap (λ c. put c x.symbol ts) e ∙ put_some x.coefficient x.symbol ts h
+
+pub merge_put_same : (x : Weighted ℕ) (a : Terms) (z : ℤ) (s : ℕ) (b : Terms) → x.symbol ≡ s → x.coefficient ≢ pos 0 → IsRising (suc s) b → merge (x ∷ a) (put z s b) ≡ put (x.coefficient +ℤ z) x.symbol (merge a b)
+merge_put_same x a (pos zero) s b e h r = merge_under x a b (suc s) (omega arith) r ∙ sym (put_same x (x.coefficient +ℤ pos 0) (merge a b) (omega (arith, ints)) h)
+merge_put_same x a (pos (suc n)) s b e h r = merge_same x (merge a) _ b e
+merge_put_same x a (negsuc n) s b e h r = merge_same x (merge a) _ b e
+
+pub multiples-one : (n : ℕ) (ts : Terms) → IsRising n ts → multiples (pos 1) ts ≡ ts
+multiples-one n [] r = refl
+multiples-one n (t ∷ ts) r = put_same t (pos 1 *ℤ t.coefficient) (multiples (pos 1) ts) (omega (arith, ints)) r.1 ∙ ap (λ us. t ∷ us) (multiples-one (suc t.symbol) ts r.2)
+
+-- a symbol is or is not that of a term
+same_symbol : (a b : ℕ) → a ≡ b → nat_eq a b ≡ true
+same_symbol a b h = grind (arith, nat_tests)
+
+other_symbol : (a b : ℕ) → a ≢ b → nat_eq a b ≡ false
+other_symbol a b h = grind (arith, nat_tests)
+
+-- equal or not, as a test says it
+data Alike (a b : ℕ) : Type 0 where
+  Equal : (h : a ≡ b) → nat_eq a b ≡ true → Alike a b
+  Other : (h : a ≢ b) → nat_eq a b ≡ false → Alike a b
+
+alike : (a b : ℕ) → Alike a b
+alike a b = elim (order a b) [
+  | Below h ↦ (let n : a ≢ b = omega arith in Other n (other_symbol a b n))
+  | Above h ↦ (let n : a ≢ b = omega arith in Other n (other_symbol a b n))
+  | Same h ↦ Equal h (same_symbol a b h)
+]
+
+without_same : (s : ℕ) (t : Weighted ℕ) (ts : Terms) → nat_eq t.symbol s ≡ true → without s (t ∷ ts) ≡ without s ts
+without_same s t ts e = rw e refl
+
+without_other : (s : ℕ) (t : Weighted ℕ) (ts : Terms) → nat_eq t.symbol s ≡ false → without s (t ∷ ts) ≡ t ∷ without s ts
+without_other s t ts e = rw e refl
+
+pub rising-without : (s n : ℕ) (ts : Terms) → IsRising n ts → IsRising n (without s ts)
+rising-without s n [] r = tt
+rising-without s n (t ∷ ts) r = elim (alike t.symbol s) [
+  | Equal h e ↦ subst (IsRising n) (sym (without_same s t ts e)) (rising_from (suc t.symbol) n (without s ts) (omega (arith, r.0)) (rising-without s (suc t.symbol) ts r.2))
+  | Other h e ↦ subst (IsRising n) (sym (without_other s t ts e)) (r.0, r.1, rising-without s (suc t.symbol) ts r.2)
+]
+
+-- beyond a symbol another value of it is not seen
+value_beyond : (v : ℕ → ℤ) (s : ℕ) (z : ℤ) (n : ℕ) (ts : Terms) → s < n → IsRising n ts → terms_value (with_value v s z) ts ≡ terms_value v (without s ts)
+value_beyond v s z n [] h r = refl
+value_beyond v s z n (t ∷ ts) h r =
+    let o = other_symbol t.symbol s (omega (arith, r.0)) in
+    rw o (omega (arith, ints, value_beyond v s z (suc t.symbol) ts (omega (arith, r.0)) r.2))
+
+pub value-without : (v : ℕ → ℤ) (s : ℕ) (z : ℤ) (n : ℕ) (ts : Terms) → IsRising n ts → terms_value (with_value v s z) ts ≡ terms_value v (without s ts) +ℤ coefficient_of s ts *ℤ z
+value-without v s z n [] r = omega (arith, ints)
+value-without v s z n (t ∷ ts) r = elim (alike t.symbol s) [
+  | Equal h e ↦ rw e (omega (arith, ints, value_beyond v s z (suc t.symbol) ts (omega arith) r.2))
+  | Other h e ↦ rw e (omega (arith, ints, value-without v s z (suc t.symbol) ts r.2))
+]

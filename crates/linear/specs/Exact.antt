@@ -1,5 +1,5 @@
 -- Sums, multiples and quotients of linear forms over numbered symbols, in whole numbers without bounds.
-use Rattle.std.specs.Prelude.{ℕ, zero, suc, ℤ, pos, negsuc, ◌+ℤ◌, ◌*ℤ◌, ◌^◌, Bool, true, cond, not, ◌&&◌, nat_le, nat_lt, List, [], ◌∷◌}
+use Rattle.std.specs.Prelude.{ℕ, zero, suc, ℤ, pos, negsuc, ◌+ℤ◌, ◌*ℤ◌, ◌^◌, Bool, true, cond, not, ◌&&◌, nat_le, nat_lt, nat_eq, List, [], ◌∷◌}
 use Rattle.std.specs.Int.{int_div_euclid, int_rem_euclid}
 use Rattle.std.specs.Ordering.{int_eq}
 use Rattle.semantics.specs.Linear.{Weighted, Form}
@@ -49,6 +49,26 @@ sum f g = record { terms = merge f.terms g.terms; constant = f.constant +ℤ g.c
 
 abbrev pub multiple : ℤ → Form ℕ → Form ℕ
 multiple k f = record { terms = multiples k f.terms; constant = k *ℤ f.constant }
+
+-- the coefficient of a symbol, 0 where there is no term of it
+abbrev pub coefficient_of : (symbol : ℕ) → Terms → ℤ
+coefficient_of s [] = pos 0
+coefficient_of s (t ∷ ts) = cond (nat_eq t.symbol s) t.coefficient (coefficient_of s ts)
+
+abbrev pub without : (symbol : ℕ) → Terms → Terms
+without s [] = []
+without s (t ∷ ts) = cond (nat_eq t.symbol s) (without s ts) (t ∷ without s ts)
+
+abbrev pub form_without : (symbol : ℕ) → Form ℕ → Form ℕ
+form_without s f = record { terms = without s f.terms; constant = f.constant }
+
+-- a form with another one in place of a symbol
+abbrev pub substituted : (symbol : ℕ) → Form ℕ → Form ℕ → Form ℕ
+substituted s f g = sum (form_without s f) (multiple (coefficient_of s f.terms) g)
+
+-- a valuation, but for one symbol
+abbrev pub with_value : (ℕ → ℤ) → (symbol : ℕ) → ℤ → ℕ → ℤ
+with_value v s z n = cond (nat_eq n s) z (v n)
 
 abbrev pub divides : (divisor : ℤ) → ℤ → Bool
 divides d c = int_eq (int_rem_euclid c d) (pos 0)

@@ -1,18 +1,18 @@
 // Forms, and their operations.
 ghost use Rattle.std.specs.Prelude.{◌≡◌, ℕ, ℤ, pos, negsuc, true, false, ◌+ℤ◌, ◌-ℤ◌, ◌*ℤ◌, ◌<ℤ◌, ◌&&◌, [], ◌∷◌, IfOk, OnOk, IsErrOf, IfSome, MatchOption, length, IsTrue, ◌↔◌};
 ghost use Rattle.semantics.specs.Linear.{value_of, IsMet};
-ghost use Rattle.linear.specs.Exact.{sum, multiple, quotient, all_divide, fits};
+ghost use Rattle.linear.specs.Exact.{sum, multiple, form_without, coefficient_of, substituted, with_value, quotient, all_divide, fits};
 ghost use Rattle.linear.specs.Terms.{terms, are_rising, are_i64};
 
-use super::merge::{add_terms, divide_terms, multiply_terms};
-use super::term::{Symbol, Term};
+use super::merge::{coefficient_at, combine_terms, divide_terms, without_symbol};
+use super::term::{Symbol, Term, TermList, combine};
 use std::alloc::{AllocError, AllocFailed, Global};
 use thiserror::Error;
 
 /// A sum of terms and a constant.
 #[derive(Debug, Drop)]
 pub struct Form {
-    terms: Vec<Term>,
+    terms: TermList,
     constant: i64,
     ghost rising: { are_rising terms.items ≡ true },
     ghost in_range: { are_i64 terms.items ≡ true },
@@ -72,7 +72,7 @@ impl Form {
         ensures { form result ≡ record { terms = []; constant = constant } }
     {
         Form {
-            terms: Vec::new(alloc),
+            terms: TermList::new(alloc),
             constant,
         }
     }
@@ -81,7 +81,7 @@ impl Form {
     pub fn symbol(alloc: Global, symbol: Symbol) -> Result<Form, AllocError>
         ensures { IfOk result (λ f. form f ≡ record { terms = record { coefficient = pos 1; symbol = symbol.number } ∷ []; constant = pos 0 }) }
     {
-        let mut terms = Vec::new(alloc);
+        let mut terms = TermList::new(alloc);
         terms.push(Term {
             symbol,
             coefficient: 1,
@@ -107,7 +107,7 @@ impl Form {
     pub fn copy(&self, alloc: Global) -> Result<Form, AllocError>
         ensures { IfOk result (λ f. form f ≡ form self.now) }
     {
-        let terms = Vec::from_slice(alloc, self.terms.as_slice())?;
+        let terms = TermList::from_slice(alloc, self.terms.as_slice())?;
         Ok(Form {
             terms,
             constant: self.constant,
@@ -121,11 +121,7 @@ impl Form {
         ensures fits { OnOk result (fits (sum (form self.now) (form other.now)) ≡ true) }
         ensures too_large { IsErrOf result LinearError.TooLarge → fits (sum (form self.now) (form other.now)) ≡ false }
     {
-        let Some(constant) = self.constant.checked_add(other.constant) else {
-            return Err(LinearError::TooLarge);
-        };
-        let terms = add_terms(alloc, self.terms.as_slice(), other.terms.as_slice())?;
-        Ok(Form { terms, constant })
+        self.plus_multiple(alloc, 1, other)
     }
 
     /// The difference of two forms: a form and -1 times the other one.
@@ -133,11 +129,9 @@ impl Form {
         ensures exact { IfOk result (λ f. form f ≡ sum (form self.now) (multiple (negsuc 0) (form other.now))) }
         ensures value { IfOk result (λ f. (v : ℕ → ℤ) → value_of v (form f) ≡ value_of v (form self.now) -ℤ value_of v (form other.now)) }
         ensures fits { OnOk result (fits (sum (form self.now) (multiple (negsuc 0) (form other.now))) ≡ true) }
-        ensures too_large { IsErrOf result LinearError.TooLarge → (fits (multiple (negsuc 0) (form other.now)) && fits (sum (form self.now) (multiple (negsuc 0) (form other.now)))) ≡ false }
+        ensures too_large { IsErrOf result LinearError.TooLarge → fits (sum (form self.now) (multiple (negsuc 0) (form other.now))) ≡ false }
     {
-        let negative = other.times(alloc, -1)?;
-        let difference = self.add(alloc, &negative)?;
-        Ok(difference)
+        self.plus_multiple(alloc, -1, other)
     }
 
     /// A multiple of the form.
@@ -147,10 +141,54 @@ impl Form {
         ensures fits { OnOk result (fits (multiple k (form self.now)) ≡ true) }
         ensures too_large { IsErrOf result LinearError.TooLarge → fits (multiple k (form self.now)) ≡ false }
     {
-        let Some(constant) = k.checked_mul(self.constant) else {
+        let none = Form::constant(alloc, 0);
+        none.plus_multiple(alloc, k, self)
+    }
+
+    /// The form with another one in place of a symbol.
+    pub fn substitute(
+        &self,
+        alloc: Global,
+        symbol: Symbol,
+        other: &Form,
+    ) -> Result<Form, LinearError>
+        ensures exact { IfOk result (λ f. form f ≡ substituted symbol.number (form self.now) (form other.now)) }
+        ensures value { IfOk result (λ f. (v : ℕ → ℤ) → value_of v (form f) ≡ value_of (with_value v symbol.number (value_of v (form other.now))) (form self.now)) }
+        ensures fits { OnOk result (fits (substituted symbol.number (form self.now) (form other.now)) ≡ true) }
+        ensures too_large { IsErrOf result LinearError.TooLarge → fits (substituted symbol.number (form self.now) (form other.now)) ≡ false }
+    {
+        let rest = self.without(alloc, symbol)?;
+        rest.plus_multiple(alloc, self.coefficient(symbol), other)
+    }
+
+    /// The coefficient of a symbol, 0 where there is no term of it.
+    pub fn coefficient(&self, symbol: Symbol) -> i64
+        ensures { result ≡ coefficient_of symbol.number (form self.now).terms }
+    {
+        coefficient_at(self.terms.as_slice(), symbol)
+    }
+
+    /// The form less its term of a symbol.
+    fn without(&self, alloc: Global, symbol: Symbol) -> Result<Form, AllocError>
+        ensures { IfOk result (λ f. form f ≡ form_without symbol.number (form self.now)) }
+    {
+        let terms = without_symbol(alloc, self.terms.as_slice(), symbol)?;
+        Ok(Form {
+            terms,
+            constant: self.constant,
+        })
+    }
+
+    /// The form and a multiple of another one.
+    fn plus_multiple(&self, alloc: Global, k: i64, other: &Form) -> Result<Form, LinearError>
+        ensures exact { IfOk result (λ f. form f ≡ sum (form self.now) (multiple k (form other.now))) }
+        ensures fits { OnOk result (fits (sum (form self.now) (multiple k (form other.now))) ≡ true) }
+        ensures too_large { IsErrOf result LinearError.TooLarge → fits (sum (form self.now) (multiple k (form other.now))) ≡ false }
+    {
+        let Some(constant) = combine(self.constant, k, other.constant) else {
             return Err(LinearError::TooLarge);
         };
-        let terms = multiply_terms(alloc, self.terms.as_slice(), k)?;
+        let terms = combine_terms(alloc, self.terms.as_slice(), k, other.terms.as_slice())?;
         Ok(Form { terms, constant })
     }
 

@@ -1,72 +1,74 @@
-// Lists of terms: merged, multiplied, divided.
+// Lists of terms: combined, divided, with a term left out.
 ghost use Rattle.std.specs.Prelude.{◌≡◌, pos, true, false, ◌<ℤ◌, Err, IfOk, IsErrOf, MatchOption};
-ghost use Rattle.linear.specs.Exact.{merge, multiples, all_divide, quotients, fits_terms};
-ghost use Rattle.linear.specs.Terms.{terms};
+ghost use Rattle.linear.specs.Exact.{merge, multiples, without, coefficient_of, all_divide, quotients, fits_terms};
+ghost use Rattle.linear.specs.Terms.{terms, are_rising, are_i64};
 
 use super::form::LinearError;
-use super::term::{Term, add_alike, divide, keep, keep_some, multiply};
+use super::term::{Symbol, Term, TermList, divide, keep, keep_multiple, keep_sum};
 use std::alloc::{AllocError, Global};
 
-/// The terms of two lists, those of one symbol as one.
-pub fn add_terms(alloc: Global, a: &[Term], b: &[Term]) -> Result<Vec<Term>, LinearError>
-    requires left { fits_terms (terms a.now) ≡ true }
-    requires right { fits_terms (terms b.now) ≡ true }
-    ensures exact { IfOk result (λ out. terms out.items ≡ merge (terms a.now) (terms b.now)) }
+/// The terms of one list and multiples of those of another, those of one symbol as one.
+pub fn combine_terms(alloc: Global, a: &[Term], k: i64, b: &[Term]) -> Result<TermList, LinearError>
+    requires left { are_rising a.now ≡ true }
+    requires right { are_rising b.now ≡ true }
+    requires left_fits { are_i64 a.now ≡ true }
+    ensures exact { IfOk result (λ out. terms out.items ≡ merge (terms a.now) (multiples k (terms b.now))) }
     ensures fits { IfOk result (λ out. fits_terms (terms out.items) ≡ true) }
-    ensures too_large { IsErrOf result LinearError.TooLarge → fits_terms (merge (terms a.now) (terms b.now)) ≡ false }
+    ensures too_large { IsErrOf result LinearError.TooLarge → fits_terms (merge (terms a.now) (multiples k (terms b.now))) ≡ false }
 {
-    let mut out = Vec::new(alloc);
+    let mut out = TermList::new(alloc);
     let mut i = 0;
     let mut j = 0;
-    while i < a.len() && j < b.len() {
-        let x = a[i];
+    while j < b.len() {
         let y = b[j];
-        if x.symbol.number < y.symbol.number {
-            keep(&mut out, x)?;
+        if i < a.len() && a[i].symbol.number < y.symbol.number {
+            keep(&mut out, a[i])?;
             i += 1;
-        } else if y.symbol.number < x.symbol.number {
-            keep(&mut out, y)?;
+        } else if i < a.len() && a[i].symbol.number == y.symbol.number {
+            keep_sum(&mut out, a[i], k, y)?;
+            i += 1;
             j += 1;
         } else {
-            let Some(both) = add_alike(x, y) else {
-                return Err(LinearError::TooLarge);
-            };
-            keep_some(&mut out, both)?;
-            i += 1;
+            keep_multiple(&mut out, k, y)?;
             j += 1;
         }
     }
     out.extend_from_slice(&a[i..])?;
-    out.extend_from_slice(&b[j..])?;
     Ok(out)
 }
 
-/// Each term times a number.
-pub fn multiply_terms(alloc: Global, a: &[Term], k: i64) -> Result<Vec<Term>, LinearError>
-    ensures exact { IfOk result (λ out. terms out.items ≡ multiples k (terms a.now)) }
+/// The terms but that of a symbol.
+pub fn without_symbol(alloc: Global, a: &[Term], symbol: Symbol) -> Result<TermList, AllocError>
+    ensures exact { IfOk result (λ out. terms out.items ≡ without symbol.number (terms a.now)) }
     ensures fits { IfOk result (λ out. fits_terms (terms out.items) ≡ true) }
-    ensures too_large { IsErrOf result LinearError.TooLarge → fits_terms (multiples k (terms a.now)) ≡ false }
 {
-    let mut out = Vec::new(alloc);
+    let mut out = TermList::new(alloc);
     for t in a {
-        let Some(t) = multiply(*t, k) else {
-            return Err(LinearError::TooLarge);
-        };
-        keep_some(&mut out, t)?;
+        if t.symbol.number != symbol.number {
+            keep(&mut out, *t)?;
+        }
     }
     Ok(out)
 }
 
+/// The coefficient of a symbol, 0 where there is no term of it.
+pub fn coefficient_at(a: &[Term], symbol: Symbol) -> i64
+    ensures { result ≡ coefficient_of symbol.number (terms a.now) }
+{
+    for t in a {
+        if t.symbol.number == symbol.number {
+            return t.coefficient;
+        }
+    }
+    0
+}
+
 /// Each term divided, where all divide.
-pub fn divide_terms(
-    alloc: Global,
-    a: &[Term],
-    divisor: i64,
-) -> Result<Option<Vec<Term>>, AllocError>
+pub fn divide_terms(alloc: Global, a: &[Term], divisor: i64) -> Result<Option<TermList>, AllocError>
     requires { pos 0 <ℤ divisor }
     ensures { IfOk result (λ r. MatchOption r (all_divide divisor (terms a.now) ≡ false) (λ out. (all_divide divisor (terms a.now) ≡ true) × (terms out.items ≡ quotients divisor (terms a.now)) × (fits_terms (terms out.items) ≡ true))) }
 {
-    let mut out = Vec::new(alloc);
+    let mut out = TermList::new(alloc);
     for t in a {
         let Some(t) = divide(*t, divisor) else {
             return Ok(None);

@@ -1,46 +1,63 @@
 // Terms, one at a time: the only functions that compute with coefficients.
-ghost use Rattle.std.specs.Prelude.{◌≡◌, ℕ, List, pos, true, false, ◌+ℤ◌, ◌*ℤ◌, ◌<ℤ◌, OnOk, MatchOption, ◌++◌, ◌∷◌};
+ghost use Rattle.std.specs.Prelude.{◌≡◌, ℕ, List, pos, true, false, ◌+ℤ◌, ◌*ℤ◌, ◌<ℤ◌, Err, OnOk, IsErrOf, MatchOption, ◌++◌, ◌∷◌};
 ghost use Rattle.std.specs.Int.{int_div_euclid};
 ghost use Rattle.linear.specs.Exact.{Terms, fits_i64, fits_terms, put, divides};
 ghost use Rattle.linear.specs.Terms.{term, terms};
 
+use super::form::LinearError;
+use smallvec::SmallVec;
 use std::alloc::AllocError;
 
 /// What a number stands for, by its number in a table of the caller's.
-#[derive(Clone, Copy, Debug, PartialEq, Eq, PartialOrd, Ord)]
+#[derive(Clone, Copy, Debug, Default, PartialEq, Eq, PartialOrd, Ord)]
 pub struct Symbol {
     pub number: u32,
 }
 
 /// A symbol with its coefficient.
-#[derive(Clone, Copy, Debug, PartialEq, Eq)]
+#[derive(Clone, Copy, Debug, Default, PartialEq, Eq)]
 pub struct Term {
     pub symbol: Symbol,
     pub coefficient: i64,
 }
 
-/// Two terms of one symbol as one, where the sum of their coefficients is an `i64`.
-pub fn add_alike(x: Term, y: Term) -> Option<Term>
-    ensures { MatchOption result (fits_i64 (x.coefficient +ℤ y.coefficient) ≡ false) (λ t. term t ≡ record { coefficient = x.coefficient +ℤ y.coefficient; symbol = x.symbol.number }) }
+/// Terms, of which a form has few: four and fewer lie in the form itself.
+pub type TermList = SmallVec<Term, 4>;
+
+/// A number and a multiple of another one, which are small enough for `i128`.
+fn wide(x: i64, k: i64, y: i64) -> i128
+    ensures { result ≡ x +ℤ k *ℤ y }
 {
-    let Some(coefficient) = x.coefficient.checked_add(y.coefficient) else {
+    x as i128 + k as i128 * y as i128
+}
+
+/// A number, where it is an `i64`.
+fn narrow(number: i128) -> Option<i64>
+    ensures { MatchOption result (fits_i64 number ≡ false) (λ n. n ≡ number) }
+{
+    if i64::MIN as i128 <= number && number <= i64::MAX as i128 {
+        Some(number as i64)
+    } else {
+        None
+    }
+}
+
+/// A number and a multiple of another one, where the sum is an `i64`.
+pub fn combine(x: i64, k: i64, y: i64) -> Option<i64>
+    ensures { MatchOption result (fits_i64 (x +ℤ k *ℤ y) ≡ false) (λ n. n ≡ x +ℤ k *ℤ y) }
+{
+    narrow(wide(x, k, y))
+}
+
+/// A term and a multiple of one of the same symbol as one, where its coefficient is an `i64`.
+fn add_multiple(x: Term, k: i64, y: Term) -> Option<Term>
+    ensures { MatchOption result (fits_i64 (x.coefficient +ℤ k *ℤ y.coefficient) ≡ false) (λ t. term t ≡ record { coefficient = x.coefficient +ℤ k *ℤ y.coefficient; symbol = x.symbol.number }) }
+{
+    let Some(coefficient) = combine(x.coefficient, k, y.coefficient) else {
         return None;
     };
     Some(Term {
         symbol: x.symbol,
-        coefficient,
-    })
-}
-
-/// A multiple of a term, where its coefficient is an `i64`.
-pub fn multiply(t: Term, k: i64) -> Option<Term>
-    ensures { MatchOption result (fits_i64 (k *ℤ t.coefficient) ≡ false) (λ u. term u ≡ record { coefficient = k *ℤ t.coefficient; symbol = t.symbol.number }) }
-{
-    let Some(coefficient) = k.checked_mul(t.coefficient) else {
-        return None;
-    };
-    Some(Term {
-        symbol: t.symbol,
         coefficient,
     })
 }
@@ -60,7 +77,7 @@ pub fn divide(t: Term, divisor: i64) -> Option<Term>
 }
 
 /// Adds a term at the end.
-pub fn keep(out: &mut Vec<Term>, t: Term) -> Result<(), AllocError>
+pub fn keep(out: &mut TermList, t: Term) -> Result<(), AllocError>
     ensures kept { OnOk result ((rest : Terms) → terms out.new.items ++ rest ≡ terms out.old.items ++ term t ∷ rest) }
     ensures fits { OnOk result (fits_terms (terms out.old.items) ≡ true → fits_terms (terms out.new.items) ≡ true) }
 {
@@ -69,7 +86,7 @@ pub fn keep(out: &mut Vec<Term>, t: Term) -> Result<(), AllocError>
 }
 
 /// Adds a term at the end, unless its coefficient is 0.
-pub fn keep_some(out: &mut Vec<Term>, t: Term) -> Result<(), AllocError>
+fn keep_some(out: &mut TermList, t: Term) -> Result<(), AllocError>
     ensures kept { OnOk result ((rest : Terms) → terms out.new.items ++ rest ≡ terms out.old.items ++ put t.coefficient t.symbol.number rest) }
     ensures fits { OnOk result (fits_terms (terms out.old.items) ≡ true → fits_terms (terms out.new.items) ≡ true) }
 {
@@ -77,4 +94,30 @@ pub fn keep_some(out: &mut Vec<Term>, t: Term) -> Result<(), AllocError>
         return Ok(());
     }
     keep(out, t)
+}
+
+/// Adds a term and a multiple of one of the same symbol at the end, as one.
+pub fn keep_sum(out: &mut TermList, x: Term, k: i64, y: Term) -> Result<(), LinearError>
+    ensures kept { OnOk result ((rest : Terms) → terms out.new.items ++ rest ≡ terms out.old.items ++ put (x.coefficient +ℤ k *ℤ y.coefficient) x.symbol.number rest) }
+    ensures fits { OnOk result (fits_terms (terms out.old.items) ≡ true → fits_terms (terms out.new.items) ≡ true) }
+    ensures too_large { IsErrOf result LinearError.TooLarge → fits_i64 (x.coefficient +ℤ k *ℤ y.coefficient) ≡ false }
+{
+    let Some(both) = add_multiple(x, k, y) else {
+        return Err(LinearError::TooLarge);
+    };
+    keep_some(out, both)?;
+    Ok(())
+}
+
+/// Adds a multiple of a term at the end.
+pub fn keep_multiple(out: &mut TermList, k: i64, y: Term) -> Result<(), LinearError>
+    ensures kept { OnOk result ((rest : Terms) → terms out.new.items ++ rest ≡ terms out.old.items ++ put (k *ℤ y.coefficient) y.symbol.number rest) }
+    ensures fits { OnOk result (fits_terms (terms out.old.items) ≡ true → fits_terms (terms out.new.items) ≡ true) }
+    ensures too_large { IsErrOf result LinearError.TooLarge → fits_i64 (k *ℤ y.coefficient) ≡ false }
+{
+    let none = Term {
+        symbol: y.symbol,
+        coefficient: 0,
+    };
+    keep_sum(out, none, k, y)
 }

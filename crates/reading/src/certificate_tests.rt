@@ -1,7 +1,8 @@
-// The certificate of a kernel without loops, written back; each kind of line; and what is refused.
+// The certificate of a kernel without loops, written back; each kind of line; what is refused; and one made of parts.
 use certificate::error::CertError;
-use certificate::{read, write};
-use std::alloc::Global;
+use certificate::tree::{Anchor, Claim, Entry, Form, Name, Place, Scaled, Spot, Step, Term};
+use certificate::{Certificate, read, write};
+use std::alloc::{AllocError, Global};
 use std::test::Fail;
 
 const STORE: &[u8] = b"certificate 1
@@ -130,6 +131,97 @@ fn bad_lines_are_refused(rt: HostRuntime) -> Result<(), Fail> {
     assert_eq!(rt; refusal(alloc, &STORE[..STORE.len() - 1]), Some((50, 24)));
     for (text, expected) in REFUSED {
         assert_eq!(rt; refusal(alloc, text), Some(*expected));
+    }
+    Ok(())
+}
+
+#[test]
+fn cut_texts_are_refused(rt: HostRuntime) -> Result<(), Fail> {
+    let alloc = rt.alloc();
+    let mut line: usize = 1;
+    for end in 0..STORE.len() {
+        assert_eq!(rt; refusal(alloc, &STORE[..end]), Some((50, line)));
+        if STORE[end] == b'\n' {
+            line = line.wrapping_add(1);
+        }
+    }
+    Ok(())
+}
+
+/// A form of one name.
+fn of_name(alloc: Global, coefficient: i64, name: &str) -> Result<Form, AllocError> {
+    let mut terms = Vec::new(alloc);
+    let name = Name::Variable(String::from_str(alloc, name)?);
+    terms.push(Term { coefficient, name })?;
+    Ok(Form {
+        terms,
+        constant: -4,
+    })
+}
+
+fn place(alloc: Global, coefficient: i64, name: &str) -> Result<Vec<Place>, AllocError> {
+    let mut facts = Vec::new(alloc);
+    facts.push(of_name(alloc, coefficient, name)?)?;
+    let spot = Spot {
+        anchor: Anchor::Barrier(2),
+        head: Some(3),
+    };
+    let mut places = Vec::new(alloc);
+    places.push(Place {
+        spot,
+        same: Vec::new(alloc),
+        facts,
+        congruences: Vec::new(alloc),
+    })?;
+    Ok(places)
+}
+
+fn entry(alloc: Global) -> Result<Vec<Entry>, AllocError> {
+    let mut steps = Vec::new(alloc);
+    steps.push(Step::Given(7))?;
+    steps.push(Step::Divide(Scaled { factor: 2, line: 1 }))?;
+    let mut entries = Vec::new(alloc);
+    entries.push(Entry {
+        obligation: 1,
+        claim: Claim::Show,
+        steps,
+    })?;
+    Ok(entries)
+}
+
+const MADE: &[u8] = b"certificate 1
+place b2/h3
+fact -1*i + -4
+ob 1 show
+g 7
+d 2 1
+end
+";
+
+#[test]
+fn parts_make_a_certificate(rt: HostRuntime) -> Result<(), Fail> {
+    let alloc = rt.alloc();
+    let Some(made) = Certificate::new(
+        alloc,
+        place(alloc, -1, "i")?,
+        Vec::new(alloc),
+        entry(alloc)?,
+    )?
+    else {
+        assert!(rt; false);
+        return Ok(());
+    };
+    assert_eq!(rt; write(alloc, &made)?.as_slice(), MADE);
+    assert!(rt; matches!(is_written_back(alloc, MADE), Ok(true)));
+    Ok(())
+}
+
+#[test]
+fn parts_without_a_text_make_none(rt: HostRuntime) -> Result<(), Fail> {
+    let alloc = rt.alloc();
+    for (coefficient, name) in [(0, "i"), (1, ""), (1, "1i")] {
+        let places = place(alloc, coefficient, name)?;
+        assert!(rt; Certificate::new(alloc, places, Vec::new(alloc), Vec::new(alloc))?.is_none());
     }
     Ok(())
 }

@@ -1,15 +1,18 @@
-use Rattle.std.proofs.Common.{rules, SFits, w64}
-use Rattle.std.proofs.lemmas.Int.{to_z-of_z}
-use Rattle.linear.proofs.Results.{rising_sum, value_sum}
+use Rattle.std.proofs.Common.{◌≡◌, true, false, IfOk, OnOk, IsErrOf, subst}
+use Rattle.linear.specs.Exact.{fits}
+use Rattle.linear.specs.Forms.{form}
+use Rattle.linear.specs.declared.form.LinearError.TheVariants.{TooLarge}
+use Rattle.linear.proofs.Results.{once, if_valued, value_sum}
 use Rattle.linear.proofs.form.Form.add.Goals as goal
 
-pub invariant_of-result-clause-rising : goal.invariant_of-result-clause-rising
-invariant_of-result-clause-rising c = rising_sum c.in_ok-terms.terms.items _ _ _ _ c.in_ok-terms.ensures.exact c.as_slice.ensures.value c.as_slice-2.ensures.value c.args.self.now.rising c.args.other.now.rising
+pub returns-clause-exact : goal.returns-clause-exact
+returns-clause-exact c = subst (λ g. IfOk c.plus_multiple.result (λ f. form f ≡ g)) (once (form c.args.self.now) c.args.other.now) c.plus_multiple.ensures.exact
 
 pub returns-clause-value : goal.returns-clause-value
-returns-clause-value c =
-    let fx : SFits w64 c.args.self.now.constant = search rules in
-    let fy : SFits w64 c.args.other.now.constant = search rules in
-    let fb : SFits w64 c.in-Some.constant = search rules in
-    let h = simp to_z-of_z at c.in-Some.ensures in
-    λ v. simp to_z-of_z (value_sum v c.in_ok-terms.terms.items _ _ _ _ _ _ _ c.in_ok-terms.ensures.exact c.as_slice.ensures.value c.as_slice-2.ensures.value h.1)
+returns-clause-value c = if_valued c.plus_multiple.result _ _ (value_sum (form c.args.self.now) (form c.args.other.now)) (returns-clause-exact c)
+
+pub returns-clause-fits : goal.returns-clause-fits
+returns-clause-fits c = subst (λ g. OnOk c.plus_multiple.result (fits g ≡ true)) (once (form c.args.self.now) c.args.other.now) c.plus_multiple.ensures.fits
+
+pub returns-clause-too_large : goal.returns-clause-too_large
+returns-clause-too_large c = subst (λ g. IsErrOf c.plus_multiple.result TooLarge → fits g ≡ false) (once (form c.args.self.now) c.args.other.now) c.plus_multiple.ensures.too_large

@@ -1,10 +1,10 @@
 use Rattle.std.proofs.Common.{◌≡◌, ◌++◌, true, drop}
-use Rattle.linear.specs.Exact.{multiples, fits_terms}
+use Rattle.linear.specs.Exact.{without, fits_terms}
 use Rattle.linear.specs.Terms.{terms}
-use Rattle.linear.proofs.merge.multiply_terms.Given as goal
+use Rattle.linear.proofs.merge.without_symbol.Given as goal
 
 abbrev pub invariant-loop-t : goal.invariant-loop-t
 invariant-loop-t l = record {
-  same : terms l.out.items ++ multiples l.k (terms (drop l.t-index l.a)) ≡ multiples l.k (terms l.a);
+  same : terms l.out.items ++ without l.symbol.number (terms (drop l.t-index l.a)) ≡ without l.symbol.number (terms l.a);
   fits : fits_terms (terms l.out.items) ≡ true;
 }

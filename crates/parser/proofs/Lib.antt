@@ -8,3 +8,11 @@ pub mod Inversion
 pub mod Marks
 pub mod Sound
 pub mod HeadSteps
+pub mod Taking
+pub mod Due
+pub mod SoundParts
+pub mod SoundStatements
+pub mod Later
+pub mod Counting
+pub mod SoundKernels
+pub mod Exact

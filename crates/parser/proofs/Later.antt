@@ -14,12 +14,12 @@ pub data Later : List Lexeme → List Lexeme → Type 0 where
   stays : {ts : List Lexeme} → Later ts ts
   over : {t : Lexeme} {ts rest : List Lexeme} → is_end t.kind ≡ false → Later ts rest → Later (t ∷ ts) rest
 
-on : {ts us rest : List Lexeme} → Later ts us → Later us rest → Later ts rest
+pub on : {ts us rest : List Lexeme} → Later ts us → Later us rest → Later ts rest
 on stays k = k
 on (over e h) k = over e (on h k)
 
 -- over one lexeme more
-past : {t : Lexeme} {ts us rest : List Lexeme} → is_end t.kind ≡ false → Later ts (t ∷ us) → Later us rest → Later ts rest
+pub past : {t : Lexeme} {ts us rest : List Lexeme} → is_end t.kind ≡ false → Later ts (t ∷ us) → Later us rest → Later ts rest
 past e h k = on h (over e k)
 
 pub later-length : {ts rest : List Lexeme} → Later ts rest → length rest ≤ length ts

@@ -16,3 +16,13 @@ pub mod Later
 pub mod Counting
 pub mod SoundKernels
 pub mod Exact
+pub mod Answers
+pub mod ReadSteps
+pub mod Beginnings
+pub mod Chains
+pub mod CompleteExpressions
+pub mod CompleteParts
+pub mod StatementReads
+pub mod CompleteStatements
+pub mod CompleteKernels
+pub mod Truth

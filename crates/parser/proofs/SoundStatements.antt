@@ -109,7 +109,7 @@ no-else-there [] h = refl
 no-else-there (t ∷ ts) h = ap not h
 
 -- what the first word is
-name-of : {room n : ℕ} {ts rest : List Lexeme} {a : Assignment} → IsAssignment room n ts a rest → (front ts).kind ≡ token.Name a.name
+pub name-of : {room n : ℕ} {ts rest : List Lexeme} {a : Assignment} → IsAssignment room n ts a rest → (front ts).kind ≡ token.Name a.name
 name-of (rules.to_variable x s sign at equal found h) = refl
 name-of (rules.to_element x s sign at opening closing equal found i h) = refl
 

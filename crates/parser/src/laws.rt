@@ -1,12 +1,13 @@
 //! Laws of the readers.
 
-ghost use Rattle.std.specs.Prelude.{◌≡◌, ℕ, List, ◌∷◌, ◌++◌, Ok};
-ghost use Rattle.texts.specs.Ended.{EndsOnce};
+ghost use Rattle.std.specs.Prelude.{◌≡◌, ℕ, List, ◌∷◌, ◌++◌, Ok, Err};
+ghost use Rattle.semantics.specs.Core.{Site};
+ghost use Rattle.texts.specs.Ended.{EndsOnce, IsShort};
 ghost use Rattle.texts.specs.Grammar.{IsExpression};
 ghost use Rattle.texts.specs.KernelGrammar.{IsKernel};
 ghost use Rattle.texts.specs.KernelLimits.{IsWithinLimits};
 ghost use Rattle.texts.specs.Lexemes.{Lexeme};
-ghost use Rattle.texts.specs.ParseFaults.{ParseFault};
+ghost use Rattle.texts.specs.ParseFaults.{ParseFault, Expected};
 ghost use Rattle.texts.specs.Surface.{Expression, Kernel};
 ghost use Rattle.parser.specs.Expressions.{expression_reader};
 ghost use Rattle.parser.specs.Fronts.{Before};
@@ -27,4 +28,29 @@ pub fn an_expression_that_is_read_is_in_the_grammar()
 /// The grammar has each kernel that is parsed, of all lexemes up to the only end, and it is within the limits.
 pub fn what_is_parsed_is_in_the_grammar()
     ensures { (ts : List Lexeme) (k : Kernel) → EndsOnce ts → parsed ts ≡ Ok k → IsKernel 64 ts k × IsWithinLimits k }
+{}
+
+/// Each kernel of the grammar within the limits is parsed.
+pub fn a_kernel_within_the_limits_is_parsed()
+    ensures { (ts : List Lexeme) (k : Kernel) → IsShort ts → IsKernel 64 ts k → IsWithinLimits k → parsed ts ≡ Ok k }
+{}
+
+/// Lexemes that have a kernel within the limits have no other, within them or not.
+pub fn lexemes_have_one_kernel()
+    ensures { (ts : List Lexeme) (k l : Kernel) (room : ℕ) → IsShort ts → IsKernel 64 ts k → IsWithinLimits k → IsKernel room ts l → l ≡ k }
+{}
+
+/// Where another lexeme is due, no kernel has lexemes that begin with those up to and with this one.
+pub fn where_another_is_due_no_kernel_goes_on()
+    ensures { (ts : List Lexeme) (t : Lexeme) (tail : List Lexeme) → run kernel_reader ts ≡ Refused Expected (t ∷ tail) → Before ts (t ∷ tail) (λ front. (others : List Lexeme) (room : ℕ) (k : Kernel) → IsKernel room (front ++ t ∷ others) k → ⊥) }
+{}
+
+/// Where the reader stops for any reason, no kernel within the limits has lexemes that begin with those up to and with that one.
+pub fn where_reading_stops_no_kernel_within_the_limits_goes_on()
+    ensures { (ts : List Lexeme) (fault : ParseFault) (t : Lexeme) (tail : List Lexeme) → run kernel_reader ts ≡ Refused fault (t ∷ tail) → Before ts (t ∷ tail) (λ front. (others : List Lexeme) (k : Kernel) → IsShort (front ++ t ∷ others) → IsKernel 64 (front ++ t ∷ others) k → IsWithinLimits k → ⊥) }
+{}
+
+/// What is refused has no kernel within the limits.
+pub fn what_is_refused_has_no_kernel_within_the_limits()
+    ensures { (ts : List Lexeme) (e : ParseFault × Site) (k : Kernel) → parsed ts ≡ Err e → IsShort ts → IsKernel 64 ts k → IsWithinLimits k → ⊥ }
 {}

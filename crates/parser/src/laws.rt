@@ -1,18 +1,20 @@
 //! Laws of the readers.
 
-ghost use Rattle.std.specs.Prelude.{◌≡◌, ℕ, List, ◌∷◌, ◌++◌, Ok, Err};
+ghost use Rattle.std.specs.Prelude.{◌≡◌, ℕ, List, ◌∷◌, ◌++◌, Result, Ok, Err};
 ghost use Rattle.semantics.specs.Core.{Site};
 ghost use Rattle.texts.specs.Ended.{EndsOnce, IsShort};
 ghost use Rattle.texts.specs.Grammar.{IsExpression};
 ghost use Rattle.texts.specs.KernelGrammar.{IsKernel};
-ghost use Rattle.texts.specs.KernelLimits.{IsWithinLimits};
+ghost use Rattle.texts.specs.KernelLimits.{IsKept, IsWithinLimits};
 ghost use Rattle.texts.specs.Lexemes.{Lexeme};
-ghost use Rattle.texts.specs.ParseFaults.{ParseFault, Expected};
+ghost use Rattle.texts.specs.ParseFaults.{ParseFault};
 ghost use Rattle.texts.specs.Surface.{Expression, Kernel};
 ghost use Rattle.parser.specs.Expressions.{expression_reader};
 ghost use Rattle.parser.specs.Fronts.{Before};
 ghost use Rattle.parser.specs.Kernels.{kernel_reader};
-ghost use Rattle.parser.specs.Parsed.{parsed};
+ghost use Rattle.parser.specs.Parsed.{Gives, Says, parsed};
+ghost use Rattle.parser.specs.declared.error.ParseError.{ParseError};
+ghost use Rattle.syntax.specs.declared.tree.Kernel as code;
 ghost use Rattle.parser.specs.Reader.{Took, Refused, run};
 
 /// A refusal rests on the lexemes up to and with the one that it blames: whatever stands behind that, it is the same.
@@ -40,17 +42,18 @@ pub fn lexemes_have_one_kernel()
     ensures { (ts : List Lexeme) (k l : Kernel) (room : ℕ) → IsShort ts → IsKernel 64 ts k → IsWithinLimits k → IsKernel room ts l → l ≡ k }
 {}
 
-/// Where another lexeme is due, no kernel has lexemes that begin with those up to and with this one.
-pub fn where_another_is_due_no_kernel_goes_on()
-    ensures { (ts : List Lexeme) (t : Lexeme) (tail : List Lexeme) → run kernel_reader ts ≡ Refused Expected (t ∷ tail) → Before ts (t ∷ tail) (λ front. (others : List Lexeme) (room : ℕ) (k : Kernel) → IsKernel room (front ++ t ∷ others) k → ⊥) }
+/// A refusal is true where it stands: no kernel that keeps the limit of which it speaks has lexemes that begin with those up to and with
+/// the one that it blames; where another lexeme is due, no kernel at all.
+pub fn a_refusal_is_true_where_it_stands()
+    ensures { (ts : List Lexeme) (fault : ParseFault) (t : Lexeme) (tail : List Lexeme) → run kernel_reader ts ≡ Refused fault (t ∷ tail) → Before ts (t ∷ tail) (λ front. (others : List Lexeme) (room : ℕ) (k : Kernel) → IsKernel room (front ++ t ∷ others) k → IsKept fault room (front ++ t ∷ others) k → ⊥) }
 {}
 
-/// Where the reader stops for any reason, no kernel within the limits has lexemes that begin with those up to and with that one.
-pub fn where_reading_stops_no_kernel_within_the_limits_goes_on()
-    ensures { (ts : List Lexeme) (fault : ParseFault) (t : Lexeme) (tail : List Lexeme) → run kernel_reader ts ≡ Refused fault (t ∷ tail) → Before ts (t ∷ tail) (λ front. (others : List Lexeme) (k : Kernel) → IsShort (front ++ t ∷ others) → IsKernel 64 (front ++ t ∷ others) k → IsWithinLimits k → ⊥) }
+/// What is refused has no kernel that keeps the limit of which the fault speaks.
+pub fn what_is_refused_has_no_kernel()
+    ensures { (ts : List Lexeme) (e : ParseFault × Site) (room : ℕ) (k : Kernel) → parsed ts ≡ Err e → IsKernel room ts k → IsKept e.0 room ts k → ⊥ }
 {}
 
-/// What is refused has no kernel within the limits.
-pub fn what_is_refused_has_no_kernel_within_the_limits()
-    ensures { (ts : List Lexeme) (e : ParseFault × Site) (k : Kernel) → parsed ts ≡ Err e → IsShort ts → IsKernel 64 ts k → IsWithinLimits k → ⊥ }
+/// So each answer is true of the grammar.
+pub fn an_answer_is_true_of_the_grammar()
+    ensures { (answer : Result code.Kernel ParseError) (ts : List Lexeme) → Gives answer (parsed ts) → Says answer ts }
 {}

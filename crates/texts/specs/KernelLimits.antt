@@ -1,8 +1,11 @@
 -- What it is for a kernel to be within the limits (ours). How many brackets are open at once the grammar has: at most 64.
-use Rattle.std.specs.Prelude.{◌≡◌, ℕ, ◌+◌, ◌*◌, ◌≤◌, Ok}
+use Rattle.std.specs.Prelude.{◌≡◌, ℕ, ◌+◌, ◌*◌, ◌≤◌, List, None, Ok}
 use Rattle.semantics.specs.Launch.{Three}
 use Rattle.texts.specs.Surface.{Statement, Declare, DeclareArray, Assign, If, While, For, Barrier, Block, Statements, none, one, Kernel}
-use Rattle.texts.specs.Limits.{Counts, within_limits}
+use Rattle.texts.specs.Lexemes.{Lexeme}
+use Rattle.texts.specs.Ended.{IsShort}
+use Rattle.texts.specs.ParseFaults.{ParseFault, Expected, TooDeep, TooMany}
+use Rattle.texts.specs.Limits.{deep_statements, Counts, nothing_declared, next, count_parameters, count_statements}
 
 -- a local array has 1 to 16,384 elements
 abbrev mutual
@@ -39,9 +42,22 @@ abbrev mutual
 abbrev pub IsLocalSize : ℕ → Type 0
 IsLocalSize n = (1 ≤ n) × (n ≤ 1024)
 
--- depth and counts of names are those of `Limits.antt`
-pub record IsWithinLimits (k : Kernel) : Type 0 where
+-- no node is below 32 levels
+abbrev pub IsShallow : Kernel → Type 0
+IsShallow k = deep_statements 1 k.body ≡ None
+
+-- local sizes, statements, arrays and names are no more than may be
+pub record IsFew (k : Kernel) : Type 0 where
   pub local_sizes : IsLocalSize k.sizes.x × IsLocalSize k.sizes.y × IsLocalSize k.sizes.z × (k.sizes.x * k.sizes.y * k.sizes.z ≤ 1024)
   pub statements : statements_of k.body ≤ 512
   pub arrays : AllArraysFit k.body
-  pub tree : (c : Counts) × (within_limits k ≡ Ok c)
+  pub names : (c : Counts) × (next (count_parameters nothing_declared k.parameters) (λ c. count_statements c k.body) ≡ Ok c)
+
+abbrev pub IsWithinLimits : Kernel → Type 0
+IsWithinLimits k = IsShallow k × IsFew k
+
+-- that the limit of which a fault speaks is kept, where a kernel opens no more than `room` brackets at once
+abbrev pub IsKept : ParseFault → (room : ℕ) → List Lexeme → Kernel → Type 0
+IsKept Expected room ts k = Unit {0}
+IsKept TooDeep room ts k = (room ≤ 64) × IsShallow k
+IsKept TooMany room ts k = IsShort ts × IsFew k

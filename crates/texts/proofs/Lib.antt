@@ -13,3 +13,4 @@ pub mod CertificateRead
 pub mod FormsWritten
 pub mod ItemsWritten
 pub mod CertificateWritten
+pub mod Endings

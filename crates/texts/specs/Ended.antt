@@ -1,5 +1,5 @@
 -- What the lexemes of a text are.
-use Rattle.std.specs.Prelude.{◌≢◌, ℕ, ◌≤◌, List, [], ◌∷◌, length}
+use Rattle.std.specs.Prelude.{◌≢◌, ◌≤◌, List, [], ◌∷◌, length}
 use Rattle.semantics.specs.Core.{Site}
 use Rattle.texts.specs.Tokens.{End}
 use Rattle.texts.specs.Lexemes.{Lexeme}

@@ -1,6 +1,5 @@
 -- What it is for a kernel to be within the limits (ours). How many brackets are open at once the grammar has: at most 64.
 use Rattle.std.specs.Prelude.{◌≡◌, ℕ, ◌+◌, ◌*◌, ◌≤◌, List, None, Ok}
-use Rattle.semantics.specs.Launch.{Three}
 use Rattle.texts.specs.Surface.{Statement, Declare, DeclareArray, Assign, If, While, For, Barrier, Block, Statements, none, one, Kernel}
 use Rattle.texts.specs.Lexemes.{Lexeme}
 use Rattle.texts.specs.Ended.{IsShort}

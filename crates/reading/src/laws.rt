@@ -1,0 +1,17 @@
+//! What is read of bytes, by the grammar of kernels.
+
+ghost use Rattle.std.specs.Prelude.{◌≡◌, ℕ, List, Ok, Err};
+ghost use Rattle.semantics.specs.Core.{Site};
+ghost use Rattle.reading.specs.Kernels.{Fault, Kernel, read};
+ghost use Rattle.reading.specs.Texts.{IsTextOf};
+
+/// The bytes are the text of the kernel that is read.
+pub fn bytes_are_the_text_of_what_is_read()
+    ensures { (bytes : List ℕ) (k : Kernel) → read bytes ≡ Ok k → IsTextOf bytes k }
+{}
+
+/// And each kernel whose text the bytes are is read of them: so they are the text of one kernel at most, and of none where they are
+/// refused.
+pub fn a_kernel_is_read_of_its_text()
+    ensures { (bytes : List ℕ) (k : Kernel) → IsTextOf bytes k → read bytes ≡ Ok k }
+{}

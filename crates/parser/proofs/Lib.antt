@@ -26,3 +26,4 @@ pub mod StatementReads
 pub mod CompleteStatements
 pub mod CompleteKernels
 pub mod Truth
+pub mod TextTrees

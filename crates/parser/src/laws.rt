@@ -8,6 +8,7 @@ ghost use Rattle.texts.specs.KernelGrammar.{IsKernel};
 ghost use Rattle.texts.specs.KernelLimits.{IsKept, IsWithinLimits};
 ghost use Rattle.texts.specs.Lexemes.{Lexeme};
 ghost use Rattle.texts.specs.ParseFaults.{ParseFault};
+ghost use Rattle.texts.specs.Spelling.{AreSpelt, IsTextTree};
 ghost use Rattle.texts.specs.Surface.{Expression, Kernel};
 ghost use Rattle.parser.specs.Expressions.{expression_reader};
 ghost use Rattle.parser.specs.Fronts.{Before};
@@ -56,4 +57,9 @@ pub fn what_is_refused_has_no_kernel()
 /// So each answer is true of the grammar.
 pub fn an_answer_is_true_of_the_grammar()
     ensures { (answer : Result code.Kernel ParseError) (ts : List Lexeme) → Gives answer (parsed ts) → Says answer ts }
+{}
+
+/// The tree of a text's lexemes has identifiers for names, numbers of their kinds, and statements numbered in the order of the source.
+pub fn the_tree_of_a_text()
+    ensures { (room : ℕ) (ts : List Lexeme) (k : Kernel) → AreSpelt ts → IsKernel room ts k → IsTextTree k }
 {}

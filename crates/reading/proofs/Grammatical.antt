@@ -7,9 +7,12 @@ use Rattle.texts.specs.Lexemes.{lexemes}
 use Rattle.texts.specs.Surface as surface
 use Rattle.texts.specs.TypeFaults.{Checked}
 use Rattle.texts.specs.Elaboration.{elaborate}
+use Rattle.texts.specs.Spelling.{IsTextTree}
 use Rattle.texts.proofs.Endings.{lexemes_ended}
+use Rattle.texts.proofs.Spellings.{lexemes_spelt}
 use Rattle.parser.specs.Parsed.{Parsed, parsed}
 use Rattle.parser.proofs.Exact.{parsed-sound}
+use Rattle.parser.proofs.TextTrees.{text-tree}
 use Rattle.parser.proofs.Truth.{parsed-complete}
 use Rattle.reading.specs.Kernels.{Kernel, Read, of_types, of_tree, of_tokens, read}
 use Rattle.reading.specs.Texts.{IsTextOf}
@@ -50,3 +53,6 @@ pub read-complete : (bytes : List ℕ) (k : Kernel) → IsTextOf bytes k → rea
 unfolding read
 read-complete bytes k t =
     ap of_tokens t.are_tokens ∙ ap of_tree (parsed-complete (lexemes t.tokens) k.tree (lexemes_ended bytes t.tokens t.are_tokens).1 t.in_grammar t.within_limits) ∙ ap (of_types k.tree) t.is_typed
+
+pub read-tree : (bytes : List ℕ) (k : Kernel) → read bytes ≡ Ok k → IsTextTree k.tree
+read-tree bytes k h = let t = read-sound bytes k h in text-tree 64 (lexemes t.tokens) k.tree (lexemes_spelt bytes t.tokens t.are_tokens) t.in_grammar

@@ -2,6 +2,7 @@
 
 ghost use Rattle.std.specs.Prelude.{◌≡◌, ℕ, List, Ok, Err};
 ghost use Rattle.semantics.specs.Core.{Site};
+ghost use Rattle.texts.specs.Spelling.{IsTextTree};
 ghost use Rattle.reading.specs.Kernels.{Fault, Kernel, read};
 ghost use Rattle.reading.specs.Texts.{IsTextOf};
 
@@ -14,4 +15,9 @@ pub fn bytes_are_the_text_of_what_is_read()
 /// refused.
 pub fn a_kernel_is_read_of_its_text()
     ensures { (bytes : List ℕ) (k : Kernel) → IsTextOf bytes k → read bytes ≡ Ok k }
+{}
+
+/// Its names are identifiers, its numbers of their kinds, its statements numbered in the order of the source.
+pub fn what_is_read_is_the_tree_of_a_text()
+    ensures { (bytes : List ℕ) (k : Kernel) → read bytes ≡ Ok k → IsTextTree k.tree }
 {}

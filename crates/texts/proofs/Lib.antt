@@ -14,3 +14,4 @@ pub mod FormsWritten
 pub mod ItemsWritten
 pub mod CertificateWritten
 pub mod Endings
+pub mod Spellings

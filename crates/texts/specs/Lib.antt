@@ -30,3 +30,4 @@ pub mod LaunchSums
 pub mod ConditionsReading
 pub mod LaunchReading
 pub mod LaunchText
+pub mod Spelling

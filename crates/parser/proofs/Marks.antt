@@ -8,11 +8,11 @@ use Rattle.parser.specs.Reader.{front, behind}
 use Rattle.parser.specs.Expressions.{is_left_parenthesis, is_right_parenthesis, is_left_bracket, is_right_bracket, is_comma, is_question, is_colon}
 use Rattle.parser.proofs.Inversion.{front-is}
 
-left_parenthesis-kind : (kind : TokenKind) → is_left_parenthesis kind ≡ true → kind ≡ Mark LeftParenthesis
+pub left_parenthesis-kind : (kind : TokenKind) → is_left_parenthesis kind ≡ true → kind ≡ Mark LeftParenthesis
 left_parenthesis-kind (Mark LeftParenthesis) h = refl
 left_parenthesis-kind kind h = absurd (false≢true h)
 
-right_parenthesis-kind : (kind : TokenKind) → is_right_parenthesis kind ≡ true → kind ≡ Mark RightParenthesis
+pub right_parenthesis-kind : (kind : TokenKind) → is_right_parenthesis kind ≡ true → kind ≡ Mark RightParenthesis
 right_parenthesis-kind (Mark RightParenthesis) h = refl
 right_parenthesis-kind kind h = absurd (false≢true h)
 
@@ -20,11 +20,11 @@ left_bracket-kind : (kind : TokenKind) → is_left_bracket kind ≡ true → kin
 left_bracket-kind (Mark LeftBracket) h = refl
 left_bracket-kind kind h = absurd (false≢true h)
 
-right_bracket-kind : (kind : TokenKind) → is_right_bracket kind ≡ true → kind ≡ Mark RightBracket
+pub right_bracket-kind : (kind : TokenKind) → is_right_bracket kind ≡ true → kind ≡ Mark RightBracket
 right_bracket-kind (Mark RightBracket) h = refl
 right_bracket-kind kind h = absurd (false≢true h)
 
-comma-kind : (kind : TokenKind) → is_comma kind ≡ true → kind ≡ Mark Comma
+pub comma-kind : (kind : TokenKind) → is_comma kind ≡ true → kind ≡ Mark Comma
 comma-kind (Mark Comma) h = refl
 comma-kind kind h = absurd (false≢true h)
 

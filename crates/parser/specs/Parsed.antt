@@ -6,6 +6,9 @@ use Rattle.texts.specs.ParseFaults as rules
 use Rattle.texts.specs.ParseFaults.{parse_fault_number}
 use Rattle.texts.specs.Limits as limits
 use Rattle.texts.specs.Limits.{within_limits}
+use Rattle.texts.specs.Ended.{EndsOnce}
+use Rattle.texts.specs.KernelGrammar.{IsKernel}
+use Rattle.texts.specs.KernelLimits.{IsKept, IsWithinLimits}
 use Rattle.texts.specs.Surface as surface
 use Rattle.syntax.specs.View.{site, kernel}
 use Rattle.syntax.specs.declared.tree.Site.{Site}
@@ -41,6 +44,13 @@ Fails errors.Memory answer = Unit {0}
 abbrev pub Gives : Result Kernel ParseError → Parsed → Type 0
 Gives (Ok k) answer = answer ≡ Ok (kernel k)
 Gives (Err e) answer = Fails e answer
+
+-- what an answer says of the grammar: the kernel is one of these lexemes, within the limits; or these lexemes have no kernel that keeps the
+-- limit of which the fault speaks
+abbrev pub Says : Result Kernel ParseError → List Lexeme → Type 0
+Says (Ok k) ts = EndsOnce ts → IsKernel 64 ts (kernel k) × IsWithinLimits (kernel k)
+Says (Err (errors.At f s)) ts = (room : ℕ) (k : surface.Kernel) → IsKernel room ts k → IsKept (fault f) room ts k → ⊥
+Says (Err errors.Memory) ts = Unit {0}
 
 abbrev pub Measures : Result code.Counts (ParseFault × Site) → Result limits.Counts (rules.ParseFault × core.Site) → Type 0
 Measures (Ok c) answer = answer ≡ Ok (counts c)

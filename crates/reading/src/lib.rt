@@ -18,6 +18,7 @@ use types::typed::Typed;
 mod certificate_tests;
 #[cfg(test)]
 mod kernel_tests;
+pub mod laws;
 #[cfg(test)]
 mod token_tests;
 

@@ -13,3 +13,5 @@ pub mod CertificateRead
 pub mod FormsWritten
 pub mod ItemsWritten
 pub mod CertificateWritten
+pub mod Endings
+pub mod Spellings

@@ -14,6 +14,8 @@ pub mod Grammar
 pub mod ParseFaults
 pub mod KernelGrammar
 pub mod Limits
+pub mod KernelLimits
+pub mod Ended
 pub mod Lines
 pub mod Certificate
 pub mod CertificateText
@@ -28,3 +30,4 @@ pub mod LaunchSums
 pub mod ConditionsReading
 pub mod LaunchReading
 pub mod LaunchText
+pub mod Spelling

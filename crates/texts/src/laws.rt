@@ -1,6 +1,9 @@
 //! Tokens: `tokens_of` is a function, so a text has one reading. These laws say what that reading is.
 
 ghost use Rattle.std.specs.Prelude.{◌≡◌, ◌≤◌, ℕ, List, length, Ok};
+ghost use Rattle.texts.specs.Ended.{EndsOnce, IsShort};
+ghost use Rattle.texts.specs.Lexemes.{lexemes};
+ghost use Rattle.texts.specs.Spelling.{AreSpelt};
 ghost use Rattle.texts.specs.Tokens.{Token, tokens_of};
 ghost use Rattle.texts.specs.Reading.{Reads, IsInOrder, IsCounted};
 
@@ -15,6 +18,16 @@ pub fn tokens_are_a_reading()
 #[tactic(auto, using(crate::proofs::Order::tokens_ordered))]
 pub fn tokens_are_in_order()
     ensures { (text : List ℕ) (tokens : List Token) → tokens_of text ≡ Ok tokens → IsInOrder (length text) 0 tokens }
+{}
+
+/// What the grammar reads of them ends in its only end, and is no longer than a text within its limit gives.
+pub fn lexemes_end_once()
+    ensures { (text : List ℕ) (tokens : List Token) → tokens_of text ≡ Ok tokens → EndsOnce (lexemes tokens) × IsShort (lexemes tokens) }
+{}
+
+/// Their names are identifiers, and their numbers are of their kinds.
+pub fn lexemes_are_spelt()
+    ensures { (text : List ℕ) (tokens : List Token) → tokens_of text ≡ Ok tokens → AreSpelt (lexemes tokens) }
 {}
 
 /// A text has no other reading, and none where a fault is answered.

@@ -1,0 +1,5 @@
+use Rattle.reading.proofs.Grammatical.{read-sound}
+use Rattle.reading.proofs.laws.bytes_are_the_text_of_what_is_read.Goals as goal
+
+pub returns : goal.returns
+returns c = read-sound

@@ -1,0 +1,23 @@
+//! What is read of bytes, by the grammar of kernels.
+
+ghost use Rattle.std.specs.Prelude.{◌≡◌, ℕ, List, Ok, Err};
+ghost use Rattle.semantics.specs.Core.{Site};
+ghost use Rattle.texts.specs.Spelling.{IsTextTree};
+ghost use Rattle.reading.specs.Kernels.{Fault, Kernel, read};
+ghost use Rattle.reading.specs.Texts.{IsTextOf};
+
+/// The bytes are the text of the kernel that is read.
+pub fn bytes_are_the_text_of_what_is_read()
+    ensures { (bytes : List ℕ) (k : Kernel) → read bytes ≡ Ok k → IsTextOf bytes k }
+{}
+
+/// And each kernel whose text the bytes are is read of them: so they are the text of one kernel at most, and of none where they are
+/// refused.
+pub fn a_kernel_is_read_of_its_text()
+    ensures { (bytes : List ℕ) (k : Kernel) → IsTextOf bytes k → read bytes ≡ Ok k }
+{}
+
+/// Its names are identifiers, its numbers of their kinds, its statements numbered in the order of the source.
+pub fn what_is_read_is_the_tree_of_a_text()
+    ensures { (bytes : List ℕ) (k : Kernel) → read bytes ≡ Ok k → IsTextTree k.tree }
+{}

@@ -28,6 +28,7 @@ fn words_of(rt: &HostRuntime) -> io::Result<Vec<String>> {
 
 fn main(rt: HostRuntime) -> ExitCode {
     let Ok(words) = words_of(&rt) else {
+        let _told = eprintln!(&rt; "out of memory");
         return ExitCode::from(4);
     };
     let mut disk = Disk::new(&rt);

@@ -18,6 +18,8 @@ use write_log::{WriteLog, apply};
 
 const LAUNCH: &str = "launch 1\ngroups 2 1 1\nbuffer a fill 65536 0\nfill 0\n";
 
+const HEAD: &str = "__kernel __attribute__((reqd_work_group_size(64, 1, 1))) void k(__global uint *a) {\n";
+
 const EMPTY: &str = "certificate 1\nend\n";
 
 const USAGE: &str = "2  usage: kverify prove | check | run | print\n";
@@ -36,6 +38,17 @@ fn files(alloc: Global) -> Result<Held, Fail> {
     put(&mut held, "wraps", b"kernel __attribute__((reqd_work_group_size(64, 1, 1))) void k(__global uint *a) { a[get_global_id(0) * 67108864u] = 1u; }\n")?;
     put(&mut held, "two", b"conditions 1\ngroups 2..2 1..1 1..1\nlength a >= 128\nbudget 1\n")?;
     put(&mut held, "races", b"kernel __attribute__((reqd_work_group_size(1, 1, 1))) void k(__global uint *a) { a[0] = 1u; }\n")?;
+    let mut stores = String::from_str(alloc, HEAD)?;
+    for _ in 0..513 {
+        stores.push_str("a[get_global_id(0)] = 1u;\n")?;
+    }
+    stores.push_str("}")?;
+    put(&mut held, "stores", stores.as_bytes())?;
+    let mut full = Vec::from_slice(alloc, texts.kernel)?;
+    for _ in texts.kernel.len()..65_536 {
+        full.push(b' ')?;
+    }
+    put(&mut held, "full", &full)?;
     put(&mut held, "long", &vec![in alloc; b' '; 65_537]?)?;
     put(&mut held, "longer", &vec![in alloc; b' '; 4_194_305]?)?;
     Ok(held)
@@ -74,6 +87,8 @@ const LINES: &[(&str, &str)] = &[
     ("check k c p", "0 accepted\n "),
     ("check wraps two empty", "1 refused 52 4\n "),
     ("check races two empty", "1 refused 52 3\n "),
+    ("check full c p", "0 accepted\n "),
+    ("check stores c p", "1 refused 12 514:1\n "),
     ("check k c empty", "1 refused 52 3\n "),
     ("check long c p", "1 refused 5 1:1\n "),
     ("check k long p", "1 refused 34 1\n "),

@@ -27,3 +27,7 @@ pub mod CompleteStatements
 pub mod CompleteKernels
 pub mod Truth
 pub mod TextTrees
+pub mod Tails
+pub mod UniqueExpressions
+pub mod UniqueStatements
+pub mod UniqueKernels

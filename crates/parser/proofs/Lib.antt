@@ -8,6 +8,7 @@ pub mod Inversion
 pub mod Marks
 pub mod Sound
 pub mod HeadSteps
+pub mod Options
 pub mod Taking
 pub mod Due
 pub mod SoundParts

@@ -19,7 +19,7 @@ use Rattle.syntax.specs.View.{site, kernel}
 use Rattle.syntax.specs.declared.tree.Kernel as code
 use Rattle.parser.proofs.Inversion.{not-taken, same-value}
 use Rattle.parser.proofs.Locality.{refused_there}
-use Rattle.parser.proofs.Beginnings.{not-some}
+use Rattle.parser.proofs.Options.{not-some}
 use Rattle.parser.proofs.Answers.{takes, too_deep, too_many}
 use Rattle.parser.proofs.CompleteKernels.{KernelAnswers, answers, kernel-complete}
 use Rattle.parser.proofs.Exact.{no-error, parsed-sound}

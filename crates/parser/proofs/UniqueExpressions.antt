@@ -1,5 +1,5 @@
 -- Lexemes have one expression, whatever its depth and length.
-use Rattle.std.proofs.Common.{◌≡◌, ℕ, suc, Bool, true, false, Option, Some, None, List, ◌∷◌, refl, ap, sym, ◌∙◌, subst, arith}
+use Rattle.std.proofs.Common.{◌≡◌, ℕ, suc, Bool, true, false, List, ◌∷◌, refl, ap, sym, ◌∙◌, subst, arith}
 use Rattle.std.proofs.lemmas.Bool.{false≢true}
 use Rattle.texts.specs.Signs as signs
 use Rattle.texts.specs.Signs.{Sign}
@@ -9,20 +9,10 @@ use Rattle.texts.specs.Grammar as rules
 use Rattle.texts.specs.Grammar.{IsExpression, IsRank, IsOperand, IsArguments, IsMore}
 use Rattle.parser.specs.Reader.{front, behind}
 use Rattle.parser.specs.Expressions.{is_question}
-use Rattle.parser.proofs.Beginnings.{not-some, Ends, Stops, Closes, lower, sign-stops, expression-begins}
+use Rattle.parser.proofs.Options.{same-some, some-none}
+use Rattle.parser.proofs.Beginnings.{Ends, Stops, Closes, lower, sign-stops, expression-begins}
 use Rattle.parser.proofs.CompleteExpressions.{parenthesis_closes, bracket_closes, colon_closes, question_stops, more-closes}
 use Rattle.parser.proofs.Tails.{Tail, Same, split, pop, finish}
-
-pub some-of : {A : Type 0} → A → Option A → A
-some-of d None = d
-some-of d (Some a) = a
-
-pub same-some : {A : Type 0} (o : Option A) (a b : A) → o ≡ Some a → o ≡ Some b → a ≡ b
-unfolding some-of
-same-some o a b p q = ap (some-of a) (sym p ∙ q)
-
-pub some-none : {A : Type 0} (o : Option A) (a : A) → o ≡ None → o ≡ Some a → ⊥
-some-none o a p q = not-some a (sym q ∙ p)
 
 true-false : (b : Bool) → b ≡ true → b ≡ false → ⊥
 true-false b p q = false≢true (sym q ∙ p)

@@ -9,8 +9,9 @@ use Rattle.texts.specs.Surface.{Statements, Parameter, Buffer, Value, Kernel}
 use Rattle.texts.specs.KernelGrammar as rules
 use Rattle.texts.specs.KernelGrammar.{IsParameter, IsParameters, IsItems, IsKernel}
 use Rattle.parser.specs.Reader.{front, behind}
-use Rattle.parser.specs.Expressions.{is_right_parenthesis, is_comma}
-use Rattle.parser.proofs.UniqueExpressions.{same-some}
+use Rattle.parser.specs.Expressions.{is_comma}
+use Rattle.parser.proofs.Options.{same-some}
+use Rattle.parser.proofs.CompleteKernels.{parameter-begins}
 use Rattle.parser.proofs.UniqueStatements.{items-unique}
 
 parameter-unique : {ts rest left : List Lexeme} {p q : Parameter} → IsParameter ts p rest → IsParameter ts q left → (p ≡ q) × (rest ≡ left)
@@ -18,22 +19,17 @@ parameter-unique (rules.buffer w kind x at type star there found) (rules.buffer 
 parameter-unique (rules.constant_buffer w kind x at fixed type star there found) (rules.constant_buffer w' kind' x' at' fixed' type' star' there' found') = (ap (λ kind. Buffer true kind there x) (same-some (kind_of w) kind kind' found found'), refl)
 parameter-unique (rules.value w kind x at there found) (rules.value w' kind' x' at' there' found') = (ap (λ kind. Value kind there x) (same-some (kind_of w) kind kind' found found'), refl)
 
-begins-plainly : {ts rest : List Lexeme} {p : Parameter} → IsParameter ts p rest → is_right_parenthesis (front ts).kind ≡ false
-begins-plainly (rules.buffer w kind x at type star there found) = refl
-begins-plainly (rules.constant_buffer w kind x at fixed type star there found) = refl
-begins-plainly (rules.value w kind x at there found) = refl
-
 comma-ends : (ts us : List Lexeme) (closing comma : _) → mark signs.RightParenthesis closing ∷ ts ≡ mark signs.Comma comma ∷ us → ⊥
 comma-ends ts us closing comma e = false≢true (ap (λ l. is_comma (front l).kind) e)
 
 parameters-unique : {ts rest left : List Lexeme} {ps qs : List Parameter} → IsParameters ts ps rest → IsParameters ts qs left → (ps ≡ qs) × (rest ≡ left)
 parameters-unique (rules.no_parameter closing) (rules.no_parameter closing') = (refl, refl)
-parameters-unique (rules.no_parameter closing) (rules.last_parameter closing' h) = absurd (false≢true (sym (begins-plainly h)))
-parameters-unique (rules.no_parameter closing) (rules.another_parameter comma h k) = absurd (false≢true (sym (begins-plainly h)))
-parameters-unique (rules.last_parameter closing h) (rules.no_parameter closing') = absurd (false≢true (sym (begins-plainly h)))
+parameters-unique (rules.no_parameter closing) (rules.last_parameter closing' h) = absurd (false≢true (sym (parameter-begins h)))
+parameters-unique (rules.no_parameter closing) (rules.another_parameter comma h k) = absurd (false≢true (sym (parameter-begins h)))
+parameters-unique (rules.last_parameter closing h) (rules.no_parameter closing') = absurd (false≢true (sym (parameter-begins h)))
 parameters-unique (rules.last_parameter closing h) (rules.last_parameter closing' h') = let q = parameter-unique h h' in (ap (λ p. p ∷ []) q.0, ap behind q.1)
 parameters-unique {rest = rest} (rules.last_parameter closing h) (rules.another_parameter {ts1 = us} comma h' k') = absurd (comma-ends rest us closing comma (parameter-unique h h').1)
-parameters-unique (rules.another_parameter comma h k) (rules.no_parameter closing) = absurd (false≢true (sym (begins-plainly h)))
+parameters-unique (rules.another_parameter comma h k) (rules.no_parameter closing) = absurd (false≢true (sym (parameter-begins h)))
 parameters-unique {left = left} (rules.another_parameter {ts1 = us} comma h k) (rules.last_parameter closing h') = absurd (comma-ends left us closing comma (sym (parameter-unique h h').1))
 parameters-unique {left = left} (rules.another_parameter {q = q} {ps = ps} comma h k) (rules.another_parameter {p = p'} {q = q'} {ps = qs} comma' h' k') =
     let e = parameter-unique h h' in

@@ -14,12 +14,13 @@ use Rattle.texts.specs.KernelGrammar.{IsAssignment, IsDeclaration, IsFirst, IsSt
 use Rattle.parser.specs.Reader.{front, behind}
 use Rattle.parser.specs.Expressions.{kind_at}
 use Rattle.parser.specs.Statements.{assign_at}
+use Rattle.parser.proofs.Options.{same-some, some-none}
 use Rattle.parser.proofs.Beginnings.{Closes}
 use Rattle.parser.proofs.CompleteExpressions.{semicolon_closes, parenthesis_closes, bracket_closes}
 use Rattle.parser.proofs.CompleteParts.{typed-front}
 use Rattle.parser.proofs.SoundStatements.{name-of}
 use Rattle.parser.proofs.StatementReads.{statement-begins, item-begins, no-brace}
-use Rattle.parser.proofs.UniqueExpressions.{same-some, some-none, expression-unique}
+use Rattle.parser.proofs.UniqueExpressions.{expression-unique}
 
 pub assignment-unique : {room other n : ℕ} {ts rest left : List Lexeme} {a b : Assignment} → IsAssignment room n ts a rest → IsAssignment other n ts b left → Closes (front rest).kind → Closes (front left).kind → (a ≡ b) × (rest ≡ left)
 assignment-unique {n = n} (rules.to_variable {e = e} x s sign at equal found h) (rules.to_variable x' s' sign' at' equal' found' h') c d =
@@ -77,9 +78,6 @@ its-name h x q = ap bytes-of (sym (name-of h) ∙ q)
 
 else-here : (rest : List Lexeme) (other : _) (us : List Lexeme) → no_else rest ≡ true → rest ≡ word words.Else other ∷ us → ⊥
 else-here rest other us free e = false≢true (sym (ap no_else e) ∙ free)
-
-same-part : {a b : Bool} → a ≡ true → a ≡ b → b ≡ false → ⊥
-same-part p q r = false≢true (sym r ∙ sym q ∙ p)
 
 abbrev pub One : (s t : Statement) (next over : ℕ) (rest left : List Lexeme) → Type 0
 One s t next over rest left = (s ≡ t) × (next ≡ over) × (rest ≡ left)

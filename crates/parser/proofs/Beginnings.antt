@@ -1,6 +1,5 @@
 -- How what is in the grammar begins, and what fits of it fits its parts.
 use Rattle.std.proofs.Common.{◌≡◌, ◌≤◌, ◌<◌, ℕ, suc, Bool, true, false, nat_lt, nat_eq, cond, Option, Some, None, List, lt-ltb, refl, ap, sym, ◌∙◌, arith}
-use Rattle.std.proofs.lemmas.Bool.{false≢true}
 use Rattle.std.proofs.lemmas.Bool.Decides.{Decides-eqb}
 use Rattle.semantics.specs.Core.{Site}
 use Rattle.texts.specs.Signs as signs
@@ -15,15 +14,8 @@ use Rattle.texts.specs.Grammar as rules
 use Rattle.texts.specs.Grammar.{IsExpression, IsRank, IsOperand}
 use Rattle.parser.specs.Reader.{front}
 use Rattle.parser.specs.Expressions.{is_left_parenthesis, is_right_parenthesis, is_left_bracket, is_question, of_rank, infix_at, kind_at}
+use Rattle.parser.proofs.Options.{none-some, not-some}
 use Rattle.parser.proofs.Depths.{expression-here, statement-here}
-
-is-some : {A : Type 0} → Option A → Bool
-is-some None = false
-is-some (Some a) = true
-
-pub not-some : {A : Type 0} (a : A) → Some a ≡ None → ⊥
-unfolding is-some
-not-some a h = false≢true (sym (ap is-some h))
 
 -- no operand goes on here, and no chain of signs up to this rank
 abbrev pub Ends : (kind : TokenKind) → Type 0
@@ -48,9 +40,8 @@ other-rank r entry lt = by (nat_eq entry.0 r) refl
     by true q = absurd (let e : entry.0 ≡ r = (Decides-eqb entry.0 r).0 q in omega (arith, e, lt))
 
 no-bracket : (s : Sign) (entry : ℕ × InfixSign) → infix_of s ≡ Some entry → Ends (token.Mark s)
-unfolding is-some
-no-bracket signs.LeftParenthesis entry h = absurd (false≢true (ap is-some h))
-no-bracket signs.LeftBracket entry h = absurd (false≢true (ap is-some h))
+no-bracket signs.LeftParenthesis entry h = absurd (none-some entry h)
+no-bracket signs.LeftBracket entry h = absurd (none-some entry h)
 no-bracket s entry h = (refl, refl)
 
 pub sign-stops : (s : Sign) (rank : ℕ) (sign : InfixSign) → infix_of s ≡ Some (suc rank, sign) → Stops rank (token.Mark s)
@@ -64,8 +55,7 @@ abbrev pub Begins : TokenKind → Type 0
 Begins kind = (kind_at kind ≡ None) × (is_right_parenthesis kind ≡ false)
 
 prefix-begins : (s : Sign) (sign : PrefixSign) → prefix_of s ≡ Some sign → Begins (token.Mark s)
-unfolding is-some
-prefix-begins signs.RightParenthesis sign h = absurd (false≢true (ap is-some h))
+prefix-begins signs.RightParenthesis sign h = absurd (none-some sign h)
 prefix-begins s sign h = (refl, refl)
 
 operand-begins : {room : ℕ} {ts rest : List Lexeme} {e : Expression} → IsOperand room ts e rest → Begins (front ts).kind

@@ -10,8 +10,9 @@ use Rattle.texts.specs.Limits.{deep_expression}
 use Rattle.parser.specs.Reader.{Reader, Outcome, Took, Refused, carry, front, run}
 use Rattle.parser.specs.Expressions.{infix_at, goes_on, longer, chain, ranked}
 use Rattle.parser.proofs.Depths.{expression-here}
+use Rattle.parser.proofs.Options.{not-some}
 use Rattle.parser.proofs.Answers.{Answers, takes, too_deep, too_many}
-use Rattle.parser.proofs.Beginnings.{not-some, its-rank, inner, parts}
+use Rattle.parser.proofs.Beginnings.{its-rank, inner, parts}
 
 shallow : (p : ℕ) (e : Expression) → deep_expression p e ≡ None → p ≤ 32
 shallow p e h = by (nat_lt 32 p) refl

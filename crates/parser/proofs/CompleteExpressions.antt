@@ -39,13 +39,13 @@ bracket_closes = (((λ r le. refl), (refl, refl)), refl)
 comma_closes : Closes (token.Mark signs.Comma)
 comma_closes = (((λ r le. refl), (refl, refl)), refl)
 
-colon_closes : Closes (token.Mark signs.Colon)
+pub colon_closes : Closes (token.Mark signs.Colon)
 colon_closes = (((λ r le. refl), (refl, refl)), refl)
 
-question_stops : Stops 10 (token.Mark signs.Question)
+pub question_stops : Stops 10 (token.Mark signs.Question)
 question_stops = ((λ r le. refl), (refl, refl))
 
-more-closes : {room : ℕ} {ts rest : List Lexeme} {es : Expressions} → IsMore room ts es rest → Closes (front ts).kind
+pub more-closes : {room : ℕ} {ts rest : List Lexeme} {es : Expressions} → IsMore room ts es rest → Closes (front ts).kind
 more-closes (rules.last closing) = parenthesis_closes
 more-closes (rules.more comma h k) = comma_closes
 

@@ -1,7 +1,7 @@
 -- Each kernel of the grammar is read, or a limit is passed.
-use Rattle.std.proofs.Common.{◌≡◌, ◌≤◌, ◌<◌, ℕ, zero, suc, ◌+◌, ◌*◌, Bool, true, false, nat_lt, nat_le, ◌&&◌, cond, Option, Some, None, Result, Ok, Err, List, [], ◌∷◌, length, refl, ap, subst, arith}
+use Rattle.std.proofs.Common.{◌≡◌, ◌≤◌, ◌<◌, ℕ, zero, suc, ◌+◌, ◌*◌, Bool, true, false, nat_lt, nat_le, ◌&&◌, cond, Some, Result, Ok, Err, List, [], ◌∷◌, length, refl, ap, subst, arith}
 use Rattle.std.specs.Prelude.{codes}
-use Rattle.std.proofs.lemmas.Bool.{false≢true, and_from, le-leb, ltb-true}
+use Rattle.std.proofs.lemmas.Bool.{and_from, le-leb, ltb-true}
 use Rattle.std.proofs.Math.Nat.{le-mul_of_pos_right}
 use Rattle.semantics.specs.Word.{Kind}
 use Rattle.semantics.specs.Core.{Site}
@@ -21,6 +21,7 @@ use Rattle.texts.specs.KernelGrammar.{IsParameter, IsParameters, IsKernel}
 use Rattle.parser.specs.Reader.{front}
 use Rattle.parser.specs.Expressions.{is_right_parenthesis}
 use Rattle.parser.specs.Kernels.{is_global, is_const, buffer_reader, value_reader, parameter_reader, one_parameter, more_parameters, parameters_reader, size_reader, sizes_reader, attribute_reader, kernel_reader}
+use Rattle.parser.proofs.Options.{none-some}
 use Rattle.parser.proofs.Answers.{Answers, gives, refuses-many, looks, passes, sure, both, weaker, if-so, if-false}
 use Rattle.parser.proofs.Counting.{items-counts}
 use Rattle.parser.proofs.Later.{past, stays, later-length, parameters-later}
@@ -29,18 +30,12 @@ use Rattle.parser.proofs.CompleteStatements.{items-complete}
 use Rattle.parser.proofs.StatementReads.{block-step}
 use Rattle.parser.proofs.Exact.{no-error}
 
-is-some : {A : Type 0} → Option A → Bool
-is-some None = false
-is-some (Some a) = true
-
 no-const : (w : Reserved) (kind : Kind) → kind_of w ≡ Some kind → is_const (token.Word w) ≡ false
-unfolding is-some
-no-const words.Const kind h = absurd (false≢true (ap is-some h))
+no-const words.Const kind h = absurd (none-some kind h)
 no-const w kind h = refl
 
 no-global : (w : Reserved) (kind : Kind) → kind_of w ≡ Some kind → is_global (token.Word w) ≡ false
-unfolding is-some
-no-global words.Global kind h = absurd (false≢true (ap is-some h))
+no-global words.Global kind h = absurd (none-some kind h)
 no-global w kind h = refl
 
 parameter-complete : {ts rest : List Lexeme} {p : Parameter} {deep many : Type 0} → IsParameter ts p rest → Answers parameter_reader ts p rest deep many
@@ -52,7 +47,7 @@ parameter-complete {rest = rest} (rules.constant_buffer w kind x at fixed type s
 parameter-complete {rest = rest} (rules.value w kind x at there found) =
     looks (if-false (is_global (token.Word w)) _ _ (no-global w kind found) (sure (type-taken w kind at (name x there ∷ rest) found) (sure refl gives)))
 
-parameter-begins : {ts rest : List Lexeme} {p : Parameter} → IsParameter ts p rest → is_right_parenthesis (front ts).kind ≡ false
+pub parameter-begins : {ts rest : List Lexeme} {p : Parameter} → IsParameter ts p rest → is_right_parenthesis (front ts).kind ≡ false
 parameter-begins (rules.buffer w kind x at type star there found) = refl
 parameter-begins (rules.constant_buffer w kind x at fixed type star there found) = refl
 parameter-begins (rules.value w kind x at there found) = refl

@@ -1,6 +1,6 @@
 -- Each assignment, declaration and head of the grammar is read, or a limit is passed.
-use Rattle.std.proofs.Common.{◌≡◌, ◌≤◌, ℕ, zero, suc, ◌+◌, Bool, true, false, nat_lt, nat_le, ◌&&◌, cond, Option, Some, None, List, ◌∷◌, refl, ap, sym, subst, arith}
-use Rattle.std.proofs.lemmas.Bool.{false≢true, and_from, lt-ltb, le-leb}
+use Rattle.std.proofs.Common.{◌≡◌, ◌≤◌, ℕ, zero, suc, ◌+◌, false, nat_lt, nat_le, ◌&&◌, cond, Some, None, List, ◌∷◌, refl, ap, sym, subst, arith}
+use Rattle.std.proofs.lemmas.Bool.{and_from, lt-ltb, le-leb}
 use Rattle.semantics.specs.Word.{Kind}
 use Rattle.semantics.specs.Core.{Site}
 use Rattle.texts.specs.Numbers.{Literal}
@@ -18,19 +18,15 @@ use Rattle.texts.specs.KernelGrammar.{IsAssignment, IsDeclaration, IsFirst}
 use Rattle.parser.specs.Reader.{Gives, Then, Took, front, run}
 use Rattle.parser.specs.Expressions.{is_left_bracket, is_right_bracket, expects, kind_at, expression_reader}
 use Rattle.parser.specs.Statements.{takes, taken, assign_at, bracket, index_reader, assigned_reader, assignment_reader, declaration_reader, first_by, first_reader, tested, parts_reader, head_reader, length_reader}
+use Rattle.parser.proofs.Options.{none-some}
 use Rattle.parser.proofs.Answers.{Answers, gives, refuses-deep, looks, passes, sure, both, if-so}
 use Rattle.parser.proofs.Later.{later-length, expression-later, first-later}
 use Rattle.parser.proofs.Beginnings.{Closes, inner, parts}
 use Rattle.parser.proofs.CompleteExpressions.{Shallow, semicolon_closes, parenthesis_closes, bracket_closes, expression-complete}
 use Rattle.parser.proofs.SoundStatements.{name-of}
 
-is-some : {A : Type 0} → Option A → Bool
-is-some None = false
-is-some (Some a) = true
-
 no-bracket : (s : Sign) (sign : AssignSign) → assign_of s ≡ Some sign → is_left_bracket (token.Mark s) ≡ false
-unfolding is-some
-no-bracket signs.LeftBracket sign h = absurd (false≢true (ap is-some h))
+no-bracket signs.LeftBracket sign h = absurd (none-some sign h)
 no-bracket s sign h = refl
 
 index-none : (room depth : ℕ) (s : Sign) (sign : AssignSign) (equal : Site) (ts : List Lexeme) → assign_of s ≡ Some sign → run (index_reader room depth) (mark s equal ∷ ts) ≡ Took None (mark s equal ∷ ts)

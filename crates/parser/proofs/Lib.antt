@@ -8,6 +8,7 @@ pub mod Inversion
 pub mod Marks
 pub mod Sound
 pub mod HeadSteps
+pub mod Options
 pub mod Taking
 pub mod Due
 pub mod SoundParts
@@ -27,3 +28,7 @@ pub mod CompleteStatements
 pub mod CompleteKernels
 pub mod Truth
 pub mod TextTrees
+pub mod Tails
+pub mod UniqueExpressions
+pub mod UniqueStatements
+pub mod UniqueKernels

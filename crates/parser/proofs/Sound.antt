@@ -1,6 +1,5 @@
 -- What is read of an expression is in the grammar.
 use Rattle.std.proofs.Common.{◌≡◌, ℕ, zero, suc, nat_eq, Bool, true, false, cond, Option, Some, None, List, ◌∷◌, refl, ap, sym, ◌∙◌, subst}
-use Rattle.std.proofs.lemmas.Bool.{false≢true}
 use Rattle.std.proofs.lemmas.Bool.Decides.{Decides-eqb}
 use Rattle.semantics.specs.Word.{Kind}
 use Rattle.semantics.specs.Core.{Site}
@@ -14,6 +13,7 @@ use Rattle.texts.specs.Surface.{Expression, Expressions, InfixSign, PrefixSign, 
 use Rattle.texts.specs.Grammar.{IsExpression, plain, conditional, IsRank, operand, tighter, infixed, IsOperand, prefixed, cast, literal, variable, element, call, parentheses, IsArguments, empty, arguments as some_arguments, IsMore, last, more}
 use Rattle.parser.specs.Reader.{Reader, Gives, Fails, Looks, Passes, Then, Took, carry, front, behind, run}
 use Rattle.parser.specs.Expressions.{is_comma, is_question, is_colon, is_left_parenthesis, is_right_parenthesis, is_left_bracket, is_right_bracket, expects, of_rank, infix_at, goes_on, longer, chain, ranked, arms, whole, argument, more_arguments, arguments, Room, Full, Within, opened, kind_at, parenthesized, after_name, signed, operand_at, tower, inside, expression_reader}
+use Rattle.parser.proofs.Options.{none-some, same-some}
 use Rattle.parser.proofs.Inversion.{not-taken, same-value, same-rest, Through, through, went, on-test, front-is, Passed, over, expected}
 use Rattle.parser.proofs.Marks.{left_parenthesis, right_parenthesis, left_bracket, right_bracket, comma, question, colon}
 
@@ -24,27 +24,17 @@ Sound holds reader = (ts rest : List Lexeme) (e : Expression) → run reader ts 
 data Signed (kind : TokenKind) (rank : ℕ) (sign : InfixSign) : Type 0 where
   is : (s : Sign) → kind ≡ token.Mark s → infix_of s ≡ Some (rank, sign) → Signed kind rank sign
 
-some-of : {A : Type 0} → A → Option A → A
-some-of d None = d
-some-of d (Some a) = a
-
-is-some : {A : Type 0} → Option A → Bool
-is-some None = false
-is-some (Some a) = true
-
 ranked-entry : (s : Sign) (rank : ℕ) (sign : InfixSign) (o : Option (ℕ × InfixSign)) → infix_of s ≡ o → of_rank rank o ≡ Some sign → Signed (token.Mark s) rank sign
-unfolding is-some some-of
-ranked-entry s rank sign None e h = absurd (false≢true (ap is-some h))
+ranked-entry s rank sign None e h = absurd (none-some sign h)
 ranked-entry s rank sign (Some entry) e h = at-rank (nat_eq entry.0 rank) refl h
   where
     at-rank : (b : Bool) → nat_eq entry.0 rank ≡ b → cond b (Some entry.1) None ≡ Some sign → Signed (token.Mark s) rank sign
-    at-rank false n k = absurd (false≢true (ap is-some k))
-    at-rank true n k = is s refl (e ∙ ap (λ x. Some (x, entry.1)) ((Decides-eqb entry.0 rank).0 n) ∙ ap (λ x. Some (rank, x)) (ap (some-of entry.1) k))
+    at-rank false n k = absurd (none-some sign k)
+    at-rank true n k = is s refl (e ∙ ap (λ x. Some (x, entry.1)) ((Decides-eqb entry.0 rank).0 n) ∙ ap (λ x. Some (rank, x)) (same-some _ entry.1 sign refl k))
 
 sign-back : (kind : TokenKind) (rank : ℕ) (sign : InfixSign) → infix_at rank kind ≡ Some sign → Signed kind rank sign
-unfolding is-some
 sign-back (token.Mark s) rank sign h = ranked-entry s rank sign (infix_of s) refl h
-sign-back kind rank sign h = absurd (false≢true (ap is-some h))
+sign-back kind rank sign h = absurd (none-some sign h)
 
 -- the same, where less is left and where the lexemes are written out
 moved : (holds : List Lexeme → Expression → List Lexeme → Type 0) (ts rest left : List Lexeme) (e f : Expression) → holds ts e rest → Took e rest ≡ Took f left → holds ts f left
@@ -211,9 +201,8 @@ data Typed (kind : TokenKind) (of : Kind) : Type 0 where
   by_word : (w : Reserved) → kind ≡ token.Word w → kind_of w ≡ Some of → Typed kind of
 
 type-back : (kind : TokenKind) (of : Kind) → kind_at kind ≡ Some of → Typed kind of
-unfolding is-some
 type-back (token.Word w) of h = by_word w refl h
-type-back kind of h = absurd (false≢true (ap is-some h))
+type-back kind of h = absurd (none-some of h)
 
 cast-sound : (room : ℕ) (deeper : Reader Expression) → Sound (IsOperand (suc room)) deeper → (ts rest : List Lexeme) (kind : Kind) (e : Expression) → is_left_parenthesis (front ts).kind ≡ true → Typed (front (behind ts)).kind kind → run (Then (expects is_right_parenthesis) (λ closing. Then deeper (λ e. Gives (Cast (front ts).site kind e)))) (behind (behind ts)) ≡ Took e rest → IsOperand (suc room) ts e rest
 cast-sound room deeper sound ts rest kind e h (by_word w same found) k =

@@ -1,6 +1,6 @@
 -- What is read of assignments, declarations and heads is in the grammar.
-use Rattle.std.proofs.Common.{◌≡◌, ◌≤◌, ℕ, suc, ◌+◌, Bool, true, false, ◌&&◌, nat_lt, nat_le, Option, Some, None, List, ◌∷◌, refl, ap, sym, ◌∙◌, subst, arith}
-use Rattle.std.proofs.lemmas.Bool.{false≢true, and_parts, ltb-true, leb-true}
+use Rattle.std.proofs.Common.{◌≡◌, ◌≤◌, ℕ, suc, ◌+◌, true, ◌&&◌, nat_lt, nat_le, Option, Some, None, List, ◌∷◌, refl, ap, sym, ◌∙◌, subst, arith}
+use Rattle.std.proofs.lemmas.Bool.{and_parts, ltb-true, leb-true}
 use Rattle.semantics.specs.Word.{Kind}
 use Rattle.semantics.specs.Core.{Site}
 use Rattle.texts.specs.Numbers.{Literal}
@@ -15,6 +15,7 @@ use Rattle.texts.specs.KernelGrammar.{IsAssignment, to_variable, to_element, IsD
 use Rattle.parser.specs.Reader.{Reader, Gives, Fails, Passes, Then, Took, front, behind, run}
 use Rattle.parser.specs.Expressions.{is_left_parenthesis, is_right_parenthesis, is_left_bracket, is_right_bracket, expects, kind_at, expression_reader}
 use Rattle.parser.specs.Statements.{bracket, number_at, assigned_reader, index_reader, assignment_reader, declaration_reader, first_by, first_reader, tested, Head, parts_reader, head_reader, length_by, length_reader}
+use Rattle.parser.proofs.Options.{none-some, same-some}
 use Rattle.parser.proofs.Inversion.{not-taken, on-test, front-is}
 use Rattle.parser.proofs.Marks.{left_parenthesis, left_bracket}
 use Rattle.parser.proofs.Taking.{Went, taking, settled, within, opened, a-name, TypeWord, type_word, a-type, AssignWord, assign_word, an-assignment}
@@ -120,18 +121,9 @@ head-sound room depth n ts rest h k =
 pub data HasNumber (ts : List Lexeme) (n : ℕ) (rest : List Lexeme) : Type 0 where
   has_number : (l : Literal) → l.value ≡ n → ts ≡ number l (front ts).site ∷ rest → HasNumber ts n rest
 
-is-some : {A : Type 0} → Option A → Bool
-is-some None = false
-is-some (Some a) = true
-
-some-of : ℕ → Option ℕ → ℕ
-some-of d None = d
-some-of d (Some a) = a
-
 pub number-back : (ts : List Lexeme) (kind : TokenKind) (n : ℕ) → (front ts).kind ≡ kind → number_at kind ≡ Some n → HasNumber ts n (behind ts)
-unfolding is-some some-of
-number-back ts (token.Number l) n q h = has_number l (ap (some-of 0) h) (front-is ts (token.Number l) refl q)
-number-back ts kind n q h = absurd (false≢true (ap is-some h))
+number-back ts (token.Number l) n q h = has_number l (same-some _ _ n refl h) (front-is ts (token.Number l) refl q)
+number-back ts kind n q h = absurd (none-some n h)
 
 pub data ALength (ts : List Lexeme) (n : ℕ) (rest : List Lexeme) : Type 0 where
   a_length : HasNumber ts n rest → (1 ≤ n) × (n ≤ 16384) → ALength ts n rest

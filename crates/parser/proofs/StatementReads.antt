@@ -1,5 +1,5 @@
 -- How a reader of statements goes on, by what stands at the front.
-use Rattle.std.proofs.Common.{◌≡◌, ◌≤◌, ◌≢◌, not, ℕ, zero, suc, ◌+◌, Bool, true, false, nat_lt, cond, Option, Some, None, List, [], ◌∷◌, refl, ap, sym, subst}
+use Rattle.std.proofs.Common.{◌≡◌, ◌≤◌, ◌≢◌, not, ℕ, zero, suc, ◌+◌, Bool, true, false, nat_lt, cond, Some, None, List, [], ◌∷◌, refl, ap, sym, subst}
 use Rattle.std.specs.Prelude.{codes, bytes_eq}
 use Rattle.std.proofs.lemmas.Bool.{false≢true, le-ltb, false_from_ne_true}
 use Rattle.std.proofs.lemmas.Slice.Eq.{bytes_eq-Decides}
@@ -14,6 +14,7 @@ use Rattle.texts.specs.KernelGrammar.{IsStatement, IsItem, is_else, no_else, is_
 use Rattle.parser.specs.Reader.{Reader, Gives, Passes, Then, Took, front, run}
 use Rattle.parser.specs.Expressions.{expects, kind_at}
 use Rattle.parser.specs.Statements.{is_semicolon, is_left_brace, is_right_brace, is_local, tested, assignment_reader, named, items, else_reader, statement_by, item_by, statement_reader, body_reader, block_reader, item_reader}
+use Rattle.parser.proofs.Options.{none-some}
 use Rattle.parser.proofs.Answers.{Answers, gives, refuses-deep, refuses-many, looks, passes, if-false, if-not}
 use Rattle.parser.proofs.CompleteParts.{typed-front}
 use Rattle.parser.proofs.SoundStatements.{name-of}
@@ -30,13 +31,6 @@ statement-begins (rules.block at h) = (refl, refl, refl)
 
 typed-is : (kind : TokenKind) (k : _) → kind_at kind ≡ Some k → is_right_brace kind ≡ false
 typed-is (token.Mark s) k h = absurd (none-some k h)
-  where
-    is-some : {A : Type 0} → Option A → Bool
-    is-some None = false
-    is-some (Some a) = true
-
-    none-some : {A : Type 0} (k : A) → None ≡ Some k → ⊥
-    none-some k h = false≢true (ap is-some h)
 typed-is kind k h = refl
 
 pub item-begins : {room n next : ℕ} {ts rest : List Lexeme} {s : Statement} → IsItem room n ts s next rest → is_right_brace (front ts).kind ≡ false

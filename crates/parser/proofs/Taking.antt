@@ -1,6 +1,5 @@
 -- What a reader did that took something: each reading on its way.
 use Rattle.std.proofs.Common.{◌≡◌, ℕ, suc, Bool, true, false, cond, Option, Some, None, List, ◌∷◌, refl, ap, ◌∙◌, subst}
-use Rattle.std.proofs.lemmas.Bool.{false≢true}
 use Rattle.semantics.specs.Word.{Kind}
 use Rattle.semantics.specs.Core.{Site}
 use Rattle.texts.specs.Reserved.{Reserved}
@@ -14,6 +13,7 @@ use Rattle.parser.specs.Reader.{Reader, Gives, Fails, Looks, Passes, Then, Took,
 use Rattle.parser.specs.Expressions.{expects, kind_at}
 use Rattle.parser.specs.Statements.{takes, taken, name_at, assign_at, bracket, opens}
 use Rattle.parser.specs.Kernels.{is_end}
+use Rattle.parser.proofs.Options.{none-some, same-some}
 use Rattle.parser.proofs.Inversion.{not-taken, same-value, same-rest, Through, through, went, front-is, Passed, over, expected}
 
 abbrev pub Went : {A : Type 0} → Reader A → List Lexeme → A → List Lexeme → Type 0
@@ -74,19 +74,10 @@ takes-back found ts rest a e = by (found (front ts).kind) refl (taking (taken (f
     by None q w = absurd w
     by (Some b) q w = has (q ∙ ap (λ p. Some p.0) w.0) (ap (λ p. p.1) w.0) w.1
 
-is-some : {A : Type 0} → Option A → Bool
-is-some None = false
-is-some (Some a) = true
-
-some-of : {A : Type 0} → A → Option A → A
-some-of d None = d
-some-of d (Some a) = a
-
 -- a name, a type's word and a sign of assignment, written out
 name-back : (kind : TokenKind) (x : List ℕ) → name_at kind ≡ Some x → kind ≡ token.Name x
-unfolding is-some some-of
-name-back (token.Name y) x h = ap (λ o. token.Name (some-of y o)) h
-name-back kind x h = absurd (false≢true (ap is-some h))
+name-back (token.Name y) x h = ap token.Name (same-some _ y x refl h)
+name-back kind x h = absurd (none-some x h)
 
 pub a-name : (ts rest : List Lexeme) (x : List ℕ × Site) → run (takes name_at) ts ≡ Took x rest → ts ≡ name x.0 x.1 ∷ rest
 a-name ts rest x e = by (takes-back name_at ts rest x e)
@@ -98,9 +89,8 @@ pub data TypeWord (ts : List Lexeme) (kind : Kind) (at : Site) (rest : List Lexe
   type_word : (w : Reserved) → kind_of w ≡ Some kind → ts ≡ word w at ∷ rest → TypeWord ts kind at rest
 
 pub word-back : (ts : List Lexeme) (kind : TokenKind) (of : Kind) → (front ts).kind ≡ kind → kind_at kind ≡ Some of → TypeWord ts of (front ts).site (behind ts)
-unfolding is-some
 word-back ts (token.Word w) of q h = type_word w h (front-is ts (token.Word w) refl q)
-word-back ts kind of q h = absurd (false≢true (ap is-some h))
+word-back ts kind of q h = absurd (none-some of h)
 
 pub a-type : (ts rest : List Lexeme) (k : Kind × Site) → run (takes kind_at) ts ≡ Took k rest → TypeWord ts k.0 k.1 rest
 a-type ts rest k e = by (takes-back kind_at ts rest k e)
@@ -112,9 +102,8 @@ pub data AssignWord (ts : List Lexeme) (sign : AssignSign) (at : Site) (rest : L
   assign_word : (s : Sign) → assign_of s ≡ Some sign → ts ≡ mark s at ∷ rest → AssignWord ts sign at rest
 
 assign-back : (ts : List Lexeme) (kind : TokenKind) (sign : AssignSign) → (front ts).kind ≡ kind → assign_at kind ≡ Some sign → AssignWord ts sign (front ts).site (behind ts)
-unfolding is-some
 assign-back ts (token.Mark s) sign q h = assign_word s h (front-is ts (token.Mark s) refl q)
-assign-back ts kind sign q h = absurd (false≢true (ap is-some h))
+assign-back ts kind sign q h = absurd (none-some sign h)
 
 pub an-assignment : (ts rest : List Lexeme) (sign : AssignSign × Site) → run (takes assign_at) ts ≡ Took sign rest → AssignWord ts sign.0 sign.1 rest
 an-assignment ts rest sign e = by (takes-back assign_at ts rest sign e)

@@ -1,4 +1,4 @@
--- What follows of it that the reader takes what is in the grammar: refusals are true, and lexemes have one kernel.
+-- What follows of it that the reader takes what is in the grammar: each kernel within the limits is parsed, and refusals are true.
 use Rattle.std.proofs.Common.{◌≡◌, ℕ, Option, Some, None, Result, Ok, Err, List, ◌∷◌, ◌++◌, refl, ap, sym, ◌∙◌, subst, arith}
 use Rattle.semantics.specs.Core.{Site}
 use Rattle.texts.specs.Lexemes.{Lexeme}
@@ -19,7 +19,7 @@ use Rattle.syntax.specs.View.{site, kernel}
 use Rattle.syntax.specs.declared.tree.Kernel as code
 use Rattle.parser.proofs.Inversion.{not-taken, same-value}
 use Rattle.parser.proofs.Locality.{refused_there}
-use Rattle.parser.proofs.Beginnings.{not-some}
+use Rattle.parser.proofs.Options.{not-some}
 use Rattle.parser.proofs.Answers.{takes, too_deep, too_many}
 use Rattle.parser.proofs.CompleteKernels.{KernelAnswers, answers, kernel-complete}
 use Rattle.parser.proofs.Exact.{no-error, parsed-sound}
@@ -44,9 +44,6 @@ only : (ts rest : List Lexeme) (k l : Kernel) (room : ℕ) → run kernel_reader
 only ts rest k l room e (answers left (takes q)) = same-value l k left rest (sym q ∙ e)
 only ts rest k l room e (answers left (too_deep over none q)) = absurd (not-taken TooDeep over rest k (sym q ∙ e))
 only ts rest k l room e (answers left (too_many over none q)) = absurd (not-taken TooMany over rest k (sym q ∙ e))
-
-pub one-kernel : (ts : List Lexeme) (k l : Kernel) (room : ℕ) → IsShort ts → IsKernel 64 ts k → IsWithinLimits k → IsKernel room ts l → l ≡ k
-one-kernel ts k l room short h w other = let r = read ts k short w (kernel-complete h) in only ts r.0 k l room r.1 (kernel-complete other)
 
 -- where reading stops, a limit is passed, or another lexeme is due
 fault-of : Outcome Kernel → ParseFault

@@ -38,9 +38,9 @@ pub fn a_kernel_within_the_limits_is_parsed()
     ensures { (ts : List Lexeme) (k : Kernel) → IsShort ts → IsKernel 64 ts k → IsWithinLimits k → parsed ts ≡ Ok k }
 {}
 
-/// Lexemes that have a kernel within the limits have no other, within them or not.
+/// Lexemes have one kernel at most, whatever limits it passes.
 pub fn lexemes_have_one_kernel()
-    ensures { (ts : List Lexeme) (k l : Kernel) (room : ℕ) → IsShort ts → IsKernel 64 ts k → IsWithinLimits k → IsKernel room ts l → l ≡ k }
+    ensures { (ts : List Lexeme) (k l : Kernel) (room other : ℕ) → IsKernel room ts k → IsKernel other ts l → k ≡ l }
 {}
 
 /// A refusal is true where it stands: no kernel that keeps the limit of which it speaks has lexemes that begin with those up to and with

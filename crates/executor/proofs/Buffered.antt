@@ -24,13 +24,13 @@ pub group-more : (s : Setup) (bound g : ℕ) (before after : Buffers) (log : Wri
     → map length (words_of after) ≡ map length (words_of before)
     → HasBuffers s (result_of s bound (g + 1)) after
 group-more s bound g before after log h of_group elements lengths = subst (λ n. HasBuffers s (result_of s bound n) after) next (record {
-    lengths = lengths ∙ h.lengths;
-    elements = λ b i l.
-        elements b i (subst (λ n. i < n) (sym (rows-alike (words_of before) s.launch.buffers b h.lengths)) l)
-        ∙ ap (λ o. logged o (element (words_of before) b i)) (of_group b i)
-        ∙ ap (logged (group_log s bound g b i)) (h.elements b i l)
-        ∙ sym (applied-log (group_stores s bound g) (result_of s bound g) (cell b i));
-  })
+  lengths = lengths ∙ h.lengths;
+  elements = λ b i l.
+      elements b i (subst (λ n. i < n) (sym (rows-alike (words_of before) s.launch.buffers b h.lengths)) l)
+      ∙ ap (λ o. logged o (element (words_of before) b i)) (of_group b i)
+      ∙ ap (logged (group_log s bound g b i)) (h.elements b i l)
+      ∙ sym (applied-log (group_stores s bound g) (result_of s bound g) (cell b i));
+})
   where
     next : suc g ≡ g + 1
     next = omega arith

@@ -41,9 +41,7 @@ fn decimal(text: &str) -> Option<u32> {
 
 /// An option is written as two words, and there is just this one.
 fn is_spelled(words: &[String], option: &str) -> bool {
-    words
-        .iter()
-        .all(|word| !word.as_str().starts_with("--") || word.as_str() == option)
+    words.iter().all(|word| !word.as_str().starts_with("--") || word.as_str() == option)
 }
 
 /// A command with the files of a kernel, its conditions and its certificate.
@@ -60,7 +58,9 @@ fn file<'a>(alloc: Global, name: &'a str) -> Arg<'a> {
 
 /// `run`, with a launch and a number of workers.
 fn run_command<'a>(alloc: Global) -> Result<Command<'a>, AllocError> {
-    let workers = Arg::new(alloc, "workers").long("workers").action(ArgAction::Set);
+    let workers = Arg::new(alloc, "workers")
+        .long("workers")
+        .action(ArgAction::Set);
     let command = with_names(alloc, "run")?.arg(file(alloc, "LAUNCH"))?;
     command.arg(workers)
 }

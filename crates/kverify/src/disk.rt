@@ -3,9 +3,8 @@
 ghost use Rattle.std.specs.Prelude.{None};
 
 use crate::files::{FileFault, Files};
-use std::fs;
-use std::io;
 use std::io::{ErrorKind, Read};
+use std::{fs, io};
 
 /// The files of the system; what they have is not known.
 #[derive(Drop)]

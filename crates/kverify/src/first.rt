@@ -6,8 +6,7 @@ const KERNEL: &[u8] =
     b"__kernel __attribute__((reqd_work_group_size(64, 1, 1))) void k(__global uint *a) {\n\
        a[get_global_id(0)] = 1u;\n}\n";
 
-const CONDITIONS: &[u8] =
-    b"conditions 1\ngroups 1..1024 1..1 1..1\nlength a >= 65536\nbudget 1\n";
+const CONDITIONS: &[u8] = b"conditions 1\ngroups 1..1024 1..1 1..1\nlength a >= 65536\nbudget 1\n";
 
 const CERTIFICATE: &[u8] = b"certificate 1\n\
     ob 3 show\ng 34\ng 39\ng 40\ns 64 1 1 2 1 3\n\

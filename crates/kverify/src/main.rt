@@ -14,9 +14,8 @@ mod tests;
 mod tool;
 
 use disk::Disk;
-use std::env;
-use std::io;
 use std::process::ExitCode;
+use std::{env, io};
 use tool::tool;
 
 /// The words behind the program's name.
@@ -34,5 +33,12 @@ fn main(rt: HostRuntime) -> ExitCode {
     let mut disk = Disk::new(&rt);
     let mut out = rt.stdout();
     let mut err = rt.stderr();
-    ExitCode::from(tool(&rt, rt.alloc(), words.as_slice(), &mut disk, &mut out, &mut err))
+    ExitCode::from(tool(
+        &rt,
+        rt.alloc(),
+        words.as_slice(),
+        &mut disk,
+        &mut out,
+        &mut err,
+    ))
 }

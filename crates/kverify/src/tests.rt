@@ -18,7 +18,8 @@ use write_log::{WriteLog, apply};
 
 const LAUNCH: &str = "launch 1\ngroups 2 1 1\nbuffer a fill 65536 0\nfill 0\n";
 
-const HEAD: &str = "__kernel __attribute__((reqd_work_group_size(64, 1, 1))) void k(__global uint *a) {\n";
+const HEAD: &str =
+    "__kernel __attribute__((reqd_work_group_size(64, 1, 1))) void k(__global uint *a) {\n";
 
 const EMPTY: &str = "certificate 1\nend\n";
 
@@ -32,12 +33,32 @@ fn files(alloc: Global) -> Result<Held, Fail> {
     put(&mut held, "c", texts.conditions)?;
     put(&mut held, "p", texts.certificate)?;
     put(&mut held, "l", LAUNCH.as_bytes())?;
-    put(&mut held, "many", b"launch 1\ngroups 2000 1 1\nbuffer a fill 65536 0\nfill 0\n")?;
-    put(&mut held, "short", b"launch 1\ngroups 1 1 1\nbuffer a fill 65535 0\nfill 0\n")?;
+    put(
+        &mut held,
+        "many",
+        b"launch 1\ngroups 2000 1 1\nbuffer a fill 65536 0\nfill 0\n",
+    )?;
+    put(
+        &mut held,
+        "short",
+        b"launch 1\ngroups 1 1 1\nbuffer a fill 65535 0\nfill 0\n",
+    )?;
     put(&mut held, "empty", EMPTY.as_bytes())?;
-    put(&mut held, "wraps", b"kernel __attribute__((reqd_work_group_size(64, 1, 1))) void k(__global uint *a) { a[get_global_id(0) * 67108864u] = 1u; }\n")?;
-    put(&mut held, "two", b"conditions 1\ngroups 2..2 1..1 1..1\nlength a >= 128\nbudget 1\n")?;
-    put(&mut held, "races", b"kernel __attribute__((reqd_work_group_size(1, 1, 1))) void k(__global uint *a) { a[0] = 1u; }\n")?;
+    put(
+        &mut held,
+        "wraps",
+        b"kernel __attribute__((reqd_work_group_size(64, 1, 1))) void k(__global uint *a) { a[get_global_id(0) * 67108864u] = 1u; }\n",
+    )?;
+    put(
+        &mut held,
+        "two",
+        b"conditions 1\ngroups 2..2 1..1 1..1\nlength a >= 128\nbudget 1\n",
+    )?;
+    put(
+        &mut held,
+        "races",
+        b"kernel __attribute__((reqd_work_group_size(1, 1, 1))) void k(__global uint *a) { a[0] = 1u; }\n",
+    )?;
     let mut stores = String::from_str(alloc, HEAD)?;
     for _ in 0..513 {
         stores.push_str("a[get_global_id(0)] = 1u;\n")?;
@@ -136,7 +157,11 @@ fn a_fill_is_run(rt: HostRuntime) -> Result<(), Fail> {
     }
     want.push_str("\n ")?;
     let mut held = files(rt.alloc())?;
-    for line in ["run k c p l --workers 2", "run --workers 64 k c p l", "run k c p l"] {
+    for line in [
+        "run k c p l --workers 2",
+        "run --workers 64 k c p l",
+        "run k c p l",
+    ] {
         let found = told(&rt, rt.alloc(), line, &mut held)?;
         assert!(rt; found.as_str() == want.as_str());
     }
@@ -185,7 +210,14 @@ fn a_writer_that_fails_is_status_3(rt: HostRuntime) -> Result<(), Fail> {
     let mut err: Vec<u8> = Vec::new(rt.alloc());
     let words: Vec<String> = Vec::new(rt.alloc());
     let mut held = Held::new(rt.alloc());
-    let status = tool(&rt, rt.alloc(), words.as_slice(), &mut held, &mut out, &mut err);
+    let status = tool(
+        &rt,
+        rt.alloc(),
+        words.as_slice(),
+        &mut held,
+        &mut out,
+        &mut err,
+    );
     assert_eq!(rt; status, 3);
     assert!(rt; err.is_empty());
     Ok(())

@@ -121,7 +121,13 @@ fn verdict_of<'a, R: Threads + Wait + Sync, F: Files>(
     match read_line(alloc, words) {
         Ok(Line::First) => Ok(first_verdict(alloc)),
         Ok(Line::Check(names)) => checked(alloc, names, files),
-        Ok(Line::Run { names, launch, workers }) => ran(rt, alloc, names, launch, workers, files),
+        Ok(
+            Line::Run {
+                names,
+                launch,
+                workers,
+            },
+        ) => ran(rt, alloc, names, launch, workers, files),
         Ok(Line::Usage) => Err(Stop::Usage),
         Err(_) => Err(Stop::Memory),
     }

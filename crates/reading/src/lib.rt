@@ -20,6 +20,8 @@ mod certificate_tests;
 mod kernel_tests;
 pub mod laws;
 #[cfg(test)]
+mod position_tests;
+#[cfg(test)]
 mod token_tests;
 
 /// Why a text is no kernel: the first fault of the first part that refuses it, or want of memory.

@@ -28,9 +28,9 @@ loop-number-preserved c =
     let k : n < product (kernel core).sizes = subst (λ m. n < m) (c.product_of-number-end.ensures ∙ ap product c.sizes_of-sizes.ensures) c.loop-number-test.true in
     let w = within s g n k in
     let it : IsItem c.item_at-item.result i = c.item_at-item.ensures.item i
-      (c.place-of_group.ensures.place ∙ ap (setup.place (launch l).groups) (sym w.0))
-      (c.place.ensures.place ∙ ap (λ t. setup.place t n) c.sizes_of-sizes.ensures ∙ ap (setup.place (kernel core).sizes) (sym w.1)) in
+    (c.place-of_group.ensures.place ∙ ap (setup.place (launch l).groups) (sym w.0))
+    (c.place.ensures.place ∙ ap (λ t. setup.place t n) c.sizes_of-sizes.ensures ∙ ap (setup.place (kernel core).sizes) (sym w.1)) in
     λ b j. item-more s g n (at b j) _ _ (c.loop-number.invariant b j)
-      (c.in_ok-run.ensures i b j it
-      ∙ ap (λ x. log_of (item_stores (setup_of x c.item_at-item.result.launch.now) i (statements x.body.items)) (at b j) (written c.loop-number.log b j)) c.item_at-item.ensures.core
-      ∙ ap (λ y. log_of (item_stores (setup_of core y) i (statements core.body.items)) (at b j) (written c.loop-number.log b j)) c.item_at-item.ensures.launch)
+    (c.in_ok-run.ensures i b j it
+    ∙ ap (λ x. log_of (item_stores (setup_of x c.item_at-item.result.launch.now) i (statements x.body.items)) (at b j) (written c.loop-number.log b j)) c.item_at-item.ensures.core
+    ∙ ap (λ y. log_of (item_stores (setup_of core y) i (statements core.body.items)) (at b j) (written c.loop-number.log b j)) c.item_at-item.ensures.launch)

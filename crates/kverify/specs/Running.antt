@@ -1,6 +1,7 @@
 -- What stands behind a run of the program that succeeds.
-use Rattle.std.specs.Prelude.{◌≡◌, ◌+◌, ℕ, List, Option, IfSome, take}
+use Rattle.std.specs.Prelude.{◌≡◌, ◌+◌, ℕ, List, [], Option, IfSome, take, codes}
 use Rattle.kverify.specs.Telling.{IsAcceptedText, IsResultText}
+use Rattle.kverify.specs.Words.{HasWord}
 use Rattle.kverify.specs.declared.telling.Verdict.{Verdict}
 use Rattle.kverify.specs.declared.telling.Verdict.TheVariants as verdicts
 
@@ -8,16 +9,16 @@ use Rattle.kverify.specs.declared.telling.Verdict.TheVariants as verdicts
 abbrev pub IsTextOf : (known : List ℕ → Option (List ℕ)) (name : List ℕ) (limit : ℕ) (text : List ℕ) → Type 0
 IsTextOf known name limit text = IfSome (known name) (λ b. text ≡ take (limit + 1) b)
 
-abbrev pub IsFileText : (known : List ℕ → Option (List ℕ)) (limit : ℕ) (text : List ℕ) → Type 0
-IsFileText known limit text = (name : List ℕ) × IsTextOf known name limit text
+-- `accepted` of the texts in the program, where no word is given; of those of the files that the words of `check` name; or the buffers of
+-- the launch in the file that the words of `run` name
+pub data Success (known : List ℕ → Option (List ℕ)) (ws : List (List ℕ)) (written : List ℕ) : Type 0 where
+  own : ws ≡ [] → (kernel conditions : List ℕ) → IsAcceptedText kernel conditions written → Success known ws written
+  checks : (k c : List ℕ) → HasWord ws 0 (codes "check") → HasWord ws 1 k → HasWord ws 2 c → (kernel conditions : List ℕ) →
+      IsTextOf known k 65536 kernel → IsTextOf known c 65536 conditions → IsAcceptedText kernel conditions written → Success known ws written
+  runs : (k c l : List ℕ) → HasWord ws 0 (codes "run") → HasWord ws 1 k → HasWord ws 2 c → HasWord ws 4 l → (kernel conditions launch : List ℕ) →
+      IsTextOf known k 65536 kernel → IsTextOf known c 65536 conditions → IsTextOf known l 4194304 launch → IsResultText kernel conditions launch written → Success known ws written
 
--- `accepted` of the texts in the program or of those of files, or the buffers of a launch
-pub data Success (known : List ℕ → Option (List ℕ)) (written : List ℕ) : Type 0 where
-  own : (kernel conditions : List ℕ) → IsAcceptedText kernel conditions written → Success known written
-  checks : (kernel conditions : List ℕ) → IsFileText known 65536 kernel → IsFileText known 65536 conditions → IsAcceptedText kernel conditions written → Success known written
-  runs : (kernel conditions launch : List ℕ) → IsFileText known 65536 kernel → IsFileText known 65536 conditions → IsFileText known 4194304 launch → IsResultText kernel conditions launch written → Success known written
-
-abbrev pub Succeeds : (known : List ℕ → Option (List ℕ)) → Verdict → Type 0
-Succeeds known (verdicts.Done text) = Success known text.items
-Succeeds known (verdicts.Refused line) = Unit {0}
-Succeeds known verdicts.OutOfMemory = Unit {0}
+abbrev pub Succeeds : (known : List ℕ → Option (List ℕ)) (ws : List (List ℕ)) → Verdict → Type 0
+Succeeds known ws (verdicts.Done text) = Success known ws text.items
+Succeeds known ws (verdicts.Refused line) = Unit {0}
+Succeeds known ws verdicts.OutOfMemory = Unit {0}

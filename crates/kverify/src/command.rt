@@ -1,4 +1,8 @@
-//! The command line.
+//! The command line. `clap` says whether the words are one; the files are the words that are no option, in their order.
+
+ghost use Rattle.std.specs.Prelude.{◌≡◌, ℕ, List, IfOk, IfSome, false, codes, slice_get};
+ghost use Rattle.std.specs.Option.{option_map};
+ghost use Rattle.kverify.specs.Words.{texts, operands, HasWord, HasNames, Asks};
 
 use clap::error::{Error, ErrorKind};
 use clap::{Arg, ArgAction, ArgMatches, Command};
@@ -65,70 +69,120 @@ fn run_command<'a>(alloc: Global) -> Result<Command<'a>, AllocError> {
     command.arg(workers)
 }
 
-/// The names that were found.
-fn names_of<'a>(matches: &ArgMatches<'a>) -> Option<Names<'a>> {
+/// The n-th word that is neither an option nor its number, from 0.
+fn operand(words: &[String], n: u32) -> Option<&str>
+    ensures { option_map (λ w. w.now) result ≡ slice_get (operands false (texts words.now)) n }
+{
+    let mut left = n;
+    let mut is_number = false;
+    for word in words {
+        if is_number {
+            is_number = false;
+        } else if word.as_str() == "--workers" {
+            is_number = true;
+        } else if left == 0 {
+            return Some(word.as_str());
+        } else {
+            left -= 1;
+        }
+    }
+    None
+}
+
+/// The files that the words name.
+fn names_of<'a>(words: &'a [String]) -> Option<Names<'a>>
+    ensures { IfSome result (λ names. HasNames (texts words.now) names) }
+{
     Some(Names {
-        kernel: matches.get_str("KERNEL")?,
-        conditions: matches.get_str("CONDITIONS")?,
-        certificate: matches.get_str("CERTIFICATE")?,
+        kernel: operand(words, 1)?,
+        conditions: operand(words, 2)?,
+        certificate: operand(words, 3)?,
     })
 }
 
 /// Want of memory is told apart from words that are no command line.
-fn unread<'a>(error: &Error) -> Result<Line<'a>, AllocError> {
+fn unread<'a>(error: &Error) -> Result<Line<'a>, AllocError>
+    ensures { (ws : List (List ℕ)) → IfOk result (λ line. Asks ws line) }
+{
     if error.kind() == ErrorKind::OutOfMemory {
         return Err(AllocError);
     }
     Ok(Line::Usage)
 }
 
-fn check_line<'a>(alloc: Global, words: &'a [String]) -> Result<Line<'a>, AllocError> {
+/// `check`, where the words are such a line.
+fn check_line<'a>(alloc: Global, words: &'a [String]) -> Result<Line<'a>, AllocError>
+    requires { HasWord (texts words.now) 0 (codes "check") }
+    ensures { IfOk result (λ line. Asks (texts words.now) line) }
+{
     if !is_spelled(words, "check") {
         return Ok(Line::Usage);
     }
     match with_names(alloc, "check")?.try_get_matches_from(words) {
-        Ok(matches) => Ok(match names_of(&matches) {
-            Some(names) => Line::Check(names),
-            None => Line::Usage,
-        }),
+        Ok(_) => Ok(check_of(words)),
         Err(error) => unread(&error),
     }
 }
 
-/// What `run` is asked for.
-fn run_of<'a>(matches: &ArgMatches<'a>) -> Option<Line<'a>> {
-    let workers = match matches.get_str("workers") {
-        Some(text) => decimal(text)?,
-        None => 1,
-    };
-    Some(Line::Run {
-        names: names_of(matches)?,
-        launch: matches.get_str("LAUNCH")?,
-        workers,
-    })
+/// What `check` is asked for.
+fn check_of<'a>(words: &'a [String]) -> Line<'a>
+    requires { HasWord (texts words.now) 0 (codes "check") }
+    ensures { Asks (texts words.now) result }
+{
+    match names_of(words) {
+        Some(names) => Line::Check(names),
+        None => Line::Usage,
+    }
 }
 
-fn run_line<'a>(alloc: Global, words: &'a [String]) -> Result<Line<'a>, AllocError> {
+/// The number of workers, 1 where there is no option; none where it is no number.
+fn workers_of(matches: &ArgMatches<'_>) -> Option<u32> {
+    match matches.get_str("workers") {
+        Some(text) => decimal(text),
+        None => Some(1),
+    }
+}
+
+/// What `run` is asked for.
+fn run_of<'a>(words: &'a [String], workers: Option<u32>) -> Line<'a>
+    requires { HasWord (texts words.now) 0 (codes "run") }
+    ensures { Asks (texts words.now) result }
+{
+    let (Some(names), Some(launch), Some(workers)) = (names_of(words), operand(words, 4), workers)
+    else {
+        return Line::Usage;
+    };
+    Line::Run {
+        names,
+        launch,
+        workers,
+    }
+}
+
+/// `run`, where the words are such a line.
+fn run_line<'a>(alloc: Global, words: &'a [String]) -> Result<Line<'a>, AllocError>
+    requires { HasWord (texts words.now) 0 (codes "run") }
+    ensures { IfOk result (λ line. Asks (texts words.now) line) }
+{
     if !is_spelled(words, "--workers") {
         return Ok(Line::Usage);
     }
     match run_command(alloc)?.try_get_matches_from(words) {
-        Ok(matches) => Ok(match run_of(&matches) {
-            Some(line) => line,
-            None => Line::Usage,
-        }),
+        Ok(matches) => Ok(run_of(words, workers_of(&matches))),
         Err(error) => unread(&error),
     }
 }
 
 /// What the words ask for. The first is the command.
-pub fn read_line<'a>(alloc: Global, words: &'a [String]) -> Result<Line<'a>, AllocError> {
-    let Some(command) = words.first() else {
+pub fn read_line<'a>(alloc: Global, words: &'a [String]) -> Result<Line<'a>, AllocError>
+    ensures { IfOk result (λ line. Asks (texts words.now) line) }
+{
+    if words.is_empty() {
         return Ok(Line::First);
-    };
-    match command.as_str() {
-        "check" => check_line(alloc, words),
-        "run" => run_line(alloc, words),
+    }
+    match operand(words, 0) {
+        Some(command) if command == "check" => check_line(alloc, words),
+        Some(command) if command == "run" => run_line(alloc, words),
         _ => Ok(Line::Usage),
     }
 }

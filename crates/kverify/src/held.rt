@@ -1,6 +1,6 @@
 //! Files in memory.
 
-ghost use Rattle.std.specs.Prelude.{◌≡◌};
+ghost use Rattle.std.specs.Prelude.{◌≡◌, ℕ, List, None};
 ghost use Rattle.std.specs.Option.{option_map};
 ghost use Rattle.std.specs.BTreeMap.{get_by_text};
 
@@ -17,7 +17,9 @@ pub struct Held {
 
 impl Held {
     /// No file.
-    pub fn new(alloc: Global) -> Held {
+    pub fn new(alloc: Global) -> Held
+        ensures { (name : List ℕ) → option_map (λ v. v.items) (get_by_text result.files name) ≡ None }
+    {
         Held {
             alloc,
             files: BTreeMap::new(alloc),

@@ -1,9 +1,10 @@
 //! One run of the program over files and writers.
 
-ghost use Rattle.std.specs.Prelude.{◌≡◌, ◌≤◌, ℕ, List, Option, IfOk};
+ghost use Rattle.std.specs.Prelude.{◌≡◌, ◌≤◌, ℕ, List, [], Option, IfOk, codes};
 ghost use Rattle.std.specs.Io.KnownBytes.{Appends};
 ghost use Rattle.kverify.specs.Telling.{IsAcceptedText};
-ghost use Rattle.kverify.specs.Running.{IsTextOf, IsFileText, Success, Succeeds};
+ghost use Rattle.kverify.specs.Words.{texts, HasWord, HasNames};
+ghost use Rattle.kverify.specs.Running.{IsTextOf, Success, Succeeds};
 
 use crate::command::{Line, Names, read_line};
 use crate::files::{FileFault, Files};
@@ -76,7 +77,7 @@ fn texts_of<'a, F: Files>(files: &mut F, names: Names<'a>) -> Result<Found, Stop
 
 /// The check of the texts that stand in the program.
 fn first_verdict(alloc: Global) -> Verdict
-    ensures { (known : List ℕ → Option (List ℕ)) → Succeeds known result }
+    ensures { (known : List ℕ → Option (List ℕ)) → Succeeds known [] result }
 {
     check_texts(alloc, first_texts())
 }
@@ -87,7 +88,7 @@ fn checked<'a, F: Files>(
     names: Names<'a>,
     files: &mut F,
 ) -> Result<Verdict, Stop<'a>>
-    ensures { IfOk result (λ v. Succeeds (F.contents files.old) v) }
+    ensures { (ws : List (List ℕ)) → HasWord ws 0 (codes "check") → HasNames ws names.entry → IfOk result (λ v. Succeeds (F.contents files.old) ws v) }
 {
     let found = texts_of(files, names)?;
     Ok(check_texts(alloc, found.texts()))
@@ -102,7 +103,7 @@ fn ran<'a, R: Threads + Wait + Sync, F: Files>(
     workers: u32,
     files: &mut F,
 ) -> Result<Verdict, Stop<'a>>
-    ensures { IfOk result (λ v. Succeeds (F.contents files.old) v) }
+    ensures { (ws : List (List ℕ)) → HasWord ws 0 (codes "run") → HasNames ws names.entry → HasWord ws 4 launch.now → IfOk result (λ v. Succeeds (F.contents files.old) ws v) }
 {
     let found = texts_of(files, names)?;
     let launch = text_of(files, launch, 4_194_304)?;
@@ -116,7 +117,7 @@ fn verdict_of<'a, R: Threads + Wait + Sync, F: Files>(
     words: &'a [String],
     files: &mut F,
 ) -> Result<Verdict, Stop<'a>>
-    ensures { IfOk result (λ v. Succeeds (F.contents files.old) v) }
+    ensures { IfOk result (λ v. Succeeds (F.contents files.old) (texts words.now) v) }
 {
     match read_line(alloc, words) {
         Ok(Line::First) => Ok(first_verdict(alloc)),
@@ -172,7 +173,7 @@ fn stopped<E: Write>(stop: Stop, err: &mut E) -> u8
 /// Tells a verdict.
 fn told<O: Write, E: Write>(verdict: Verdict, out: &mut O, err: &mut E) -> u8
     ensures status { result ≤ 4 }
-    ensures success { (known : List ℕ → Option (List ℕ)) → Succeeds known verdict → result ≡ 0 → (text : List ℕ) × Success known text × Appends (O.contents out.old) (O.contents out.new) text }
+    ensures success { (known : List ℕ → Option (List ℕ)) (ws : List (List ℕ)) → Succeeds known ws verdict → result ≡ 0 → (text : List ℕ) × Success known ws text × Appends (O.contents out.old) (O.contents out.new) text }
 {
     match verdict {
         Verdict::Done(text) => written(0, &text, out),
@@ -192,7 +193,7 @@ pub fn tool<R: Threads + Wait + Sync, F: Files, O: Write, E: Write>(
     err: &mut E,
 ) -> u8
     ensures status { result ≤ 4 }
-    ensures success { result ≡ 0 → (text : List ℕ) × Success (F.contents files.old) text × Appends (O.contents out.old) (O.contents out.new) text }
+    ensures success { result ≡ 0 → (text : List ℕ) × Success (F.contents files.old) (texts words.now) text × Appends (O.contents out.old) (O.contents out.new) text }
 {
     match verdict_of(rt, alloc, words, files) {
         Ok(verdict) => told(verdict, out, err),

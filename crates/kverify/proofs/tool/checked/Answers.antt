@@ -4,8 +4,8 @@ use Rattle.kverify.proofs.Verdicts.{of-check}
 use Rattle.kverify.proofs.tool.checked.Goals as goal
 
 pub returns : goal.returns
-returns g c =
+returns g c = λ ws command names.
     let found = c.in_ok-found.found in
-    of-check (g.F.Files.contents c.args.files.now) c.check_texts.result found.kernel.items found.conditions.items
-    (c.args.names.kernel.now, c.in_ok-found.ensures.kernel) (c.args.names.conditions.now, c.in_ok-found.ensures.conditions)
+    of-check (g.F.Files.contents c.args.files.now) ws c.check_texts.result c.args.names.kernel.now c.args.names.conditions.now found.kernel.items found.conditions.items
+    command names.kernel names.conditions c.in_ok-found.ensures.kernel c.in_ok-found.ensures.conditions
     (subst (λ t. Checks c.check_texts.result found.kernel.items t) c.texts.ensures.conditions (subst (λ t. Checks c.check_texts.result t c.texts.result.conditions.now) c.texts.ensures.kernel c.check_texts.ensures))

@@ -3,3 +3,4 @@ pub mod Quotients
 pub mod Lists
 pub mod Results
 pub mod Widths
+pub mod Sizes

@@ -2,3 +2,4 @@ pub mod Exact
 pub mod Terms
 pub mod Forms
 pub mod Errors
+pub mod Sizes

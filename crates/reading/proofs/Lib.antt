@@ -1,2 +1,3 @@
 pub mod Lexemes
 pub mod Grammatical
+pub mod Sizes

@@ -1,3 +1,4 @@
 pub mod Kernels
 pub mod Answers
 pub mod Texts
+pub mod Limits

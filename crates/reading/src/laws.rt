@@ -5,6 +5,7 @@ ghost use Rattle.semantics.specs.Core.{Site};
 ghost use Rattle.texts.specs.Spelling.{IsTextTree};
 ghost use Rattle.reading.specs.Kernels.{Fault, Kernel, read};
 ghost use Rattle.reading.specs.Texts.{IsTextOf};
+ghost use Rattle.reading.specs.Limits.{HasLocalSizes};
 
 /// The bytes are the text of the kernel that is read.
 pub fn bytes_are_the_text_of_what_is_read()
@@ -20,4 +21,9 @@ pub fn a_kernel_is_read_of_its_text()
 /// Its names are identifiers, its numbers of their kinds, its statements numbered in the order of the source.
 pub fn what_is_read_is_the_tree_of_a_text()
     ensures { (bytes : List ℕ) (k : Kernel) → read bytes ≡ Ok k → IsTextTree k.tree }
+{}
+
+/// Each dimension of its work-group has 1 to 1,024 work-items.
+pub fn local_sizes_are_within_limits()
+    ensures { (bytes : List ℕ) (k : Kernel) → read bytes ≡ Ok k → HasLocalSizes k.core }
 {}

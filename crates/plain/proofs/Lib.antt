@@ -1,0 +1,7 @@
+mod Ends
+mod Terms
+mod Indexes
+mod Trees
+mod Stores
+mod Fitting
+mod Straight

@@ -1,0 +1,33 @@
+-- The local sizes of what is read.
+use Rattle.std.proofs.Common.{◌≡◌, ℕ, true, List, Ok, Err, sym, ap, subst}
+use Rattle.semantics.specs.Launch as launch
+use Rattle.texts.specs.Surface as surface
+use Rattle.texts.specs.TypeFaults.{Checked, then}
+use Rattle.texts.specs.Elaboration.{elaborate, elaborate_all, declare_parameters}
+use Rattle.texts.specs.Scope.{empty_scope}
+use Rattle.texts.specs.KernelLimits.{IsLocalSize}
+use Rattle.reading.specs.Kernels.{Kernel, read}
+use Rattle.reading.specs.Limits.{HasLocalSizes}
+use Rattle.reading.proofs.Grammatical.{read-sound}
+
+-- a chain that answers took its first step
+then-took : {A B : Type 0} (a : Checked A) (go : A → Checked B) (b : B) → then a go ≡ Ok b → (x : A) × (go x ≡ Ok b)
+then-took (Ok x) go b h = (x, h)
+then-took (Err e) go b h = absurd cc
+
+sizes-or : launch.Three ℕ → Checked launch.Kernel → launch.Three ℕ
+sizes-or d (Ok k) = k.sizes
+sizes-or d (Err e) = d
+
+core-sizes : (t : surface.Kernel) (k : launch.Kernel) → elaborate t ≡ Ok k → k.sizes ≡ t.sizes
+unfolding elaborate sizes-or
+core-sizes t k h =
+    let outer = then-took (declare_parameters empty_scope t.parameters) _ k h in
+    let body = then-took (elaborate_all true outer.0 t.body) _ k outer.1 in
+    sym (ap (sizes-or t.sizes) body.1)
+
+pub sizes-read : (bytes : List ℕ) (k : Kernel) → read bytes ≡ Ok k → HasLocalSizes k.core
+sizes-read bytes k h =
+    let t = read-sound bytes k h in
+    let s = t.within_limits.1.local_sizes in
+    subst (λ z. IsLocalSize z.x × IsLocalSize z.y × IsLocalSize z.z) (sym (core-sizes k.tree k.core t.is_typed)) (s.0, s.1, s.2)

@@ -77,7 +77,7 @@ fits_drop (suc i) (t ∷ a) h = fits_drop i a (later _ _ h)
 pub fits_rest : (out end a : List Term) (i : ℕ) → end ≡ out ++ drop i a → fits_terms (terms out) ≡ true → fits_terms (terms a) ≡ true → fits_terms (terms end) ≡ true
 fits_rest out end a i e p q = fits_both out (drop i a) end e p (fits_drop i a q)
 
-merge-none : (a : Terms) → merge a [] ≡ a
+pub merge-none : (a : Terms) → merge a [] ≡ a
 merge-none [] = refl
 merge-none (x ∷ a) = ap (λ ts. x ∷ ts) (merge-none a)
 

@@ -1,3 +1,4 @@
 pub mod Pairs
 pub mod Shown
 pub mod View
+pub mod Refusals

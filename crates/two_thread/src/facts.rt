@@ -1,12 +1,14 @@
 //! The facts of what is to be shown.
 
-ghost use Rattle.std.specs.Prelude.{◌≡◌, ◌++◌, ◌∷◌, [], ◌<◌, ◌≤◌, IfOk, pos, length, take};
+ghost use Rattle.std.specs.Prelude.{◌≡◌, ◌++◌, ◌∷◌, [], ◌<◌, ◌≤◌, ◌⊎◌, MatchResult, pos, length, take};
 ghost use Rattle.linear.specs.Forms.{form as form_seen, forms};
 ghost use Rattle.domain.specs.Members.{leaves};
 ghost use Rattle.walk.specs.Elements as elements;
 ghost use Rattle.walk.specs.Symbols as symbols;
 ghost use Rattle.walk.specs.View.{which, known_seen};
 ghost use Rattle.two_thread.specs.Pairs as specs;
+ghost use Rattle.walk.specs.Refusals.{IsMemory, IsUnfit};
+ghost use Rattle.two_thread.specs.Refusals.{AreUnfit, IsUnfitPair};
 ghost use Rattle.two_thread.specs.View.{scope as scope_seen, order as order_seen, pair as pair_seen, nth_access, seen_accesses};
 
 use crate::pairs::{Order, Pair, Scope};
@@ -21,7 +23,7 @@ use walk::{
 #[tactic(auto, using(crate::proofs::Copies::copies))]
 /// This fact too.
 fn copy_one(alloc: Global, facts: &mut Vec<Form>, fact: &Form) -> Result<(), WalkError>
-    ensures { IfOk result (λ _. forms facts.new.items ≡ forms facts.old.items ++ form_seen fact.now ∷ []) }
+    ensures { MatchResult result (λ _. forms facts.new.items ≡ forms facts.old.items ++ form_seen fact.now ∷ []) IsMemory }
 {
     let again = fact.copy(alloc)?;
     facts.push(again)?;
@@ -31,7 +33,7 @@ fn copy_one(alloc: Global, facts: &mut Vec<Form>, fact: &Form) -> Result<(), Wal
 #[tactic(auto, using(walk::proofs::Facts::carried))]
 /// These facts too.
 fn copy_all(alloc: Global, facts: &mut Vec<Form>, more: &[Form]) -> Result<(), WalkError>
-    ensures { IfOk result (λ _. forms facts.new.items ≡ forms facts.old.items ++ forms more.now) }
+    ensures { MatchResult result (λ _. forms facts.new.items ≡ forms facts.old.items ++ forms more.now) IsMemory }
 {
     for fact in more {
         copy_one(alloc, facts, fact)?;
@@ -47,7 +49,7 @@ fn push_equals(
     left: &Form,
     right: &Form,
 ) -> Result<(), WalkError>
-    ensures { IfOk result (λ _. forms facts.new.items ≡ forms facts.old.items ++ symbols.equals (form_seen left.now) (form_seen right.now)) }
+    ensures { MatchResult result (λ _. forms facts.new.items ≡ forms facts.old.items ++ symbols.equals (form_seen left.now) (form_seen right.now)) (λ e. AreUnfit e (form_seen left.now) (form_seen right.now)) }
 {
     let above = left.sub(alloc, right)?;
     let below = right.sub(alloc, left)?;
@@ -58,7 +60,7 @@ fn push_equals(
 
 /// Both items are of one group.
 fn same_group(alloc: Global, facts: &mut Vec<Form>, dimension: u32) -> Result<(), WalkError>
-    ensures { IfOk result (λ _. forms facts.new.items ≡ forms facts.old.items ++ specs.same_group dimension) }
+    ensures { MatchResult result (λ _. forms facts.new.items ≡ forms facts.old.items ++ specs.same_group dimension) IsMemory }
 {
     let first = once_group(alloc, Which::First, dimension)?;
     let second = once_group(alloc, Which::Second, dimension)?;
@@ -67,7 +69,7 @@ fn same_group(alloc: Global, facts: &mut Vec<Form>, dimension: u32) -> Result<()
 
 /// What the scope says of the two items.
 fn scope_facts(alloc: Global, facts: &mut Vec<Form>, scope: Scope) -> Result<(), WalkError>
-    ensures { IfOk result (λ _. forms facts.new.items ≡ forms facts.old.items ++ specs.scope_facts (scope_seen scope)) }
+    ensures { MatchResult result (λ _. forms facts.new.items ≡ forms facts.old.items ++ specs.scope_facts (scope_seen scope)) IsMemory }
 {
     match scope {
         Scope::Across => Ok(()),
@@ -82,7 +84,7 @@ fn scope_facts(alloc: Global, facts: &mut Vec<Form>, scope: Scope) -> Result<(),
 
 /// An item's id that its scope tells of.
 fn id_of(alloc: Global, scope: Scope, item: Which, dimension: u32) -> Result<Form, WalkError>
-    ensures { IfOk result (λ f. form_seen f ≡ symbols.once (specs.id (scope_seen scope) (which item) dimension)) }
+    ensures { MatchResult result (λ f. form_seen f ≡ symbols.once (specs.id (scope_seen scope) (which item) dimension)) IsMemory }
 {
     match scope {
         Scope::Within => once_local(alloc, item, dimension),
@@ -92,7 +94,7 @@ fn id_of(alloc: Global, scope: Scope, item: Which, dimension: u32) -> Result<For
 
 /// The left form is less than the right one.
 fn less(alloc: Global, left: &Form, right: &Form) -> Result<Form, WalkError>
-    ensures { IfOk result (λ f. form_seen f ≡ specs.less (form_seen left.now) (form_seen right.now)) }
+    ensures { MatchResult result (λ f. form_seen f ≡ specs.less (form_seen left.now) (form_seen right.now)) (λ e. IsUnfit e (symbols.minus (form_seen right.now) (form_seen left.now)) ⊎ IsUnfit e (specs.less (form_seen left.now) (form_seen right.now))) }
 {
     let between = right.sub(alloc, left)?;
     less_number(alloc, &between, 1)
@@ -100,7 +102,7 @@ fn less(alloc: Global, left: &Form, right: &Form) -> Result<Form, WalkError>
 
 /// How the two items' ids stand to one another.
 fn order_fact(alloc: Global, pair: Pair) -> Result<Form, WalkError>
-    ensures { IfOk result (λ f. form_seen f ≡ specs.order_fact (order_seen pair.order) (symbols.once (specs.id (scope_seen pair.scope) symbols.First pair.dimension)) (symbols.once (specs.id (scope_seen pair.scope) symbols.Second pair.dimension))) }
+    ensures { MatchResult result (λ f. form_seen f ≡ specs.order_fact (order_seen pair.order) (symbols.once (specs.id (scope_seen pair.scope) symbols.First pair.dimension)) (symbols.once (specs.id (scope_seen pair.scope) symbols.Second pair.dimension))) IsMemory }
 {
     let first = id_of(alloc, pair.scope, Which::First, pair.dimension)?;
     let second = id_of(alloc, pair.scope, Which::Second, pair.dimension)?;
@@ -113,7 +115,7 @@ fn order_fact(alloc: Global, pair: Pair) -> Result<Form, WalkError>
 #[tactic(auto, using(crate::proofs::Copies::copies))]
 /// How the two items' ids stand to one another, too.
 fn push_order(alloc: Global, facts: &mut Vec<Form>, pair: Pair) -> Result<(), WalkError>
-    ensures { IfOk result (λ _. forms facts.new.items ≡ forms facts.old.items ++ specs.order_fact (order_seen pair.order) (symbols.once (specs.id (scope_seen pair.scope) symbols.First pair.dimension)) (symbols.once (specs.id (scope_seen pair.scope) symbols.Second pair.dimension)) ∷ []) }
+    ensures { MatchResult result (λ _. forms facts.new.items ≡ forms facts.old.items ++ specs.order_fact (order_seen pair.order) (symbols.once (specs.id (scope_seen pair.scope) symbols.First pair.dimension)) (symbols.once (specs.id (scope_seen pair.scope) symbols.Second pair.dimension)) ∷ []) IsMemory }
 {
     let fact = order_fact(alloc, pair)?;
     facts.push(fact)?;
@@ -128,7 +130,7 @@ fn facts_before<D: Copy>(
     access: usize,
 ) -> Result<(), WalkError>
     requires { access < length path.now.accesses.items }
-    ensures { IfOk result (λ _. forms facts.new.items ≡ forms facts.old.items ++ (nth_access (seen_accesses path.now) access).facts) }
+    ensures { MatchResult result (λ _. forms facts.new.items ≡ forms facts.old.items ++ (nth_access (seen_accesses path.now) access).facts) IsMemory }
 {
     let count = path.accesses[access].facts;
     copy_all(alloc, facts, &path.facts[..count])?;
@@ -153,7 +155,7 @@ pub fn pair_facts<D: Copy>(
 ) -> Result<Vec<Form>, WalkError>
     requires first { pair.first < length first.now.accesses.items }
     requires second { pair.second < length second.now.accesses.items }
-    ensures { IfOk result (λ v. forms v.items ≡ specs.pair_facts (forms launch.now) (pair_seen (seen_accesses first.now) (seen_accesses second.now) pair)) }
+    ensures { MatchResult result (λ v. forms v.items ≡ specs.pair_facts (forms launch.now) (pair_seen (seen_accesses first.now) (seen_accesses second.now) pair)) (λ e. IsUnfitPair e (pair_seen (seen_accesses first.now) (seen_accesses second.now) pair)) }
 {
     let mut facts = Vec::new(alloc);
     copy_all(alloc, &mut facts, launch)?;
@@ -177,7 +179,7 @@ pub fn is_apart<D: Domain>(
 ) -> Result<bool, WalkError>
     requires first { pair.first < length first.now.accesses.items }
     requires second { pair.second < length second.now.accesses.items }
-    ensures { IfOk result (λ b. b ≡ specs.is_apart D.Domain (known_seen known.now) (pair_seen (seen_accesses first.now) (seen_accesses second.now) pair)) }
+    ensures { MatchResult result (λ b. b ≡ specs.is_apart D.Domain (known_seen known.now) (pair_seen (seen_accesses first.now) (seen_accesses second.now) pair)) (λ e. IsUnfitPair e (pair_seen (seen_accesses first.now) (seen_accesses second.now) pair)) }
 {
     let left = index_of(first, pair.first);
     let right = index_of(second, pair.second);
@@ -243,7 +245,7 @@ fn first_facts<D: Copy>(
     count: usize,
 ) -> Result<(), WalkError>
     requires { count ≤ length path.now.facts.items }
-    ensures { IfOk result (λ _. forms facts.new.items ≡ forms facts.old.items ++ take count (forms path.now.facts.items)) }
+    ensures { MatchResult result (λ _. forms facts.new.items ≡ forms facts.old.items ++ take count (forms path.now.facts.items)) IsMemory }
 {
     copy_all(alloc, facts, &path.facts[..count])?;
     Ok(())
@@ -252,7 +254,7 @@ fn first_facts<D: Copy>(
 #[tactic(auto, using(crate::proofs::Copies::copies))]
 /// What denies that a form is at least 0.
 fn push_denial(alloc: Global, facts: &mut Vec<Form>, form: &Form) -> Result<(), WalkError>
-    ensures { IfOk result (λ _. forms facts.new.items ≡ forms facts.old.items ++ symbols.denial (form_seen form.now) ∷ []) }
+    ensures { MatchResult result (λ _. forms facts.new.items ≡ forms facts.old.items ++ symbols.denial (form_seen form.now) ∷ []) (λ e. IsUnfit e (symbols.denial (form_seen form.now))) }
 {
     let denial = number_less(alloc, -1, form)?;
     facts.push(denial)?;
@@ -267,7 +269,7 @@ pub fn claim_facts<D: Copy>(
     claim: &Claim,
 ) -> Result<Vec<Form>, WalkError>
     requires { claim.now.facts ≤ length path.now.facts.items }
-    ensures { IfOk result (λ v. forms v.items ≡ forms launch.now ++ (take claim.now.facts (forms path.now.facts.items) ++ symbols.denial (form_seen claim.now.form) ∷ [])) }
+    ensures { MatchResult result (λ v. forms v.items ≡ forms launch.now ++ (take claim.now.facts (forms path.now.facts.items) ++ symbols.denial (form_seen claim.now.form) ∷ [])) (λ e. IsUnfit e (symbols.denial (form_seen claim.now.form))) }
 {
     let mut facts = Vec::new(alloc);
     copy_all(alloc, &mut facts, launch)?;

@@ -2,7 +2,8 @@
 //! pair-safe.
 //!
 //! `all_pairs` lists the pairs of accesses that may clash, dimension by dimension and both ways round, in the order of their numbers;
-//! `pair_facts` are the facts of one of them, which are to be impossible.
+//! `pair_facts` are the facts of one of them, which are to be impossible. An error says which form is not of `i64`, or that there was
+//! no memory (`specs/Refusals.antt`).
 #![tactic(auto)]
 
 mod facts;

@@ -1,10 +1,13 @@
 //! The pairs of accesses that may clash.
 
-ghost use Rattle.std.specs.Prelude.{◌≡◌, ◌++◌, ◌<◌, ◌≤◌, ℕ, List, pos, IfOk, map, length, drop, nat_eq};
+ghost use Rattle.std.specs.Prelude.{◌≡◌, ◌++◌, ◌<◌, ◌≤◌, ℕ, List, pos, IfOk, MatchResult, map, length, drop, nat_eq};
+ghost use Rattle.std.specs.List.{All};
 ghost use Rattle.launch.specs.View.{conditions as conditions_seen};
 ghost use Rattle.walk.specs.Launching.{count_range};
 ghost use Rattle.walk.specs.View.{three};
 ghost use Rattle.two_thread.specs.Pairs as specs;
+ghost use Rattle.walk.specs.Refusals.{IsMemory};
+ghost use Rattle.two_thread.specs.Refusals.{IsInside};
 ghost use Rattle.two_thread.specs.View.{scope as scope_seen, order as order_seen, pair as pair_seen, nth_access, seen_accesses, Adds};
 
 use launch::conditions::Conditions;
@@ -94,7 +97,8 @@ fn two_orders<D: Copy>(
     differ: bool,
     below: Pair,
 ) -> Result<(), WalkError>
-    ensures { IfOk result (λ _. Adds (seen_accesses first.now) (seen_accesses second.now) found.old.items found.new.items (specs.two_orders differ (nth_access (seen_accesses first.now) below.first) (nth_access (seen_accesses second.now) below.second) (scope_seen below.scope) below.dimension)) }
+    ensures exact { MatchResult result (λ _. Adds (seen_accesses first.now) (seen_accesses second.now) found.old.items found.new.items (specs.two_orders differ (nth_access (seen_accesses first.now) below.first) (nth_access (seen_accesses second.now) below.second) (scope_seen below.scope) below.dimension)) IsMemory }
+    ensures inside { IfOk result (λ _. (n m : ℕ) → IsInside n m below → All (IsInside n m) found.old.items → All (IsInside n m) found.new.items) }
 {
     if !differ {
         return Ok(());
@@ -121,7 +125,8 @@ fn all_orders<D: Copy>(
     i: usize,
     j: usize,
 ) -> Result<(), WalkError>
-    ensures { IfOk result (λ _. Adds (seen_accesses first.now) (seen_accesses second.now) found.old.items found.new.items (specs.all_orders (three sizes) (conditions_seen conditions.now) (scope_seen scope) (nth_access (seen_accesses first.now) i) (nth_access (seen_accesses second.now) j))) }
+    ensures exact { MatchResult result (λ _. Adds (seen_accesses first.now) (seen_accesses second.now) found.old.items found.new.items (specs.all_orders (three sizes) (conditions_seen conditions.now) (scope_seen scope) (nth_access (seen_accesses first.now) i) (nth_access (seen_accesses second.now) j))) IsMemory }
+    ensures inside { IfOk result (λ _. (n m : ℕ) → i < n → j < m → All (IsInside n m) found.old.items → All (IsInside n m) found.new.items) }
 {
     let pair = Pair {
         first: i,
@@ -171,7 +176,8 @@ fn with_one<D: Copy>(
 ) -> Result<(), WalkError>
     requires first { i < length first.now.accesses.items }
     requires second { j < length second.now.accesses.items }
-    ensures { IfOk result (λ _. Adds (seen_accesses first.now) (seen_accesses second.now) found.old.items found.new.items (specs.with_one (three sizes) (conditions_seen conditions.now) (scope_seen scope) buffer (nth_access (seen_accesses first.now) i) (nth_access (seen_accesses second.now) j))) }
+    ensures exact { MatchResult result (λ _. Adds (seen_accesses first.now) (seen_accesses second.now) found.old.items found.new.items (specs.with_one (three sizes) (conditions_seen conditions.now) (scope_seen scope) buffer (nth_access (seen_accesses first.now) i) (nth_access (seen_accesses second.now) j))) IsMemory }
+    ensures inside { IfOk result (λ _. All (IsInside (length first.now.accesses.items) (length second.now.accesses.items)) found.old.items → All (IsInside (length first.now.accesses.items) (length second.now.accesses.items)) found.new.items) }
 {
     if conflict(buffer, first, second, i, j) {
         all_orders(found, sizes, conditions, first, second, scope, i, j)?;
@@ -191,7 +197,8 @@ fn with_each<D: Copy>(
     i: usize,
 ) -> Result<(), WalkError>
     requires { i < length first.now.accesses.items }
-    ensures { IfOk result (λ _. Adds (seen_accesses first.now) (seen_accesses second.now) found.old.items found.new.items (specs.with_each (three sizes) (conditions_seen conditions.now) (scope_seen scope) buffer (nth_access (seen_accesses first.now) i) (drop i (seen_accesses second.now)))) }
+    ensures exact { MatchResult result (λ _. Adds (seen_accesses first.now) (seen_accesses second.now) found.old.items found.new.items (specs.with_each (three sizes) (conditions_seen conditions.now) (scope_seen scope) buffer (nth_access (seen_accesses first.now) i) (drop i (seen_accesses second.now)))) IsMemory }
+    ensures inside { IfOk result (λ _. All (IsInside (length first.now.accesses.items) (length second.now.accesses.items)) found.old.items → All (IsInside (length first.now.accesses.items) (length second.now.accesses.items)) found.new.items) }
 {
     for j in i..second.accesses.len() {
         with_one(found, sizes, conditions, first, second, scope, buffer, i, j)?;
@@ -209,7 +216,8 @@ fn pairs_in<D: Copy>(
     scope: Scope,
     buffer: u32,
 ) -> Result<(), WalkError>
-    ensures { IfOk result (λ _. Adds (seen_accesses first.now) (seen_accesses second.now) found.old.items found.new.items (specs.pairs_in (three sizes) (conditions_seen conditions.now) buffer (seen_accesses first.now) (seen_accesses second.now) (scope_seen scope))) }
+    ensures exact { MatchResult result (λ _. Adds (seen_accesses first.now) (seen_accesses second.now) found.old.items found.new.items (specs.pairs_in (three sizes) (conditions_seen conditions.now) buffer (seen_accesses first.now) (seen_accesses second.now) (scope_seen scope))) IsMemory }
+    ensures inside { IfOk result (λ _. All (IsInside (length first.now.accesses.items) (length second.now.accesses.items)) found.old.items → All (IsInside (length first.now.accesses.items) (length second.now.accesses.items)) found.new.items) }
 {
     let count = first.accesses.len().min(second.accesses.len());
     for i in 0..count {
@@ -227,7 +235,8 @@ fn pairs_of<D: Copy>(
     second: &Path<D>,
     buffer: u32,
 ) -> Result<(), WalkError>
-    ensures { IfOk result (λ _. Adds (seen_accesses first.now) (seen_accesses second.now) found.old.items found.new.items (specs.pairs_of (three sizes) (conditions_seen conditions.now) buffer (seen_accesses first.now) (seen_accesses second.now))) }
+    ensures exact { MatchResult result (λ _. Adds (seen_accesses first.now) (seen_accesses second.now) found.old.items found.new.items (specs.pairs_of (three sizes) (conditions_seen conditions.now) buffer (seen_accesses first.now) (seen_accesses second.now))) IsMemory }
+    ensures inside { IfOk result (λ _. All (IsInside (length first.now.accesses.items) (length second.now.accesses.items)) found.old.items → All (IsInside (length first.now.accesses.items) (length second.now.accesses.items)) found.new.items) }
 {
     pairs_in(
         found,
@@ -250,7 +259,8 @@ fn pairs_of<D: Copy>(
     Ok(())
 }
 
-/// The pairs of all buffers, by the number of the buffer: in each those of one group, then those of two.
+/// The pairs of all buffers, by the number of the buffer: in each those of one group, then those of two. A list of buffers that is
+/// longer than 32 bits count stands in no memory.
 pub fn all_pairs<D: Copy>(
     alloc: Global,
     sizes: [u32; 3],
@@ -259,14 +269,15 @@ pub fn all_pairs<D: Copy>(
     first: &Path<D>,
     second: &Path<D>,
 ) -> Result<Vec<Pair>, WalkError>
-    ensures { IfOk result (λ v. map (pair_seen (seen_accesses first.now) (seen_accesses second.now)) v.items ≡ specs.pairs_from (three sizes) (conditions_seen conditions.now) 0 buffers.now (seen_accesses first.now) (seen_accesses second.now)) }
+    ensures exact { MatchResult result (λ v. map (pair_seen (seen_accesses first.now) (seen_accesses second.now)) v.items ≡ specs.pairs_from (three sizes) (conditions_seen conditions.now) 0 buffers.now (seen_accesses first.now) (seen_accesses second.now)) IsMemory }
+    ensures inside { IfOk result (λ v. All (IsInside (length first.now.accesses.items) (length second.now.accesses.items)) v.items) }
 {
     let mut found = Vec::new(alloc);
     let mut buffer = 0u32;
     for _kind in buffers {
         pairs_of(&mut found, sizes, conditions, first, second, buffer)?;
         let Some(next) = buffer.checked_add(1) else {
-            return Err(WalkError::TooMany);
+            return Err(WalkError::Memory);
         };
         buffer = next;
     }

@@ -19,5 +19,6 @@ pub mod TwinWalks
 pub mod Families
 pub mod Paths
 pub mod Leading
-pub mod Bodies
 pub mod Facts
+pub mod Refusing
+pub mod Bodies

@@ -8,3 +8,4 @@ pub mod Collected
 pub mod View
 pub mod Before
 pub mod Leads
+pub mod Refusals

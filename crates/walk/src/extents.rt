@@ -1,10 +1,11 @@
 //! The elements of a launch's symbols, and of the ids of its items.
 
-ghost use Rattle.std.specs.Prelude.{◌≡◌, ◌∷◌, ℤ, [], pos, IfOk, map};
+ghost use Rattle.std.specs.Prelude.{◌≡◌, ◌∷◌, ℤ, [], pos, IfOk, MatchResult, map};
 ghost use Rattle.launch.specs.View.{sum as sum_seen, length_sum, argument_range as argument_range_seen, count_range as count_range_seen, conditions as conditions_seen};
 ghost use Rattle.walk.specs.Elements as elements;
 ghost use Rattle.walk.specs.Launching as launching;
 ghost use Rattle.walk.specs.View.{elements_seen, known_seen, three};
+ghost use Rattle.walk.specs.Refusals.{IsMemory};
 
 use crate::elements::{Known, between, element_of};
 use crate::error::WalkError;
@@ -58,7 +59,7 @@ fn of_arguments<D: Domain>(alloc: Global, ranges: &[ArgumentRange]) -> Result<Ve
 
 /// What a `uint` counts, from the least value of a buffer's sum on.
 fn of_length<D: Domain>(alloc: Global, known: &Known<D>, least: &Sum) -> Result<D, WalkError>
-    ensures { IfOk result (λ e. e ≡ launching.from_least D.Domain (elements_seen known.now [] []) (sum_seen least.now)) }
+    ensures { MatchResult result (λ e. e ≡ launching.from_least D.Domain (elements_seen known.now [] []) (sum_seen least.now)) IsMemory }
 {
     let sum = sum_form(alloc, least)?;
     let lengths = between::<D>(0, 4_294_967_295);
@@ -74,7 +75,7 @@ fn of_lengths<D: Domain>(
     known: &Known<D>,
     lengths: &[Length],
 ) -> Result<Vec<D>, WalkError>
-    ensures { IfOk result (λ v. v.items ≡ map (launching.from_least D.Domain (elements_seen known.now [] [])) (map length_sum lengths.now)) }
+    ensures { MatchResult result (λ v. v.items ≡ map (launching.from_least D.Domain (elements_seen known.now [] [])) (map length_sum lengths.now)) IsMemory }
 {
     let mut elements = Vec::new(alloc);
     for length in lengths {
@@ -86,7 +87,7 @@ fn of_lengths<D: Domain>(
 
 /// Counts and arguments alone.
 fn known_so_far<D: Domain>(alloc: Global, conditions: &Conditions) -> Result<Known<D>, WalkError>
-    ensures { IfOk result (λ k. elements_seen k [] [] ≡ launching.known_so_far D.Domain (conditions_seen conditions.now)) }
+    ensures { MatchResult result (λ k. elements_seen k [] [] ≡ launching.known_so_far D.Domain (conditions_seen conditions.now)) IsMemory }
 {
     let groups = conditions.groups;
     let counts = three_of(
@@ -111,7 +112,7 @@ pub fn known<D: Domain>(
     sizes: [u32; 3],
     conditions: &Conditions,
 ) -> Result<Known<D>, WalkError>
-    ensures { IfOk result (λ k. known_seen k ≡ launching.known D.Domain (three sizes) (conditions_seen conditions.now)) }
+    ensures { MatchResult result (λ k. known_seen k ≡ launching.known D.Domain (three sizes) (conditions_seen conditions.now)) IsMemory }
 {
     let so_far = known_so_far::<D>(alloc, conditions)?;
     let lengths = of_lengths(alloc, &so_far, conditions.lengths.as_slice())?;

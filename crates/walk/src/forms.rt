@@ -1,10 +1,11 @@
 //! Forms of one symbol, and of differences.
 
-ghost use Rattle.std.specs.Prelude.{◌≡◌, ◌+◌, ◌*◌, pos, negsuc, [], ◌∷◌, IfOk};
+ghost use Rattle.std.specs.Prelude.{◌≡◌, ◌+◌, ◌*◌, pos, negsuc, [], ◌∷◌, MatchResult};
 ghost use Rattle.linear.specs.Forms.{form};
 ghost use Rattle.linear.specs.Exact as linear_exact;
 ghost use Rattle.walk.specs.Symbols as symbols;
 ghost use Rattle.walk.specs.View.{which};
+ghost use Rattle.walk.specs.Refusals.{IsMemory, IsUnfit};
 
 use crate::error::WalkError;
 use linear::{Form, Symbol};
@@ -17,15 +18,15 @@ pub enum Which {
     Second,
 }
 
-/// A symbol of a family, once.
+/// A symbol of a family, once. Where its number is not of 32 bits, what it stands for is in a list that no memory holds.
 fn of_family(alloc: Global, family: u32, index: u32) -> Result<Form, WalkError>
-    ensures { IfOk result (λ f. form f ≡ record { terms = record { coefficient = pos 1; symbol = family + 16 * index } ∷ []; constant = pos 0 }) }
+    ensures { MatchResult result (λ f. form f ≡ record { terms = record { coefficient = pos 1; symbol = family + 16 * index } ∷ []; constant = pos 0 }) IsMemory }
 {
     let Some(begin) = index.checked_mul(16) else {
-        return Err(WalkError::TooMany);
+        return Err(WalkError::Memory);
     };
     let Some(number) = family.checked_add(begin) else {
-        return Err(WalkError::TooMany);
+        return Err(WalkError::Memory);
     };
     let form = Form::symbol(alloc, Symbol { number })?;
     Ok(form)
@@ -33,28 +34,28 @@ fn of_family(alloc: Global, family: u32, index: u32) -> Result<Form, WalkError>
 
 /// A dimension's group count.
 pub fn once_groups(alloc: Global, dimension: u32) -> Result<Form, WalkError>
-    ensures { IfOk result (λ f. form f ≡ symbols.once (symbols.Groups dimension)) }
+    ensures { MatchResult result (λ f. form f ≡ symbols.once (symbols.Groups dimension)) IsMemory }
 {
     of_family(alloc, 0, dimension)
 }
 
 /// A value parameter's argument.
 pub fn once_given(alloc: Global, parameter: u32) -> Result<Form, WalkError>
-    ensures { IfOk result (λ f. form f ≡ symbols.once (symbols.Given parameter)) }
+    ensures { MatchResult result (λ f. form f ≡ symbols.once (symbols.Given parameter)) IsMemory }
 {
     of_family(alloc, 1, parameter)
 }
 
 /// A buffer's length.
 pub fn once_length(alloc: Global, buffer: u32) -> Result<Form, WalkError>
-    ensures { IfOk result (λ f. form f ≡ symbols.once (symbols.Length buffer)) }
+    ensures { MatchResult result (λ f. form f ≡ symbols.once (symbols.Length buffer)) IsMemory }
 {
     of_family(alloc, 2, buffer)
 }
 
 /// An item's local id.
 pub fn once_local(alloc: Global, item: Which, dimension: u32) -> Result<Form, WalkError>
-    ensures { IfOk result (λ f. form f ≡ symbols.once (symbols.Local (which item) dimension)) }
+    ensures { MatchResult result (λ f. form f ≡ symbols.once (symbols.Local (which item) dimension)) IsMemory }
 {
     match item {
         Which::First => of_family(alloc, 3, dimension),
@@ -64,7 +65,7 @@ pub fn once_local(alloc: Global, item: Which, dimension: u32) -> Result<Form, Wa
 
 /// An item's group id.
 pub fn once_group(alloc: Global, item: Which, dimension: u32) -> Result<Form, WalkError>
-    ensures { IfOk result (λ f. form f ≡ symbols.once (symbols.Group (which item) dimension)) }
+    ensures { MatchResult result (λ f. form f ≡ symbols.once (symbols.Group (which item) dimension)) IsMemory }
 {
     match item {
         Which::First => of_family(alloc, 4, dimension),
@@ -74,7 +75,7 @@ pub fn once_group(alloc: Global, item: Which, dimension: u32) -> Result<Form, Wa
 
 /// An item's new symbol.
 pub fn once_new(alloc: Global, item: Which, index: u32) -> Result<Form, WalkError>
-    ensures { IfOk result (λ f. form f ≡ symbols.once (symbols.New (which item) index)) }
+    ensures { MatchResult result (λ f. form f ≡ symbols.once (symbols.New (which item) index)) IsMemory }
 {
     match item {
         Which::First => of_family(alloc, 5, index),
@@ -84,7 +85,7 @@ pub fn once_new(alloc: Global, item: Which, index: u32) -> Result<Form, WalkErro
 
 /// A form less a number.
 pub fn less_number(alloc: Global, of: &Form, number: i64) -> Result<Form, WalkError>
-    ensures { IfOk result (λ f. form f ≡ symbols.minus (form of.now) (symbols.constant number)) }
+    ensures { MatchResult result (λ f. form f ≡ symbols.minus (form of.now) (symbols.constant number)) (λ e. IsUnfit e (symbols.minus (form of.now) (symbols.constant number))) }
 {
     let constant = Form::constant(alloc, number);
     let difference = of.sub(alloc, &constant)?;
@@ -93,7 +94,7 @@ pub fn less_number(alloc: Global, of: &Form, number: i64) -> Result<Form, WalkEr
 
 /// A number less a form.
 pub fn number_less(alloc: Global, number: i64, of: &Form) -> Result<Form, WalkError>
-    ensures { IfOk result (λ f. form f ≡ symbols.minus (symbols.constant number) (form of.now)) }
+    ensures { MatchResult result (λ f. form f ≡ symbols.minus (symbols.constant number) (form of.now)) (λ e. IsUnfit e (symbols.minus (symbols.constant number) (form of.now))) }
 {
     let constant = Form::constant(alloc, number);
     let difference = constant.sub(alloc, of)?;

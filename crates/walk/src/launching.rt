@@ -1,7 +1,8 @@
 //! What conditions say of each launch that meets them, and of its items.
 
-ghost use Rattle.std.specs.Prelude.{◌≡◌, ◌<◌, ◌++◌, ◌∷◌, [], ℕ, pos, ◌-ℤ◌, IfOk, map};
+ghost use Rattle.std.specs.Prelude.{◌≡◌, ◌<◌, ◌++◌, ◌∷◌, [], ℕ, pos, ◌*◌, ◌≤◌, ◌-ℤ◌, IfOk, MatchResult, map};
 ghost use Rattle.linear.specs.Forms.{form as form_seen, forms};
+ghost use Rattle.linear.specs.Sizes.{size};
 ghost use Rattle.words.specs.View.{value_of};
 ghost use Rattle.launch.specs.Numbers.{number as number_seen};
 ghost use Rattle.launch.specs.View.{summand as summand_seen, sum as sum_seen, length_sum, requirement as requirement_seen, dimension as dimension_seen, count_range as count_range_seen, argument_range as argument_range_seen, conditions as conditions_seen};
@@ -9,6 +10,7 @@ ghost use Rattle.semantics.specs.Setup.{along};
 ghost use Rattle.walk.specs.Symbols as symbols;
 ghost use Rattle.walk.specs.Launching as launching;
 ghost use Rattle.walk.specs.View.{which, three};
+ghost use Rattle.walk.specs.Refusals.{IsMemory};
 
 use crate::error::WalkError;
 use crate::forms::{
@@ -46,7 +48,8 @@ fn index_of(dimension: Dimension) -> u32
 
 /// A summand's form.
 fn summand_form(alloc: Global, summand: Summand) -> Result<Form, WalkError>
-    ensures { IfOk result (λ f. form_seen f ≡ launching.summand_form (summand_seen summand)) }
+    ensures exact { MatchResult result (λ f. form_seen f ≡ launching.summand_form (summand_seen summand)) IsMemory }
+    ensures small { IfOk result (λ f. size (form_seen f) ≤ 4294967295) }
 {
     match summand {
         Summand::Constant(number) => Ok(Form::constant(alloc, signed(number))),
@@ -63,7 +66,8 @@ fn summand_form(alloc: Global, summand: Summand) -> Result<Form, WalkError>
 
 /// A sum's form.
 pub fn sum_form(alloc: Global, sum: &Sum) -> Result<Form, WalkError>
-    ensures { IfOk result (λ f. form_seen f ≡ launching.sum_form (sum_seen sum.now)) }
+    ensures exact { MatchResult result (λ f. form_seen f ≡ launching.sum_form (sum_seen sum.now)) IsMemory }
+    ensures small { IfOk result (λ f. size (form_seen f) ≤ 8 * 4294967295) }
 {
     let mut total = Form::constant(alloc, 0);
     for summand in sum.terms.as_slice() {
@@ -86,7 +90,7 @@ pub fn number_of(word: Word) -> i64
 #[tactic(auto, using(crate::proofs::Facts::facts))]
 /// Two facts more.
 fn push_two(facts: &mut Vec<Form>, low: Form, high: Form) -> Result<(), WalkError>
-    ensures { IfOk result (λ _. forms facts.new.items ≡ forms facts.old.items ++ form_seen low ∷ form_seen high ∷ []) }
+    ensures { MatchResult result (λ _. forms facts.new.items ≡ forms facts.old.items ++ form_seen low ∷ form_seen high ∷ []) IsMemory }
 {
     facts.push(low)?;
     facts.push(high)?;
@@ -100,7 +104,7 @@ fn count_facts(
     dimension: u32,
     range: CountRange,
 ) -> Result<(), WalkError>
-    ensures { IfOk result (λ _. forms facts.new.items ≡ forms facts.old.items ++ launching.ends (count_range_seen range) (symbols.once (symbols.Groups dimension))) }
+    ensures { MatchResult result (λ _. forms facts.new.items ≡ forms facts.old.items ++ launching.ends (count_range_seen range) (symbols.once (symbols.Groups dimension))) IsMemory }
 {
     let count = once_groups(alloc, dimension)?;
     let low = less_number(alloc, &count, range.low as i64)?;
@@ -115,7 +119,7 @@ fn argument_fact(
     parameter: u32,
     range: ArgumentRange,
 ) -> Result<(), WalkError>
-    ensures { IfOk result (λ _. forms facts.new.items ≡ forms facts.old.items ++ launching.ends (argument_range_seen range) (symbols.once (symbols.Given parameter))) }
+    ensures { MatchResult result (λ _. forms facts.new.items ≡ forms facts.old.items ++ launching.ends (argument_range_seen range) (symbols.once (symbols.Given parameter))) IsMemory }
 {
     let argument = once_given(alloc, parameter)?;
     let low = less_number(alloc, &argument, number_of(range.low))?;
@@ -123,19 +127,19 @@ fn argument_fact(
     push_two(facts, low, high)
 }
 
-/// The arguments are in their ranges.
+/// The arguments are in their ranges; a list longer than 32 bits count stands in no memory.
 fn argument_facts(
     alloc: Global,
     facts: &mut Vec<Form>,
     ranges: &[ArgumentRange],
 ) -> Result<(), WalkError>
-    ensures { IfOk result (λ _. forms facts.new.items ≡ forms facts.old.items ++ launching.argument_facts 0 (map argument_range_seen ranges.now)) }
+    ensures { MatchResult result (λ _. forms facts.new.items ≡ forms facts.old.items ++ launching.argument_facts 0 (map argument_range_seen ranges.now)) IsMemory }
 {
     let mut parameter = 0u32;
     for range in ranges {
         argument_fact(alloc, facts, parameter, *range)?;
         let Some(next) = parameter.checked_add(1) else {
-            return Err(WalkError::TooMany);
+            return Err(WalkError::Memory);
         };
         parameter = next;
     }
@@ -149,7 +153,7 @@ fn length_fact(
     buffer: u32,
     length: &Length,
 ) -> Result<(), WalkError>
-    ensures { IfOk result (λ _. forms facts.new.items ≡ forms facts.old.items ++ launching.length_ends buffer (length_sum length.now)) }
+    ensures { MatchResult result (λ _. forms facts.new.items ≡ forms facts.old.items ++ launching.length_ends buffer (length_sum length.now)) IsMemory }
 {
     let elements = once_length(alloc, buffer)?;
     let low = elements.sub(alloc, &sum_form(alloc, &length.least)?)?;
@@ -157,15 +161,15 @@ fn length_fact(
     push_two(facts, low, high)
 }
 
-/// The buffers are as long as their sums.
+/// The buffers are as long as their sums; a list longer than 32 bits count stands in no memory.
 fn length_facts(alloc: Global, facts: &mut Vec<Form>, lengths: &[Length]) -> Result<(), WalkError>
-    ensures { IfOk result (λ _. forms facts.new.items ≡ forms facts.old.items ++ launching.length_facts 0 (map length_sum lengths.now)) }
+    ensures { MatchResult result (λ _. forms facts.new.items ≡ forms facts.old.items ++ launching.length_facts 0 (map length_sum lengths.now)) IsMemory }
 {
     let mut buffer = 0u32;
     for length in lengths {
         length_fact(alloc, facts, buffer, length)?;
         let Some(next) = buffer.checked_add(1) else {
-            return Err(WalkError::TooMany);
+            return Err(WalkError::Memory);
         };
         buffer = next;
     }
@@ -174,7 +178,7 @@ fn length_facts(alloc: Global, facts: &mut Vec<Form>, lengths: &[Length]) -> Res
 
 /// The left sum is at least the right one.
 fn required(alloc: Global, requirement: &Requirement) -> Result<Form, WalkError>
-    ensures { IfOk result (λ f. form_seen f ≡ launching.required (requirement_seen requirement.now)) }
+    ensures { MatchResult result (λ f. form_seen f ≡ launching.required (requirement_seen requirement.now)) IsMemory }
 {
     let left = sum_form(alloc, &requirement.left)?;
     let right = sum_form(alloc, &requirement.right)?;
@@ -189,7 +193,7 @@ fn requirement_fact(
     facts: &mut Vec<Form>,
     requirement: &Requirement,
 ) -> Result<(), WalkError>
-    ensures { IfOk result (λ _. forms facts.new.items ≡ forms facts.old.items ++ launching.required (requirement_seen requirement.now) ∷ []) }
+    ensures { MatchResult result (λ _. forms facts.new.items ≡ forms facts.old.items ++ launching.required (requirement_seen requirement.now) ∷ []) IsMemory }
 {
     let fact = required(alloc, requirement)?;
     facts.push(fact)?;
@@ -203,7 +207,7 @@ fn requirement_facts(
     facts: &mut Vec<Form>,
     requirements: &[Requirement],
 ) -> Result<(), WalkError>
-    ensures { IfOk result (λ _. forms facts.new.items ≡ forms facts.old.items ++ map launching.required (map requirement_seen requirements.now)) }
+    ensures { MatchResult result (λ _. forms facts.new.items ≡ forms facts.old.items ++ map launching.required (map requirement_seen requirements.now)) IsMemory }
 {
     for requirement in requirements {
         requirement_fact(alloc, facts, requirement)?;
@@ -213,7 +217,7 @@ fn requirement_facts(
 
 /// What each launch has that meets the conditions.
 pub fn launch_facts(alloc: Global, conditions: &Conditions) -> Result<Vec<Form>, WalkError>
-    ensures { IfOk result (λ fs. forms fs.items ≡ launching.launch_facts (conditions_seen conditions.now)) }
+    ensures { MatchResult result (λ fs. forms fs.items ≡ launching.launch_facts (conditions_seen conditions.now)) IsMemory }
 {
     let mut facts = Vec::new(alloc);
     count_facts(alloc, &mut facts, 0, conditions.groups.x)?;
@@ -242,7 +246,7 @@ fn local_facts(
     dimension: u32,
 ) -> Result<(), WalkError>
     requires { dimension < 3 }
-    ensures { IfOk result (λ _. forms facts.new.items ≡ forms facts.old.items ++ launching.local_facts (three sizes) (which item) dimension) }
+    ensures { MatchResult result (λ _. forms facts.new.items ≡ forms facts.old.items ++ launching.local_facts (three sizes) (which item) dimension) IsMemory }
 {
     let local = once_local(alloc, item, dimension)?;
     let last = number_less(alloc, last_id(sizes, dimension), &local)?;
@@ -256,7 +260,7 @@ fn group_facts(
     item: Which,
     dimension: u32,
 ) -> Result<(), WalkError>
-    ensures { IfOk result (λ _. forms facts.new.items ≡ forms facts.old.items ++ launching.group_facts (which item) dimension) }
+    ensures { MatchResult result (λ _. forms facts.new.items ≡ forms facts.old.items ++ launching.group_facts (which item) dimension) IsMemory }
 {
     let group = once_group(alloc, item, dimension)?;
     let behind = once_groups(alloc, dimension)?.sub(alloc, &group)?;
@@ -273,7 +277,7 @@ fn id_facts(
     dimension: u32,
 ) -> Result<(), WalkError>
     requires { dimension < 3 }
-    ensures { IfOk result (λ _. forms facts.new.items ≡ forms facts.old.items ++ launching.id_facts (three sizes) (which item) dimension) }
+    ensures { MatchResult result (λ _. forms facts.new.items ≡ forms facts.old.items ++ launching.id_facts (three sizes) (which item) dimension) IsMemory }
 {
     local_facts(alloc, facts, sizes, item, dimension)?;
     group_facts(alloc, facts, item, dimension)?;
@@ -282,7 +286,7 @@ fn id_facts(
 
 /// What each item has.
 pub fn item_facts(alloc: Global, sizes: [u32; 3], item: Which) -> Result<Vec<Form>, WalkError>
-    ensures { IfOk result (λ fs. forms fs.items ≡ launching.item_facts (three sizes) (which item)) }
+    ensures { MatchResult result (λ fs. forms fs.items ≡ launching.item_facts (three sizes) (which item)) IsMemory }
 {
     let mut facts = Vec::new(alloc);
     id_facts(alloc, &mut facts, sizes, item, 0)?;

@@ -2,7 +2,8 @@
 //!
 //! `Path` lists them in the order in which the item meets them: exactly the tree that `specs/Walks.antt` defines of the kernel's
 //! body. Symbols go by the numbers of `specs/Symbols.antt`. A number of a form that leaves `i64` is `TooLarge`, more than 65,536
-//! claims are `TooMany`, and `Outside` is a kernel that `is_straight` tells of.
+//! claims are `TooMany`, and `Outside` is a kernel that is not straight-line: each error says so of all that the definitions collect
+//! of the body (`specs/Refusals.antt`).
 #![tactic(auto)]
 
 mod elements;

@@ -1,6 +1,6 @@
 //! Claims, new symbols, and the ranges of kinds.
 
-ghost use Rattle.std.specs.Prelude.{◌≡◌, List, IfOk};
+ghost use Rattle.std.specs.Prelude.{◌≡◌, ◌⊎◌, List, IfOk, IfErr, MatchResult};
 ghost use Rattle.linear.specs.Forms.{form as form_seen};
 ghost use Rattle.words.specs.View.{kind as kind_seen};
 ghost use Rattle.semantics.specs.Word.{Uint};
@@ -9,6 +9,7 @@ ghost use Rattle.walk.specs.Symbols.{Fact};
 ghost use Rattle.walk.specs.Trees.{Tree};
 ghost use Rattle.walk.specs.Collected.{state_of, collect};
 ghost use Rattle.walk.specs.Leads.{Steps, Leads};
+ghost use Rattle.walk.specs.Refusals.{IsUnfit, Refused, Stops, Halts};
 ghost use Rattle.walk.specs.View.{met, setting as seen, value as value_seen};
 
 use crate::elements::{between, is_settled};
@@ -47,14 +48,14 @@ pub fn claim<D: Domain>(
     needed: bool,
     form: Form,
 ) -> Result<(), WalkError>
-    ensures { IfOk result (λ _. Steps (met path.old) (met path.new) (walks.claim (seen D.Domain setting.now item) needed (form_seen form))) }
+    ensures { MatchResult result (λ _. Steps (met path.old) (met path.new) (walks.claim (seen D.Domain setting.now item) needed (form_seen form))) (λ e. Stops ⊥ (met path.old) e (walks.claim (seen D.Domain setting.now item) needed (form_seen form))) }
 {
     let settled = settles(setting, item, path, &form);
     path.claim(needed, settled, form)?;
     Ok(())
 }
 
-/// A new symbol, with its bounds as facts.
+/// A new symbol, with its bounds as facts. There is at most one more of them than claims, so their numbers are of 32 bits.
 pub fn invent<D: Domain>(
     alloc: Global,
     setting: &Setting<D>,
@@ -62,11 +63,11 @@ pub fn invent<D: Domain>(
     path: &mut Path<D>,
     element: D,
 ) -> Result<Form, WalkError>
-    ensures { IfOk result (λ f. Leads (met path.old) (met path.new) (walks.invent (seen D.Domain setting.now item) element) (form_seen f)) }
+    ensures { MatchResult result (λ f. Leads (met path.old) (met path.new) (walks.invent (seen D.Domain setting.now item) element) (form_seen f)) (λ e. Halts ⊥ (met path.old) e (walks.invent (seen D.Domain setting.now item) element)) }
 {
     let index = path.elements.len();
-    if index >= 65_536 {
-        return Err(WalkError::TooMany);
+    if index > 4_294_967_295 {
+        return Err(WalkError::Memory);
     }
     let newest = once_new(alloc, item, index as u32)?;
     let bounds = element.bounds();
@@ -85,6 +86,7 @@ fn know_low<D: Copy>(
 ) -> Result<(), WalkError>
     ensures leads { IfOk result (λ _. (more : List Fact) (rest : Tree D) → collect (met path.old).found (walks.know_all (walks.lower_fact (form_seen of.now) low more) rest) ≡ collect (met path.new).found (walks.know_all more rest)) }
     ensures state { IfOk result (λ _. state_of (met path.new) ≡ state_of (met path.old)) }
+    ensures refused { IfErr result (λ e. (more : List Fact) (rest : Tree D) → Refused ⊥ e (collect (met path.old).found (walks.know_all (walks.lower_fact (form_seen of.now) low more) rest))) }
 {
     if let Some(low) = low {
         let fact = less_number(alloc, of, low)?;
@@ -102,6 +104,7 @@ fn know_high<D: Copy>(
 ) -> Result<(), WalkError>
     ensures leads { IfOk result (λ _. (rest : Tree D) → collect (met path.old).found (walks.know_all (walks.upper_fact (form_seen of.now) high) rest) ≡ collect (met path.new).found rest) }
     ensures state { IfOk result (λ _. state_of (met path.new) ≡ state_of (met path.old)) }
+    ensures refused { IfErr result (λ e. (rest : Tree D) → Refused ⊥ e (collect (met path.old).found (walks.know_all (walks.upper_fact (form_seen of.now) high) rest))) }
 {
     if let Some(high) = high {
         let fact = number_less(alloc, high, of)?;
@@ -130,7 +133,7 @@ fn in_range<D: Domain>(
     kind: Kind,
     form: &Form,
 ) -> Result<(), WalkError>
-    ensures { IfOk result (λ _. Steps (met path.old) (met path.new) (walks.in_range (seen D.Domain setting.now item) needed (kind_seen kind) (form_seen form.now))) }
+    ensures { MatchResult result (λ _. Steps (met path.old) (met path.new) (walks.in_range (seen D.Domain setting.now item) needed (kind_seen kind) (form_seen form.now))) (λ e. Stops ⊥ (met path.old) e (walks.in_range (seen D.Domain setting.now item) needed (kind_seen kind) (form_seen form.now))) }
 {
     let low = low_end(alloc, kind, form)?;
     let high = high_end(alloc, kind, form)?;
@@ -141,7 +144,7 @@ fn in_range<D: Domain>(
 
 /// A form less its kind's least number (C99 6.2.5).
 fn low_end(alloc: Global, kind: Kind, of: &Form) -> Result<Form, WalkError>
-    ensures { IfOk result (λ f. form_seen f ≡ walks.low_end (kind_seen kind) (form_seen of.now)) }
+    ensures { MatchResult result (λ f. form_seen f ≡ walks.low_end (kind_seen kind) (form_seen of.now)) (λ e. IsUnfit e (walks.low_end (kind_seen kind) (form_seen of.now))) }
 {
     match kind {
         Kind::Int => less_number(alloc, of, -2_147_483_648),
@@ -151,7 +154,7 @@ fn low_end(alloc: Global, kind: Kind, of: &Form) -> Result<Form, WalkError>
 
 /// A kind's greatest number less a form (C99 6.2.5).
 fn high_end(alloc: Global, kind: Kind, of: &Form) -> Result<Form, WalkError>
-    ensures { IfOk result (λ f. form_seen f ≡ walks.high_end (kind_seen kind) (form_seen of.now)) }
+    ensures { MatchResult result (λ f. form_seen f ≡ walks.high_end (kind_seen kind) (form_seen of.now)) (λ e. IsUnfit e (walks.high_end (kind_seen kind) (form_seen of.now))) }
 {
     match kind {
         Kind::Int => number_less(alloc, 2_147_483_647, of),
@@ -168,7 +171,7 @@ fn is_kept<D: Domain>(
     path: &Path<D>,
     form: &Form,
 ) -> Result<bool, WalkError>
-    ensures { IfOk result (λ b. b ≡ walks.is_kept (seen D.Domain setting.now item) (form_seen form.now) (state_of (met path.now))) }
+    ensures { MatchResult result (λ b. b ≡ walks.is_kept (seen D.Domain setting.now item) (form_seen form.now) (state_of (met path.now))) (λ e. IsUnfit e (walks.low_end Uint (form_seen form.now)) ⊎ IsUnfit e (walks.high_end Uint (form_seen form.now))) }
 {
     let low = low_end(alloc, Kind::Uint, form)?;
     let high = high_end(alloc, Kind::Uint, form)?;
@@ -187,7 +190,7 @@ pub fn ranged<D: Domain>(
     kind: Kind,
     form: Form,
 ) -> Result<Value, WalkError>
-    ensures { IfOk result (λ v. Leads (met path.old) (met path.new) (walks.ranged (seen D.Domain setting.now item) (kind_seen kind) (form_seen form)) (value_seen v)) }
+    ensures { MatchResult result (λ v. Leads (met path.old) (met path.new) (walks.ranged (seen D.Domain setting.now item) (kind_seen kind) (form_seen form)) (value_seen v)) (λ e. Halts ⊥ (met path.old) e (walks.ranged (seen D.Domain setting.now item) (kind_seen kind) (form_seen form))) }
 {
     match kind {
         Kind::Int => {
@@ -206,7 +209,7 @@ fn ranged_uint<D: Domain>(
     path: &mut Path<D>,
     form: Form,
 ) -> Result<Value, WalkError>
-    ensures { IfOk result (λ v. Leads (met path.old) (met path.new) (walks.ranged (seen D.Domain setting.now item) Uint (form_seen form)) (value_seen v)) }
+    ensures { MatchResult result (λ v. Leads (met path.old) (met path.new) (walks.ranged (seen D.Domain setting.now item) Uint (form_seen form)) (value_seen v)) (λ e. Halts ⊥ (met path.old) e (walks.ranged (seen D.Domain setting.now item) Uint (form_seen form))) }
 {
     let kept = is_kept(alloc, setting, item, path, &form)?;
     in_range(alloc, setting, item, path, kept, Kind::Uint, &form)?;
@@ -232,7 +235,7 @@ pub fn brought<D: Domain>(
     kind: Kind,
     value: Value,
 ) -> Result<Value, WalkError>
-    ensures { IfOk result (λ v. Leads (met path.old) (met path.new) (walks.brought (seen D.Domain setting.now item) (kind_seen kind) (value_seen value)) (value_seen v)) }
+    ensures { MatchResult result (λ v. Leads (met path.old) (met path.new) (walks.brought (seen D.Domain setting.now item) (kind_seen kind) (value_seen value)) (value_seen v)) (λ e. Halts ⊥ (met path.old) e (walks.brought (seen D.Domain setting.now item) (kind_seen kind) (value_seen value))) }
 {
     match (kind, value.kind) {
         (Kind::Int, Kind::Int) => Ok(value),

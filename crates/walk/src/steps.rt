@@ -1,8 +1,9 @@
 //! The steps of a path.
 
-ghost use Rattle.std.specs.Prelude.{◌≡◌, IfOk};
+ghost use Rattle.std.specs.Prelude.{◌≡◌, MatchResult};
 ghost use Rattle.linear.specs.Forms.{form as form_seen, forms};
 ghost use Rattle.walk.specs.Collected.{opening, with_claim, with_fact, with_element, with_access};
+ghost use Rattle.walk.specs.Refusals.{IsMemory, Refused};
 ghost use Rattle.walk.specs.View.{met};
 
 use crate::error::WalkError;
@@ -26,7 +27,7 @@ impl<D: Copy> Path<D> {
 
     /// One claim more; at most 65,536 are made.
     pub fn claim(&mut self, needed: bool, settled: bool, form: Form) -> Result<(), WalkError>
-        ensures { IfOk result (λ _. met self.new ≡ with_claim (met self.old) needed settled (form_seen form)) }
+        ensures { MatchResult result (λ _. met self.new ≡ with_claim (met self.old) needed settled (form_seen form)) (λ e. Refused ⊥ e (with_claim (met self.old) needed settled (form_seen form)).found) }
     {
         if self.claims.len() >= 65_536 {
             return Err(WalkError::TooMany);
@@ -43,7 +44,7 @@ impl<D: Copy> Path<D> {
 
     /// One fact more.
     pub fn know(&mut self, fact: Form) -> Result<(), WalkError>
-        ensures { IfOk result (λ _. met self.new ≡ with_fact (met self.old) (form_seen fact)) }
+        ensures { MatchResult result (λ _. met self.new ≡ with_fact (met self.old) (form_seen fact)) IsMemory }
     {
         self.facts.push(fact)?;
         Ok(())
@@ -51,7 +52,7 @@ impl<D: Copy> Path<D> {
 
     /// One new symbol more.
     pub fn invent(&mut self, element: D) -> Result<(), WalkError>
-        ensures { IfOk result (λ _. met self.new ≡ with_element (met self.old) element) }
+        ensures { MatchResult result (λ _. met self.new ≡ with_element (met self.old) element) IsMemory }
     {
         self.elements.push(element)?;
         Ok(())
@@ -59,7 +60,7 @@ impl<D: Copy> Path<D> {
 
     /// One access more.
     pub fn touch(&mut self, is_store: bool, buffer: u32, index: Form) -> Result<(), WalkError>
-        ensures { IfOk result (λ _. met self.new ≡ with_access (met self.old) is_store buffer (form_seen index) (met self.old).elements) }
+        ensures { MatchResult result (λ _. met self.new ≡ with_access (met self.old) is_store buffer (form_seen index) (met self.old).elements) IsMemory }
     {
         let facts = self.facts.len();
         let elements = self.elements.len();

@@ -1,6 +1,6 @@
 //! The walk of a term.
 
-ghost use Rattle.std.specs.Prelude.{◌≡◌, ◌<◌, IfOk};
+ghost use Rattle.std.specs.Prelude.{◌≡◌, ◌<◌, false, MatchResult};
 ghost use Rattle.linear.specs.Forms.{form as form_seen};
 ghost use Rattle.words.specs.View.{kind as kind_seen};
 ghost use Rattle.syntax.specs.View.{operator as operator_seen};
@@ -9,6 +9,8 @@ ghost use Rattle.walk.specs.Walks as walks;
 ghost use Rattle.walk.specs.Elements as elements;
 ghost use Rattle.walk.specs.Collected.{state_of};
 ghost use Rattle.walk.specs.Leads.{Leads};
+ghost use Rattle.walk.specs.Straight.{is_exact};
+ghost use Rattle.walk.specs.Refusals.{IsMemory, IsNoStraightTerm, Halts, HaltsAtForm};
 ghost use Rattle.walk.specs.View.{met, is_number as is_number_seen, setting as seen, value as value_seen};
 
 use crate::elements::element_of;
@@ -51,7 +53,7 @@ fn product<D: Domain>(
     left: &Form,
     right: &Form,
 ) -> Result<Form, WalkError>
-    ensures { IfOk result (λ f. Leads (met path.old) (met path.new) (walks.product (seen D.Domain setting.now item) (form_seen left.now).terms (form_seen right.now).terms (form_seen left.now) (form_seen right.now)) (form_seen f)) }
+    ensures { MatchResult result (λ f. Leads (met path.old) (met path.new) (walks.product (seen D.Domain setting.now item) (form_seen left.now).terms (form_seen right.now).terms (form_seen left.now) (form_seen right.now)) (form_seen f)) (λ e. HaltsAtForm ⊥ (seen D.Domain setting.now item) (met path.old) e (walks.product (seen D.Domain setting.now item) (form_seen left.now).terms (form_seen right.now).terms (form_seen left.now) (form_seen right.now))) }
 {
     if is_number(right) {
         let form = left.times(alloc, right.constant_part())?;
@@ -75,7 +77,7 @@ fn exact<D: Domain>(
     left: &Form,
     right: &Form,
 ) -> Result<Form, WalkError>
-    ensures { IfOk result (λ f. Leads (met path.old) (met path.new) (walks.exact (seen D.Domain setting.now item) (operator_seen operator) (form_seen left.now) (form_seen right.now)) (form_seen f)) }
+    ensures { MatchResult result (λ f. Leads (met path.old) (met path.new) (walks.exact (seen D.Domain setting.now item) (operator_seen operator) (form_seen left.now) (form_seen right.now)) (form_seen f)) (λ e. HaltsAtForm (is_exact (operator_seen operator) ≡ false) (seen D.Domain setting.now item) (met path.old) e (walks.exact (seen D.Domain setting.now item) (operator_seen operator) (form_seen left.now) (form_seen right.now))) }
 {
     match operator {
         Operator::Multiply => product(alloc, setting, item, path, left, right),
@@ -96,7 +98,7 @@ fn id_inside<D: Domain>(
     dimension: u32,
 ) -> Result<Form, WalkError>
     requires { dimension < 3 }
-    ensures { IfOk result (λ f. form_seen f ≡ walks.id_inside (seen D.Domain setting.now item) (function_seen function) dimension) }
+    ensures { MatchResult result (λ f. form_seen f ≡ walks.id_inside (seen D.Domain setting.now item) (function_seen function) dimension) IsMemory }
 {
     let size = setting.sizes[dimension as usize];
     match function {
@@ -136,7 +138,7 @@ fn id_form<D: Domain>(
     function: Function,
     dimension: u32,
 ) -> Result<Form, WalkError>
-    ensures { IfOk result (λ f. form_seen f ≡ walks.id_form (seen D.Domain setting.now item) (function_seen function) dimension) }
+    ensures { MatchResult result (λ f. form_seen f ≡ walks.id_form (seen D.Domain setting.now item) (function_seen function) dimension) IsMemory }
 {
     if dimension < 3 {
         id_inside(alloc, setting, item, function, dimension)
@@ -167,7 +169,7 @@ fn joined<D: Domain>(
     left: Value,
     right: Value,
 ) -> Result<Value, WalkError>
-    ensures { IfOk result (λ v. Leads (met path.old) (met path.new) (walks.joined (seen D.Domain setting.now item) (operator_seen operator) (kind_seen kind) (value_seen left) (value_seen right)) (value_seen v)) }
+    ensures { MatchResult result (λ v. Leads (met path.old) (met path.new) (walks.joined (seen D.Domain setting.now item) (operator_seen operator) (kind_seen kind) (value_seen left) (value_seen right)) (value_seen v)) (λ e. Halts (is_exact (operator_seen operator) ≡ false) (met path.old) e (walks.joined (seen D.Domain setting.now item) (operator_seen operator) (kind_seen kind) (value_seen left) (value_seen right))) }
 {
     let first = brought(alloc, setting, item, path, kind, left)?;
     let second = brought(alloc, setting, item, path, kind, right)?;
@@ -192,7 +194,7 @@ pub fn walk_term<D: Domain>(
     path: &mut Path<D>,
     term: &Term,
 ) -> Result<Value, WalkError>
-    ensures { IfOk result (λ v. Leads (met path.old) (met path.new) (walks.walk (seen D.Domain setting.now item) (term_seen term.now)) (value_seen v)) }
+    ensures { MatchResult result (λ v. Leads (met path.old) (met path.new) (walks.walk (seen D.Domain setting.now item) (term_seen term.now)) (value_seen v)) (λ e. Halts (IsNoStraightTerm (term_seen term.now)) (met path.old) e (walks.walk (seen D.Domain setting.now item) (term_seen term.now))) }
 {
     match term {
         Term::Literal { kind, value } => Ok(Value {

@@ -1,11 +1,12 @@
 //! The walk of a kernel's body.
 
-ghost use Rattle.std.specs.Prelude.{◌≡◌, IfOk};
+ghost use Rattle.std.specs.Prelude.{◌≡◌, MatchResult};
 ghost use Rattle.linear.specs.Forms.{form as form_seen, forms};
 ghost use Rattle.types.specs.View.{term as term_seen, statement as statement_seen, statements as statements_seen};
 ghost use Rattle.walk.specs.Walks as walks;
 ghost use Rattle.walk.specs.Collected.{collect, opening};
 ghost use Rattle.walk.specs.Leads.{Steps};
+ghost use Rattle.walk.specs.Refusals.{AreNoStraightTerms, IsNoStraightStatement, IsNoStraightBody, Refused, Stops};
 ghost use Rattle.walk.specs.View.{met, setting as seen};
 
 use crate::error::WalkError;
@@ -28,7 +29,7 @@ fn in_buffer<D: Domain>(
     buffer: u32,
     index: &Form,
 ) -> Result<(), WalkError>
-    ensures { IfOk result (λ _. Steps (met path.old) (met path.new) (walks.in_buffer (seen D.Domain setting.now item) buffer (form_seen index.now))) }
+    ensures { MatchResult result (λ _. Steps (met path.old) (met path.new) (walks.in_buffer (seen D.Domain setting.now item) buffer (form_seen index.now))) (λ e. Stops ⊥ (met path.old) e (walks.in_buffer (seen D.Domain setting.now item) buffer (form_seen index.now))) }
 {
     let last = less_number(alloc, &once_length(alloc, buffer)?, 1)?;
     let room = last.sub(alloc, index)?;
@@ -48,7 +49,7 @@ fn walk_store<D: Domain>(
     index: &Term,
     value: &Term,
 ) -> Result<(), WalkError>
-    ensures { IfOk result (λ _. Steps (met path.old) (met path.new) (walks.walk_store (seen D.Domain setting.now item) buffer (term_seen index.now) (term_seen value.now))) }
+    ensures { MatchResult result (λ _. Steps (met path.old) (met path.new) (walks.walk_store (seen D.Domain setting.now item) buffer (term_seen index.now) (term_seen value.now))) (λ e. Stops (AreNoStraightTerms (term_seen index.now) (term_seen value.now)) (met path.old) e (walks.walk_store (seen D.Domain setting.now item) buffer (term_seen index.now) (term_seen value.now))) }
 {
     let place = walk_term(alloc, setting, item, path, index)?;
     walk_term(alloc, setting, item, path, value)?;
@@ -65,7 +66,7 @@ fn walk_statement<D: Domain>(
     path: &mut Path<D>,
     statement: &Statement,
 ) -> Result<(), WalkError>
-    ensures { IfOk result (λ _. Steps (met path.old) (met path.new) (walks.walk_one (seen D.Domain setting.now item) (statement_seen statement.now))) }
+    ensures { MatchResult result (λ _. Steps (met path.old) (met path.new) (walks.walk_one (seen D.Domain setting.now item) (statement_seen statement.now))) (λ e. Stops (IsNoStraightStatement (statement_seen statement.now)) (met path.old) e (walks.walk_one (seen D.Domain setting.now item) (statement_seen statement.now))) }
 {
     match statement {
         Statement::Store {
@@ -86,7 +87,7 @@ pub fn walk<D: Domain>(
     facts: Vec<Form>,
     body: &[Statement],
 ) -> Result<Path<D>, WalkError>
-    ensures { IfOk result (λ p. (met p).found ≡ collect (opening (forms facts.items)).found (walks.tree (seen D.Domain setting.now item) (statements_seen body.now))) }
+    ensures { MatchResult result (λ p. (met p).found ≡ collect (opening (forms facts.items)).found (walks.tree (seen D.Domain setting.now item) (statements_seen body.now))) (λ e. Refused (IsNoStraightBody (statements_seen body.now)) e (collect (opening (forms facts.items)).found (walks.tree (seen D.Domain setting.now item) (statements_seen body.now)))) }
 {
     let mut path = Path::opening(alloc, facts);
     for statement in body {

@@ -14,5 +14,8 @@ loop-kind-preserved g c =
     let cs = conditions c.args.conditions.now in
     let next : c.in-Some.next ≡ suc c.loop-kind.buffer = search (rules, add-one) in
     let all = pairs_from (three c.args.sizes) cs 0 c.args.buffers.now us vs in
-    let step = from_step (three c.args.sizes) cs c.loop-kind.buffer c.args.buffers.now us vs c.loop-kind._kind-index (map (pair us vs) c.loop-kind.found.items) (map (pair us vs) c.pairs_of.new.found.items) all Uint c.loop-kind-test.true c.in_ok-pairs_of.ensures c.loop-kind.invariant in
-    subst (λ b. map (pair us vs) c.pairs_of.new.found.items ++ pairs_from (three c.args.sizes) cs b (drop (c.loop-kind._kind-index + 1) c.args.buffers.now) us vs ≡ all) (sym next) step
+    let step = from_step (three c.args.sizes) cs c.loop-kind.buffer c.args.buffers.now us vs c.loop-kind._kind-index (map (pair us vs) c.loop-kind.found.items) (map (pair us vs) c.pairs_of.new.found.items) all Uint c.loop-kind-test.true c.in_ok-pairs_of.ensures.exact c.loop-kind.invariant.found in
+    record {
+      found = subst (λ b. map (pair us vs) c.pairs_of.new.found.items ++ pairs_from (three c.args.sizes) cs b (drop (c.loop-kind._kind-index + 1) c.args.buffers.now) us vs ≡ all) (sym next) step;
+      inside = c.in_ok-pairs_of.ensures.inside c.loop-kind.invariant.inside;
+    }

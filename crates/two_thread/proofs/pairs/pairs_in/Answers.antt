@@ -12,11 +12,14 @@ loop-i-preserved g c =
     let vs = seen_accesses c.args.second.now in
     let h : c.loop-i.i < length us = omega (arith, length_seen c.args.first.now, c.loop-i-test.true, c.min-count.ensures, c.len.ensures, c.len-2.ensures) in
     let k : c.loop-i.i < length vs = omega (arith, length_seen c.args.second.now, c.loop-i-test.true, c.min-count.ensures, c.len.ensures, c.len-2.ensures) in
-    in_step (three c.args.sizes) (conditions c.args.conditions.now) c.args.buffer us vs (scope c.args.scope) c.loop-i.i (map (pair us vs) c.loop-i.found.items) (map (pair us vs) c.with_each.new.found.items) _ h k c.in_ok-with_each.ensures c.loop-i.invariant
+    record {
+      found = in_step (three c.args.sizes) (conditions c.args.conditions.now) c.args.buffer us vs (scope c.args.scope) c.loop-i.i (map (pair us vs) c.loop-i.found.items) (map (pair us vs) c.with_each.new.found.items) _ h k c.in_ok-with_each.ensures.exact c.loop-i.invariant.found;
+      inside = λ a. c.in_ok-with_each.ensures.inside (c.loop-i.invariant.inside a);
+    }
 
-pub returns : goal.returns
-returns g c =
+pub returns-clause-exact : goal.returns-clause-exact
+returns-clause-exact g c =
     let us = seen_accesses c.args.first.now in
     let vs = seen_accesses c.args.second.now in
     let h : min (length us) (length vs) ≤ c.loop-i.i = omega (arith, length_seen c.args.first.now, length_seen c.args.second.now, c.loop-i-test.false, c.min-count.ensures, c.len.ensures, c.len-2.ensures) in
-    in_end (three c.args.sizes) (conditions c.args.conditions.now) c.args.buffer us vs (scope c.args.scope) c.loop-i.i _ _ h c.loop-i.invariant
+    in_end (three c.args.sizes) (conditions c.args.conditions.now) c.args.buffer us vs (scope c.args.scope) c.loop-i.i _ _ h c.loop-i.invariant.found

@@ -11,11 +11,14 @@ loop-j-preserved g c =
     let us = seen_accesses c.args.first.now in
     let vs = seen_accesses c.args.second.now in
     let h : c.loop-j.j < length vs = omega (arith, length_seen c.args.second.now, c.loop-j-test.true, c.len-j-end.ensures) in
-    each_step (three c.args.sizes) (conditions c.args.conditions.now) (scope c.args.scope) c.args.buffer (nth_access us c.args.i) vs c.loop-j.j (map (pair us vs) c.loop-j.found.items) (map (pair us vs) c.with_one.new.found.items) _ h c.in_ok-with_one.ensures c.loop-j.invariant
+    record {
+      found = each_step (three c.args.sizes) (conditions c.args.conditions.now) (scope c.args.scope) c.args.buffer (nth_access us c.args.i) vs c.loop-j.j (map (pair us vs) c.loop-j.found.items) (map (pair us vs) c.with_one.new.found.items) _ h c.in_ok-with_one.ensures.exact c.loop-j.invariant.found;
+      inside = λ a. c.in_ok-with_one.ensures.inside (c.loop-j.invariant.inside a);
+    }
 
-pub returns : goal.returns
-returns g c =
+pub returns-clause-exact : goal.returns-clause-exact
+returns-clause-exact g c =
     let us = seen_accesses c.args.first.now in
     let vs = seen_accesses c.args.second.now in
     let h : length vs ≤ c.loop-j.j = omega (arith, length_seen c.args.second.now, c.loop-j-test.false, c.len-j-end.ensures) in
-    each_end (three c.args.sizes) (conditions c.args.conditions.now) (scope c.args.scope) c.args.buffer (nth_access us c.args.i) vs c.loop-j.j _ _ h c.loop-j.invariant
+    each_end (three c.args.sizes) (conditions c.args.conditions.now) (scope c.args.scope) c.args.buffer (nth_access us c.args.i) vs c.loop-j.j _ _ h c.loop-j.invariant.found

@@ -4,6 +4,7 @@ use Rattle.walk.specs.View.{met, which, setting as seen}
 use Rattle.std.specs.Prelude.{ℕ}
 use Rattle.walk.specs.Symbols.{New, once}
 use Rattle.walk.specs.declared.path.Path.{Path}
+use Rattle.walk.proofs.Refusing.{invent_low, invent_high, handed}
 use Rattle.walk.proofs.Leading.{invents}
 use Rattle.walk.proofs.ranges.invent.Goals as goal
 
@@ -17,3 +18,17 @@ returns g c =
     let n : c.len-index.result ≡ length c.args.path.now.elements.items = search rules in
     let e : form c.in_ok-newest.newest ≡ once (New (which c.args.item) c.len-index.result) = search rules in
     invents (seen g.D.Domain c.args.setting.now c.args.item) c.args.element (form c.in_ok-newest.newest) c.bounds-bounds.result (met c.args.path.now) (met c.know_low.new.path) (met c.know_high.new.path) (met c.invent.new.self) (e ∙ ap (λ k. once (New (which c.args.item) k)) (count c.args.path.now _ n)) c.bounds-bounds.ensures c.in_ok-know_low.ensures.leads c.in_ok-know_low.ensures.state c.in_ok-know_high.ensures.leads c.in_ok-know_high.ensures.state c.in_ok-invent.ensures
+
+pub returns-in_err-know_low : goal.returns-in_err-know_low
+returns-in_err-know_low g c =
+    let n : c.len-index.result ≡ length c.args.path.now.elements.items = search rules in
+    let e : form c.in_ok-newest.newest ≡ once (New (which c.args.item) c.len-index.result) = search rules in
+    let k = invent_low (seen g.D.Domain c.args.setting.now c.args.item) c.args.element (form c.in_ok-newest.newest) c.bounds-bounds.result (met c.args.path.now) c.in_err-know_low.field-0.0 (e ∙ ap (λ k. once (New (which c.args.item) k)) (count c.args.path.now _ n)) c.bounds-bounds.ensures c.in_err-know_low.ensures.refused in
+    handed c.from_residual-in_err-know_low.result c.in_err-know_low.field-0.0 _ _ c.from_residual-in_err-know_low.ensures k
+
+pub returns-in_err-know_high : goal.returns-in_err-know_high
+returns-in_err-know_high g c =
+    let n : c.len-index.result ≡ length c.args.path.now.elements.items = search rules in
+    let e : form c.in_ok-newest.newest ≡ once (New (which c.args.item) c.len-index.result) = search rules in
+    let k = invent_high (seen g.D.Domain c.args.setting.now c.args.item) c.args.element (form c.in_ok-newest.newest) c.bounds-bounds.result (met c.args.path.now) (met c.know_low.new.path) c.in_err-know_high.field-0.0 (e ∙ ap (λ k. once (New (which c.args.item) k)) (count c.args.path.now _ n)) c.bounds-bounds.ensures c.in_ok-know_low.ensures.leads c.in_err-know_high.ensures.refused in
+    handed c.from_residual-in_err-know_high.result c.in_err-know_high.field-0.0 _ _ c.from_residual-in_err-know_high.ensures k

@@ -3,6 +3,7 @@ use Rattle.std.proofs.lemmas.Int.{to_z-of_z}
 use Rattle.linear.specs.Forms.{form}
 use Rattle.walk.specs.View.{met}
 use Rattle.walk.specs.Collected.{with_fact}
+use Rattle.walk.proofs.Refusing.{high_refused, handed}
 use Rattle.walk.proofs.Leading.{knows_high}
 use Rattle.walk.proofs.ranges.know_high.Goals as goal
 
@@ -11,3 +12,10 @@ returns-in_ok-know-clause-leads g c =
     let f : SFits w64 c.in-Some.high = search rules in
     let e = simp to_z-of_z at c.in_ok-fact.ensures in
     knows_high (form c.args.of.now) c.args.high _ (met c.args.path.now) (met c.know.new.self) c.in-Some.is (c.in_ok-know.ensures ∙ ap (with_fact (met c.args.path.now)) e)
+
+pub returns-in_err-fact-clause-refused : goal.returns-in_err-fact-clause-refused
+returns-in_err-fact-clause-refused g c =
+    let f : SFits w64 c.in-Some.high = search rules in
+    let h = simp to_z-of_z at c.in_err-fact.ensures in
+    let k = high_refused (form c.args.of.now) c.args.high _ (met c.args.path.now) c.in_err-fact.field-0.0 c.in-Some.is h in
+    handed c.from_residual.result c.in_err-fact.field-0.0 _ _ c.from_residual.ensures k

@@ -111,4 +111,3 @@ module _ {E : Type 0} (sizes : Three ℕ) (c : Conditions) where
   small-pairs b (k ∷ ks) us vs p q =
       both IsSmallPair (pairs_of sizes c b us vs) (pairs_from sizes c (suc b) ks us vs)
       (both IsSmallPair (pairs_in sizes c b us vs Within) (pairs_in sizes c b us vs Across) (small-in Within b us vs p q) (small-in Across b us vs p q)) (small-pairs (suc b) ks us vs p q)
-

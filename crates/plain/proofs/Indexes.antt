@@ -146,4 +146,3 @@ pub number-multiple : (w : Which) (size : ℕ) (z : ℤ) → constant z ≡ id_m
 number-multiple w size z =
     let e : pos 0 ≡ pos 0 *ℤ pos size = omega (arith, ints) in
     ap (λ c. record { terms = put c (group w) []; constant = z }) e
-

@@ -125,4 +125,3 @@ module _ (k : Kernel) (c : Conditions) (h : ℕ → Bool) (w : Which) (m n : ℕ
       index-tame a p kf kc f z lf b (ranges k.arguments v (false ∷ false ∷ rs)) st _ (λ st1.
       value-tame v pv (λ e. g (left (is_signed k.arguments v) (has_signed k.arguments others) e)) (false ∷ false ∷ rs) st1 (λ x st2. on st2) (λ x st2.
       (omega (arith, l), tt, (room, tt, (omega (arith, l), body-tame others q (λ e. g (right (is_signed k.arguments v) (has_signed k.arguments others) e)) (claimed (claimed st2)))))))
-

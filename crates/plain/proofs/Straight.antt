@@ -16,5 +16,3 @@ value-straight ks v (BroughtParameter site x h) = lt-ltb x (length ks) h
 pub body-straight : (ks : List Kind) (size : ℕ) (groups : ℤ) (body : Statements) → ArePlain ks size groups body → is_straight_body (length ks) body ≡ true
 body-straight ks size groups none p = refl
 body-straight ks size groups (one s others) (Plain n b site a p kf kc f z v hf hz last pv, q) = rw (hf, hz, value-straight ks v pv, body-straight ks size groups others q) refl
-
-pub ruleset probe = (body-straight)

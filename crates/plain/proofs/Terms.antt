@@ -66,4 +66,3 @@ pub multiples-put : (k z : ℤ) (s : ℕ) (ts : Terms) → multiples k (put z s 
 multiples-put k (pos zero) s ts = let e : pos 0 ≡ k *ℤ pos 0 = omega (arith, ints) in ap (λ c. put c s (multiples k ts)) e
 multiples-put k (pos (suc n)) s ts = refl
 multiples-put k (negsuc n) s ts = refl
-

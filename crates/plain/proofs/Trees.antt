@@ -64,4 +64,3 @@ module _ {E : Type 0} (s : Setting E) where
       let x : s.has_entry (st.claims + 1) ≡ h (suc st.claims) = e (st.claims + 1) ∙ ap h (omega arith) in
       let y : s.has_entry (st.claims + 2) ≡ h (suc (suc st.claims)) = e (st.claims + 2) ∙ ap h (omega arith) in
       (a, right (asked_low low high (s.has_entry (st.claims + 1)) (s.has_entry (st.claims + 2))) x g, (b, right (asked_high low high (s.has_entry (st.claims + 1)) (s.has_entry (st.claims + 2))) y g, t (is_kept s f st)))
-

@@ -1,6 +1,6 @@
 -- Plain kernels: each statement is `a[get_global_id(0) * K + C] = V;` of a `uint` buffer, K and C numbers, V a number or a value
 -- parameter, and the index is one that a `uint` has at each launch of at most so many groups.
-use Rattle.std.specs.Prelude.{◌≡◌, ℕ, ℤ, pos, ◌+ℤ◌, ◌-ℤ◌, ◌*ℤ◌, ◌≤ℤ◌, ◌<◌, List, length, Bool, true, false, ◌||◌, slice_index_or}
+use Rattle.std.specs.Prelude.{◌≡◌, ℕ, ℤ, pos, ◌+ℤ◌, ◌-ℤ◌, ◌*ℤ◌, ◌≤ℤ◌, ◌<◌, ◌≤◌, List, length, Bool, true, false, ◌||◌, slice_index_or}
 use Rattle.semantics.specs.Word.{Kind, Int, Uint, in_kind, Add, Multiply}
 use Rattle.semantics.specs.Core.{Site, Array, Global, GlobalId, Term, Literal, Variable, Id, Binary, Convert, Statement, Store, Statements, none, one}
 use Rattle.semantics.specs.Launch.{Kernel}
@@ -45,3 +45,10 @@ is_signed ks t = false
 abbrev pub has_signed : (arguments : List Kind) → Statements → Bool
 has_signed ks (one (Store n a site index value) others) = is_signed ks value || has_signed ks others
 has_signed ks ss = false
+
+-- local sizes and group counts are those that a text can say
+pub record HasLimits (k : Kernel) (c : Conditions) : Type 0 where
+  pub size_x : (1 ≤ k.sizes.x) × (k.sizes.x ≤ 1024)
+  pub size_y : (1 ≤ k.sizes.y) × (k.sizes.y ≤ 1024)
+  pub size_z : (1 ≤ k.sizes.z) × (k.sizes.z ≤ 1024)
+  pub groups_x : (pos 1 ≤ℤ c.groups.x.high) × (c.groups.x.high ≤ℤ pos 65536)

@@ -2,3 +2,4 @@ pub mod Pairs
 pub mod Shown
 pub mod View
 pub mod Refusals
+pub mod Fitting

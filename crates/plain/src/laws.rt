@@ -1,0 +1,27 @@
+// Laws of the definitions, each the contract of a function that does nothing.
+ghost use Rattle.std.specs.Prelude.{◌≡◌, ◌⊎◌, ℕ, suc, Bool, true, false, get_or};
+ghost use Rattle.semantics.specs.Launch.{Kernel};
+ghost use Rattle.semantics.specs.Conditions.{Conditions};
+ghost use Rattle.walk.specs.Straight.{is_straight};
+ghost use Rattle.walk.specs.Trees.{Obligation};
+ghost use Rattle.two_thread.specs.Shown.{obligations};
+ghost use Rattle.two_thread.specs.Fitting.{forms_fit};
+ghost use Rattle.plain.specs.Domains.{domain};
+ghost use Rattle.plain.specs.Claims.{is_range};
+ghost use Rattle.plain.specs.Kernels.{IsPlain, HasLimits, has_signed};
+
+/// Plain kernels are straight-line.
+pub fn plain_kernels_are_straight()
+    ensures { (k : Kernel) (c : Conditions) → HasLimits k c → IsPlain k c → is_straight k ≡ true }
+{}
+
+/// No number of a form that is made to show their obligations leaves `i64`.
+pub fn forms_of_plain_kernels_fit()
+    ensures { (k : Kernel) (c : Conditions) (has_entry : ℕ → Bool) → HasLimits k c → IsPlain k c → forms_fit domain k c has_entry ≡ true }
+{}
+
+/// A claim of a range that the domain does not settle, and that is needed or has an entry, has an entry; and then some value is an
+/// `int` parameter.
+pub fn ranges_of_plain_kernels_are_settled()
+    ensures { (k : Kernel) (c : Conditions) (has_entry : ℕ → Bool) (i : ℕ) (o : Obligation) → HasLimits k c → IsPlain k c → is_range k (suc i) ≡ true → o ≡ get_or (obligations domain k c has_entry) i o → o.settled ≡ false → (o.needed ≡ true) ⊎ (has_entry (suc i) ≡ true) → (has_entry (suc i) ≡ true) × (has_signed k.arguments k.body ≡ true) }
+{}

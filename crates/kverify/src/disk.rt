@@ -2,7 +2,7 @@
 
 ghost use Rattle.std.specs.Prelude.{None};
 
-use crate::files::{FileFault, Files};
+use program::files::{FileFault, Files};
 use std::io::{ErrorKind, Read};
 use std::{fs, io};
 

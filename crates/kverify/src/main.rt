@@ -3,20 +3,14 @@
 //! output that fails, 4 out of memory.
 #![tactic(auto)]
 
-mod command;
 mod disk;
-mod files;
-mod first;
-mod held;
-mod telling;
 #[cfg(test)]
 mod tests;
-mod tool;
 
 use disk::Disk;
+use program::tool;
 use std::process::ExitCode;
 use std::{env, io};
-use tool::tool;
 
 /// The words behind the program's name.
 fn words_of(rt: &HostRuntime) -> io::Result<Vec<String>> {

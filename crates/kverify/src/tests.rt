@@ -2,11 +2,11 @@
 
 ghost use Rattle.std.specs.Prelude.{◌≡◌, refl, None};
 
-use crate::files::{FileFault, Files};
-use crate::first::first_texts;
-use crate::held::Held;
-use crate::tool::tool;
 use launch::launches::Buffers;
+use program::files::{FileFault, Files};
+use program::first::first_texts;
+use program::held::Held;
+use program::tool;
 use std::alloc::Global;
 use std::io;
 use std::io::Write;

@@ -1,0 +1,33 @@
+-- What the words of a command line ask for. The words that are no option are the command and the names of files.
+use Rattle.std.specs.Prelude.{◌≡◌, ℕ, List, [], ◌∷◌, map, Bool, true, false, cond, Some, slice_get, bytes_eq, codes}
+use Rattle.std.specs.Prelude.{String}
+use Rattle.std.specs.String.{string_bytes}
+use Rattle.std.specs.declared.alloc.Global.{Global}
+use Rattle.command_line.specs.declared.Names.{Names}
+use Rattle.command_line.specs.declared.Line.{Line}
+use Rattle.command_line.specs.declared.Line.TheVariants as lines
+
+abbrev pub texts : List (String Global) → List (List ℕ)
+texts ws = map string_bytes ws
+
+-- the word behind `--workers` is its number
+abbrev pub operands : (is_number : Bool) → List (List ℕ) → List (List ℕ)
+operands is_number [] = []
+operands true (w ∷ ws) = operands false ws
+operands false (w ∷ ws) = cond (bytes_eq w (codes "--workers")) (operands true ws) (w ∷ operands false ws)
+
+-- this is the n-th of them, from 0
+abbrev pub HasWord : List (List ℕ) → ℕ → List ℕ → Type 0
+HasWord ws n w = slice_get (operands false ws) n ≡ Some w
+
+-- the files of the kernel, its conditions and its certificate come first
+pub record HasNames (ws : List (List ℕ)) (names : Names) : Type 0 where
+  pub kernel : HasWord ws 1 names.kernel.now
+  pub conditions : HasWord ws 2 names.conditions.now
+  pub certificate : HasWord ws 3 names.certificate.now
+
+abbrev pub Asks : List (List ℕ) → Line → Type 0
+Asks ws lines.First = ws ≡ []
+Asks ws (lines.Check names) = HasWord ws 0 (codes "check") × HasNames ws names
+Asks ws (lines.Run names launch workers) = HasWord ws 0 (codes "run") × HasNames ws names × HasWord ws 4 launch.now
+Asks ws lines.Usage = Unit {0}

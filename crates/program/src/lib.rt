@@ -1,0 +1,9 @@
+//! The program over any files and writers: what it reads, what it answers and its status.
+#![tactic(auto)]
+
+pub mod files;
+pub mod first;
+pub mod held;
+mod one_run;
+
+pub use one_run::tool;

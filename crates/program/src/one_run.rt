@@ -1,0 +1,202 @@
+//! One run of the program over files and writers.
+
+ghost use Rattle.std.specs.Prelude.{◌≡◌, ◌≤◌, ℕ, List, [], Option, IfOk, codes};
+ghost use Rattle.std.specs.Io.KnownBytes.{Appends};
+ghost use Rattle.telling.specs.Telling.{IsAcceptedText};
+ghost use Rattle.command_line.specs.Words.{texts, HasWord, HasNames};
+ghost use Rattle.program.specs.Running.{IsTextOf, Success, Succeeds};
+
+use crate::files::{FileFault, Files};
+use crate::first::first_texts;
+use command_line::{Line, Names, read_line};
+use std::alloc::Global;
+use std::io::Write;
+use std::sync::Wait;
+use std::thread::Threads;
+use telling::{Texts, Verdict, check_texts, run_texts};
+
+const USAGE: &[u8] = b"usage: kverify prove | check | run | print\n";
+
+/// Why there is no verdict.
+#[derive(Clone, Copy)]
+enum Stop<'a> {
+    /// The file of this name.
+    File(&'a str),
+    Memory,
+    Usage,
+}
+
+/// What the files of a kernel, its conditions and its certificate have.
+#[derive(Drop)]
+struct Found {
+    kernel: Vec<u8>,
+    conditions: Vec<u8>,
+    certificate: Vec<u8>,
+}
+
+impl Found {
+    fn texts(&self) -> Texts<'_>
+        ensures kernel { result.kernel.now ≡ self.now.kernel.items }
+        ensures conditions { result.conditions.now ≡ self.now.conditions.items }
+    {
+        Texts {
+            kernel: &self.kernel,
+            conditions: &self.conditions,
+            certificate: &self.certificate,
+        }
+    }
+}
+
+/// The bytes of a file, of at most so many and one more.
+fn text_of<'a, F: Files>(files: &mut F, name: &'a str, limit: u64) -> Result<Vec<u8>, Stop<'a>>
+    ensures text { IfOk result (λ v. IsTextOf (F.contents files.old) name.now limit v.items) }
+    ensures same { (n : List ℕ) → F.contents files.new n ≡ F.contents files.old n }
+{
+    match files.read(name, limit) {
+        Ok(bytes) => Ok(bytes),
+        Err(FileFault::Failed) => Err(Stop::File(name)),
+        Err(FileFault::Memory) => Err(Stop::Memory),
+    }
+}
+
+/// The three texts, in this order.
+fn texts_of<'a, F: Files>(files: &mut F, names: Names<'a>) -> Result<Found, Stop<'a>>
+    ensures kernel { IfOk result (λ t. IsTextOf (F.contents files.old) names.entry.kernel.now 65536 t.kernel.items) }
+    ensures conditions { IfOk result (λ t. IsTextOf (F.contents files.old) names.entry.conditions.now 65536 t.conditions.items) }
+    ensures same { (n : List ℕ) → F.contents files.new n ≡ F.contents files.old n }
+{
+    let kernel = text_of(files, names.kernel, 65_536)?;
+    let conditions = text_of(files, names.conditions, 65_536)?;
+    let certificate = text_of(files, names.certificate, 16_777_216)?;
+    Ok(Found {
+        kernel,
+        conditions,
+        certificate,
+    })
+}
+
+/// The check of the texts that stand in the program.
+fn first_verdict(alloc: Global) -> Verdict
+    ensures { (known : List ℕ → Option (List ℕ)) → Succeeds known [] result }
+{
+    check_texts(alloc, first_texts())
+}
+
+/// The check of files.
+fn checked<'a, F: Files>(
+    alloc: Global,
+    names: Names<'a>,
+    files: &mut F,
+) -> Result<Verdict, Stop<'a>>
+    ensures { (ws : List (List ℕ)) → HasWord ws 0 (codes "check") → HasNames ws names.entry → IfOk result (λ v. Succeeds (F.contents files.old) ws v) }
+{
+    let found = texts_of(files, names)?;
+    Ok(check_texts(alloc, found.texts()))
+}
+
+/// The run of files.
+fn ran<'a, R: Threads + Wait + Sync, F: Files>(
+    rt: &R,
+    alloc: Global,
+    names: Names<'a>,
+    launch: &'a str,
+    workers: u32,
+    files: &mut F,
+) -> Result<Verdict, Stop<'a>>
+    ensures { (ws : List (List ℕ)) → HasWord ws 0 (codes "run") → HasNames ws names.entry → HasWord ws 4 launch.now → IfOk result (λ v. Succeeds (F.contents files.old) ws v) }
+{
+    let found = texts_of(files, names)?;
+    let launch = text_of(files, launch, 4_194_304)?;
+    Ok(run_texts(rt, alloc, found.texts(), &launch, workers))
+}
+
+/// The verdict on what the words ask for.
+fn verdict_of<'a, R: Threads + Wait + Sync, F: Files>(
+    rt: &R,
+    alloc: Global,
+    words: &'a [String],
+    files: &mut F,
+) -> Result<Verdict, Stop<'a>>
+    ensures { IfOk result (λ v. Succeeds (F.contents files.old) (texts words.now) v) }
+{
+    match read_line(alloc, words) {
+        Ok(Line::First) => Ok(first_verdict(alloc)),
+        Ok(Line::Check(names)) => checked(alloc, names, files),
+        Ok(
+            Line::Run {
+                names,
+                launch,
+                workers,
+            },
+        ) => ran(rt, alloc, names, launch, workers, files),
+        Ok(Line::Usage) => Err(Stop::Usage),
+        Err(_) => Err(Stop::Memory),
+    }
+}
+
+/// Writes to the standard output: the status, or 3 where that fails.
+fn written<O: Write>(status: u8, text: &[u8], out: &mut O) -> u8
+    requires { status ≤ 4 }
+    ensures status { result ≤ 4 }
+    ensures text { result ≡ 0 → Appends (O.contents out.old) (O.contents out.new) text.now }
+    ensures done { result ≡ 0 → status ≡ 0 }
+{
+    match out.write_all(text) {
+        Ok(()) => status,
+        Err(_) => 3,
+    }
+}
+
+/// Writes to the standard error. Whether that fails changes nothing.
+fn warned<E: Write>(status: u8, text: &[u8], err: &mut E) -> u8
+    ensures { result ≡ status }
+{
+    match err.write_all(text) {
+        Ok(()) | Err(_) => status,
+    }
+}
+
+/// Tells why there is no verdict.
+fn stopped<E: Write>(stop: Stop, err: &mut E) -> u8
+    ensures low { 1 ≤ result }
+    ensures high { result ≤ 4 }
+{
+    match stop {
+        Stop::Usage => warned(2, USAGE, err),
+        Stop::Memory => warned(4, b"out of memory\n", err),
+        Stop::File(name) => match writeln!(err, "file: {name}") {
+            Ok(()) | Err(_) => 3,
+        },
+    }
+}
+
+/// Tells a verdict.
+fn told<O: Write, E: Write>(verdict: Verdict, out: &mut O, err: &mut E) -> u8
+    ensures status { result ≤ 4 }
+    ensures success { (known : List ℕ → Option (List ℕ)) (ws : List (List ℕ)) → Succeeds known ws verdict → result ≡ 0 → (text : List ℕ) × Success known ws text × Appends (O.contents out.old) (O.contents out.new) text }
+{
+    match verdict {
+        Verdict::Done(text) => written(0, &text, out),
+        Verdict::Refused(line) => written(1, line.as_bytes(), out),
+        Verdict::OutOfMemory => warned(4, b"out of memory\n", err),
+    }
+}
+
+/// One run of the program: reads the files that the words name, in their order, then answers. The status is 0 accepted or done, 1
+/// refused, 2 no command line, 3 a file or the output that fails, 4 out of memory.
+pub fn tool<R: Threads + Wait + Sync, F: Files, O: Write, E: Write>(
+    rt: &R,
+    alloc: Global,
+    words: &[String],
+    files: &mut F,
+    out: &mut O,
+    err: &mut E,
+) -> u8
+    ensures status { result ≤ 4 }
+    ensures success { result ≡ 0 → (text : List ℕ) × Success (F.contents files.old) (texts words.now) text × Appends (O.contents out.old) (O.contents out.new) text }
+{
+    match verdict_of(rt, alloc, words, files) {
+        Ok(verdict) => told(verdict, out, err),
+        Err(stop) => stopped(stop, err),
+    }
+}

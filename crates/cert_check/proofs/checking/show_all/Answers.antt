@@ -36,7 +36,7 @@ returns g c =
     let et : setting d s items.Second ≡ walks.setting d k cs h Second = λ i. record { domain = d; known = c.in_ok-known.ensures i; sizes = three core.sizes; arguments = map kind (ea i); item = Second; has_entry = h } in
     let d1 = c.in_ok-first.ensures ∙ ap (λ b. collect (opening (forms c.in_ok-of_first.of_first.items)).found (walks.tree (setting d s items.First) (statements b))) c.as_slice-body.ensures.value in
     let d2 = c.in_ok-second.ensures ∙ ap (λ b. collect (opening (forms c.in_ok-of_second.of_second.items)).found (walks.tree (setting d s items.Second) (statements b))) c.as_slice-body.ensures.value in
-    let ep = c.in_ok-pairs.ensures ∙ ap (λ b. pairs_from (three core.sizes) cs 0 b us vs) c.as_slice-buffers.ensures.value ∙ pairs_from-map (three core.sizes) cs 0 kind core.buffers.items us vs in
+    let ep = c.in_ok-pairs.ensures.exact ∙ ap (λ b. pairs_from (three core.sizes) cs 0 b us vs) c.as_slice-buffers.ensures.value ∙ pairs_from-map (three core.sizes) cs 0 kind core.buffers.items us vs in
     let a = subst (λ l. All IsShown (map (owed (forms l)) (seen_claims first))) c.as_slice-3.ensures.value c.in_ok-show_claims.ensures in
     let b = subst (λ l. All IsShown (map (pair_obligation d (known_seen c.in_ok-known.field-0) (forms launch)) (map (pair us vs) l))) c.as_slice-6.ensures.value
     (subst (λ l. All IsShown (map (pair_obligation d (known_seen c.in_ok-known.field-0) (forms l)) (map (pair us vs) c.as_slice-6.result.now))) c.as_slice-5.ensures.value c.in_ok-show_pairs.ensures) in

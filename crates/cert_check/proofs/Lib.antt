@@ -1,3 +1,4 @@
 pub mod OneByOne
 pub mod Collecting
 pub mod Headlines
+pub mod Entering

@@ -1,4 +1,5 @@
 pub mod Accepting
 pub mod Owing
 pub mod View
+pub mod Entries
 pub mod Refusing

@@ -51,7 +51,7 @@ fn show_all<D: Domain>(
         known: known::<D>(alloc, core.sizes, conditions)?,
         sizes: core.sizes,
         arguments: Vec::from_slice(alloc, core.arguments.as_slice())?,
-        entries: flags_of(alloc, places.as_slice())?,
+        entries: flags_of(alloc, entries, places.as_slice())?,
     };
     let body = core.body.as_slice();
     let of_first = item_facts(alloc, core.sizes, Which::First)?;

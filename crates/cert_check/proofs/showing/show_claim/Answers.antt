@@ -9,4 +9,4 @@ pub returns-in_default : goal.returns-in_default
 returns-in_default g c = unneeded_shown (forms c.args.launch.now) c.args.path.now c.args.i c.index-claim.result.now c.requires c.index-claim.ensures c.if-claim-2.false
 
 pub returns-then-branch : goal.returns-then-branch
-returns-then-branch g c = refuted_shown (forms c.args.launch.now) c.args.path.now c.args.i c.index-claim.result.now (forms c.in_ok-facts.facts.items) c.requires c.index-claim.ensures c.in_ok-facts.ensures (refuted c.in_ok-is_refuted.field-0 c.as_slice.result.now c.in_ok-facts.facts.items c.as_slice.ensures.value c.in_ok-is_refuted.ensures c.if-branch.true)
+returns-then-branch g c = refuted_shown (forms c.args.launch.now) c.args.path.now c.args.i c.index-claim.result.now (forms c.in_ok-facts.facts.items) c.requires c.index-claim.ensures c.in_ok-facts.ensures (refuted c.in_ok-is_refuted.field-0 c.as_slice.result.now c.in_ok-facts.facts.items c.as_slice.ensures.value c.in_ok-is_refuted.ensures.impossible c.if-branch.true)

@@ -2,3 +2,4 @@ pub mod OneByOne
 pub mod Collecting
 pub mod Headlines
 pub mod Entering
+pub mod Unshown

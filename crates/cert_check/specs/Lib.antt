@@ -2,4 +2,5 @@ pub mod Accepting
 pub mod Owing
 pub mod View
 pub mod Entries
+pub mod Lacking
 pub mod Refusing

@@ -1,6 +1,6 @@
 //! Obligations one by one, in the order of their numbers.
 
-ghost use Rattle.std.specs.Prelude.{◌≡◌, ◌≤◌, ◌<◌, ◌⊎◌, ℕ, IfOk, IsTrue, MatchOption, None, Some, map, length, replicate, slice_index_or, slice_set, true, false};
+ghost use Rattle.std.specs.Prelude.{◌≡◌, ◌≤◌, ◌<◌, ◌⊎◌, ℕ, IfOk, IfErr, IsTrue, MatchOption, None, Some, map, length, replicate, slice_index_or, slice_set, true, false};
 ghost use Rattle.std.specs.List.{All};
 ghost use Rattle.semantics.specs.Linear.{IsImpossible};
 ghost use Rattle.linear.specs.Forms.{forms};
@@ -11,10 +11,12 @@ ghost use Rattle.two_thread.specs.View.{pair as pair_seen, seen_accesses};
 ghost use Rattle.certificate.specs.View.{scaled as scaled_seen, step as step_seen, entry as entry_seen};
 ghost use Rattle.cut_proof.specs.View.{line as line_seen};
 ghost use Rattle.cert_check.specs.Entries as entries;
-ghost use Rattle.cert_check.specs.Entries.{IsTable, entry_of, has_entry};
-ghost use Rattle.cert_check.specs.Owing.{owed, nth_claim, seen_claims};
+ghost use Rattle.cert_check.specs.Entries.{IsTable, entry_of, has_entry, is_past};
+ghost use Rattle.cert_check.specs.Lacking.{Names, Tells};
+ghost use Rattle.cert_check.specs.Owing.{owed, nth_claim, nth_pair, seen_claims, IsInside, all_owed};
 
 use crate::error::ShowError;
+use crate::findings::Findings;
 use certificate::tree::{Claim as Word, Entry, Scaled, Step};
 use cut_proof::{Derivation, Line, refutes};
 use domain::Domain;
@@ -146,16 +148,19 @@ fn show_claim<D: Copy>(
     launch: &[Form],
     path: &Path<D>,
     i: usize,
-    entry: Option<&Entry>,
+    entries: &[Entry],
+    places: &[usize],
 ) -> Result<(), ShowError>
-    requires { i < length path.now.claims.items }
-    ensures { IfOk result (λ _. IsShown (owed (forms launch.now) (nth_claim (seen_claims path.now) i))) }
+    requires claim { i < length path.now.claims.items }
+    requires table { IsTable (map entry_seen entries.now) places.now }
+    ensures shown { IfOk result (λ _. IsShown (owed (forms launch.now) (nth_claim (seen_claims path.now) i))) }
+    ensures lacks { IfErr result (Names (map entry_seen entries.now) 0 (map (owed (forms launch.now)) (seen_claims path.now))) }
 {
     let claim = &path.claims[i];
     if claim.settled {
         return Ok(());
     }
-    let Some(entry) = entry else {
+    let Some(entry) = entry_at(entries, places, i + 1) else {
         if claim.needed {
             return Err(ShowError::NotShown(i as u64 + 1));
         }
@@ -169,7 +174,7 @@ fn show_claim<D: Copy>(
 }
 
 /// The claims of a path, by their numbers from 1.
-pub fn show_claims<D: Copy>(
+fn show_claims<D: Copy>(
     alloc: Global,
     launch: &[Form],
     path: &Path<D>,
@@ -177,11 +182,11 @@ pub fn show_claims<D: Copy>(
     places: &[usize],
 ) -> Result<(), ShowError>
     requires { IsTable (map entry_seen entries.now) places.now }
-    ensures { IfOk result (λ _. All IsShown (map (owed (forms launch.now)) (seen_claims path.now))) }
+    ensures shown { IfOk result (λ _. All IsShown (map (owed (forms launch.now)) (seen_claims path.now))) }
+    ensures lacks { IfErr result (Names (map entry_seen entries.now) 0 (map (owed (forms launch.now)) (seen_claims path.now))) }
 {
     for i in 0..path.claims.len() {
-        let entry = entry_at(entries, places, i + 1);
-        show_claim(alloc, launch, path, i, entry)?;
+        show_claim(alloc, launch, path, i, entries, places)?;
     }
     Ok(())
 }
@@ -193,19 +198,23 @@ fn show_pair<D: Domain>(
     known: &Known<D>,
     first: &Path<D>,
     second: &Path<D>,
-    pair: Pair,
-    number: usize,
-    entry: Option<&Entry>,
+    pairs: &[Pair],
+    i: usize,
+    entries: &[Entry],
+    places: &[usize],
 ) -> Result<(), ShowError>
-    ensures { IfOk result (λ _. IsShown (specs.pair_obligation D.Domain (known_seen known.now) (forms launch.now) (pair_seen (seen_accesses first.now) (seen_accesses second.now) pair))) }
+    requires pair { i < length pairs.now }
+    requires inside { All (IsInside (length first.now.accesses.items) (length second.now.accesses.items)) pairs.now }
+    requires table { IsTable (map entry_seen entries.now) places.now }
+    ensures shown { IfOk result (λ _. IsShown (specs.pair_obligation D.Domain (known_seen known.now) (forms launch.now) (pair_seen (seen_accesses first.now) (seen_accesses second.now) (nth_pair pairs.now i)))) }
+    ensures lacks { IfErr result (Names (map entry_seen entries.now) (length first.now.claims.items) (map (specs.pair_obligation D.Domain (known_seen known.now) (forms launch.now)) (map (pair_seen (seen_accesses first.now) (seen_accesses second.now)) pairs.now))) }
 {
-    if pair.first >= first.accesses.len() || pair.second >= second.accesses.len() {
-        return Err(ShowError::NotShown(number as u64));
-    }
+    let pair = pairs[i];
     if is_apart(alloc, known, first, second, pair)? {
         return Ok(());
     }
-    let Some(entry) = entry else {
+    let number = first.claims.len() + i + 1;
+    let Some(entry) = entry_at(entries, places, number) else {
         return Err(ShowError::NotShown(number as u64));
     };
     let facts = pair_facts(alloc, launch, first, second, pair)?;
@@ -216,7 +225,7 @@ fn show_pair<D: Domain>(
 }
 
 /// Pairs, by their numbers behind those of the claims.
-pub fn show_pairs<D: Domain>(
+fn show_pairs<D: Domain>(
     alloc: Global,
     launch: &[Form],
     known: &Known<D>,
@@ -226,14 +235,58 @@ pub fn show_pairs<D: Domain>(
     entries: &[Entry],
     places: &[usize],
 ) -> Result<(), ShowError>
-    requires { IsTable (map entry_seen entries.now) places.now }
-    ensures { IfOk result (λ _. All IsShown (map (specs.pair_obligation D.Domain (known_seen known.now) (forms launch.now)) (map (pair_seen (seen_accesses first.now) (seen_accesses second.now)) pairs.now))) }
+    requires inside { All (IsInside (length first.now.accesses.items) (length second.now.accesses.items)) pairs.now }
+    requires table { IsTable (map entry_seen entries.now) places.now }
+    ensures shown { IfOk result (λ _. All IsShown (map (specs.pair_obligation D.Domain (known_seen known.now) (forms launch.now)) (map (pair_seen (seen_accesses first.now) (seen_accesses second.now)) pairs.now))) }
+    ensures lacks { IfErr result (Names (map entry_seen entries.now) (length first.now.claims.items) (map (specs.pair_obligation D.Domain (known_seen known.now) (forms launch.now)) (map (pair_seen (seen_accesses first.now) (seen_accesses second.now)) pairs.now))) }
 {
-    let claims = first.claims.len();
     for i in 0..pairs.len() {
-        let number = claims + i + 1;
-        let entry = entry_at(entries, places, number);
-        show_pair(alloc, launch, known, first, second, pairs[i], number, entry)?;
+        show_pair(
+            alloc, launch, known, first, second, pairs, i, entries, places,
+        )?;
+    }
+    Ok(())
+}
+
+/// An entry has a number past the last.
+fn any_past(entries: &[Entry], last: u64) -> bool
+    ensures { result ≡ is_past (map entry_seen entries.now) last }
+{
+    for entry in entries {
+        if entry.obligation > last {
+            return true;
+        }
+    }
+    false
+}
+
+/// All that is found is shown: claims, then pairs, and no entry is past them.
+pub fn show_found<D: Domain>(
+    alloc: Global,
+    found: &Findings<D>,
+    entries: &[Entry],
+    places: &[usize],
+) -> Result<(), ShowError>
+    requires inside { All (IsInside (length found.now.first.accesses.items) (length found.now.second.accesses.items)) found.now.pairs.items }
+    requires table { IsTable (map entry_seen entries.now) places.now }
+    ensures shown { IfOk result (λ _. All IsShown (all_owed D.Domain found.now)) }
+    ensures lacks { IfErr result (Tells (map entry_seen entries.now) (all_owed D.Domain found.now)) }
+{
+    let launch = found.launch.as_slice();
+    show_claims(alloc, launch, &found.first, entries, places)?;
+    show_pairs(
+        alloc,
+        launch,
+        &found.setting.known,
+        &found.first,
+        &found.second,
+        found.pairs.as_slice(),
+        entries,
+        places,
+    )?;
+    let last = found.first.claims.len() + found.pairs.len();
+    if any_past(entries, last as u64) {
+        return Err(ShowError::NotShown(0));
     }
     Ok(())
 }

@@ -1,6 +1,7 @@
 -- Which obligation a refusal names.
-use Rattle.std.proofs.Common.{◌≡◌, ℕ, zero, suc, ◌+◌, ◌<◌, Bool, true, false, List, [], ◌∷◌, ◌++◌, length, map, take, get_or, ap, sym, subst, ◌∙◌, inl, inr, arith}
+use Rattle.std.proofs.Common.{◌≡◌, ℕ, zero, suc, ◌+◌, ◌<◌, ◌==◌, Bool, true, false, List, [], ◌∷◌, ◌++◌, length, map, take, get_or, ap, sym, subst, ◌∙◌, inl, inr, arith}
 use Rattle.std.specs.Prelude.{None, Some, Result, Ok, Err, IfErr, IsErrAnd}
+use Rattle.std.proofs.lemmas.Bool.{false≢true}
 use Rattle.std.proofs.lemmas.List.{length-map, length-append, get_or-map, get_or_append_left, get_or-append-add}
 use Rattle.semantics.specs.Launch.{Kernel}
 use Rattle.semantics.specs.Conditions.{Conditions}
@@ -84,6 +85,9 @@ of_kernel g k c es (errors.Walk e) h = h
 of_kernel g k c es errors.OverBudget h = absurd h
 of_kernel g k c es errors.Memory h = h
 
+pub same_told : {E : Type 0} (g : Ghosts E) (k k' : Kernel) (c c' : Conditions) (es es' : List Entry) (e : ShowError) → k ≡ k' → c ≡ c' → es ≡ es' → TellsOf g k c es e → TellsOf g k' c' es' e
+same_told g k k' c c' es es' e p q r t = subst (λ x. TellsOf g k' c' x e) r (subst (λ x. TellsOf g k' x es e) q (subst (λ x. TellsOf g x c es e) p t))
+
 pub claims_length : {E : Type 0} (f : Findings E) → length (claims_owed f) ≡ length f.first.claims.items
 claims_length f = length-map (seen_claims f.first) (owed _) ∙ length_claims f.first
 
@@ -92,6 +96,10 @@ owed_length g f =
     length-append (claims_owed f) (pairs_owed g f)
     ∙ ap (λ n. n + length (pairs_owed g f)) (claims_length f)
     ∙ ap (λ n. length f.first.claims.items + n) (length-map (map (pair (seen_accesses f.first) (seen_accesses f.second)) f.pairs.items) _ ∙ length-map f.pairs.items _)
+
+pub filled : {A B : Type 0} (view : A → B) (xs : List A) (ys : List B) (b : Bool) → map view xs ≡ ys → b ≡ (length xs == 0) → b ≡ false → 0 < length ys
+filled view [] ys b p e h = absurd (false≢true (sym h ∙ e))
+filled view (x ∷ xs) ys b p e h = subst (λ zs. 0 < length zs) p (omega arith)
 
 -- an error that is passed on
 pub passed : {T E : Type 0} (r : Result T E) (x : E) (P : E → Type 0) → IsErrAnd r (λ e. e ≡ x) → P x → IfErr r P

@@ -1,4 +1,7 @@
 pub mod Accepting
 pub mod Owing
 pub mod View
+pub mod Entries
+pub mod Lacking
+pub mod Domain
 pub mod Refusing

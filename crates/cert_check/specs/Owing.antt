@@ -1,10 +1,15 @@
 -- What is to be shown of a path's claims.
-use Rattle.std.specs.Prelude.{ℕ, pos, List, [], ◌∷◌, ◌++◌, get_or, false}
+use Rattle.std.specs.Prelude.{◌<◌, ℕ, pos, List, [], ◌∷◌, ◌++◌, map, get_or, false}
 use Rattle.walk.specs.Symbols.{Fact, constant, denial}
+use Rattle.domain.specs.declared.Domain.{Ghosts}
+use Rattle.linear.specs.Forms.{forms}
 use Rattle.walk.specs.Trees.{Obligation}
 use Rattle.walk.specs.Collected.{Claimed}
-use Rattle.walk.specs.View.{met}
+use Rattle.walk.specs.View.{met, known_seen}
 use Rattle.walk.specs.declared.path.Path.{Path}
+use Rattle.cert_check.specs.declared.findings.Findings.{Findings}
+use Rattle.two_thread.specs.Pairs.{pair_obligation}
+use Rattle.two_thread.specs.View.{pair, seen_accesses}
 use Rattle.two_thread.specs.declared.pairs.Pair.{Pair}
 use Rattle.two_thread.specs.declared.pairs.Scope.TheVariants.{Within}
 use Rattle.two_thread.specs.declared.pairs.Order.TheVariants.{Below}
@@ -24,3 +29,20 @@ nth_claim cs n = get_or cs n no_claim
 
 abbrev pub no_pair : Pair
 no_pair = record { first = 0; second = 0; scope = Within; dimension = 0; order = Below }
+
+abbrev pub nth_pair : List Pair → ℕ → Pair
+nth_pair ps n = get_or ps n no_pair
+
+-- both accesses of a pair stand in lists of these lengths
+abbrev pub IsInside : (first second : ℕ) → Pair → Type 0
+IsInside n m p = (p.first < n) × (p.second < m)
+
+abbrev pub claims_owed : {E : Type 0} → Findings E → List Obligation
+claims_owed f = map (owed (forms f.launch.items)) (seen_claims f.first)
+
+abbrev pub pairs_owed : {E : Type 0} → Ghosts E → Findings E → List Obligation
+pairs_owed g f = map (pair_obligation g (known_seen f.setting.known) (forms f.launch.items)) (map (pair (seen_accesses f.first) (seen_accesses f.second)) f.pairs.items)
+
+-- all that is to be shown of what was found
+abbrev pub all_owed : {E : Type 0} → Ghosts E → Findings E → List Obligation
+all_owed g f = claims_owed f ++ pairs_owed g f

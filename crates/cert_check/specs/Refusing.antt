@@ -1,17 +1,25 @@
 -- What a refusal says of the three texts: those before the refused one are read, and its fault is the first of its text.
-use Rattle.std.specs.Prelude.{◌≡◌, ℕ, List, Result, Ok, Err}
-use Rattle.texts.specs.ConditionsReading.{Lined, conditions_of}
+use Rattle.std.specs.Prelude.{◌≡◌, ◌<◌, ◌⊎◌, ℕ, List, length, Result, Ok, Err}
+use Rattle.semantics.specs.Launch as semantics
+use Rattle.semantics.specs.Conditions.{Conditions}
+use Rattle.texts.specs.Certificate.{Certificate}
+use Rattle.texts.specs.ConditionsReading.{Lined, conditions_of, meant}
 use Rattle.texts.specs.CertificateReading as certificates
 use Rattle.syntax.specs.View.{kernel as tree_seen}
 use Rattle.syntax.specs.declared.tree.Kernel.{Kernel}
+use Rattle.types.specs.View.{kernel as core_seen}
 use Rattle.types.specs.declared.core_tree.Core.{Core}
 use Rattle.reading.specs.Kernels.{read}
 use Rattle.reading.specs.Answers as reading
 use Rattle.launch_text.specs.Answers as launches
 use Rattle.certificate.specs.Certificates.{Says}
+use Rattle.cert_check.specs.Domain.{domain}
+use Rattle.cert_check.specs.Lacking.{TellsOf}
 use Rattle.cert_check.specs.declared.accepted.Accepted.{Accepted}
 use Rattle.cert_check.specs.declared.error.CheckError.{CheckError}
 use Rattle.cert_check.specs.declared.error.CheckError.TheVariants as errors
+use Rattle.cert_check.specs.declared.error.ShowError.{ShowError}
+use Rattle.cert_check.specs.declared.error.ShowError.TheVariants.{NotShown}
 
 -- the kernel is read, to this tree and core
 abbrev pub IsRead : Kernel × Core → (kernel : List ℕ) → Type 0
@@ -21,11 +29,23 @@ IsRead typed kernel = read kernel ≡ Ok (reading.kernel_seen typed)
 abbrev pub AreRead : Kernel × Core → Lined → (kernel conditions : List ℕ) → Type 0
 AreRead typed found kernel conditions = IsRead typed kernel × (conditions_of (tree_seen typed.0).parameters conditions ≡ Ok found)
 
+-- a certificate tells of places, or of how loops end: a straight-line kernel has none
+abbrev pub IsForOthers : Certificate → Type 0
+IsForOthers c = (0 < length c.places) ⊎ (0 < length c.bounds)
+
+-- what the error tells of a kernel under conditions, with a certificate
+abbrev pub Shows : semantics.Kernel → Conditions → Certificate → ShowError → Type 0
+Shows k c cert e = TellsOf domain k c cert.entries e ⊎ ((e ≡ NotShown 0) × IsForOthers cert)
+
+-- the certificate too, and the kernel under these conditions is not shown by it
+abbrev pub IsUnshown : ShowError → Kernel × Core → Lined → (certificate : List ℕ) → Type 0
+IsUnshown e typed found certificate = (cert : Certificate) × (certificates.certificate_of certificate ≡ Ok cert) × Shows (core_seen typed.1) (meant found) cert e
+
 abbrev pub Refuses : CheckError → (kernel conditions certificate : List ℕ) → Type 0
 Refuses (errors.Kernel e) kernel conditions certificate = reading.Refuses e (read kernel)
 Refuses (errors.Conditions e) kernel conditions certificate = (typed : Kernel × Core) × IsRead typed kernel × launches.Refuses e (conditions_of (tree_seen typed.0).parameters conditions)
 Refuses (errors.Certificate e) kernel conditions certificate = (typed : Kernel × Core) × (found : Lined) × AreRead typed found kernel conditions × Says (Err e) (certificates.certificate_of certificate)
-Refuses (errors.Show e) kernel conditions certificate = (typed : Kernel × Core) × (found : Lined) × AreRead typed found kernel conditions
+Refuses (errors.Show e) kernel conditions certificate = (typed : Kernel × Core) × (found : Lined) × AreRead typed found kernel conditions × IsUnshown e typed found certificate
 
 abbrev pub Tells : Result Accepted CheckError → (kernel conditions certificate : List ℕ) → Type 0
 Tells (Ok a) kernel conditions certificate = Unit {0}

@@ -1,6 +1,6 @@
 //! The check.
 
-ghost use Rattle.std.specs.Prelude.{◌≡◌, ◌<◌, ℕ, Bool, Ok, IfOk, IsTrue};
+ghost use Rattle.std.specs.Prelude.{◌≡◌, ◌<◌, map, false, Ok, IfOk, IfErr, IsTrue};
 ghost use Rattle.std.specs.List.{All};
 ghost use Rattle.semantics.specs.Launch.{product};
 ghost use Rattle.semantics.specs.Conditions.{ConditionsFit};
@@ -13,14 +13,18 @@ ghost use Rattle.reading.specs.Kernels.{read};
 ghost use Rattle.reading.specs.Answers.{kernel_seen};
 ghost use Rattle.walk.specs.View.{three};
 ghost use Rattle.walk.specs.Straight.{steps};
-ghost use Rattle.two_thread.specs.Shown.{obligations, IsShown};
+ghost use Rattle.two_thread.specs.Shown.{IsShown};
+ghost use Rattle.certificate.specs.View.{entry as entry_seen};
 ghost use Rattle.cert_check.specs.Accepting.{IsAccepted, IsStraightUnder, HasHeadline};
+ghost use Rattle.cert_check.specs.Lacking as lacking;
+ghost use Rattle.cert_check.specs.Lacking.{owing, TellsOf};
 ghost use Rattle.cert_check.specs.Refusing.{Tells};
 ghost use Rattle.cert_check.specs.View.{typed_of, kept};
 
 use crate::accepted::Accepted;
 use crate::error::{CheckError, ShowError};
-use crate::showing::{flags_of, places_of, show_claims, show_pairs};
+use crate::finding::find;
+use crate::showing::{places_of, show_found};
 use certificate::tree::Entry;
 use congruence::Congruence;
 use domain::Domain;
@@ -31,10 +35,9 @@ use product::Product;
 use reading::read_kernel;
 use reduction::headline;
 use std::alloc::Global;
-use two_thread::all_pairs;
 use two_thread::laws::what_is_shown_is_pair_safe;
 use types::core_tree::{Core, Statement};
-use walk::{Setting, WalkError, Which, is_straight, item_facts, known, launch_facts, walk};
+use walk::is_straight;
 
 /// All that is to be shown is shown.
 fn show_all<D: Domain>(
@@ -43,55 +46,18 @@ fn show_all<D: Domain>(
     conditions: &Conditions,
     entries: &[Entry],
 ) -> Result<(), ShowError>
-    ensures { IfOk result (λ _. (h : ℕ → Bool) × All IsShown (obligations D.Domain (core_seen core.now) (conditions_seen conditions.now) h)) }
+    ensures shown { IfOk result (λ _. All IsShown (owing D.Domain (core_seen core.now) (conditions_seen conditions.now) (map entry_seen entries.now))) }
+    ensures lacks { IfErr result (lacking.Tells (map entry_seen entries.now) (owing D.Domain (core_seen core.now) (conditions_seen conditions.now) (map entry_seen entries.now))) }
 {
     let places = places_of(alloc, entries)?;
-    let launch = launch_facts(alloc, conditions)?;
-    let setting = Setting {
-        known: known::<D>(alloc, core.sizes, conditions)?,
-        sizes: core.sizes,
-        arguments: Vec::from_slice(alloc, core.arguments.as_slice())?,
-        entries: flags_of(alloc, places.as_slice())?,
-    };
-    let body = core.body.as_slice();
-    let of_first = item_facts(alloc, core.sizes, Which::First)?;
-    let first = walk(alloc, &setting, Which::First, of_first, body)?;
-    let of_second = item_facts(alloc, core.sizes, Which::Second)?;
-    let second = walk(alloc, &setting, Which::Second, of_second, body)?;
-    let buffers = core.buffers.as_slice();
-    let pairs = all_pairs(alloc, core.sizes, conditions, buffers, &first, &second)?;
-    let last = first.claims.len() + pairs.len();
-    if last > 65_536 {
-        return Err(ShowError::Walk(WalkError::TooMany));
-    }
-    show_claims(alloc, launch.as_slice(), &first, entries, places.as_slice())?;
-    show_pairs(
-        alloc,
-        launch.as_slice(),
-        &setting.known,
-        &first,
-        &second,
-        pairs.as_slice(),
-        entries,
-        places.as_slice(),
-    )?;
-    if any_past(entries, last as u64) {
-        return Err(ShowError::NotShown(0));
-    }
-    Ok(())
-}
-
-/// An entry has a number past the last.
-fn any_past(entries: &[Entry], last: u64) -> bool {
-    match entries.last() {
-        Some(entry) => entry.obligation > last,
-        None => false,
-    }
+    let found = find::<D>(alloc, core, conditions, entries, places.as_slice())?;
+    show_found(alloc, &found, entries, places.as_slice())
 }
 
 /// Each dimension of a work-group has a work-item.
 fn has_items(sizes: [u32; 3]) -> bool
-    ensures { IsTrue result → 0 < product (three sizes) }
+    ensures some { IsTrue result → 0 < product (three sizes) }
+    ensures none { result ≡ false → product (three sizes) ≡ 0 }
 {
     sizes[0] > 0 && sizes[1] > 0 && sizes[2] > 0
 }
@@ -114,6 +80,7 @@ fn accept<D: Domain>(
     requires { ConditionsFit (core_seen core.now) (conditions_seen conditions.now) }
     ensures promise { IfOk result (λ _. IsAccepted (core_seen core.now) (conditions_seen conditions.now)) }
     ensures shape { IfOk result (λ _. IsStraightUnder (core_seen core.now) (conditions_seen conditions.now)) }
+    ensures lacks { IfErr result (TellsOf D.Domain (core_seen core.now) (conditions_seen conditions.now) (map entry_seen entries.now)) }
 {
     if !has_items(core.sizes) || !is_straight(core) {
         return Err(ShowError::NotShown(0));

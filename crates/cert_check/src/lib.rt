@@ -5,6 +5,8 @@
 mod accepted;
 mod checking;
 pub mod error;
+mod finding;
+mod findings;
 mod keeping;
 mod showing;
 #[cfg(test)]

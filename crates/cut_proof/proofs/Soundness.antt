@@ -10,9 +10,7 @@ use Rattle.semantics.proofs.Integers.{mul-add, weighted}
 use Rattle.linear.specs.Exact.{sum, multiple, all_divide, fits}
 use Rattle.linear.proofs.Merging.{value-merge, value-multiples}
 use Rattle.linear.proofs.Quotients.{met-quotient}
-use Rattle.cut_proof.specs.declared.Line.{Line}
-use Rattle.cut_proof.specs.declared.Line.TheVariants as lines
-use Rattle.cut_proof.specs.Derivations.{Forms, and_then, entry, within_i64, add_part, add_parts, nothing, sum_line, divided_line, line_form, is_none, is_contradiction, if_made, refutes_from, refutes_of}
+use Rattle.cut_proof.specs.Derivations.{Line, Given, Sum, Divide, Forms, and_then, entry, within_i64, add_part, add_parts, nothing, sum_line, divided_line, line_form, is_none, is_contradiction, if_made, refutes_from, refutes_of}
 
 true≢false : true ≡ false → ⊥
 true≢false e = subst (λ b. cond b (Unit {0}) ⊥) e tt
@@ -75,9 +73,9 @@ met-divided_line v made d l g m h =
     subst (IsMet v) (same _ _ w.1) (met-quotient v d e.0 (positive d t.0) w.0 (met-entry v made l e.0 m e.1))
 
 met-line : (v : ℕ → ℤ) (facts made : Forms) (l : Line) (g : Form ℕ) → All (IsMet v) facts → All (IsMet v) made → line_form facts made l ≡ Some g → IsMet v g
-met-line v facts made (lines.Given n) g mf m h = met-entry v facts n g mf h
-met-line v facts made (lines.Sum ps) g mf m h = met-sum_line v made ps.items g m h
-met-line v facts made (lines.Div d l) g mf m h = met-divided_line v made d l g m h
+met-line v facts made (Given n) g mf m h = met-entry v facts n g mf h
+met-line v facts made (Sum ps) g mf m h = met-sum_line v made ps g m h
+met-line v facts made (Divide d l) g mf m h = met-divided_line v made d l g m h
 
 negative : (z : ℤ) → is_negative z ≡ true → z <ℤ pos 0
 negative z h = grind (arith, ints)

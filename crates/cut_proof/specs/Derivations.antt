@@ -3,8 +3,12 @@ use Rattle.std.specs.Prelude.{ℕ, zero, suc, ℤ, pos, Bool, true, false, cond,
 use Rattle.std.specs.Int.{is_positive, is_negative}
 use Rattle.semantics.specs.Linear.{Weighted, Form}
 use Rattle.linear.specs.Exact.{sum, multiple, quotient, all_divide, fits}
-use Rattle.cut_proof.specs.declared.Line.{Line}
-use Rattle.cut_proof.specs.declared.Line.TheVariants as lines
+
+-- a line of a derivation: a fact, a sum of earlier lines with weights, an earlier line divided; facts and lines are counted from 1
+pub data Line : Type 0 where
+  Given : (fact : ℕ) → Line
+  Sum : (parts : List (ℤ × ℕ)) → Line
+  Divide : (divisor : ℤ) (line : ℕ) → Line
 
 abbrev pub Forms : Type 0
 Forms = List (Form ℕ)
@@ -45,9 +49,9 @@ divided_line made d l = cond (is_positive d) (and_then (entry made l) (λ f. con
 
 -- what a line says, after the lines that are made
 abbrev pub line_form : (facts made : Forms) → Line → Option (Form ℕ)
-line_form facts made (lines.Given n) = entry facts n
-line_form facts made (lines.Sum parts) = sum_line made parts.items
-line_form facts made (lines.Div d l) = divided_line made d l
+line_form facts made (Given n) = entry facts n
+line_form facts made (Sum parts) = sum_line made parts
+line_form facts made (Divide d l) = divided_line made d l
 
 abbrev pub is_none : List (Weighted ℕ) → Bool
 is_none [] = true

@@ -3,7 +3,15 @@ use Rattle.std.specs.Prelude.{ℕ, Option, None, Some}
 use Rattle.semantics.specs.Linear as semantics
 use Rattle.linear.specs.declared.form.Form.{Form}
 use Rattle.linear.specs.Forms.{form}
+use Rattle.cut_proof.specs.Derivations as derivations
+use Rattle.cut_proof.specs.declared.Line.{Line}
+use Rattle.cut_proof.specs.declared.Line.TheVariants as lines
 
 abbrev pub seen : Option Form → Option (semantics.Form ℕ)
 seen None = None
 seen (Some f) = Some (form f)
+
+abbrev pub line : Line → derivations.Line
+line (lines.Given n) = derivations.Given n
+line (lines.Sum parts) = derivations.Sum parts.items
+line (lines.Div d l) = derivations.Divide d l

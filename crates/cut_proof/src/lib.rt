@@ -5,11 +5,11 @@
 //! facts.
 #![tactic(auto)]
 
-ghost use Rattle.std.specs.Prelude.{◌≡◌, ℕ, ℤ, pos, Some, None, Ok, Err, IfOk, MatchOption, IsTrue, length};
+ghost use Rattle.std.specs.Prelude.{◌≡◌, ℕ, ℤ, pos, Some, None, Ok, Err, IfOk, MatchOption, IsTrue, length, map};
 ghost use Rattle.semantics.specs.Linear.{IsImpossible};
 ghost use Rattle.linear.specs.Exact.{sum, multiple};
 ghost use Rattle.linear.specs.Forms.{form, forms};
-ghost use Rattle.cut_proof.specs.View.{seen};
+ghost use Rattle.cut_proof.specs.View.{seen, line as line_seen};
 ghost use Rattle.cut_proof.specs.Derivations.{entry, within_i64, add_part, sum_line, divided_line, line_form, is_contradiction, refutes_of};
 
 #[cfg(test)]
@@ -38,7 +38,7 @@ pub struct Derivation {
 /// Whether the derivation refutes the facts: each line is as it says, no number of it leaves `i64`, and there is a last
 /// line, a negative constant. No whole numbers meet facts that are refuted.
 pub fn refutes(alloc: Global, facts: &[Fact], derivation: &Derivation) -> Result<bool, AllocError>
-    ensures exact { IfOk result (λ b. b ≡ refutes_of (forms facts.now) derivation.now.lines.items) }
+    ensures exact { IfOk result (λ b. b ≡ refutes_of (forms facts.now) (map line_seen derivation.now.lines.items)) }
     ensures impossible { IfOk result (λ b. IsTrue b → IsImpossible (forms facts.now)) }
 {
     let lines = derivation.lines.as_slice();
@@ -61,7 +61,7 @@ fn make_line(
     made: &[Form],
     line: &Line,
 ) -> Result<Option<Form>, AllocError>
-    ensures { IfOk result (λ r. seen r ≡ line_form (forms facts.now) (forms made.now) line.now) }
+    ensures { IfOk result (λ r. seen r ≡ line_form (forms facts.now) (forms made.now) (line_seen line.now)) }
 {
     match line {
         Line::Given(number) => make_given(alloc, facts, *number),

@@ -1,5 +1,6 @@
-use Rattle.std.proofs.Common.{sym, ◌∙◌}
+use Rattle.std.proofs.Common.{sym, map, ◌∙◌}
 use Rattle.linear.specs.Forms.{forms}
+use Rattle.cut_proof.specs.View.{line}
 use Rattle.cut_proof.proofs.Entries.{next_line, over}
 use Rattle.cut_proof.proofs.Soundness.{refuted_is_impossible}
 use Rattle.cut_proof.proofs.refutes.Goals as goal
@@ -13,4 +14,4 @@ loop-line-preserved c =
 pub returns-clause-impossible : goal.returns-clause-impossible
 returns-clause-impossible c =
     let e = over (forms c.args.facts.now) (forms c.loop-line.made.items) c.loop-line.refuted c.loop-line.line-index c.as_slice-lines.result.now c.loop-line-test.false c.loop-line.invariant in
-    λ h. refuted_is_impossible (forms c.args.facts.now) c.as_slice-lines.result.now (sym e ∙ h)
+    λ h. refuted_is_impossible (forms c.args.facts.now) (map line c.as_slice-lines.result.now) (sym e ∙ h)

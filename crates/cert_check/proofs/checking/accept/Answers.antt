@@ -1,7 +1,9 @@
-use Rattle.std.proofs.Common.{rules, ◌≡◌, ◌≤◌, true}
+use Rattle.std.proofs.Common.{rules, ◌≡◌, ◌≤◌, true, map}
 use Rattle.types.specs.View.{kernel, statements}
 use Rattle.launch.specs.View.{conditions}
 use Rattle.walk.specs.Straight.{is_straight, steps}
+use Rattle.certificate.specs.View.{entry}
+use Rattle.cert_check.specs.Entries.{has_entry}
 use Rattle.cert_check.proofs.checking.accept.Goals as goal
 
 pub returns-clause-promise : goal.returns-clause-promise
@@ -9,7 +11,7 @@ returns-clause-promise g c =
     let e : c.has_items.result ≡ true = search rules in
     let s : is_straight (kernel c.args.core.now) ≡ true = search rules in
     let n : steps (statements c.args.core.now.body.items) ≤ c.args.conditions.now.budget = search rules in
-    record { has_items = c.has_items.ensures e; is_pair_safe = λ l f m. c.what_is_shown_is_pair_safe.ensures (kernel c.args.core.now) (conditions c.args.conditions.now) c.in_ok-show_all.ensures.0 l s c.in_ok-show_all.ensures.1 n f m }
+    record { has_items = c.has_items.ensures.some e; is_pair_safe = λ l f m. c.what_is_shown_is_pair_safe.ensures (kernel c.args.core.now) (conditions c.args.conditions.now) (has_entry (map entry c.args.entries.now)) l s c.in_ok-show_all.ensures.shown n f m }
 
 pub returns-clause-shape : goal.returns-clause-shape
 returns-clause-shape g c =

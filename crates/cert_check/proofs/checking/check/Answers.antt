@@ -1,11 +1,18 @@
-use Rattle.std.proofs.Common.{rules}
+use Rattle.std.proofs.Common.{rules, ◌≡◌, inl, inr, refl, ap, sym}
+use Rattle.certificate.specs.Certificates.{certificate}
 use Rattle.types.specs.View.{kernel}
 use Rattle.launch.specs.View.{conditions}
 use Rattle.launch_text.specs.View.{lined}
+use Rattle.launch_text.proofs.LeastFits.{conditions_meant}
+use Rattle.cert_check.specs.Domain.{domain}
+use Rattle.cert_check.proofs.Unshown.{same_told, filled}
+use Rattle.certificate.specs.View.{place, bound}
+use Rattle.cert_check.specs.Refusing.{IsForOthers}
 use Rattle.cert_check.specs.Accepting.{IsAccepted}
 use Rattle.cert_check.specs.View.{typed_of, kept}
 use Rattle.cert_check.proofs.Headlines.{has_headline}
 use Rattle.cert_check.proofs.checking.check.Goals as goal
+use Rattle.cert_check.proofs.checking.check.Goals.{then-not-is_empty-via-then-not-is_empty, then-not-is_empty-via-else-not-is_empty+then-not-is_empty-2}
 
 pub returns-clause-headline : goal.returns-clause-headline
 returns-clause-headline c =
@@ -16,7 +23,15 @@ pub returns-in-Err-read-clause-refused : goal.returns-in-Err-read-clause-refused
 returns-in-Err-read-clause-refused c = (c.in-Ok.typed, lined c.in-Ok-read_conditions.conditions, (c.in-Ok.ensures, c.in-Ok-read_conditions.ensures.value), c.in-Err-read.ensures)
 
 pub returns-then-not-is_empty-clause-refused : goal.returns-then-not-is_empty-clause-refused
-returns-then-not-is_empty-clause-refused c = (c.in-Ok.typed, lined c.in-Ok-read_conditions.conditions, (c.in-Ok.ensures, c.in-Ok-read_conditions.ensures.value))
+returns-then-not-is_empty-clause-refused c =
+    let more : IsForOthers (certificate c.in-Ok-read.certificate) = elim c.then-not-is_empty.branch [
+      | then-not-is_empty-via-then-not-is_empty w ↦ inl (filled place c.places.result.now _ c.is_empty.result c.places.ensures c.is_empty.ensures w.if-not-is_empty.true)
+      | then-not-is_empty-via-else-not-is_empty+then-not-is_empty-2 w ↦ inr (filled bound w.bounds.result.now _ w.is_empty-else-not-is_empty.result w.bounds.ensures w.is_empty-else-not-is_empty.ensures w.if-not-is_empty-2.true)
+    ] in
+    (c.in-Ok.typed, lined c.in-Ok-read_conditions.conditions, (c.in-Ok.ensures, c.in-Ok-read_conditions.ensures.value), (certificate c.in-Ok-read.certificate, c.in-Ok-read.ensures, inr (refl, more)))
 
 pub returns-in-Err-accept-clause-refused : goal.returns-in-Err-accept-clause-refused
-returns-in-Err-accept-clause-refused c = (c.in-Ok.typed, lined c.in-Ok-read_conditions.conditions, (c.in-Ok.ensures, c.in-Ok-read_conditions.ensures.value))
+returns-in-Err-accept-clause-refused c =
+    let t = c.in-Err-accept.ensures.lacks in
+    let e : c.core.result.now ≡ c.in-Ok.typed.1 = c.core.ensures.value in
+    (c.in-Ok.typed, lined c.in-Ok-read_conditions.conditions, (c.in-Ok.ensures, c.in-Ok-read_conditions.ensures.value), (certificate c.in-Ok-read.certificate, c.in-Ok-read.ensures, inl (same_told domain _ _ _ _ _ _ c.in-Err-accept.error (ap kernel e) (sym (conditions_meant c.in-Ok-read_conditions.conditions)) c.entries-entries.ensures t)))

@@ -1,12 +1,21 @@
+use Rattle.std.proofs.Common.{map, ap, ◌∙◌}
+use Rattle.certificate.specs.View.{entry}
+use Rattle.cert_check.proofs.Unshown.{claim_without, claim_with}
 use Rattle.linear.specs.Forms.{forms}
 use Rattle.cert_check.proofs.OneByOne.{settled_shown, unneeded_shown, refuted_shown, refuted}
 use Rattle.cert_check.proofs.showing.show_claim.Goals as goal
 
-pub returns-then-claim : goal.returns-then-claim
-returns-then-claim g c = settled_shown (forms c.args.launch.now) c.args.path.now c.args.i c.index-claim.result.now c.requires c.index-claim.ensures c.if-claim.true
+pub returns-then-claim-clause-shown : goal.returns-then-claim-clause-shown
+returns-then-claim-clause-shown g c = settled_shown (forms c.args.launch.now) c.args.path.now c.args.i c.index-claim.result.now c.requires.claim c.index-claim.ensures c.if-claim.true
 
-pub returns-in_default : goal.returns-in_default
-returns-in_default g c = unneeded_shown (forms c.args.launch.now) c.args.path.now c.args.i c.index-claim.result.now c.requires c.index-claim.ensures c.if-claim-2.false
+pub returns-in_default-clause-shown : goal.returns-in_default-clause-shown
+returns-in_default-clause-shown g c = unneeded_shown (forms c.args.launch.now) c.args.path.now c.args.i c.index-claim.result.now c.requires.claim c.index-claim.ensures c.if-claim-2.false
 
-pub returns-then-branch : goal.returns-then-branch
-returns-then-branch g c = refuted_shown (forms c.args.launch.now) c.args.path.now c.args.i c.index-claim.result.now (forms c.in_ok-facts.facts.items) c.requires c.index-claim.ensures c.in_ok-facts.ensures (refuted c.in_ok-is_refuted.field-0 c.as_slice.result.now c.in_ok-facts.facts.items c.as_slice.ensures.value c.in_ok-is_refuted.ensures c.if-branch.true)
+pub returns-then-branch-clause-shown : goal.returns-then-branch-clause-shown
+returns-then-branch-clause-shown g c = refuted_shown (forms c.args.launch.now) c.args.path.now c.args.i c.index-claim.result.now (forms c.in_ok-facts.facts.items) c.requires.claim c.index-claim.ensures c.in_ok-facts.ensures (refuted c.in_ok-is_refuted.field-0 c.as_slice.result.now c.in_ok-facts.facts.items c.as_slice.ensures.value c.in_ok-is_refuted.ensures.impossible c.if-branch.true)
+
+pub returns-then-claim-2-clause-lacks : goal.returns-then-claim-2-clause-lacks
+returns-then-claim-2-clause-lacks g c = claim_without (map entry c.args.entries.now) (forms c.args.launch.now) c.args.path.now c.args.i c.index-claim.result.now c.requires.claim c.index-claim.ensures c.if-claim.false c.if-claim-2.true c.in_default.ensures
+
+pub returns-clause-lacks : goal.returns-clause-lacks
+returns-clause-lacks g c = claim_with (map entry c.args.entries.now) (forms c.args.launch.now) c.args.path.now c.args.i c.index-claim.result.now (entry c.in-Some.entry.now) (forms c.as_slice.result.now) c.in_ok-is_refuted.field-0 c.requires.claim c.index-claim.ensures c.if-claim.false c.in-Some.ensures (ap forms c.as_slice.ensures.value ∙ c.in_ok-facts.ensures) c.in_ok-is_refuted.ensures.exact c.if-branch.false

@@ -1,7 +1,35 @@
-use Rattle.std.proofs.Common.{inr, subst}
+use Rattle.std.proofs.Common.{inr, subst, refl, length, map, ◌+◌, arith, ap, sym, ◌∙◌}
 use Rattle.semantics.specs.Linear.{IsImpossible}
+use Rattle.linear.specs.Forms.{forms}
+use Rattle.certificate.specs.View.{entry}
+use Rattle.walk.specs.View.{known_seen}
+use Rattle.two_thread.specs.Pairs.{pair_obligation}
+use Rattle.two_thread.specs.View.{pair, seen_accesses}
+use Rattle.cert_check.specs.Owing.{no_pair, nth_pair}
+use Rattle.cert_check.proofs.Unshown.{numbered_twice, without_entry, with_entry}
 use Rattle.cert_check.proofs.OneByOne.{refuted}
 use Rattle.cert_check.proofs.showing.show_pair.Goals as goal
 
-pub returns-then-branch-2 : goal.returns-then-branch-2
-returns-then-branch-2 g c = λ n. inr (subst IsImpossible c.in_ok-facts.ensures (refuted c.in_ok-is_refuted.field-0 c.as_slice.result.now c.in_ok-facts.facts.items c.as_slice.ensures.value c.in_ok-is_refuted.ensures c.if-branch-2.true))
+pub returns-then-branch-2-clause-shown : goal.returns-then-branch-2-clause-shown
+returns-then-branch-2-clause-shown g c = λ n. inr (subst IsImpossible c.in_ok-facts.ensures (refuted c.in_ok-is_refuted.field-0 c.as_slice.result.now c.in_ok-facts.facts.items c.as_slice.ensures.value c.in_ok-is_refuted.ensures.impossible c.if-branch-2.true))
+
+pub returns-in_default-clause-lacks : goal.returns-in_default-clause-lacks
+returns-in_default-clause-lacks g c =
+    let us = seen_accesses c.args.first.now in
+    let vs = seen_accesses c.args.second.now in
+    let o = pair_obligation g.D.Domain (known_seen c.args.known.now) (forms c.args.launch.now) in
+    let n = length c.args.first.now.claims.items in
+    let at = numbered_twice o (pair us vs) c.args.pairs.now no_pair n c.args.i (c.len.result + c.args.i + 1) (omega (arith, c.len.ensures)) c.requires.pair in
+    let apart = sym c.in_ok-is_apart.ensures ∙ c.if-branch.false in
+    without_entry (map entry c.args.entries.now) n (map o (map (pair us vs) c.args.pairs.now)) (c.len.result + c.args.i + 1) (o (pair us vs (nth_pair c.args.pairs.now c.args.i))) at apart refl c.in_default.ensures
+
+pub returns-clause-lacks : goal.returns-clause-lacks
+returns-clause-lacks g c =
+    let us = seen_accesses c.args.first.now in
+    let vs = seen_accesses c.args.second.now in
+    let o = pair_obligation g.D.Domain (known_seen c.args.known.now) (forms c.args.launch.now) in
+    let n = length c.args.first.now.claims.items in
+    let at = numbered_twice o (pair us vs) c.args.pairs.now no_pair n c.args.i (c.len.result + c.args.i + 1) (omega (arith, c.len.ensures)) c.requires.pair in
+    let apart = sym c.in_ok-is_apart.ensures ∙ c.if-branch.false in
+    let facts = ap forms c.as_slice.ensures.value ∙ c.in_ok-facts.ensures in
+    with_entry (map entry c.args.entries.now) n (map o (map (pair us vs) c.args.pairs.now)) (c.len.result + c.args.i + 1) (o (pair us vs (nth_pair c.args.pairs.now c.args.i))) (entry c.in-Some.entry.now) (forms c.as_slice.result.now) c.in_ok-is_refuted.field-0 at apart c.in-Some.ensures facts c.in_ok-is_refuted.ensures.exact c.if-branch-2.false

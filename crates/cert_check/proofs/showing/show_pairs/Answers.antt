@@ -14,11 +14,11 @@ loop-i-preserved g c =
     let us = seen_accesses c.args.first.now in
     let vs = seen_accesses c.args.second.now in
     let o = pair_obligation g.D.Domain (known_seen c.args.known.now) (forms c.args.launch.now) in
-    let p : IsShown (o (pair us vs (get_or c.args.pairs.now c.loop-i.i no_pair))) = subst (λ x. IsShown (o (pair us vs x))) (at_place c.args.pairs.now c.loop-i.i no_pair _ c.loop-i-test.true) c.in_ok-show_pair.ensures in
+    let p : IsShown (o (pair us vs (get_or c.args.pairs.now c.loop-i.i no_pair))) = subst (λ x. IsShown (o (pair us vs x))) (at_place c.args.pairs.now c.loop-i.i no_pair _ c.loop-i-test.true) c.in_ok-show_pair.ensures.shown in
     one_more {P = λ k. IsShown (o (pair us vs (get_or c.args.pairs.now k no_pair)))} c.loop-i.i c.loop-i.invariant p
 
-pub returns : goal.returns
-returns g c =
+pub returns-clause-shown : goal.returns-clause-shown
+returns-clause-shown g c =
     let us = seen_accesses c.args.first.now in
     let vs = seen_accesses c.args.second.now in
     let o = pair_obligation g.D.Domain (known_seen c.args.known.now) (forms c.args.launch.now) in

@@ -1,0 +1,39 @@
+use Rattle.std.proofs.Common.{rules, map, length, ap, subst, sym, ◌∙◌, ◌≡◌, ◌+◌, arith, List}
+use Rattle.std.specs.List.{All}
+use Rattle.std.proofs.lemmas.List.Elements.{All-append}
+use Rattle.certificate.specs.View.{entry}
+use Rattle.linear.specs.Forms.{forms}
+use Rattle.linear.specs.declared.form.Form.{Form}
+use Rattle.walk.specs.View.{known_seen}
+use Rattle.two_thread.specs.Pairs.{pair_obligation}
+use Rattle.two_thread.specs.View.{pair, seen_accesses}
+use Rattle.two_thread.specs.Shown.{IsShown}
+use Rattle.cert_check.specs.Entries.{is_past}
+use Rattle.cert_check.specs.Lacking.{Names, Tells}
+use Rattle.cert_check.specs.Owing.{owed, seen_claims, claims_owed, pairs_owed, all_owed}
+use Rattle.cert_check.proofs.Unshown.{of_pairs, passed, claims_length, owed_length}
+use Rattle.cert_check.proofs.showing.show_found.Goals as goal
+
+pub returns-in_err-show_pairs-clause-lacks : goal.returns-in_err-show_pairs-clause-lacks
+returns-in_err-show_pairs-clause-lacks g c =
+    let f = c.args.found.now in
+    let es = map entry c.args.entries.now in
+    let e = c.in_err-show_pairs.field-0.0 in
+    let n : Names es (length f.first.claims.items) (pairs_owed g.D.Domain f) e = search rules in
+    passed c.from_residual-in_err-show_pairs.result e (Tells es (all_owed g.D.Domain f)) c.from_residual-in_err-show_pairs.ensures.1 (of_pairs es (claims_owed f) (pairs_owed g.D.Domain f) (length f.first.claims.items) e (claims_length f) n)
+
+pub returns-then-any_past-clause-lacks : goal.returns-then-any_past-clause-lacks
+returns-then-any_past-clause-lacks g c =
+    let n : length (all_owed g.D.Domain c.args.found.now) ≡ c.len.result + c.len-2.result = omega (arith, owed_length g.D.Domain c.args.found.now, c.len.ensures, c.len-2.ensures) in
+    ap (is_past (map entry c.args.entries.now)) n ∙ sym c.if-any_past.ensures
+
+pub returns-clause-shown : goal.returns-clause-shown
+returns-clause-shown g c =
+    let f = c.args.found.now in
+    let us = seen_accesses f.first in
+    let vs = seen_accesses f.second in
+    let o = λ (l : List Form). pair_obligation g.D.Domain (known_seen f.setting.known) (forms l) in
+    let a : All IsShown (claims_owed f) = subst (λ l. All IsShown (map (owed (forms l)) (seen_claims f.first))) c.as_slice-launch.ensures.value c.in_ok-show_claims.ensures.shown in
+    let b : All IsShown (pairs_owed g.D.Domain f) = subst (λ l. All IsShown (map (o l) (map (pair us vs) f.pairs.items))) c.as_slice-launch.ensures.value
+    (subst (λ ps. All IsShown (map (o c.as_slice-launch.result.now) (map (pair us vs) ps))) c.as_slice.ensures.value c.in_ok-show_pairs.ensures.shown) in
+    All-append IsShown (claims_owed f) (pairs_owed g.D.Domain f) a b

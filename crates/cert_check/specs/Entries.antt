@@ -1,0 +1,74 @@
+-- What the entries of a certificate say of obligations.
+use Rattle.std.specs.Prelude.{◌≡◌, ℕ, zero, suc, ℤ, pos, negsuc, List, [], ◌∷◌, map, Bool, true, false, cond, ◌&&◌, ◌||◌, nat_eq, nat_le, nat_lt, Option, None, Some, slice_index_or}
+use Rattle.texts.specs.Certificate.{Entry, Claim, Show, Positive, Negative, Quotient, Step, Given, Sum, Divide, Scaled}
+use Rattle.cut_proof.specs.Derivations as derivations
+use Rattle.cut_proof.specs.Derivations.{Forms, Line, refutes_of}
+
+-- a number of a line or a fact; one that is none, or has over 32 bits, is 0, which names nothing
+abbrev pub line_number : ℤ → ℕ
+line_number (pos n) = cond (nat_le n 4294967295) n 0
+line_number (negsuc n) = 0
+
+abbrev pub part_of : Scaled → ℤ × ℕ
+part_of s = (s.factor, line_number s.line)
+
+-- a step of an entry as a line of a derivation
+abbrev pub line_of : Step → Line
+line_of (Given fact) = derivations.Given (line_number fact)
+line_of (Sum parts) = derivations.Sum (map part_of parts)
+line_of (Divide by) = derivations.Divide by.factor (line_number by.line)
+
+abbrev pub is_show : Claim → Bool
+is_show Show = true
+is_show Positive = false
+is_show Negative = false
+is_show (Quotient form) = false
+
+-- an entry says `show`, and its derivation refutes the facts
+abbrev pub refutes_by : Entry → Forms → Bool
+refutes_by e facts = is_show e.claim && refutes_of facts (map line_of e.steps)
+
+-- an entry has this number; there are at most 65,536 obligations
+abbrev pub is_of : ℕ → Entry → Bool
+is_of n e = nat_le n 65536 && nat_eq e.obligation n
+
+-- the last entry of a number, `found` where none of these is
+abbrev pub last_of : (found : Option Entry) → List Entry → ℕ → Option Entry
+last_of found [] n = found
+last_of found (e ∷ es) n = last_of (cond (is_of n e) (Some e) found) es n
+
+-- the entry of a number; entries rise by their numbers, so that there is one at most
+abbrev pub entry_of : List Entry → ℕ → Option Entry
+entry_of es n = last_of None es n
+
+abbrev pub is_found : Option Entry → Bool
+is_found None = false
+is_found (Some e) = true
+
+abbrev pub found_refutes : Option Entry → Forms → Bool
+found_refutes None facts = false
+found_refutes (Some e) facts = refutes_by e facts
+
+-- an obligation of this number has an entry
+abbrev pub has_entry : List Entry → ℕ → Bool
+has_entry es n = is_found (entry_of es n)
+
+-- the entry of this number refutes the facts
+abbrev pub is_refuted : List Entry → (number : ℕ) → (facts : Forms) → Bool
+is_refuted es n facts = found_refutes (entry_of es n) facts
+
+-- an entry is past the last obligation
+abbrev pub is_past : List Entry → (last : ℕ) → Bool
+is_past [] last = false
+is_past (e ∷ es) last = nat_lt last e.obligation || is_past es last
+
+-- the entry at a place, counted from 1
+abbrev pub placed : List Entry → ℕ → Option Entry
+placed es zero = None
+placed [] (suc n) = None
+placed (e ∷ es) (suc zero) = Some e
+placed (e ∷ es) (suc (suc n)) = placed es (suc n)
+
+-- by its number, the place of an obligation's entry
+abbrev pub IsTable : List Entry → (places : List ℕ) → Type 0
+IsTable es places = (n : ℕ) → placed es (slice_index_or places n 0) ≡ entry_of es n

@@ -3,5 +3,4 @@ pub mod Owing
 pub mod View
 pub mod Entries
 pub mod Lacking
-pub mod Domain
 pub mod Refusing

@@ -13,7 +13,7 @@ use Rattle.reading.specs.Kernels.{read}
 use Rattle.reading.specs.Answers as reading
 use Rattle.launch_text.specs.Answers as launches
 use Rattle.certificate.specs.Certificates.{Says}
-use Rattle.cert_check.specs.Domain.{domain}
+use Rattle.plain.specs.Domains.{domain}
 use Rattle.cert_check.specs.Lacking.{TellsOf}
 use Rattle.cert_check.specs.declared.accepted.Accepted.{Accepted}
 use Rattle.cert_check.specs.declared.error.CheckError.{CheckError}

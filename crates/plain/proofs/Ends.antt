@@ -1,11 +1,11 @@
 -- Intervals of which both ends stand between two numbers.
-use Rattle.std.proofs.Common.{◌≡◌, ℕ, zero, suc, ◌+◌, ◌*◌, ◌≤◌, true, Bool, Option, Some, None, arith, refl, sym, ap, subst, ◌∙◌}
-use Rattle.std.specs.Prelude.{ℤ, pos, negsuc, ◌≤ℤ◌, ◌+ℤ◌, ◌-ℤ◌, ◌*ℤ◌, neg_ℤ, cond, ◌^◌}
+use Rattle.std.proofs.Common.{◌≡◌, ℕ, ◌≤◌, true, Option, Some, None, arith, sym, ap, subst}
+use Rattle.std.specs.Prelude.{ℤ, pos, ◌≤ℤ◌, ◌+ℤ◌, ◌*ℤ◌, cond, ◌^◌}
 use Rattle.std.specs.Int.{int_min, int_max}
 use Rattle.std.specs.Int.RustNames.{int_le}
 use Rattle.std.proofs.lemmas.Int.{ints, clamps}
 use Rattle.domain.specs.declared.Bounds.{Bounds}
-use Rattle.interval.specs.Ends.{least, greatest, fits, end, span, all, add, far, multiply, at_least, at_most}
+use Rattle.interval.specs.Ends.{least, greatest, end, span, all, add, far, multiply, at_least, at_most}
 use Rattle.interval.specs.Members.{fits-in, yes-le}
 
 -- there is an end, and it stands between the two

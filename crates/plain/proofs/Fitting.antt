@@ -1,11 +1,10 @@
 -- All forms of a plain kernel's trees are of i64, and so are those that are made of them to show its obligations.
-use Rattle.std.proofs.Common.{◌≡◌, ℕ, zero, suc, ◌+◌, ◌≤◌, Bool, true, false, List, [], ◌∷◌, ◌++◌, map, ◌⊎◌, arith, refl, sym, ap, subst, ◌∙◌}
+use Rattle.std.proofs.Common.{◌≡◌, ℕ, suc, ◌≤◌, Bool, true, false, List, [], ◌∷◌, ◌++◌, arith, sym, subst}
 use Rattle.std.specs.Prelude.{pos, negsuc, ◌-ℤ◌}
 use Rattle.std.proofs.lemmas.Int.{ints}
 use Rattle.semantics.specs.Launch.{Three}
 use Rattle.semantics.specs.Conditions.{Conditions}
 use Rattle.linear.specs.Exact.{fits}
-use Rattle.linear.specs.Sizes.{size}
 use Rattle.linear.proofs.Sizes.{size_difference, fits_small}
 use Rattle.walk.specs.Symbols.{Which, Groups, Local, Group, Fact, constant, once, minus, denial}
 use Rattle.walk.specs.Launching.{item_facts}

@@ -1,17 +1,17 @@
 -- The forms of an index, and what the domain settles of them.
-use Rattle.std.proofs.Common.{mul-le-mul, ◌≡◌, ℕ, zero, suc, ◌+◌, ◌*◌, ◌≤◌, true, Bool, List, [], ◌∷◌, Option, Some, None, arith, refl, sym, ap, subst, ◌∙◌}
+use Rattle.std.proofs.Common.{mul-le-mul, ◌≡◌, ℕ, suc, ◌+◌, ◌*◌, ◌≤◌, true, Bool, List, [], ◌∷◌, arith, refl, sym, ap, subst, ◌∙◌}
 use Rattle.std.specs.Prelude.{◌^◌, ℤ, pos, negsuc, ◌≤ℤ◌, ◌+ℤ◌, ◌-ℤ◌, ◌*ℤ◌, neg_ℤ}
 use Rattle.std.proofs.lemmas.Int.{ints}
 use Rattle.semantics.proofs.Integers.{mul_assoc}
-use Rattle.semantics.specs.Launch.{Three, Kernel}
+use Rattle.semantics.specs.Launch.{Kernel}
 use Rattle.semantics.specs.Conditions.{Conditions}
 use Rattle.semantics.specs.Word.{Uint}
 use Rattle.semantics.specs.Core.{GlobalId}
-use Rattle.linear.specs.Exact.{Terms, put, merge, multiples, multiple, sum}
+use Rattle.linear.specs.Exact.{Terms, put, merge, multiple, sum}
 use Rattle.walk.specs.Symbols.{Which, First, Second, Local, Group, number, symbol_of, Fact, constant, once, minus}
-use Rattle.walk.specs.Elements.{Known, Elements, element, element_of, is_settled, nth}
+use Rattle.walk.specs.Elements.{Known, element, element_of, nth}
 use Rattle.walk.specs.Launching.{known, below}
-use Rattle.walk.specs.Walks.{Setting, State, setting, elements_at, elements_of, settles, id_form, low_end, high_end}
+use Rattle.walk.specs.Walks.{Setting, State, setting, elements_at, elements_of, settles, id_form, low_end}
 use Rattle.walk.proofs.Naming.{symbol_of-number}
 use Rattle.interval.specs.Ends.{all, at_least, at_most}
 use Rattle.plain.specs.Domains.{domain}

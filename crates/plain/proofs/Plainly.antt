@@ -1,6 +1,6 @@
 -- What a plain kernel has to show: its forms are of i64, and a claim of a range is settled or has an entry.
-use Rattle.std.proofs.Common.{◌≡◌, ℕ, zero, suc, ◌+◌, ◌≤◌, Bool, true, false, get_or, ◌⊎◌, inl, inr, List, [], ◌∷◌, ◌++◌, map, arith, refl, sym, ap, subst, ◌∙◌}
-use Rattle.std.specs.Prelude.{ℤ, pos, negsuc, ◌≤ℤ◌, ◌&&◌, nat_le}
+use Rattle.std.proofs.Common.{◌≡◌, ℕ, zero, suc, ◌+◌, ◌≤◌, Bool, true, false, get_or, ◌⊎◌, inl, inr, List, [], ◌∷◌, map, arith, refl, sym, subst, ◌∙◌}
+use Rattle.std.specs.Prelude.{ℤ, pos, negsuc, ◌≤ℤ◌, nat_le}
 use Rattle.std.proofs.lemmas.Int.{ints}
 use Rattle.std.proofs.lemmas.Bool.{false≢true}
 use Rattle.std.proofs.lemmas.Bool.Decides.{nat_tests}
@@ -11,17 +11,15 @@ use Rattle.walk.specs.Straight.{is_straight}
 use Rattle.walk.specs.Trees.{Access, Obligation}
 use Rattle.walk.specs.Launching.{launch_facts, item_facts, known}
 use Rattle.walk.specs.Walks.{setting, tree}
-use Rattle.walk.specs.Collected.{Claimed, Found, collect, opening}
+use Rattle.walk.specs.Collected.{Claimed, Found, opening}
 use Rattle.walk.specs.Refusals.{are_fit, all_fit}
 use Rattle.two_thread.specs.Pairs.{Pair, pair_obligation}
-use Rattle.two_thread.specs.Refusals.{pair_fits}
 use Rattle.two_thread.specs.Shown.{obligations, pairs, item_accesses}
 use Rattle.two_thread.specs.Fitting.{found, denied, pairs_fit, forms_fit}
 use Rattle.two_thread.proofs.PairLists.{Each}
 use Rattle.plain.specs.Domains.{domain}
 use Rattle.plain.specs.Claims.{claims, marked, is_range}
 use Rattle.plain.specs.Kernels.{has_signed, IsPlain, HasLimits}
-use Rattle.plain.proofs.Terms.{Both}
 use Rattle.plain.proofs.Trees.{IsSmall, IsRight, IsTame}
 use Rattle.plain.proofs.Fitting.{IsSmallClaim, IsSmallAccess, IsSmallPair, AreSmall, AreRight, small-fits, denial-fits, difference-fits, small-collected, small-accesses, claims-right, small-items, small-pairs}
 use Rattle.plain.proofs.Stores.{body-tame}
@@ -115,5 +113,6 @@ module _ (k : Kernel) (c : Conditions) (h : ℕ → Bool) (limits : HasLimits k 
 
   pub plain-range : (i : ℕ) (o : Obligation) → is_range k (suc i) ≡ true → o ≡ get_or (obligations domain k c h) i o → o.settled ≡ false → (o.needed ≡ true) ⊎ (h (suc i) ≡ true) → (h (suc i) ≡ true) × signed
   plain-range i o m e n a =
+      let z : 0 + i ≡ i = omega arith in
       let r = subst (λ x. IsRight h signed true (suc (0 + i)) x.needed x.settled) (sym e) (right-at h signed (claims k.arguments k.body) 0 (obligations domain k c h) i o right m) in
-      asked r n a
+      asked (subst (λ j. IsRight h signed true (suc j) o.needed o.settled) z r) n a

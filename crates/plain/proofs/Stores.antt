@@ -1,25 +1,25 @@
 -- The tree of a plain kernel: its forms are small, and the claims of ranges in its indexes are settled.
-use Rattle.std.proofs.Common.{◌≡◌, ℕ, zero, suc, ◌+◌, ◌*◌, ◌≤◌, ◌<◌, Bool, true, false, List, [], ◌∷◌, slice_index_or, arith, refl, sym, ap, subst, ◌∙◌, mul-le-mul, mul-suc, mul-add, mul_assoc}
+use Rattle.std.proofs.Common.{◌≡◌, ℕ, zero, suc, ◌+◌, ◌*◌, ◌≤◌, Bool, true, false, List, [], ◌∷◌, slice_index_or, arith, refl, sym, ap, subst, ◌∙◌, mul-le-mul, mul-suc, mul-add, mul_assoc}
 use Rattle.std.specs.Prelude.{ℤ, pos, negsuc, unsigned_abs, ◌+ℤ◌, ◌-ℤ◌, ◌*ℤ◌, ◌≤ℤ◌, ◌||◌}
 use Rattle.std.proofs.lemmas.Int.{ints}
 use Rattle.std.proofs.lemmas.Bool.Decides.{nat_tests}
 use Rattle.semantics.specs.Word.{Kind, Int, Uint, in_kind, Add, Multiply}
-use Rattle.semantics.specs.Core.{Site, Term, GlobalId, Statement, Store, Statements, none, one}
+use Rattle.semantics.specs.Core.{Site, Term, GlobalId, Statements, none, one}
 use Rattle.semantics.specs.Launch.{Kernel}
 use Rattle.semantics.specs.Conditions.{Conditions}
-use Rattle.linear.specs.Exact.{Terms, put, multiple, sum}
+use Rattle.linear.specs.Exact.{Terms, put, multiple}
 use Rattle.linear.specs.Sizes.{terms_size, size}
 use Rattle.linear.proofs.Sizes.{size_difference}
-use Rattle.walk.specs.Symbols.{Which, Length, Given, New, number, Fact, constant, once, minus}
+use Rattle.walk.specs.Symbols.{Which, Length, Given, Fact, constant, once, minus}
 use Rattle.walk.specs.Elements.{between}
 use Rattle.walk.specs.Trees.{Tree, Leaf, Touch}
-use Rattle.walk.specs.Walks.{Setting, State, Value, value, newest, with_new, Onward, setting, settles, claimed, ranged, kept_or_new, brought_from, low_end, high_end, id_form, walk, walk_all, tree, in_buffer, joined, opening_state, exact}
+use Rattle.walk.specs.Walks.{Setting, State, Value, value, newest, with_new, Onward, setting, settles, claimed, ranged, kept_or_new, brought_from, id_form, walk, walk_all, in_buffer, joined, exact}
 use Rattle.plain.specs.Domains.{domain}
 use Rattle.plain.specs.Claims.{brings, ranges, claims}
-use Rattle.plain.specs.Kernels.{plain_index, is_int, is_signed, has_signed, IsPlainValue, Number, BroughtNumber, Parameter, BroughtParameter, IsPlainStore, Plain, ArePlain, last_index}
+use Rattle.plain.specs.Kernels.{plain_index, is_int, is_signed, has_signed, IsPlainValue, Number, BroughtNumber, Parameter, BroughtParameter, Plain, ArePlain, last_index}
 use Rattle.plain.proofs.Terms.{Both}
-use Rattle.plain.proofs.Indexes.{local, group, id_terms, id_multiple, settles_up, settles_down, low-multiple, minus-multiple, id-form, multiple-id, sum-multiple, number-multiple}
-use Rattle.plain.proofs.Trees.{most, IsSmall, IsTame, range-tame, range-asked}
+use Rattle.plain.proofs.Indexes.{local, group, id_multiple, settles_up, settles_down, low-multiple, minus-multiple, id-form, multiple-id, sum-multiple, number-multiple}
+use Rattle.plain.proofs.Trees.{most, IsTame, range-tame, range-asked}
 
 size-put : (z : ℤ) (s : ℕ) (ts : Terms) → terms_size (put z s ts) ≡ unsigned_abs z + terms_size ts
 size-put (pos zero) s ts = omega arith

@@ -1,5 +1,5 @@
 -- Plain kernels are straight-line.
-use Rattle.std.proofs.Common.{◌≡◌, ℕ, ◌<◌, List, length, true, refl}
+use Rattle.std.proofs.Common.{◌≡◌, ℕ, List, length, true, refl}
 use Rattle.std.specs.Prelude.{ℤ}
 use Rattle.std.proofs.lemmas.Bool.{lt-ltb}
 use Rattle.semantics.specs.Word.{Kind}

@@ -1,13 +1,12 @@
 -- What the interval of a form's element spans, where its symbols count from 0.
-use Rattle.std.proofs.Common.{◌≡◌, ℕ, zero, suc, ◌+◌, ◌*◌, ◌≤◌, true, Bool, List, [], ◌∷◌, Option, Some, None, arith, refl, sym, ap, subst, ◌∙◌}
-use Rattle.std.specs.Prelude.{ℤ, pos, negsuc, ◌≤ℤ◌, ◌+ℤ◌, ◌-ℤ◌, ◌*ℤ◌, neg_ℤ}
+use Rattle.std.proofs.Common.{◌≡◌, ℕ, zero, suc, ◌*◌, true, [], ◌∷◌, Option, Some, None, arith, refl, sym, ap, subst, ◌∙◌}
+use Rattle.std.specs.Prelude.{ℤ, pos, negsuc, ◌≤ℤ◌, ◌+ℤ◌, ◌*ℤ◌, neg_ℤ}
 use Rattle.std.specs.Int.{int_max}
 use Rattle.std.proofs.lemmas.Int.{ints, clamps}
 use Rattle.semantics.proofs.Integers.{add-mul}
-use Rattle.linear.specs.Exact.{Terms, put, merge, merge_one, multiples}
+use Rattle.linear.specs.Exact.{Terms, put, merge, multiples}
 use Rattle.domain.specs.declared.Bounds.{Bounds}
 use Rattle.domain.specs.declared.Residue.{Residue}
-use Rattle.interval.specs.Ends.{span}
 use Rattle.interval.specs.Members.{yes-le}
 use Rattle.interval.specs.Products.{mul-le_pos}
 use Rattle.product.specs.Both.{larger}

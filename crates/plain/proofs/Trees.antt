@@ -1,11 +1,11 @@
 -- Trees of which all forms are small, and whose claims of ranges are settled or have an entry.
-use Rattle.std.proofs.Common.{◌≡◌, ℕ, zero, suc, ◌+◌, ◌*◌, ◌≤◌, Bool, true, false, List, [], ◌∷◌, ◌++◌, Option, Some, None, ◌⊎◌, inl, inr, arith, refl, sym, ap, subst, ◌∙◌}
-use Rattle.std.specs.Prelude.{ℤ, pos, ◌&&◌, ◌||◌, cond}
+use Rattle.std.proofs.Common.{◌≡◌, ℕ, suc, ◌+◌, ◌≤◌, Bool, true, false, List, [], ◌∷◌, ◌⊎◌, inl, inr, arith, refl, sym, ap, subst, ◌∙◌}
+use Rattle.std.specs.Prelude.{◌&&◌, ◌||◌}
 use Rattle.std.proofs.lemmas.Bool.{and_parts}
-use Rattle.semantics.specs.Word.{Kind, Int, Uint}
-use Rattle.walk.specs.Symbols.{Fact, constant}
+use Rattle.semantics.specs.Word.{Uint}
+use Rattle.walk.specs.Symbols.{Fact}
 use Rattle.walk.specs.Trees.{Tree, Leaf, Claim, Know, Touch}
-use Rattle.walk.specs.Walks.{Setting, State, Value, value, Onward, settles, claimed, ranged, kept_or_new, in_range, is_kept, low_end, high_end}
+use Rattle.walk.specs.Walks.{Setting, State, value, Onward, settles, claimed, ranged, kept_or_new, in_range, is_kept, low_end, high_end}
 use Rattle.linear.specs.Sizes.{size}
 
 -- forms that are small: no sum of a few of them leaves i64

@@ -1,7 +1,7 @@
 -- Which claims of a straight-line kernel are of the ranges of kinds; the others are of indexes.
 use Rattle.std.specs.Prelude.{ℕ, zero, suc, List, [], ◌∷◌, Bool, true, false, slice_index_or}
 use Rattle.semantics.specs.Word.{Kind, Int, Uint}
-use Rattle.semantics.specs.Core.{Term, Literal, Variable, Id, Binary, Convert, Statement, Store, Statements, none, one}
+use Rattle.semantics.specs.Core.{Term, Literal, Variable, Id, Binary, Convert, Store, Statements, one}
 use Rattle.semantics.specs.Launch.{Kernel}
 
 abbrev pub kind_of : (arguments : List Kind) → Term → Kind

@@ -4,7 +4,7 @@ use Rattle.types.specs.View.{kernel}
 use Rattle.launch.specs.View.{conditions}
 use Rattle.launch_text.specs.View.{lined}
 use Rattle.launch_text.proofs.LeastFits.{conditions_meant}
-use Rattle.cert_check.specs.Domain.{domain}
+use Rattle.plain.specs.Domains.{domain}
 use Rattle.cert_check.proofs.Unshown.{same_told, filled}
 use Rattle.certificate.specs.View.{place, bound}
 use Rattle.cert_check.specs.Refusing.{IsForOthers}

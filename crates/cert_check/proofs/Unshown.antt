@@ -12,11 +12,12 @@ use Rattle.linear.specs.Forms.{form, forms}
 use Rattle.walk.specs.Symbols.{Fact, denial}
 use Rattle.walk.specs.Collected.{Claimed}
 use Rattle.walk.specs.Trees.{Obligation}
+use Rattle.walk.specs.declared.error.WalkError.{WalkError}
 use Rattle.walk.specs.declared.path.Path.{Path}
 use Rattle.walk.specs.declared.path.Claim.{Claim}
 use Rattle.two_thread.specs.View.{pair, seen_accesses}
 use Rattle.cert_check.specs.Entries.{entry_of, is_found, found_refutes, refutes_by}
-use Rattle.cert_check.specs.Lacking.{IsNumbered, Stops, Names, IsEarly, Lacks, Tells, TellsOf, owing}
+use Rattle.cert_check.specs.Lacking.{IsNumbered, Stops, Names, IsEarly, Lacks, Tells, TellsOf, IsUnwalked, owing}
 use Rattle.cert_check.specs.Owing.{owed, seen_claims, nth_claim, no_claim, claims_owed, pairs_owed, all_owed}
 use Rattle.cert_check.specs.declared.findings.Findings.{Findings}
 use Rattle.cert_check.specs.declared.error.ShowError.{ShowError}
@@ -50,11 +51,11 @@ claim_with es launch p i c a facts b h e s m f r n =
     let k = claim_is p i c h e in
     with_entry es 0 (map (owed launch) (seen_claims p)) (i + 1) (owed launch (nth_claim (seen_claims p) i)) a facts b (claim_numbered launch p i h) (ap (λ (x : Claimed). x.settled) k ∙ s) m (f ∙ ap (λ (x : Claimed). launch ++ (x.facts ++ denial x.claim ∷ [])) (sym k)) r n
 
-pub early : (es : List Entry) (os : List Obligation) (e : ShowError) → IsEarly e → Tells es os e
-early es os (errors.NotShown n) h = absurd h
-early es os (errors.Walk e) h = h
-early es os errors.OverBudget h = h
-early es os errors.Memory h = h
+pub early : (es : List Entry) (os : List Obligation) (walk : WalkError → Type 0) (e : ShowError) → IsEarly walk e → Tells es os walk e
+early es os walk (errors.NotShown n) h = absurd h
+early es os walk (errors.Walk e) h = h
+early es os walk errors.OverBudget h = h
+early es os walk errors.Memory h = h
 
 lacks : (es : List Entry) (os : List Obligation) (n : ℕ) → Stops es 0 os n → Lacks es os n
 lacks es os zero s = absurd (omega (arith, s.1.1))
@@ -66,19 +67,26 @@ of_front es os more n (o, (i, e, l, g), k) = (o, (i, e, omega (arith, l, length-
 of_back : (es : List Entry) (os more : List Obligation) (m n : ℕ) → length os ≡ m → Stops es m more n → Stops es 0 (os ++ more) n
 of_back es os more m n q (o, (i, e, l, g), k) = (o, (length os + i, omega (arith, e, q), omega (arith, l, length-append os more), g ∙ sym (get_or-append-add os more i o)), k)
 
-pub of_claims : (es : List Entry) (os more : List Obligation) (e : ShowError) → Names es 0 os e → Tells es (os ++ more) e
-of_claims es os more (errors.NotShown n) h = lacks es (os ++ more) n (of_front es os more n h)
-of_claims es os more (errors.Walk e) h = h
-of_claims es os more errors.OverBudget h = h
-of_claims es os more errors.Memory h = h
+pub of_claims : (es : List Entry) (os more : List Obligation) (walk walk' : WalkError → Type 0) (e : ShowError) → ((w : WalkError) → walk w → walk' w) → Names es 0 os walk e → Tells es (os ++ more) walk' e
+of_claims es os more walk walk' (errors.NotShown n) f h = lacks es (os ++ more) n (of_front es os more n h)
+of_claims es os more walk walk' (errors.Walk e) f h = f e h
+of_claims es os more walk walk' errors.OverBudget f h = h
+of_claims es os more walk walk' errors.Memory f h = h
 
-pub of_pairs : (es : List Entry) (os more : List Obligation) (m : ℕ) (e : ShowError) → length os ≡ m → Names es m more e → Tells es (os ++ more) e
-of_pairs es os more m (errors.NotShown n) q h = lacks es (os ++ more) n (of_back es os more m n q h)
-of_pairs es os more m (errors.Walk e) q h = h
-of_pairs es os more m errors.OverBudget q h = h
-of_pairs es os more m errors.Memory q h = h
+pub of_pairs : (es : List Entry) (os more : List Obligation) (m : ℕ) (walk walk' : WalkError → Type 0) (e : ShowError) → length os ≡ m → ((w : WalkError) → walk w → walk' w) → Names es m more walk e → Tells es (os ++ more) walk' e
+of_pairs es os more m walk walk' (errors.NotShown n) q f h = lacks es (os ++ more) n (of_back es os more m n q h)
+of_pairs es os more m walk walk' (errors.Walk e) q f h = f e h
+of_pairs es os more m walk walk' errors.OverBudget q f h = h
+of_pairs es os more m walk walk' errors.Memory q f h = h
 
-pub of_kernel : {E : Type 0} (g : Ghosts E) (k : Kernel) (c : Conditions) (es : List Entry) (e : ShowError) → Tells es (owing g k c es) e → TellsOf g k c es e
+-- of what is found, to the kernel
+pub of_findings : (es : List Entry) (os : List Obligation) (walk walk' : WalkError → Type 0) (e : ShowError) → ((w : WalkError) → walk w → walk' w) → Tells es os walk e → Tells es os walk' e
+of_findings es os walk walk' (errors.NotShown n) f h = h
+of_findings es os walk walk' (errors.Walk e) f h = f e h
+of_findings es os walk walk' errors.OverBudget f h = h
+of_findings es os walk walk' errors.Memory f h = h
+
+pub of_kernel : {E : Type 0} (g : Ghosts E) (k : Kernel) (c : Conditions) (es : List Entry) (e : ShowError) → Tells es (owing g k c es) (IsUnwalked g k c es) e → TellsOf g k c es e
 of_kernel g k c es (errors.NotShown zero) h = inr (inr h)
 of_kernel g k c es (errors.NotShown (suc n)) h = h
 of_kernel g k c es (errors.Walk e) h = h
@@ -105,3 +113,8 @@ filled view (x ∷ xs) ys b p e h = subst (λ zs. 0 < length zs) p (omega arith)
 pub passed : {T E : Type 0} (r : Result T E) (x : E) (P : E → Type 0) → IsErrAnd r (λ e. e ≡ x) → P x → IfErr r P
 passed (Ok t) x P h p = absurd h
 passed (Err e) x P h p = subst P (sym h) p
+
+-- an error says what follows of what it says
+pub mapped : {T E : Type 0} (r : Result T E) (P Q : E → Type 0) → ((e : E) → P e → Q e) → IfErr r P → IfErr r Q
+mapped (Ok t) P Q f h = tt
+mapped (Err e) P Q f h = f e h

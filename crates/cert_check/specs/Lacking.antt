@@ -1,5 +1,5 @@
 -- What an error tells of what is to be shown.
-use Rattle.std.specs.Prelude.{◌≡◌, ◌<◌, ◌⊎◌, ℕ, zero, suc, ◌+◌, List, length, get_or, true, false}
+use Rattle.std.specs.Prelude.{◌≡◌, ◌<◌, ◌⊎◌, ℕ, zero, suc, ◌+◌, List, length, get_or, Bool, true, false}
 use Rattle.semantics.specs.Launch.{Kernel, product}
 use Rattle.semantics.specs.Conditions.{Conditions}
 use Rattle.domain.specs.declared.Domain.{Ghosts}
@@ -7,6 +7,9 @@ use Rattle.texts.specs.Certificate.{Entry}
 use Rattle.walk.specs.Straight.{is_straight, steps}
 use Rattle.walk.specs.Trees.{Obligation}
 use Rattle.two_thread.specs.Shown.{obligations}
+use Rattle.two_thread.specs.Fitting.{forms_fit}
+use Rattle.walk.specs.declared.error.WalkError.{WalkError}
+use Rattle.walk.specs.declared.error.WalkError.TheVariants as walks
 use Rattle.cert_check.specs.Entries.{has_entry, is_refuted, is_past}
 use Rattle.cert_check.specs.declared.error.ShowError.{ShowError}
 use Rattle.cert_check.specs.declared.error.ShowError.TheVariants as errors
@@ -23,19 +26,26 @@ IsNumbered before os n o = (i : ℕ) × (n ≡ before + (i + 1)) × (i < length 
 abbrev pub Stops : List Entry → (before : ℕ) → List Obligation → (number : ℕ) → Type 0
 Stops es before os n = (o : Obligation) × IsNumbered before os n o × IsLacking es n o
 
--- an error that has a number has that of an obligation that stops the check
-abbrev pub Names : List Entry → (before : ℕ) → List Obligation → ShowError → Type 0
-Names es before os (errors.NotShown n) = Stops es before os n
-Names es before os (errors.Walk e) = Unit {0}
-Names es before os errors.OverBudget = ⊥
-Names es before os errors.Memory = Unit {0}
+-- not all forms that are made are of i64, or there was no memory
+abbrev pub AreUnfit : (fit : Bool) → WalkError → Type 0
+AreUnfit fit walks.TooMany = ⊥
+AreUnfit fit walks.TooLarge = fit ≡ false
+AreUnfit fit walks.Outside = ⊥
+AreUnfit fit walks.Memory = Unit {0}
+
+-- an error that has a number has that of an obligation that stops the check; `walk` is what an error of a walk says
+abbrev pub Names : List Entry → (before : ℕ) → List Obligation → (walk : WalkError → Type 0) → ShowError → Type 0
+Names es before os walk (errors.NotShown n) = Stops es before os n
+Names es before os walk (errors.Walk e) = walk e
+Names es before os walk errors.OverBudget = ⊥
+Names es before os walk errors.Memory = Unit {0}
 
 -- an error that comes before anything is to be shown
-abbrev pub IsEarly : ShowError → Type 0
-IsEarly (errors.NotShown n) = ⊥
-IsEarly (errors.Walk e) = Unit {0}
-IsEarly errors.OverBudget = ⊥
-IsEarly errors.Memory = Unit {0}
+abbrev pub IsEarly : (walk : WalkError → Type 0) → ShowError → Type 0
+IsEarly walk (errors.NotShown n) = ⊥
+IsEarly walk (errors.Walk e) = walk e
+IsEarly walk errors.OverBudget = ⊥
+IsEarly walk errors.Memory = Unit {0}
 
 -- 0, where an entry is past the last obligation, or the number of one that stops the check
 abbrev pub Lacks : List Entry → List Obligation → (number : ℕ) → Type 0
@@ -43,15 +53,22 @@ Lacks es os zero = is_past es (length os) ≡ true
 Lacks es os (suc n) = Stops es 0 os (suc n)
 
 -- an error that comes of what is to be shown, or before it
-abbrev pub Tells : List Entry → List Obligation → ShowError → Type 0
-Tells es os (errors.NotShown n) = Lacks es os n
-Tells es os (errors.Walk e) = Unit {0}
-Tells es os errors.OverBudget = ⊥
-Tells es os errors.Memory = Unit {0}
+abbrev pub Tells : List Entry → List Obligation → (walk : WalkError → Type 0) → ShowError → Type 0
+Tells es os walk (errors.NotShown n) = Lacks es os n
+Tells es os walk (errors.Walk e) = walk e
+Tells es os walk errors.OverBudget = ⊥
+Tells es os walk errors.Memory = Unit {0}
 
 -- all that is to be shown where these entries are
 abbrev pub owing : {E : Type 0} → Ghosts E → Kernel → Conditions → List Entry → List Obligation
 owing g k c es = obligations g k c (has_entry es)
+
+-- over 65,536 obligations, a form that is not of i64, or a kernel that is not a straight-line one
+abbrev pub IsUnwalked : {E : Type 0} → Ghosts E → Kernel → Conditions → List Entry → WalkError → Type 0
+IsUnwalked g k c es walks.TooMany = 65536 < length (owing g k c es)
+IsUnwalked g k c es walks.TooLarge = forms_fit g k c (has_entry es) ≡ false
+IsUnwalked g k c es walks.Outside = is_straight k ≡ false
+IsUnwalked g k c es walks.Memory = Unit {0}
 
 -- of a kernel: 0 also where a work-group has no work-items, or the kernel is not a straight-line one
 abbrev pub LacksOf : {E : Type 0} → Ghosts E → Kernel → Conditions → List Entry → (number : ℕ) → Type 0
@@ -61,6 +78,6 @@ LacksOf g k c es (suc n) = Stops es 0 (owing g k c es) (suc n)
 -- or an item takes more steps than the budget
 abbrev pub TellsOf : {E : Type 0} → Ghosts E → Kernel → Conditions → List Entry → ShowError → Type 0
 TellsOf g k c es (errors.NotShown n) = LacksOf g k c es n
-TellsOf g k c es (errors.Walk e) = Unit {0}
+TellsOf g k c es (errors.Walk e) = IsUnwalked g k c es e
 TellsOf g k c es errors.OverBudget = c.budget < steps k.body
 TellsOf g k c es errors.Memory = Unit {0}

@@ -4,3 +4,4 @@ pub mod View
 pub mod Entries
 pub mod Lacking
 pub mod Refusing
+pub mod Plainly

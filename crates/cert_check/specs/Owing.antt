@@ -1,5 +1,5 @@
 -- What is to be shown of a path's claims.
-use Rattle.std.specs.Prelude.{◌<◌, ℕ, pos, List, [], ◌∷◌, ◌++◌, map, get_or, false}
+use Rattle.std.specs.Prelude.{◌<◌, ℕ, pos, List, [], ◌∷◌, ◌++◌, map, get_or, Bool, false, ◌&&◌}
 use Rattle.walk.specs.Symbols.{Fact, constant, denial}
 use Rattle.domain.specs.declared.Domain.{Ghosts}
 use Rattle.linear.specs.Forms.{forms}
@@ -8,6 +8,9 @@ use Rattle.walk.specs.Collected.{Claimed}
 use Rattle.walk.specs.View.{met, known_seen}
 use Rattle.walk.specs.declared.path.Path.{Path}
 use Rattle.cert_check.specs.declared.findings.Findings.{Findings}
+use Rattle.walk.specs.Refusals.{are_fit}
+use Rattle.two_thread.specs.Fitting.{denied, pairs_fit}
+use Rattle.two_thread.specs.Pairs as specs
 use Rattle.two_thread.specs.Pairs.{pair_obligation}
 use Rattle.two_thread.specs.View.{pair, seen_accesses}
 use Rattle.two_thread.specs.declared.pairs.Pair.{Pair}
@@ -33,10 +36,6 @@ no_pair = record { first = 0; second = 0; scope = Within; dimension = 0; order =
 abbrev pub nth_pair : List Pair → ℕ → Pair
 nth_pair ps n = get_or ps n no_pair
 
--- both accesses of a pair stand in lists of these lengths
-abbrev pub IsInside : (first second : ℕ) → Pair → Type 0
-IsInside n m p = (p.first < n) × (p.second < m)
-
 abbrev pub claims_owed : {E : Type 0} → Findings E → List Obligation
 claims_owed f = map (owed (forms f.launch.items)) (seen_claims f.first)
 
@@ -46,3 +45,14 @@ pairs_owed g f = map (pair_obligation g (known_seen f.setting.known) (forms f.la
 -- all that is to be shown of what was found
 abbrev pub all_owed : {E : Type 0} → Ghosts E → Findings E → List Obligation
 all_owed g f = claims_owed f ++ pairs_owed g f
+
+-- what denies claims is of i64
+abbrev pub denials_fit : List Claimed → Bool
+denials_fit cs = are_fit (map denied cs)
+
+abbrev pub found_pairs : {E : Type 0} → (first second : Path E) → List Pair → List (specs.Pair E)
+found_pairs first second ps = map (pair (seen_accesses first) (seen_accesses second)) ps
+
+-- and so are the differences of the indexes of pairs
+abbrev pub findings_fit : {E : Type 0} → Findings E → Bool
+findings_fit f = denials_fit (seen_claims f.first) && pairs_fit (found_pairs f.first f.second f.pairs.items)

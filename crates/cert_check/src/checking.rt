@@ -17,8 +17,9 @@ ghost use Rattle.two_thread.specs.Shown.{IsShown};
 ghost use Rattle.certificate.specs.View.{entry as entry_seen};
 ghost use Rattle.cert_check.specs.Accepting.{IsAccepted, IsStraightUnder, HasHeadline};
 ghost use Rattle.cert_check.specs.Lacking as lacking;
-ghost use Rattle.cert_check.specs.Lacking.{owing, TellsOf};
+ghost use Rattle.cert_check.specs.Lacking.{owing, IsUnwalked, TellsOf};
 ghost use Rattle.cert_check.specs.Refusing.{Tells};
+ghost use Rattle.cert_check.specs.Plainly.{OnPlain};
 ghost use Rattle.cert_check.specs.View.{typed_of, kept};
 
 use crate::accepted::Accepted;
@@ -32,6 +33,7 @@ use interval::Interval;
 use launch::conditions::Conditions;
 use launch_text::read_conditions;
 use product::Product;
+use reading::laws::local_sizes_are_within_limits;
 use reading::read_kernel;
 use reduction::headline;
 use std::alloc::Global;
@@ -47,7 +49,7 @@ fn show_all<D: Domain>(
     entries: &[Entry],
 ) -> Result<(), ShowError>
     ensures shown { IfOk result (λ _. All IsShown (owing D.Domain (core_seen core.now) (conditions_seen conditions.now) (map entry_seen entries.now))) }
-    ensures lacks { IfErr result (lacking.Tells (map entry_seen entries.now) (owing D.Domain (core_seen core.now) (conditions_seen conditions.now) (map entry_seen entries.now))) }
+    ensures lacks { IfErr result (lacking.Tells (map entry_seen entries.now) (owing D.Domain (core_seen core.now) (conditions_seen conditions.now) (map entry_seen entries.now)) (IsUnwalked D.Domain (core_seen core.now) (conditions_seen conditions.now) (map entry_seen entries.now))) }
 {
     let places = places_of(alloc, entries)?;
     let found = find::<D>(alloc, core, conditions, entries, places.as_slice())?;
@@ -105,6 +107,7 @@ pub fn check(
     ensures kernel { IfOk result (λ a. read kernel.now ≡ Ok (kernel_seen (typed_of a))) }
     ensures conditions { IfOk result (λ a. conditions_of (tree_seen (typed_of a).0).parameters conditions.now ≡ Ok (lined (kept a))) }
     ensures refused { Tells result kernel.now conditions.now certificate.now }
+    ensures plain { OnPlain result kernel.now conditions.now certificate.now }
     ensures pair { IfOk result (λ a. IsAccepted (core_seen (typed_of a).1) (conditions_seen (kept a))) }
     ensures headline { IfOk result (λ a. HasHeadline (core_seen (typed_of a).1) (conditions_seen (kept a))) }
 {
@@ -124,6 +127,7 @@ pub fn check(
         return Err(CheckError::Show(ShowError::NotShown(0)));
     }
     let entries = certificate.entries();
+    local_sizes_are_within_limits();
     match accept::<Product<Interval, Congruence>>(alloc, typed.core(), &conditions, entries) {
         Ok(()) => {}
         Err(error) => return Err(CheckError::Show(error)),

@@ -11,8 +11,11 @@ ghost use Rattle.words.specs.View.{kind};
 ghost use Rattle.walk.specs.Walks as walks;
 ghost use Rattle.certificate.specs.View.{entry as entry_seen};
 ghost use Rattle.cert_check.specs.Entries.{IsTable, has_entry};
-ghost use Rattle.cert_check.specs.Lacking.{owing, IsEarly};
-ghost use Rattle.cert_check.specs.Owing.{IsInside, all_owed};
+ghost use Rattle.cert_check.specs.Lacking.{owing, IsEarly, IsUnwalked};
+ghost use Rattle.cert_check.specs.Owing.{all_owed, findings_fit};
+ghost use Rattle.walk.specs.Refusals.{IsMemory, Refused, IsNoStraightBody};
+ghost use Rattle.two_thread.specs.Fitting.{forms_fit};
+ghost use Rattle.two_thread.specs.Refusals.{IsInside};
 
 use crate::error::ShowError;
 use crate::findings::Findings;
@@ -21,7 +24,7 @@ use certificate::tree::Entry;
 use domain::Domain;
 use launch::conditions::Conditions;
 use std::alloc::Global;
-use two_thread::{Pair, all_pairs};
+use two_thread::all_pairs;
 use types::core_tree::Core;
 use walk::{Path, Setting, WalkError, Which, item_facts, known, launch_facts, walk};
 
@@ -38,7 +41,7 @@ fn setting_of<D: Domain>(
     ensures sizes { IfOk result (λ s. s.sizes ≡ core.now.sizes) }
     ensures arguments { IfOk result (λ s. map kind s.arguments.items ≡ (core_seen core.now).arguments) }
     ensures entries { IfOk result (λ s. (n : ℕ) → slice_index_or s.entries.items n false ≡ has_entry (map entry_seen entries.now) n) }
-    ensures early { IfErr result IsEarly }
+    ensures early { IfErr result (IsEarly IsMemory) }
 {
     Ok(Setting {
         known: known::<D>(alloc, core.sizes, conditions)?,
@@ -56,22 +59,10 @@ fn path_of<D: Domain>(
     item: Which,
 ) -> Result<Path<D>, ShowError>
     ensures path { IfOk result (λ p. (met p).found ≡ collect (opening (launching.item_facts (core_seen core.now).sizes (which item))).found (walks.tree (setting_seen D.Domain setting.now item) (core_seen core.now).body)) }
-    ensures early { IfErr result IsEarly }
+    ensures early { IfErr result (IsEarly (λ e. Refused (IsNoStraightBody (core_seen core.now).body) e (collect (opening (launching.item_facts (core_seen core.now).sizes (which item))).found (walks.tree (setting_seen D.Domain setting.now item) (core_seen core.now).body)))) }
 {
     let facts = item_facts(alloc, core.sizes, item)?;
     Ok(walk(alloc, setting, item, facts, core.body.as_slice())?)
-}
-
-/// Whether the accesses of all pairs are there.
-fn are_inside(pairs: &[Pair], first: usize, second: usize) -> bool
-    ensures { IsTrue result → All (IsInside first second) pairs.now }
-{
-    for pair in pairs {
-        if pair.first >= first || pair.second >= second {
-            return false;
-        }
-    }
-    true
 }
 
 /// All that is to be shown of a kernel.
@@ -85,7 +76,8 @@ pub fn find<D: Domain>(
     requires { IsTable (map entry_seen entries.now) places.now }
     ensures owed { IfOk result (λ f. all_owed D.Domain f ≡ owing D.Domain (core_seen core.now) (conditions_seen conditions.now) (map entry_seen entries.now)) }
     ensures inside { IfOk result (λ f. All (IsInside (length f.first.accesses.items) (length f.second.accesses.items)) f.pairs.items) }
-    ensures early { IfErr result IsEarly }
+    ensures fits { IfOk result (λ f. findings_fit f ≡ false → forms_fit D.Domain (core_seen core.now) (conditions_seen conditions.now) (has_entry (map entry_seen entries.now)) ≡ false) }
+    ensures early { IfErr result (IsEarly (IsUnwalked D.Domain (core_seen core.now) (conditions_seen conditions.now) (map entry_seen entries.now))) }
 {
     let launch = launch_facts(alloc, conditions)?;
     let setting = setting_of::<D>(alloc, core, conditions, entries, places)?;
@@ -94,13 +86,6 @@ pub fn find<D: Domain>(
     let buffers = core.buffers.as_slice();
     let pairs = all_pairs(alloc, core.sizes, conditions, buffers, &first, &second)?;
     if first.claims.len() + pairs.len() > 65_536 {
-        return Err(ShowError::Walk(WalkError::TooMany));
-    }
-    if !are_inside(
-        pairs.as_slice(),
-        first.accesses.len(),
-        second.accesses.len(),
-    ) {
         return Err(ShowError::Walk(WalkError::TooMany));
     }
     Ok(Findings {

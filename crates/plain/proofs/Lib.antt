@@ -5,4 +5,4 @@ mod Trees
 mod Stores
 mod Fitting
 mod Straight
-mod Plainly
+pub mod Plainly

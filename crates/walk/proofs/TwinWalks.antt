@@ -144,5 +144,8 @@ module _ {E : Type 0} (g : Ghosts E) (k : Kernel) (c : Conditions) (has_entry : 
   walk_all-same (one (Break m l) rest) st go to n = tt
   walk_all-same (one (Continue m l) rest) st go to n = tt
 
+  pub trees-same : Same (tree s1 k.body) (tree s2 k.body)
+  trees-same = walk_all-same k.body _ (λ st. Leaf) (λ st. Leaf) (λ st. tt)
+
   pub accesses-same : AllZip Twin (accesses (item_facts k.sizes First) (tree s1 k.body)) (accesses (item_facts k.sizes Second) (tree s2 k.body))
-  accesses-same = accesses-twins (tree s1 k.body) (tree s2 k.body) (item_facts k.sizes First) (item_facts k.sizes Second) (item_facts-alike k.sizes) (walk_all-same k.body _ (λ st. Leaf) (λ st. Leaf) (λ st. tt))
+  accesses-same = accesses-twins (tree s1 k.body) (tree s2 k.body) (item_facts k.sizes First) (item_facts k.sizes Second) (item_facts-alike k.sizes) trees-same

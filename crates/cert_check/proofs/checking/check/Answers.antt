@@ -1,4 +1,4 @@
-use Rattle.std.proofs.Common.{rules, ◌≡◌, inl, inr, refl, ap, sym}
+use Rattle.std.proofs.Common.{rules, arith, ◌≡◌, inl, inr, refl, ap, sym}
 use Rattle.certificate.specs.Certificates.{certificate}
 use Rattle.types.specs.View.{kernel}
 use Rattle.launch.specs.View.{conditions}
@@ -10,6 +10,11 @@ use Rattle.certificate.specs.View.{place, bound}
 use Rattle.cert_check.specs.Refusing.{IsForOthers}
 use Rattle.cert_check.specs.Accepting.{IsAccepted}
 use Rattle.cert_check.specs.View.{typed_of, kept}
+use Rattle.std.proofs.lemmas.Int.{ints}
+use Rattle.texts.specs.ConditionsReading.{meant}
+use Rattle.reading.specs.Answers.{kernel_seen}
+use Rattle.plain.specs.Kernels.{HasLimits}
+use Rattle.cert_check.proofs.Plainly.{tells_plain}
 use Rattle.cert_check.proofs.Headlines.{has_headline}
 use Rattle.cert_check.proofs.checking.check.Goals as goal
 use Rattle.cert_check.proofs.checking.check.Goals.{then-not-is_empty-via-then-not-is_empty, then-not-is_empty-via-else-not-is_empty+then-not-is_empty-2}
@@ -35,3 +40,23 @@ returns-in-Err-accept-clause-refused c =
     let t = c.in-Err-accept.ensures.lacks in
     let e : c.core.result.now ≡ c.in-Ok.typed.1 = c.core.ensures.value in
     (c.in-Ok.typed, lined c.in-Ok-read_conditions.conditions, (c.in-Ok.ensures, c.in-Ok-read_conditions.ensures.value), (certificate c.in-Ok-read.certificate, c.in-Ok-read.ensures, inl (same_told domain _ _ _ _ _ _ c.in-Err-accept.error (ap kernel e) (sym (conditions_meant c.in-Ok-read_conditions.conditions)) c.entries-entries.ensures t)))
+
+pub returns-then-not-is_empty-clause-plain : goal.returns-then-not-is_empty-clause-plain
+returns-then-not-is_empty-clause-plain c =
+    let more : IsForOthers (certificate c.in-Ok-read.certificate) = elim c.then-not-is_empty.branch [
+      | then-not-is_empty-via-then-not-is_empty w ↦ inl (filled place c.places.result.now _ c.is_empty.result c.places.ensures c.is_empty.ensures w.if-not-is_empty.true)
+      | then-not-is_empty-via-else-not-is_empty+then-not-is_empty-2 w ↦ inr (filled bound w.bounds.result.now _ w.is_empty-else-not-is_empty.result w.bounds.ensures w.is_empty-else-not-is_empty.ensures w.if-not-is_empty-2.true)
+    ] in
+    (c.in-Ok.typed, lined c.in-Ok-read_conditions.conditions, certificate c.in-Ok-read.certificate, (c.in-Ok.ensures, c.in-Ok-read_conditions.ensures.value), c.in-Ok-read.ensures, λ p. inl more)
+
+pub returns-in-Err-accept-clause-plain : goal.returns-in-Err-accept-clause-plain
+returns-in-Err-accept-clause-plain c =
+    let cond = c.in-Ok-read_conditions.conditions in
+    let k = kernel c.in-Ok.typed.1 in
+    let cert = certificate c.in-Ok-read.certificate in
+    let e : c.core.result.now ≡ c.in-Ok.typed.1 = c.core.ensures.value in
+    let t = same_told domain _ _ _ _ _ _ c.in-Err-accept.error (ap kernel e) (sym (conditions_meant cond)) c.entries-entries.ensures c.in-Err-accept.ensures.lacks in
+    let z = c.local_sizes_are_within_limits.ensures c.args.kernel.now (kernel_seen c.in-Ok.typed) c.in-Ok.ensures in
+    let x = cond.groups.x in
+    let limits : HasLimits k (meant (lined cond)) = record { size_x = z.0; size_y = z.1; size_z = z.2; groups_x = (omega (arith, ints, x.some, x.order), omega (arith, ints, x.most)) } in
+    (c.in-Ok.typed, lined cond, cert, (c.in-Ok.ensures, c.in-Ok-read_conditions.ensures.value), c.in-Ok-read.ensures, λ p. tells_plain k (meant (lined cond)) cert limits p c.in-Err-accept.error (inl t))

@@ -1,20 +1,26 @@
-use Rattle.std.proofs.Common.{rules, ◌≡◌, true, refl, ap, subst, ◌∙◌, map, length, arith}
-use Rattle.std.specs.List.{All}
+use Rattle.std.proofs.Common.{rules, ◌≡◌, ◌+◌, refl, ap, subst, ◌∙◌, map, length, arith}
 use Rattle.linear.specs.Forms.{forms}
 use Rattle.words.specs.View.{kind}
 use Rattle.types.specs.View.{kernel}
 use Rattle.launch.specs.View.{conditions}
 use Rattle.certificate.specs.View.{entry}
+use Rattle.std.proofs.lemmas.List.{length-map}
 use Rattle.walk.specs.Symbols.{First, Second}
 use Rattle.walk.specs.Launching.{item_facts}
-use Rattle.walk.specs.Walks as walks
+use Rattle.walk.specs.Walks.{Setting, tree}
+use Rattle.walk.specs.Collected.{Found, collect, opening}
+use Rattle.walk.specs.Refusals.{IsNoStraightBody, Refused}
+use Rattle.walk.specs.declared.error.WalkError.{WalkError}
 use Rattle.walk.specs.View.{met, known_seen, setting, three}
 use Rattle.walk.specs.declared.forms.Which.TheVariants as items
 use Rattle.two_thread.specs.Pairs.{pairs_from}
 use Rattle.two_thread.specs.View.{pair, seen_accesses}
 use Rattle.cert_check.specs.Entries.{has_entry}
-use Rattle.cert_check.specs.Owing.{IsInside}
-use Rattle.cert_check.proofs.Collecting.{all_are, pairs_from-map}
+use Rattle.cert_check.specs.Lacking.{IsEarly, IsUnwalked}
+use Rattle.cert_check.specs.Owing.{seen_claims}
+use Rattle.cert_check.proofs.Unshown.{passed}
+use Rattle.cert_check.proofs.Walked.{early_too, first_unwalked, second_unwalked, many_found, unfit_found}
+use Rattle.cert_check.proofs.Collecting.{setting_is, found_is, pairs_are, all_are, pairs_from-map}
 use Rattle.cert_check.proofs.finding.find.Goals as goal
 
 pub returns-clause-owed : goal.returns-clause-owed
@@ -30,18 +36,81 @@ returns-clause-owed g c =
     let second = c.in_ok-second.second in
     let us = seen_accesses first in
     let vs = seen_accesses second in
-    let es : setting d s items.First ≡ walks.setting d k cs h First = λ i. record { domain = d; known = t.known i; sizes = three (t.sizes i); arguments = t.arguments i; item = First; has_entry = λ n. t.entries n i } in
-    let et : setting d s items.Second ≡ walks.setting d k cs h Second = λ i. record { domain = d; known = t.known i; sizes = three (t.sizes i); arguments = t.arguments i; item = Second; has_entry = λ n. t.entries n i } in
-    let ep = c.in_ok-pairs.ensures ∙ ap (λ b. pairs_from (three core.sizes) cs 0 b us vs) c.as_slice-buffers.ensures.value ∙ pairs_from-map (three core.sizes) cs 0 kind core.buffers.items us vs in
-    all_are d k cs h (forms c.in_ok-launch.launch.items) (item_facts k.sizes First) (item_facts k.sizes Second) (known_seen s.known) (setting d s items.First) (setting d s items.Second) (met first) (met second) (map (pair us vs) c.in_ok-pairs.pairs.items)
-    c.in_ok-launch.ensures es et refl refl c.in_ok-first.ensures.path c.in_ok-second.ensures.path t.known ep
+    let d1 = found_is d k cs h (setting d s items.First) (met first).found First (setting_is d k cs h s core.sizes items.First t.known t.sizes refl t.arguments t.entries) c.in_ok-first.ensures.path in
+    let d2 = found_is d k cs h (setting d s items.Second) (met second).found Second (setting_is d k cs h s core.sizes items.Second t.known t.sizes refl t.arguments t.entries) c.in_ok-second.ensures.path in
+    let ep = c.in_ok-pairs.ensures.exact ∙ ap (λ b. pairs_from (three core.sizes) cs 0 b us vs) c.as_slice-buffers.ensures.value ∙ pairs_from-map (three core.sizes) cs 0 kind core.buffers.items us vs in
+    all_are d k cs h (forms c.in_ok-launch.launch.items) (known_seen s.known) (met first).found (met second).found (map (pair us vs) c.in_ok-pairs.pairs.items) c.in_ok-launch.ensures t.known d1 d2 ep
 
-pub returns-clause-inside : goal.returns-clause-inside
-returns-clause-inside g c =
-    let t : c.are_inside.result ≡ true = search rules in
-    let ps = c.in_ok-pairs.pairs.items in
-    let l = length c.in_ok-first.first.accesses.items in
-    let m = length c.in_ok-second.second.accesses.items in
-    let p : c.len-3.result ≡ l = omega (arith, c.len-3.ensures) in
-    let q : c.len-4.result ≡ m = omega (arith, c.len-4.ensures) in
-    subst (λ n. All (IsInside n m) ps) p (subst (λ n. All (IsInside c.len-3.result n) ps) q (subst (All (IsInside c.len-3.result c.len-4.result)) c.as_slice.ensures.value (c.are_inside.ensures t)))
+pub returns-in_err-first-clause-early : goal.returns-in_err-first-clause-early
+returns-in_err-first-clause-early g c =
+    let d = g.D.Domain in
+    let core = c.args.core.now in
+    let k = kernel core in
+    let cs = conditions c.args.conditions.now in
+    let es = map entry c.args.entries.now in
+    let s = c.in_ok-setting.setting in
+    let t = c.in_ok-setting.ensures in
+    let said : Setting _ → WalkError → Type 0 = λ x w. Refused (IsNoStraightBody k.body) w (collect (opening (item_facts k.sizes First)).found (tree x k.body)) in
+    let e = c.in_err-first.field-0.0 in
+    let same = setting_is d k cs (has_entry es) s core.sizes items.First t.known t.sizes refl t.arguments t.entries in
+    let i : IsEarly (said (setting d s items.First)) e = search rules in
+    passed c.from_residual-in_err-first.result e (IsEarly (IsUnwalked d k cs es)) c.from_residual-in_err-first.ensures.1
+    (early_too (said (setting d s items.First)) (IsUnwalked d k cs es) e (λ w r. first_unwalked d k cs es w (subst (λ x. said x w) same r)) i)
+
+pub returns-in_err-second-clause-early : goal.returns-in_err-second-clause-early
+returns-in_err-second-clause-early g c =
+    let d = g.D.Domain in
+    let core = c.args.core.now in
+    let k = kernel core in
+    let cs = conditions c.args.conditions.now in
+    let es = map entry c.args.entries.now in
+    let s = c.in_ok-setting.setting in
+    let t = c.in_ok-setting.ensures in
+    let said : Setting _ → WalkError → Type 0 = λ x w. Refused (IsNoStraightBody k.body) w (collect (opening (item_facts k.sizes Second)).found (tree x k.body)) in
+    let e = c.in_err-second.field-0.0 in
+    let same = setting_is d k cs (has_entry es) s core.sizes items.Second t.known t.sizes refl t.arguments t.entries in
+    let i : IsEarly (said (setting d s items.Second)) e = search rules in
+    passed c.from_residual-in_err-second.result e (IsEarly (IsUnwalked d k cs es)) c.from_residual-in_err-second.ensures.1
+    (early_too (said (setting d s items.Second)) (IsUnwalked d k cs es) e (λ w r. second_unwalked d k cs es w (subst (λ x. said x w) same r)) i)
+
+pub returns-then-len-gt65536-clause-early : goal.returns-then-len-gt65536-clause-early
+returns-then-len-gt65536-clause-early g c =
+    let d = g.D.Domain in
+    let core = c.args.core.now in
+    let k = kernel core in
+    let cs = conditions c.args.conditions.now in
+    let es = map entry c.args.entries.now in
+    let h = has_entry es in
+    let s = c.in_ok-setting.setting in
+    let t = c.in_ok-setting.ensures in
+    let first = c.in_ok-first.first in
+    let second = c.in_ok-second.second in
+    let us = seen_accesses first in
+    let vs = seen_accesses second in
+    let d1 = found_is d k cs h (setting d s items.First) (met first).found First (setting_is d k cs h s core.sizes items.First t.known t.sizes refl t.arguments t.entries) c.in_ok-first.ensures.path in
+    let d2 = found_is d k cs h (setting d s items.Second) (met second).found Second (setting_is d k cs h s core.sizes items.Second t.known t.sizes refl t.arguments t.entries) c.in_ok-second.ensures.path in
+    let ps = map (pair us vs) c.in_ok-pairs.pairs.items in
+    let ep = c.in_ok-pairs.ensures.exact ∙ ap (λ b. pairs_from (three core.sizes) cs 0 b us vs) c.as_slice-buffers.ensures.value ∙ pairs_from-map (three core.sizes) cs 0 kind core.buffers.items us vs in
+    let dp = pairs_are d k cs h (met first).found (met second).found ps d1 d2 ep in
+    many_found d k cs es first ps (c.len.result + c.len-2.result) d1 dp (omega (arith, c.len.ensures, c.len-2.ensures, length-map c.in_ok-pairs.pairs.items (pair us vs))) c.if-len-gt65536.true
+
+pub returns-clause-fits : goal.returns-clause-fits
+returns-clause-fits g c =
+    let d = g.D.Domain in
+    let core = c.args.core.now in
+    let k = kernel core in
+    let cs = conditions c.args.conditions.now in
+    let es = map entry c.args.entries.now in
+    let h = has_entry es in
+    let s = c.in_ok-setting.setting in
+    let t = c.in_ok-setting.ensures in
+    let first = c.in_ok-first.first in
+    let second = c.in_ok-second.second in
+    let us = seen_accesses first in
+    let vs = seen_accesses second in
+    let d1 = found_is d k cs h (setting d s items.First) (met first).found First (setting_is d k cs h s core.sizes items.First t.known t.sizes refl t.arguments t.entries) c.in_ok-first.ensures.path in
+    let d2 = found_is d k cs h (setting d s items.Second) (met second).found Second (setting_is d k cs h s core.sizes items.Second t.known t.sizes refl t.arguments t.entries) c.in_ok-second.ensures.path in
+    let ps = map (pair us vs) c.in_ok-pairs.pairs.items in
+    let ep = c.in_ok-pairs.ensures.exact ∙ ap (λ b. pairs_from (three core.sizes) cs 0 b us vs) c.as_slice-buffers.ensures.value ∙ pairs_from-map (three core.sizes) cs 0 kind core.buffers.items us vs in
+    let dp = pairs_are d k cs h (met first).found (met second).found ps d1 d2 ep in
+    unfit_found d k cs es (seen_claims first) ps (ap (λ (x : Found _). x.claims) d1) dp

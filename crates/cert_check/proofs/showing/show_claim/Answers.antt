@@ -1,7 +1,13 @@
-use Rattle.std.proofs.Common.{map, ap, ◌∙◌}
+use Rattle.std.proofs.Common.{rules, map, ap, ◌∙◌}
 use Rattle.certificate.specs.View.{entry}
-use Rattle.cert_check.proofs.Unshown.{claim_without, claim_with}
-use Rattle.linear.specs.Forms.{forms}
+use Rattle.cert_check.proofs.Unshown.{claim_without, claim_with, passed}
+use Rattle.cert_check.proofs.Walked.{claim_unfit}
+use Rattle.cert_check.specs.Lacking.{AreUnfit, Names}
+use Rattle.cert_check.specs.Owing.{owed, seen_claims, denials_fit}
+use Rattle.cert_check.specs.declared.error.ShowError.TheVariants as errors
+use Rattle.walk.specs.Refusals.{IsUnfit}
+use Rattle.walk.specs.Symbols.{denial}
+use Rattle.linear.specs.Forms.{form, forms}
 use Rattle.cert_check.proofs.OneByOne.{settled_shown, unneeded_shown, refuted_shown, refuted}
 use Rattle.cert_check.proofs.showing.show_claim.Goals as goal
 
@@ -19,3 +25,11 @@ returns-then-claim-2-clause-lacks g c = claim_without (map entry c.args.entries.
 
 pub returns-clause-lacks : goal.returns-clause-lacks
 returns-clause-lacks g c = claim_with (map entry c.args.entries.now) (forms c.args.launch.now) c.args.path.now c.args.i c.index-claim.result.now (entry c.in-Some.entry.now) (forms c.as_slice.result.now) c.in_ok-is_refuted.field-0 c.requires.claim c.index-claim.ensures c.if-claim.false c.in-Some.ensures (ap forms c.as_slice.ensures.value ∙ c.in_ok-facts.ensures) c.in_ok-is_refuted.ensures.exact c.if-branch.false
+
+pub returns-in_err-facts-clause-lacks : goal.returns-in_err-facts-clause-lacks
+returns-in_err-facts-clause-lacks g c =
+    let e = c.in_err-facts.field-0.0 in
+    let cs = seen_claims c.args.path.now in
+    let u : IsUnfit e (denial (form c.index-claim.result.now.form)) = search rules in
+    passed c.from_residual.result (errors.Walk e) (Names (map entry c.args.entries.now) 0 (map (owed (forms c.args.launch.now)) cs) (AreUnfit (denials_fit cs))) c.from_residual.ensures.1
+    (claim_unfit c.args.path.now c.args.i c.index-claim.result.now e c.requires.claim c.index-claim.ensures u)

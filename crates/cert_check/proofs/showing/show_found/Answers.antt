@@ -9,9 +9,11 @@ use Rattle.two_thread.specs.Pairs.{pair_obligation}
 use Rattle.two_thread.specs.View.{pair, seen_accesses}
 use Rattle.two_thread.specs.Shown.{IsShown}
 use Rattle.cert_check.specs.Entries.{is_past}
-use Rattle.cert_check.specs.Lacking.{Names, Tells}
-use Rattle.cert_check.specs.Owing.{owed, seen_claims, claims_owed, pairs_owed, all_owed}
-use Rattle.cert_check.proofs.Unshown.{of_pairs, passed, claims_length, owed_length}
+use Rattle.cert_check.specs.Lacking.{AreUnfit, Names, Tells}
+use Rattle.cert_check.specs.Owing.{owed, seen_claims, claims_owed, pairs_owed, all_owed, denials_fit, found_pairs, findings_fit}
+use Rattle.two_thread.specs.Fitting.{pairs_fit}
+use Rattle.cert_check.proofs.Walked.{unfit_left, unfit_right}
+use Rattle.cert_check.proofs.Unshown.{of_claims, of_pairs, passed, claims_length, owed_length}
 use Rattle.cert_check.proofs.showing.show_found.Goals as goal
 
 pub returns-in_err-show_pairs-clause-lacks : goal.returns-in_err-show_pairs-clause-lacks
@@ -19,8 +21,20 @@ returns-in_err-show_pairs-clause-lacks g c =
     let f = c.args.found.now in
     let es = map entry c.args.entries.now in
     let e = c.in_err-show_pairs.field-0.0 in
-    let n : Names es (length f.first.claims.items) (pairs_owed g.D.Domain f) e = search rules in
-    passed c.from_residual-in_err-show_pairs.result e (Tells es (all_owed g.D.Domain f)) c.from_residual-in_err-show_pairs.ensures.1 (of_pairs es (claims_owed f) (pairs_owed g.D.Domain f) (length f.first.claims.items) e (claims_length f) n)
+    let a = denials_fit (seen_claims f.first) in
+    let b = pairs_fit (found_pairs f.first f.second f.pairs.items) in
+    let n : Names es (length f.first.claims.items) (pairs_owed g.D.Domain f) (AreUnfit b) e = search rules in
+    passed c.from_residual-in_err-show_pairs.result e (Tells es (all_owed g.D.Domain f) (AreUnfit (findings_fit f))) c.from_residual-in_err-show_pairs.ensures.1 (of_pairs es (claims_owed f) (pairs_owed g.D.Domain f) (length f.first.claims.items) (AreUnfit b) (AreUnfit (findings_fit f)) e (claims_length f) (unfit_right a b) n)
+
+pub returns-in_err-show_claims-clause-lacks : goal.returns-in_err-show_claims-clause-lacks
+returns-in_err-show_claims-clause-lacks g c =
+    let f = c.args.found.now in
+    let es = map entry c.args.entries.now in
+    let e = c.in_err-show_claims.field-0.0 in
+    let a = denials_fit (seen_claims f.first) in
+    let b = pairs_fit (found_pairs f.first f.second f.pairs.items) in
+    let n : Names es 0 (claims_owed f) (AreUnfit a) e = search rules in
+    passed c.from_residual.result e (Tells es (all_owed g.D.Domain f) (AreUnfit (findings_fit f))) c.from_residual.ensures.1 (of_claims es (claims_owed f) (pairs_owed g.D.Domain f) (AreUnfit a) (AreUnfit (findings_fit f)) e (unfit_left a b) n)
 
 pub returns-then-any_past-clause-lacks : goal.returns-then-any_past-clause-lacks
 returns-then-any_past-clause-lacks g c =

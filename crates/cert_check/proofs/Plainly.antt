@@ -1,0 +1,46 @@
+-- What an error tells of a kernel, where it is plain.
+use Rattle.std.proofs.Common.{◌≡◌, ℕ, zero, suc, ◌+◌, ◌*◌, ◌<◌, ◌≤◌, Bool, true, false, get_or, arith, sym, subst, ◌∙◌, inl, inr, mul-le-mul}
+use Rattle.std.proofs.lemmas.Bool.{false≢true}
+use Rattle.semantics.specs.Launch.{Kernel, product}
+use Rattle.semantics.specs.Conditions.{Conditions}
+use Rattle.texts.specs.Certificate.{Certificate}
+use Rattle.walk.specs.declared.error.WalkError.TheVariants as walks
+use Rattle.plain.specs.Domains.{domain}
+use Rattle.plain.specs.Claims.{is_range}
+use Rattle.plain.specs.Kernels.{HasLimits, IsPlain}
+use Rattle.plain.proofs.Plainly.{plain-straight, plain-fits, plain-range}
+use Rattle.cert_check.specs.Entries.{has_entry}
+use Rattle.cert_check.specs.Lacking.{Stops, owing}
+use Rattle.cert_check.specs.Refusing.{Shows}
+use Rattle.cert_check.specs.Plainly.{IsUnrefuted, IsOwnRange, TellsPlain}
+use Rattle.cert_check.specs.declared.error.ShowError.{ShowError}
+use Rattle.cert_check.specs.declared.error.ShowError.TheVariants as shows
+
+-- no dimension is empty
+some_items : (x y z : ℕ) → 1 ≤ x → 1 ≤ y → 1 ≤ z → x * y * z ≡ 0 → ⊥
+some_items x y z h i j e = let p : 1 * 1 * 1 ≤ x * y * z = mul-le-mul (mul-le-mul h i) j in omega (arith, e, p)
+
+module _ (k : Kernel) (c : Conditions) (cert : Certificate) (limits : HasLimits k c) (plain : IsPlain k c) where
+  abbrev h : ℕ → Bool
+  h = has_entry cert.entries
+
+  named : (n : ℕ) → Stops cert.entries 0 (owing domain k c cert.entries) (suc n) → IsUnrefuted k c cert (suc n) × IsOwnRange k cert (suc n)
+  named n (o, (i, e, l, q), (s, a, r)) =
+      let m : i ≡ n = omega (arith, e) in
+      ((o, (i, e, l, q), r), λ b. plain-range k c h limits plain n o b (subst (λ j. o ≡ get_or (owing domain k c cert.entries) j o) m q) s a)
+
+  pub tells_plain : (e : ShowError) → Shows k c cert e → TellsPlain k c cert e
+  tells_plain (shows.NotShown zero) (inl (inl p)) = absurd (some_items k.sizes.x k.sizes.y k.sizes.z limits.size_x.0 limits.size_y.0 limits.size_z.0 p)
+  tells_plain (shows.NotShown zero) (inl (inr (inl p))) = absurd (false≢true (sym p ∙ plain-straight k c h limits plain))
+  tells_plain (shows.NotShown zero) (inl (inr (inr p))) = inr p
+  tells_plain (shows.NotShown zero) (inr p) = inl p.1
+  tells_plain (shows.NotShown (suc n)) (inl s) = named n s
+  tells_plain (shows.NotShown (suc n)) (inr p) = absurd cc
+  tells_plain (shows.Walk walks.TooMany) (inl p) = p
+  tells_plain (shows.Walk walks.TooLarge) (inl p) = false≢true (sym p ∙ plain-fits k c h limits plain)
+  tells_plain (shows.Walk walks.Outside) (inl p) = false≢true (sym p ∙ plain-straight k c h limits plain)
+  tells_plain (shows.Walk walks.Memory) (inl p) = tt
+  tells_plain (shows.Walk w) (inr p) = absurd cc
+  tells_plain shows.OverBudget (inl p) = p
+  tells_plain shows.OverBudget (inr p) = absurd cc
+  tells_plain shows.Memory s = tt

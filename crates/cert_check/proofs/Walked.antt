@@ -1,0 +1,162 @@
+-- An error of a walk says of the kernel what it says of a part.
+use Rattle.std.proofs.Common.{◌≡◌, ℕ, zero, suc, ◌+◌, ◌<◌, Bool, true, false, ◌&&◌, List, [], ◌∷◌, ◌++◌, length, map, get_or, arith, refl, sym, ap, subst, ◌∙◌}
+use Rattle.std.proofs.lemmas.List.{length-map, length-append, get_or-map}
+use Rattle.semantics.specs.Launch.{Kernel}
+use Rattle.semantics.specs.Conditions.{Conditions}
+use Rattle.domain.specs.declared.Domain.{Ghosts}
+use Rattle.linear.specs.Exact.{fits}
+use Rattle.linear.specs.Forms.{form, forms}
+use Rattle.texts.specs.Certificate.{Entry}
+use Rattle.walk.specs.Symbols.{Fact, First, Second, denial}
+use Rattle.walk.specs.Straight.{are_sizes, is_straight, is_straight_body}
+use Rattle.walk.specs.Launching.{launch_facts, item_facts, known}
+use Rattle.walk.specs.View.{met}
+use Rattle.walk.specs.Trees.{Tree, Leaf, Claim, Know, Touch, claims}
+use Rattle.walk.specs.Collected.{Claimed, Found, opening}
+use Rattle.walk.specs.Walks.{setting, tree}
+use Rattle.walk.specs.Refusals.{IsMemory, IsUnfit, IsNoStraightBody, Refused, are_fit, all_fit}
+use Rattle.walk.specs.declared.error.WalkError.{WalkError}
+use Rattle.walk.specs.declared.error.WalkError.TheVariants as walks
+use Rattle.walk.specs.declared.path.Claim as code
+use Rattle.walk.specs.declared.path.Path.{Path}
+use Rattle.walk.proofs.TwinTrees.{Same}
+use Rattle.walk.proofs.TwinWalks.{trees-same}
+use Rattle.two_thread.specs.Pairs.{Pair, pair_obligation}
+use Rattle.two_thread.specs.Refusals.{pair_fits, IsUnfitPair}
+use Rattle.two_thread.specs.Fitting.{found, denied, pairs_fit, forms_fit}
+use Rattle.two_thread.specs.Shown.{pairs, obligations, item_claims}
+use Rattle.two_thread.specs.View as views
+use Rattle.two_thread.specs.declared.pairs.Pair as declared
+use Rattle.cert_check.specs.Entries.{has_entry}
+use Rattle.cert_check.specs.Lacking.{AreUnfit, IsEarly, IsUnwalked}
+use Rattle.cert_check.specs.Owing.{owed, seen_claims, no_claim, no_pair, nth_pair, denials_fit}
+use Rattle.cert_check.specs.declared.error.ShowError.{ShowError}
+use Rattle.cert_check.specs.declared.error.ShowError.TheVariants as errors
+use Rattle.cert_check.proofs.OneByOne.{claim_is, length_claims}
+use Rattle.cert_check.proofs.Collecting.{claims-collected}
+
+and_left : (a b : Bool) → a ≡ false → (a && b) ≡ false
+and_left true b h = cc
+and_left false b h = refl
+
+and_right : (a b : Bool) → b ≡ false → (a && b) ≡ false
+and_right true b h = h
+and_right false b h = refl
+
+unfit_at : {A : Type 0} (view : A → Fact) (xs : List A) (i : ℕ) (d : A) → i < length xs → fits (view (get_or xs i d)) ≡ false → are_fit (map view xs) ≡ false
+unfit_at view [] i d h f = absurd (omega arith)
+unfit_at view (x ∷ xs) zero d h f = and_left (fits (view x)) (are_fit (map view xs)) f
+unfit_at view (x ∷ xs) (suc i) d h f = and_right (fits (view x)) (are_fit (map view xs)) (unfit_at view xs i d (omega arith) f)
+
+pairs_unfit_at : {E : Type 0} (ps : List (Pair E)) (i : ℕ) (d : Pair E) → i < length ps → pair_fits (get_or ps i d) ≡ false → pairs_fit ps ≡ false
+pairs_unfit_at [] i d h f = absurd (omega arith)
+pairs_unfit_at (p ∷ ps) zero d h f = and_left (pair_fits p) (pairs_fit ps) f
+pairs_unfit_at (p ∷ ps) (suc i) d h f = and_right (pair_fits p) (pairs_fit ps) (pairs_unfit_at ps i d (omega arith) f)
+
+-- of a claim, as the code has it
+pub claim_unfit : {E : Type 0} (p : Path E) (i : ℕ) (c : code.Claim) (e : WalkError) → i < length p.claims.items → c ≡ get_or p.claims.items i c → IsUnfit e (denial (form c.form)) → AreUnfit (denials_fit (seen_claims p)) e
+claim_unfit p i c walks.TooMany h q u = u
+claim_unfit p i c walks.TooLarge h q u = unfit_at denied (seen_claims p) i no_claim (subst (λ m. i < m) (sym (length_claims p)) h) (ap (λ (x : Claimed). fits (denied x)) (claim_is p i c h q) ∙ u)
+claim_unfit p i c walks.Outside h q u = u
+claim_unfit p i c walks.Memory h q u = tt
+
+pub pair_unfit : {E : Type 0} (p q : Path E) (ps : List declared.Pair) (i : ℕ) (e : WalkError) → i < length ps → IsUnfitPair e (views.pair (views.seen_accesses p) (views.seen_accesses q) (nth_pair ps i)) → AreUnfit (pairs_fit (map (views.pair (views.seen_accesses p) (views.seen_accesses q)) ps)) e
+pair_unfit p q ps i walks.TooMany h u = u
+pair_unfit p q ps i walks.TooLarge h u =
+    let view = views.pair (views.seen_accesses p) (views.seen_accesses q) in
+    pairs_unfit_at (map view ps) i (view no_pair) (subst (λ m. i < m) (sym (length-map ps view)) h) (ap pair_fits (get_or-map view ps i no_pair (view no_pair) h) ∙ u)
+pair_unfit p q ps i walks.Outside h u = u
+pair_unfit p q ps i walks.Memory h u = tt
+
+pub unfit_left : (a b : Bool) (e : WalkError) → AreUnfit a e → AreUnfit (a && b) e
+unfit_left a b walks.TooMany u = u
+unfit_left a b walks.TooLarge u = and_left a b u
+unfit_left a b walks.Outside u = u
+unfit_left a b walks.Memory u = u
+
+pub unfit_right : (a b : Bool) (e : WalkError) → AreUnfit b e → AreUnfit (a && b) e
+unfit_right a b walks.TooMany u = u
+unfit_right a b walks.TooLarge u = and_right a b u
+unfit_right a b walks.Outside u = u
+unfit_right a b walks.Memory u = u
+
+-- both items have as many claims
+same_count : {E : Type 0} (t u : Tree E) (l l' fs gs : List Fact) → Same t u → length (claims l fs t) ≡ length (claims l' gs u)
+same_count Leaf Leaf l l' fs gs s = refl
+same_count Leaf (Claim m r g u) l l' fs gs s = elim s [ ]
+same_count Leaf (Know g u) l l' fs gs s = elim s [ ]
+same_count Leaf (Touch r d j es u) l l' fs gs s = elim s [ ]
+same_count (Claim n q f t) Leaf l l' fs gs s = elim s [ ]
+same_count (Claim n q f t) (Claim m r g u) l l' fs gs s = ap suc (same_count t u l l' fs gs s)
+same_count (Claim n q f t) (Know g u) l l' fs gs s = elim s [ ]
+same_count (Claim n q f t) (Touch r d j es u) l l' fs gs s = elim s [ ]
+same_count (Know f t) Leaf l l' fs gs s = elim s [ ]
+same_count (Know f t) (Claim m r g u) l l' fs gs s = elim s [ ]
+same_count (Know f t) (Know g u) l l' fs gs s = same_count t u l l' _ _ s.1
+same_count (Know f t) (Touch r d j es u) l l' fs gs s = elim s [ ]
+same_count (Touch q b i es t) Leaf l l' fs gs s = elim s [ ]
+same_count (Touch q b i es t) (Claim m r g u) l l' fs gs s = elim s [ ]
+same_count (Touch q b i es t) (Know g u) l l' fs gs s = elim s [ ]
+same_count (Touch q b i es t) (Touch r d j hs u) l l' fs gs s = same_count t u l l' fs gs s.4
+
+module _ {E : Type 0} (g : Ghosts E) (k : Kernel) (c : Conditions) (es : List Entry) where
+  abbrev h : ℕ → Bool
+  h = has_entry es
+
+  count_first : length (found g k c h First).claims ≡ length (item_claims g k c h)
+  count_first =
+      sym (length-map (found g k c h First).claims (owed (launch_facts c)))
+      ∙ ap length (claims-collected (launch_facts c) (opening (item_facts k.sizes First)).found (tree (setting g k c h First) k.body))
+
+  count_second : length (found g k c h Second).claims ≡ length (item_claims g k c h)
+  count_second =
+      sym (length-map (found g k c h Second).claims (owed (launch_facts c)))
+      ∙ ap length (claims-collected (launch_facts c) (opening (item_facts k.sizes Second)).found (tree (setting g k c h Second) k.body))
+      ∙ sym (same_count (tree (setting g k c h First) k.body) (tree (setting g k c h Second) k.body) (launch_facts c) (launch_facts c) (item_facts k.sizes First) (item_facts k.sizes Second) (trees-same g k c h))
+
+  not_straight : IsNoStraightBody k.body → is_straight k ≡ false
+  not_straight n = and_right (are_sizes k.sizes) (is_straight_body (length k.arguments) k.body) (n (length k.arguments))
+
+  many : (n : ℕ) → n ≡ length (item_claims g k c h) → 65536 < n → 65536 < length (obligations g k c h)
+  many n e l =
+      let more = map (pair_obligation g (known g k.sizes c) (launch_facts c)) (pairs g k c h) in
+      omega (arith, e, l, length-append (item_claims g k c h) more)
+
+  pub first_unwalked : (e : WalkError) → Refused (IsNoStraightBody k.body) e (found g k c h First) → IsUnwalked g k c es e
+  first_unwalked walks.TooMany r = many _ count_first r
+  first_unwalked walks.TooLarge r = and_left (all_fit (found g k c h First)) _ r
+  first_unwalked walks.Outside r = not_straight r
+  first_unwalked walks.Memory r = tt
+
+  pub second_unwalked : (e : WalkError) → Refused (IsNoStraightBody k.body) e (found g k c h Second) → IsUnwalked g k c es e
+  second_unwalked walks.TooMany r = many _ count_second r
+  second_unwalked walks.TooLarge r = and_right (all_fit (found g k c h First)) _ (and_left (all_fit (found g k c h Second)) _ r)
+  second_unwalked walks.Outside r = not_straight r
+  second_unwalked walks.Memory r = tt
+
+  pub memory_unwalked : (e : WalkError) → IsMemory e → IsUnwalked g k c es e
+  memory_unwalked e m = subst (IsUnwalked g k c es) (sym m) tt
+
+  pub unfit_unwalked : (fit : Bool) → (fit ≡ false → forms_fit g k c h ≡ false) → (e : WalkError) → AreUnfit fit e → IsUnwalked g k c es e
+  unfit_unwalked fit f walks.TooMany u = absurd u
+  unfit_unwalked fit f walks.TooLarge u = f u
+  unfit_unwalked fit f walks.Outside u = absurd u
+  unfit_unwalked fit f walks.Memory u = tt
+
+  pub unfit_found : (cs : List Claimed) (ps : List (Pair E)) → cs ≡ (found g k c h First).claims → ps ≡ pairs g k c h → (are_fit (map denied cs) && pairs_fit ps) ≡ false → forms_fit g k c h ≡ false
+  unfit_found cs ps p q u =
+      and_right (all_fit (found g k c h First)) _ (and_right (all_fit (found g k c h Second)) _ ((λ i. are_fit (map denied (sym p i)) && pairs_fit (sym q i)) ∙ u))
+
+  pub many_found : (p : Path E) (ps : List (Pair E)) (n : ℕ) → (met p).found ≡ found g k c h First → ps ≡ pairs g k c h → n ≡ length p.claims.items + length ps → 65536 < n → 65536 < length (obligations g k c h)
+  many_found p ps n d q e l =
+      let o = pair_obligation g (known g k.sizes c) (launch_facts c) in
+      let first : length p.claims.items ≡ length (item_claims g k c h) = sym (length_claims p) ∙ ap (λ (x : Found _). length x.claims) d ∙ count_first in
+      let second : length ps ≡ length (map o (pairs g k c h)) = ap length q ∙ sym (length-map (pairs g k c h) o) in
+      omega (arith, e, l, first, second, length-append (item_claims g k c h) (map o (pairs g k c h)))
+
+-- an error before anything is to be shown, by what else it says
+pub early_too : (walk walk' : WalkError → Type 0) (e : ShowError) → ((w : WalkError) → walk w → walk' w) → IsEarly walk e → IsEarly walk' e
+early_too walk walk' (errors.NotShown n) f h = h
+early_too walk walk' (errors.Walk e) f h = f e h
+early_too walk walk' errors.OverBudget f h = h
+early_too walk walk' errors.Memory f h = h

@@ -1,0 +1,55 @@
+-- What a refusal says of a plain kernel, once its three texts are read.
+use Rattle.std.specs.Prelude.{◌≡◌, ◌<◌, ◌⊎◌, ℕ, zero, suc, List, length, true, false, Result, Ok, Err}
+use Rattle.semantics.specs.Launch as semantics
+use Rattle.semantics.specs.Conditions.{Conditions}
+use Rattle.texts.specs.Certificate.{Certificate}
+use Rattle.texts.specs.ConditionsReading.{Lined, meant}
+use Rattle.texts.specs.CertificateReading.{certificate_of}
+use Rattle.syntax.specs.declared.tree.Kernel.{Kernel}
+use Rattle.types.specs.View.{kernel as core_seen}
+use Rattle.types.specs.declared.core_tree.Core.{Core}
+use Rattle.walk.specs.Straight.{steps}
+use Rattle.walk.specs.Trees.{Obligation}
+use Rattle.walk.specs.declared.error.WalkError.{WalkError}
+use Rattle.walk.specs.declared.error.WalkError.TheVariants as walks
+use Rattle.plain.specs.Domains.{domain}
+use Rattle.plain.specs.Claims.{is_range}
+use Rattle.plain.specs.Kernels.{IsPlain, has_signed}
+use Rattle.cert_check.specs.Entries.{has_entry, is_refuted, is_past}
+use Rattle.cert_check.specs.Lacking.{IsNumbered, owing}
+use Rattle.cert_check.specs.Refusing.{AreRead, IsForOthers}
+use Rattle.cert_check.specs.declared.accepted.Accepted.{Accepted}
+use Rattle.cert_check.specs.declared.error.CheckError.{CheckError}
+use Rattle.cert_check.specs.declared.error.CheckError.TheVariants as errors
+use Rattle.cert_check.specs.declared.error.ShowError.{ShowError}
+use Rattle.cert_check.specs.declared.error.ShowError.TheVariants as shows
+
+-- a claim of a range is named only where the certificate has an entry for it, and then some value is an `int` parameter
+abbrev pub IsOwnRange : semantics.Kernel → Certificate → (number : ℕ) → Type 0
+IsOwnRange k cert n = is_range k n ≡ true → (has_entry cert.entries n ≡ true) × (has_signed k.arguments k.body ≡ true)
+
+-- the obligation of this number has no `show` entry that refutes its facts
+abbrev pub IsUnrefuted : semantics.Kernel → Conditions → Certificate → (number : ℕ) → Type 0
+IsUnrefuted k c cert n = (o : Obligation) × IsNumbered 0 (owing domain k c cert.entries) n o × (is_refuted cert.entries n o.facts ≡ false)
+
+-- 0: the certificate tells of places or loops, or has an entry past the last; a number is that of an obligation that is not shown;
+-- there are over 65,536 obligations; or the stores outnumber the budget. No form leaves i64, and no kernel is left out
+abbrev pub TellsPlain : semantics.Kernel → Conditions → Certificate → ShowError → Type 0
+TellsPlain k c cert (shows.NotShown zero) = IsForOthers cert ⊎ (is_past cert.entries (length (owing domain k c cert.entries)) ≡ true)
+TellsPlain k c cert (shows.NotShown (suc n)) = IsUnrefuted k c cert (suc n) × IsOwnRange k cert (suc n)
+TellsPlain k c cert (shows.Walk walks.TooMany) = 65536 < length (owing domain k c cert.entries)
+TellsPlain k c cert (shows.Walk walks.TooLarge) = ⊥
+TellsPlain k c cert (shows.Walk walks.Outside) = ⊥
+TellsPlain k c cert (shows.Walk walks.Memory) = Unit {0}
+TellsPlain k c cert shows.OverBudget = c.budget < steps k.body
+TellsPlain k c cert shows.Memory = Unit {0}
+
+-- the texts are read, and where the kernel is plain the error tells this of it
+abbrev pub OnPlain : Result Accepted CheckError → (kernel conditions certificate : List ℕ) → Type 0
+OnPlain (Err (errors.Show e)) kernel conditions certificate =
+    (typed : Kernel × Core) × (found : Lined) × (cert : Certificate) × AreRead typed found kernel conditions × (certificate_of certificate ≡ Ok cert)
+    × (IsPlain (core_seen typed.1) (meant found) → TellsPlain (core_seen typed.1) (meant found) cert e)
+OnPlain (Err (errors.Kernel e)) kernel conditions certificate = Unit {0}
+OnPlain (Err (errors.Conditions e)) kernel conditions certificate = Unit {0}
+OnPlain (Err (errors.Certificate e)) kernel conditions certificate = Unit {0}
+OnPlain (Ok a) kernel conditions certificate = Unit {0}

@@ -2,7 +2,7 @@
 use Rattle.std.proofs.Common.{◌≡◌, ℕ, zero, suc, ◌+◌, ◌<◌, ◌==◌, Bool, true, false, List, [], ◌∷◌, ◌++◌, length, map, take, get_or, ap, sym, subst, ◌∙◌, inl, inr, arith}
 use Rattle.std.specs.Prelude.{None, Some, Result, Ok, Err, IfErr, IsErrAnd}
 use Rattle.std.proofs.lemmas.Bool.{false≢true}
-use Rattle.std.proofs.lemmas.List.{length-map, length-append, get_or-map, get_or_append_left, get_or-append-add}
+use Rattle.std.proofs.lemmas.List.{length-map, length-append, get_or-map, get_or-append-add}
 use Rattle.semantics.specs.Launch.{Kernel}
 use Rattle.semantics.specs.Conditions.{Conditions}
 use Rattle.domain.specs.declared.Domain.{Ghosts}
@@ -16,7 +16,7 @@ use Rattle.walk.specs.declared.path.Path.{Path}
 use Rattle.walk.specs.declared.path.Claim.{Claim}
 use Rattle.two_thread.specs.View.{pair, seen_accesses}
 use Rattle.cert_check.specs.Entries.{entry_of, is_found, found_refutes, refutes_by}
-use Rattle.cert_check.specs.Lacking.{IsNumbered, Stops, Names, IsEarly, Lacks, Tells, TellsOf, owing}
+use Rattle.cert_check.specs.Lacking.{IsNumbered, Stops, Names, Lacks, Tells, TellsOf}
 use Rattle.cert_check.specs.Owing.{owed, seen_claims, nth_claim, no_claim, claims_owed, pairs_owed, all_owed}
 use Rattle.cert_check.specs.declared.findings.Findings.{Findings}
 use Rattle.cert_check.specs.declared.error.ShowError.{ShowError}
@@ -50,40 +50,18 @@ claim_with es launch p i c a facts b h e s m f r n =
     let k = claim_is p i c h e in
     with_entry es 0 (map (owed launch) (seen_claims p)) (i + 1) (owed launch (nth_claim (seen_claims p) i)) a facts b (claim_numbered launch p i h) (ap (λ (x : Claimed). x.settled) k ∙ s) m (f ∙ ap (λ (x : Claimed). launch ++ (x.facts ++ denial x.claim ∷ [])) (sym k)) r n
 
-pub early : (es : List Entry) (os : List Obligation) (e : ShowError) → IsEarly e → Tells es os e
-early es os (errors.NotShown n) h = absurd h
-early es os (errors.Walk e) h = h
-early es os errors.OverBudget h = h
-early es os errors.Memory h = h
-
 lacks : (es : List Entry) (os : List Obligation) (n : ℕ) → Stops es 0 os n → Lacks es os n
 lacks es os zero s = absurd (omega (arith, s.1.1))
 lacks es os (suc n) s = s
 
-of_front : (es : List Entry) (os more : List Obligation) (n : ℕ) → Stops es 0 os n → Stops es 0 (os ++ more) n
-of_front es os more n (o, (i, e, l, g), k) = (o, (i, e, omega (arith, l, length-append os more), g ∙ sym (get_or_append_left os more o i l)), k)
-
 of_back : (es : List Entry) (os more : List Obligation) (m n : ℕ) → length os ≡ m → Stops es m more n → Stops es 0 (os ++ more) n
 of_back es os more m n q (o, (i, e, l, g), k) = (o, (length os + i, omega (arith, e, q), omega (arith, l, length-append os more), g ∙ sym (get_or-append-add os more i o)), k)
-
-pub of_claims : (es : List Entry) (os more : List Obligation) (e : ShowError) → Names es 0 os e → Tells es (os ++ more) e
-of_claims es os more (errors.NotShown n) h = lacks es (os ++ more) n (of_front es os more n h)
-of_claims es os more (errors.Walk e) h = h
-of_claims es os more errors.OverBudget h = h
-of_claims es os more errors.Memory h = h
 
 pub of_pairs : (es : List Entry) (os more : List Obligation) (m : ℕ) (e : ShowError) → length os ≡ m → Names es m more e → Tells es (os ++ more) e
 of_pairs es os more m (errors.NotShown n) q h = lacks es (os ++ more) n (of_back es os more m n q h)
 of_pairs es os more m (errors.Walk e) q h = h
 of_pairs es os more m errors.OverBudget q h = h
 of_pairs es os more m errors.Memory q h = h
-
-pub of_kernel : {E : Type 0} (g : Ghosts E) (k : Kernel) (c : Conditions) (es : List Entry) (e : ShowError) → Tells es (owing g k c es) e → TellsOf g k c es e
-of_kernel g k c es (errors.NotShown zero) h = inr (inr h)
-of_kernel g k c es (errors.NotShown (suc n)) h = h
-of_kernel g k c es (errors.Walk e) h = h
-of_kernel g k c es errors.OverBudget h = absurd h
-of_kernel g k c es errors.Memory h = h
 
 pub same_told : {E : Type 0} (g : Ghosts E) (k k' : Kernel) (c c' : Conditions) (es es' : List Entry) (e : ShowError) → k ≡ k' → c ≡ c' → es ≡ es' → TellsOf g k c es e → TellsOf g k' c' es' e
 same_told g k k' c c' es es' e p q r t = subst (λ x. TellsOf g k' c' x e) r (subst (λ x. TellsOf g k' x es e) q (subst (λ x. TellsOf g x c es e) p t))

@@ -1,4 +1,4 @@
--- What is to be shown of a path's claims.
+-- What is to be shown of what was found: the claims of the first item's path, then the pairs.
 use Rattle.std.specs.Prelude.{◌<◌, ℕ, pos, List, [], ◌∷◌, ◌++◌, map, get_or, false}
 use Rattle.walk.specs.Symbols.{Fact, constant, denial}
 use Rattle.domain.specs.declared.Domain.{Ghosts}

@@ -1,12 +1,11 @@
 -- What an error tells of a kernel, where it is plain.
-use Rattle.std.proofs.Common.{◌≡◌, ℕ, zero, suc, ◌+◌, ◌*◌, ◌<◌, ◌≤◌, Bool, true, false, get_or, arith, sym, subst, ◌∙◌, inl, inr, mul-le-mul}
+use Rattle.std.proofs.Common.{◌≡◌, ℕ, zero, suc, ◌*◌, ◌≤◌, Bool, get_or, arith, sym, subst, ◌∙◌, inl, inr, mul-le-mul}
 use Rattle.std.proofs.lemmas.Bool.{false≢true}
-use Rattle.semantics.specs.Launch.{Kernel, product}
+use Rattle.semantics.specs.Launch.{Kernel}
 use Rattle.semantics.specs.Conditions.{Conditions}
 use Rattle.texts.specs.Certificate.{Certificate}
 use Rattle.walk.specs.declared.error.WalkError.TheVariants as walks
 use Rattle.plain.specs.Domains.{domain}
-use Rattle.plain.specs.Claims.{is_range}
 use Rattle.plain.specs.Kernels.{HasLimits, IsPlain}
 use Rattle.plain.proofs.Plainly.{plain-straight, plain-fits, plain-range}
 use Rattle.cert_check.specs.Entries.{has_entry}

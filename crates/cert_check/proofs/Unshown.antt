@@ -17,7 +17,7 @@ use Rattle.walk.specs.declared.path.Path.{Path}
 use Rattle.walk.specs.declared.path.Claim.{Claim}
 use Rattle.two_thread.specs.View.{pair, seen_accesses}
 use Rattle.cert_check.specs.Entries.{entry_of, is_found, found_refutes, refutes_by}
-use Rattle.cert_check.specs.Lacking.{IsNumbered, Stops, Names, IsEarly, Lacks, Tells, TellsOf, IsUnwalked, owing}
+use Rattle.cert_check.specs.Lacking.{IsNumbered, Stops, Names, Lacks, Tells, TellsOf}
 use Rattle.cert_check.specs.Owing.{owed, seen_claims, nth_claim, no_claim, claims_owed, pairs_owed, all_owed}
 use Rattle.cert_check.specs.declared.findings.Findings.{Findings}
 use Rattle.cert_check.specs.declared.error.ShowError.{ShowError}
@@ -51,12 +51,6 @@ claim_with es launch p i c a facts b h e s m f r n =
     let k = claim_is p i c h e in
     with_entry es 0 (map (owed launch) (seen_claims p)) (i + 1) (owed launch (nth_claim (seen_claims p) i)) a facts b (claim_numbered launch p i h) (ap (λ (x : Claimed). x.settled) k ∙ s) m (f ∙ ap (λ (x : Claimed). launch ++ (x.facts ++ denial x.claim ∷ [])) (sym k)) r n
 
-pub early : (es : List Entry) (os : List Obligation) (walk : WalkError → Type 0) (e : ShowError) → IsEarly walk e → Tells es os walk e
-early es os walk (errors.NotShown n) h = absurd h
-early es os walk (errors.Walk e) h = h
-early es os walk errors.OverBudget h = h
-early es os walk errors.Memory h = h
-
 lacks : (es : List Entry) (os : List Obligation) (n : ℕ) → Stops es 0 os n → Lacks es os n
 lacks es os zero s = absurd (omega (arith, s.1.1))
 lacks es os (suc n) s = s
@@ -85,13 +79,6 @@ of_findings es os walk walk' (errors.NotShown n) f h = h
 of_findings es os walk walk' (errors.Walk e) f h = f e h
 of_findings es os walk walk' errors.OverBudget f h = h
 of_findings es os walk walk' errors.Memory f h = h
-
-pub of_kernel : {E : Type 0} (g : Ghosts E) (k : Kernel) (c : Conditions) (es : List Entry) (e : ShowError) → Tells es (owing g k c es) (IsUnwalked g k c es) e → TellsOf g k c es e
-of_kernel g k c es (errors.NotShown zero) h = inr (inr h)
-of_kernel g k c es (errors.NotShown (suc n)) h = h
-of_kernel g k c es (errors.Walk e) h = h
-of_kernel g k c es errors.OverBudget h = absurd h
-of_kernel g k c es errors.Memory h = h
 
 pub same_told : {E : Type 0} (g : Ghosts E) (k k' : Kernel) (c c' : Conditions) (es es' : List Entry) (e : ShowError) → k ≡ k' → c ≡ c' → es ≡ es' → TellsOf g k c es e → TellsOf g k' c' es' e
 same_told g k k' c c' es es' e p q r t = subst (λ x. TellsOf g k' c' x e) r (subst (λ x. TellsOf g k' x es e) q (subst (λ x. TellsOf g x c es e) p t))

@@ -1,11 +1,11 @@
 -- An error of a walk says of the kernel what it says of a part.
-use Rattle.std.proofs.Common.{◌≡◌, ℕ, zero, suc, ◌+◌, ◌<◌, Bool, true, false, ◌&&◌, List, [], ◌∷◌, ◌++◌, length, map, get_or, arith, refl, sym, ap, subst, ◌∙◌}
+use Rattle.std.proofs.Common.{◌≡◌, ℕ, zero, suc, ◌+◌, ◌<◌, Bool, true, false, ◌&&◌, List, [], ◌∷◌, length, map, get_or, arith, refl, sym, ap, subst, ◌∙◌}
 use Rattle.std.proofs.lemmas.List.{length-map, length-append, get_or-map}
 use Rattle.semantics.specs.Launch.{Kernel}
 use Rattle.semantics.specs.Conditions.{Conditions}
 use Rattle.domain.specs.declared.Domain.{Ghosts}
 use Rattle.linear.specs.Exact.{fits}
-use Rattle.linear.specs.Forms.{form, forms}
+use Rattle.linear.specs.Forms.{form}
 use Rattle.texts.specs.Certificate.{Entry}
 use Rattle.walk.specs.Symbols.{Fact, First, Second, denial}
 use Rattle.walk.specs.Straight.{are_sizes, is_straight, is_straight_body}

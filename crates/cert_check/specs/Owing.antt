@@ -1,5 +1,5 @@
--- What is to be shown of a path's claims.
-use Rattle.std.specs.Prelude.{◌<◌, ℕ, pos, List, [], ◌∷◌, ◌++◌, map, get_or, Bool, false, ◌&&◌}
+-- What is to be shown of what was found: the claims of the first item's path, then the pairs.
+use Rattle.std.specs.Prelude.{ℕ, pos, List, [], ◌∷◌, ◌++◌, map, get_or, Bool, false, ◌&&◌}
 use Rattle.walk.specs.Symbols.{Fact, constant, denial}
 use Rattle.domain.specs.declared.Domain.{Ghosts}
 use Rattle.linear.specs.Forms.{forms}

@@ -10,7 +10,6 @@ use Rattle.types.specs.View.{kernel as core_seen}
 use Rattle.types.specs.declared.core_tree.Core.{Core}
 use Rattle.walk.specs.Straight.{steps}
 use Rattle.walk.specs.Trees.{Obligation}
-use Rattle.walk.specs.declared.error.WalkError.{WalkError}
 use Rattle.walk.specs.declared.error.WalkError.TheVariants as walks
 use Rattle.plain.specs.Domains.{domain}
 use Rattle.plain.specs.Claims.{is_range}

@@ -12,7 +12,8 @@ use walk::WalkError;
 /// Why what is to be shown of a kernel is not shown, or want of memory.
 #[derive(Debug, Drop, Error)]
 pub enum ShowError {
-    /// An obligation is not shown; 0 where the certificate tells of what the kernel lacks, or the kernel is not straight-line.
+    /// An obligation is not shown; 0 where the certificate tells of what the kernel lacks, a work-group has no work-items, or the
+    /// kernel is not straight-line.
     #[error("52 {0}")]
     NotShown(u64),
     #[error("{0}")]

@@ -1,4 +1,4 @@
-use Rattle.std.proofs.Common.{rules, ◌≡◌, ◌+◌, refl, ap, subst, ◌∙◌, map, length, arith}
+use Rattle.std.proofs.Common.{rules, ◌+◌, refl, ap, subst, ◌∙◌, map, arith}
 use Rattle.linear.specs.Forms.{forms}
 use Rattle.words.specs.View.{kind}
 use Rattle.types.specs.View.{kernel}

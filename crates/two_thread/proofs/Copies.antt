@@ -1,16 +1,5 @@
 -- Lists of facts that grow at the end.
-use Rattle.std.proofs.Common.{◌≡◌, ℕ, zero, suc, ◌++◌, List, [], ◌∷◌, take, append_assoc, refl, ap, ◌∙◌}
-use Rattle.linear.specs.Forms.{form, forms}
-use Rattle.linear.specs.declared.form.Form.{Form}
-use Rattle.walk.proofs.Facts.{two_more}
-use Rattle.walk.proofs.Paths.{forms_more}
-
-pub ruleset copies = (two_more, forms_more)
-
-pub forms-take : (n : ℕ) (fs : List Form) → forms (take n fs) ≡ take n (forms fs)
-forms-take zero fs = refl
-forms-take (suc n) [] = refl
-forms-take (suc n) (f ∷ fs) = ap (λ l. form f ∷ l) (forms-take n fs)
+use Rattle.std.proofs.Common.{◌≡◌, ◌++◌, List, [], ◌∷◌, append_assoc, ap, ◌∙◌}
 
 -- parts one behind the other
 pub parts : {A : Type 0} (l a b s e f1 f2 f3 f4 f5 f6 : List A) (o : A) → f1 ≡ l → f2 ≡ f1 ++ a → f3 ≡ f2 ++ b → f4 ≡ f3 ++ s → f5 ≡ f4 ++ o ∷ [] → f6 ≡ f5 ++ e → f6 ≡ l ++ (a ++ (b ++ (s ++ (o ∷ e))))

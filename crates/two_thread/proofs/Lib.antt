@@ -1,4 +1,3 @@
-pub mod Nth
 pub mod Growing
 pub mod Copies
 pub mod SoloStores

@@ -12,6 +12,7 @@ ghost use Rattle.two_thread.specs.Refusals.{AreUnfit, IsUnfitPair};
 ghost use Rattle.two_thread.specs.View.{scope as scope_seen, order as order_seen, pair as pair_seen, nth_access, seen_accesses};
 
 use crate::pairs::{Order, Pair, Scope};
+use access::{copy_all, elements_before, facts_before, index_of};
 use domain::{Domain, Residue};
 use linear::Form;
 use std::alloc::Global;
@@ -20,28 +21,7 @@ use walk::{
     once_local,
 };
 
-#[tactic(auto, using(crate::proofs::Copies::copies))]
-/// This fact too.
-fn copy_one(alloc: Global, facts: &mut Vec<Form>, fact: &Form) -> Result<(), WalkError>
-    ensures { MatchResult result (λ _. forms facts.new.items ≡ forms facts.old.items ++ form_seen fact.now ∷ []) IsMemory }
-{
-    let again = fact.copy(alloc)?;
-    facts.push(again)?;
-    Ok(())
-}
-
-#[tactic(auto, using(walk::proofs::Facts::carried))]
-/// These facts too.
-fn copy_all(alloc: Global, facts: &mut Vec<Form>, more: &[Form]) -> Result<(), WalkError>
-    ensures { MatchResult result (λ _. forms facts.new.items ≡ forms facts.old.items ++ forms more.now) IsMemory }
-{
-    for fact in more {
-        copy_one(alloc, facts, fact)?;
-    }
-    Ok(())
-}
-
-#[tactic(auto, using(crate::proofs::Copies::copies))]
+#[tactic(auto, using(access::proofs::Copies::copies))]
 /// Both say of two forms that they are equal.
 fn push_equals(
     alloc: Global,
@@ -112,7 +92,7 @@ fn order_fact(alloc: Global, pair: Pair) -> Result<Form, WalkError>
     }
 }
 
-#[tactic(auto, using(crate::proofs::Copies::copies))]
+#[tactic(auto, using(access::proofs::Copies::copies))]
 /// How the two items' ids stand to one another, too.
 fn push_order(alloc: Global, facts: &mut Vec<Form>, pair: Pair) -> Result<(), WalkError>
     ensures { MatchResult result (λ _. forms facts.new.items ≡ forms facts.old.items ++ specs.order_fact (order_seen pair.order) (symbols.once (specs.id (scope_seen pair.scope) symbols.First pair.dimension)) (symbols.once (specs.id (scope_seen pair.scope) symbols.Second pair.dimension)) ∷ []) IsMemory }
@@ -120,29 +100,6 @@ fn push_order(alloc: Global, facts: &mut Vec<Form>, pair: Pair) -> Result<(), Wa
     let fact = order_fact(alloc, pair)?;
     facts.push(fact)?;
     Ok(())
-}
-
-/// The facts before an access.
-fn facts_before<D: Copy>(
-    alloc: Global,
-    facts: &mut Vec<Form>,
-    path: &Path<D>,
-    access: usize,
-) -> Result<(), WalkError>
-    requires { access < length path.now.accesses.items }
-    ensures { MatchResult result (λ _. forms facts.new.items ≡ forms facts.old.items ++ (nth_access (seen_accesses path.now) access).facts) IsMemory }
-{
-    let count = path.accesses[access].facts;
-    copy_all(alloc, facts, &path.facts[..count])?;
-    Ok(())
-}
-
-/// An access's index.
-fn index_of<D: Copy>(path: &Path<D>, access: usize) -> &Form
-    requires { access < length path.now.accesses.items }
-    ensures { form_seen result.now ≡ (nth_access (seen_accesses path.now) access).index }
-{
-    &path.accesses[access].index
 }
 
 /// The facts of a pair, which are to be impossible.
@@ -187,14 +144,6 @@ pub fn is_apart<D: Domain>(
     let of_first = elements_before(first, pair.first);
     let of_second = elements_before(second, pair.second);
     Ok(lacks_zero(element_of(known, of_first, of_second, &difference)))
-}
-
-/// The elements of the new symbols before an access.
-fn elements_before<D: Copy>(path: &Path<D>, access: usize) -> &[D]
-    requires { access < length path.now.accesses.items }
-    ensures { result.now ≡ (nth_access (seen_accesses path.now) access).elements }
-{
-    &path.elements[..path.accesses[access].elements]
 }
 
 /// Bounds or residue leave out 0.
@@ -251,7 +200,7 @@ fn first_facts<D: Copy>(
     Ok(())
 }
 
-#[tactic(auto, using(crate::proofs::Copies::copies))]
+#[tactic(auto, using(access::proofs::Copies::copies))]
 /// What denies that a form is at least 0.
 fn push_denial(alloc: Global, facts: &mut Vec<Form>, form: &Form) -> Result<(), WalkError>
     ensures { MatchResult result (λ _. forms facts.new.items ≡ forms facts.old.items ++ symbols.denial (form_seen form.now) ∷ []) (λ e. IsUnfit e (symbols.denial (form_seen form.now))) }

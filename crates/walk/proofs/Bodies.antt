@@ -1,5 +1,5 @@
--- The end of a body.
-use Rattle.std.proofs.Common.{◌≡◌, ℕ, zero, suc, ◌+◌, ◌<◌, ◌≤◌, Bool, true, false, ◌&&◌, List, [], ◌∷◌, length, drop, get_or, drop-cons, add-one, refl, sym, ap, subst, ◌∙◌}
+-- A body statement by statement, and its end.
+use Rattle.std.proofs.Common.{◌≡◌, ℕ, zero, suc, ◌+◌, ◌<◌, ◌≤◌, false, List, [], ◌∷◌, length, drop, get_or, drop-cons, add-one, sym, ap, subst, ◌∙◌}
 use Rattle.std.proofs.Math.ListN.{drop_of_length-le}
 use Rattle.types.specs.View.{statement, statements}
 use Rattle.types.specs.declared.core_tree.Statement.{Statement}
@@ -10,7 +10,7 @@ use Rattle.walk.specs.Collected.{Found, Met, collect, state_of}
 use Rattle.walk.specs.Leads.{Steps}
 use Rattle.walk.specs.Refusals.{Refused, Stops, IsNoStraightStatement, IsNoStraightBody}
 use Rattle.walk.specs.declared.error.WalkError.{WalkError}
-use Rattle.walk.proofs.Refusing.{loosened}
+use Rattle.walk.proofs.Refusing.{and_left, and_right, loosened}
 
 pub body_end : {E : Type 0} (s : Setting E) (b : List Statement) (i : ℕ) (m : Met E) → length b ≤ i → collect m.found (walk_all s (statements (drop i b)) (state_of m) (λ st. Leaf)) ≡ m.found
 unfolding collect
@@ -25,21 +25,14 @@ body_step s b i x m n all h d a e =
     sym (a (λ st. walk_all s (statements (drop (i + 1) b)) st (λ st'. Leaf)))
     ∙ ap (λ c. collect m.found (walk_all s (statements c) (state_of m) (λ st. Leaf))) (sym (front b i x h d)) ∙ e
 
-and_either : (a b : Bool) → b ≡ false → (a && b) ≡ false
-and_either true b h = h
-and_either false b h = refl
-
+-- a statement that is not straight-line is one of the body
 rest_crooked : (n : ℕ) (i : ℕ) (b : List Statement) → is_straight_body n (statements (drop i b)) ≡ false → is_straight_body n (statements b) ≡ false
 rest_crooked n zero b h = h
 rest_crooked n (suc i) [] h = h
-rest_crooked n (suc i) (x ∷ b) h = and_either (is_straight_statement n (statement x)) (is_straight_body n (statements b)) (rest_crooked n i b h)
-
-first_crooked : (a b : Bool) → a ≡ false → (a && b) ≡ false
-first_crooked true b h = cc
-first_crooked false b h = refl
+rest_crooked n (suc i) (x ∷ b) h = and_right (is_straight_statement n (statement x)) (is_straight_body n (statements b)) (rest_crooked n i b h)
 
 crooked : (b : List Statement) (i : ℕ) (x : Statement) → i < length b → x ≡ get_or b i x → IsNoStraightStatement (statement x) → IsNoStraightBody (statements b)
-crooked b i x h d c n = rest_crooked n i b (ap (λ l. is_straight_body n (statements l)) (front b i x h d) ∙ first_crooked (is_straight_statement n (statement x)) (is_straight_body n (statements (drop (i + 1) b))) (c n))
+crooked b i x h d c n = rest_crooked n i b (ap (λ l. is_straight_body n (statements l)) (front b i x h d) ∙ and_left (is_straight_statement n (statement x)) (is_straight_body n (statements (drop (i + 1) b))) (c n))
 
 -- a statement at which the walk ends
 pub body_refused : {E : Type 0} (s : Setting E) (b : List Statement) (i : ℕ) (x : Statement) (m : Met E) (all : Found E) (e : WalkError) → i < length b → x ≡ get_or b i x → Stops (IsNoStraightStatement (statement x)) m e (walk_one s (statement x)) → collect m.found (walk_all s (statements (drop i b)) (state_of m) (λ st. Leaf)) ≡ all → Refused (IsNoStraightBody (statements b)) e all

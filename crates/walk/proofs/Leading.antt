@@ -12,7 +12,7 @@ use Rattle.walk.specs.Walks.{Setting, State, Value, Onward, settles, newest, cla
 use Rattle.walk.specs.Collected.{Met, collect, state_of, add_claim, with_claim, with_fact, with_element, with_access}
 use Rattle.walk.specs.Leads.{Steps, Leads}
 
-one_more : {A : Type 0} (xs : List A) (x : A) → length (xs ++ x ∷ []) ≡ suc (length xs)
+pub one_more : {A : Type 0} (xs : List A) (x : A) → length (xs ++ x ∷ []) ≡ suc (length xs)
 one_more xs x = length-append xs (x ∷ []) ∙ add-one (length xs)
 
 pub claim_steps : {E : Type 0} (s : Setting E) (needed settled : Bool) (f : Fact) (m n : Met E) → settled ≡ settles s (state_of m) f → n ≡ with_claim m needed settled f → Steps m n (walks.claim s needed f)

@@ -1,5 +1,5 @@
 -- A refusal of a part is one of the whole.
-use Rattle.std.proofs.Common.{◌≡◌, ◌≤◌, ◌<◌, ◌^◌, ◌-◌, ℕ, suc, Bool, true, false, ◌&&◌, List, [], ◌∷◌, ◌++◌, map, length, length-append, add-one, refl, sym, ap, subst, ◌∙◌, ◌⊎◌, inl, inr, arith}
+use Rattle.std.proofs.Common.{◌≡◌, ◌≤◌, ◌<◌, ◌^◌, ◌-◌, ℕ, Bool, true, false, ◌&&◌, List, [], ◌∷◌, ◌++◌, map, length, refl, sym, ap, subst, ◌∙◌, ◌⊎◌, inl, inr, arith}
 use Rattle.std.specs.Prelude.{ℤ, pos, negsuc, ◌+ℤ◌, ◌*ℤ◌, ◌≤ℤ◌, ◌<ℤ◌, Option, Some, Result, Ok, Err, IsErr, IsErrAnd, IsErrOf, MatchResult}
 use Rattle.std.proofs.lemmas.Int.{ints}
 use Rattle.std.proofs.lemmas.Bool.Decides.{nat_tests}
@@ -26,14 +26,15 @@ use Rattle.walk.specs.Walks.{Setting, State, Onward, settles, elements_at, newes
 use Rattle.walk.specs.Collected.{Claimed, Found, Met, collect, state_of, add_claim, add_fact, add_access, with_claim}
 use Rattle.walk.specs.Leads.{Steps, Leads}
 use Rattle.walk.specs.Refusals.{IsMemory, IsUnfit, are_fit, all_fit, Refused, Stops, Halts, HaltsAtForm}
+use Rattle.walk.proofs.Leading.{one_more}
 use Rattle.walk.specs.declared.error.WalkError.{WalkError}
 use Rattle.walk.specs.declared.error.WalkError.TheVariants as errors
 
-and_left : (a b : Bool) → a ≡ false → (a && b) ≡ false
+pub and_left : (a b : Bool) → a ≡ false → (a && b) ≡ false
 and_left true b h = cc
 and_left false b h = refl
 
-and_right : (a b : Bool) → b ≡ false → (a && b) ≡ false
+pub and_right : (a b : Bool) → b ≡ false → (a && b) ≡ false
 and_right true b h = h
 and_right false b h = refl
 
@@ -51,9 +52,6 @@ are_fit_end (g ∷ fs) f h = and_right (fits g) (are_fit (fs ++ f ∷ [])) (are_
 
 are_fit_map : {A : Type 0} (view : A → Fact) (xs : List A) (x : A) → are_fit (map view xs) ≡ false → are_fit (map view (xs ++ x ∷ [])) ≡ false
 are_fit_map view xs x h = ap are_fit (map-append view xs (x ∷ [])) ∙ are_fit_more (map view xs) (view x ∷ []) h
-
-one_more : {A : Type 0} (xs : List A) (x : A) → length (xs ++ x ∷ []) ≡ suc (length xs)
-one_more xs x = length-append xs (x ∷ []) ∙ add-one (length xs)
 
 -- no fewer claims, and what does not fit stays
 record Grows {E : Type 0} (m n : Found E) : Type 0 where

@@ -1,6 +1,6 @@
 use Rattle.std.proofs.Common.{ap, ◌∙◌, ◌++◌, take}
 use Rattle.linear.specs.Forms.{forms}
-use Rattle.two_thread.proofs.Copies.{forms-take}
+use Rattle.access.proofs.Copies.{forms-take}
 use Rattle.two_thread.proofs.facts.first_facts.Goals as goal
 
 pub returns : goal.returns

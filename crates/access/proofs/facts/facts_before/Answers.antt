@@ -2,9 +2,9 @@ use Rattle.std.proofs.Common.{ap, sym, ◌∙◌, ◌++◌, take}
 use Rattle.linear.specs.Forms.{forms}
 use Rattle.walk.specs.Trees as trees
 use Rattle.walk.specs.declared.path.Access.{Access}
-use Rattle.two_thread.proofs.Nth.{nth_seen}
-use Rattle.two_thread.proofs.Copies.{forms-take}
-use Rattle.two_thread.proofs.facts.facts_before.Goals as goal
+use Rattle.access.proofs.Nth.{nth_seen}
+use Rattle.access.proofs.Copies.{forms-take}
+use Rattle.access.proofs.facts.facts_before.Goals as goal
 
 pub returns : goal.returns
 returns g c =

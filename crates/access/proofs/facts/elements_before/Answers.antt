@@ -1,8 +1,8 @@
 use Rattle.std.proofs.Common.{ap, sym, ◌∙◌, take}
 use Rattle.walk.specs.Trees as trees
 use Rattle.walk.specs.declared.path.Access.{Access}
-use Rattle.two_thread.proofs.Nth.{nth_seen}
-use Rattle.two_thread.proofs.facts.elements_before.Goals as goal
+use Rattle.access.proofs.Nth.{nth_seen}
+use Rattle.access.proofs.facts.elements_before.Goals as goal
 
 pub returns : goal.returns
 returns g c =

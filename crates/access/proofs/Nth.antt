@@ -5,7 +5,7 @@ use Rattle.walk.specs.View.{met, access_seen}
 use Rattle.walk.specs.declared.path.Path.{Path}
 use Rattle.walk.specs.declared.path.Access.{Access}
 use Rattle.linear.specs.Forms.{forms}
-use Rattle.two_thread.specs.View.{nth_access, seen_accesses, no_access}
+use Rattle.access.specs.View.{nth_access, seen_accesses, no_access}
 
 pub nth_seen : {E : Type 0} (p : Path E) (i : ℕ) (d : Access) → i < length p.accesses.items → nth_access (seen_accesses p) i ≡ access_seen (forms p.facts.items) p.elements.items (get_or p.accesses.items i d)
 unfolding met

@@ -1,0 +1,42 @@
+//! How often the test of a loop is true.
+
+ghost use Rattle.std.specs.Prelude.{◌≡◌};
+ghost use Rattle.loop_bounds.specs.Turns as specs;
+
+use crate::bound::{Bound, LoopBound};
+
+/// A number, 0 where it is below 0.
+fn above(most: i64) -> u64
+    ensures { result ≡ specs.above most }
+{
+    if most < 0 { 0 } else { most.unsigned_abs() }
+}
+
+/// How many binary digits a number has.
+fn digits(number: u64) -> u64
+    ensures { result ≡ specs.digits number }
+{
+    u64::from(64 - number.leading_zeros())
+}
+
+/// How often the test of a loop is true at most.
+pub fn turns(bound: &Bound) -> u64
+    ensures { result ≡ specs.turns bound.now }
+{
+    match bound {
+        Bound::Down { step, most, .. } => above(*most).div_ceil(step.size()),
+        Bound::Halving { most, .. } => digits(above(*most)),
+    }
+}
+
+/// Those of the loop of that number.
+pub fn turns_of(bounds: &[LoopBound], number: u32) -> u64
+    ensures { result ≡ specs.turns_of bounds.now number }
+{
+    for one in bounds {
+        if one.number == number {
+            return turns(&one.bound);
+        }
+    }
+    0
+}

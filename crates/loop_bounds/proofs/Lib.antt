@@ -1,2 +1,3 @@
 mod Straight
 mod Products
+mod Enough

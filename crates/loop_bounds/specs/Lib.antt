@@ -1,3 +1,4 @@
 pub mod Turns
 pub mod Costs
+pub mod Falling
 pub mod Answers

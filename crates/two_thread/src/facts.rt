@@ -9,7 +9,7 @@ ghost use Rattle.walk.specs.View.{which, known_seen};
 ghost use Rattle.two_thread.specs.Pairs as specs;
 ghost use Rattle.walk.specs.Refusals.{IsMemory, IsUnfit};
 ghost use Rattle.two_thread.specs.Refusals.{AreUnfit, IsUnfitPair};
-ghost use Rattle.two_thread.specs.View.{scope as scope_seen, order as order_seen, pair as pair_seen, nth_access, seen_accesses};
+ghost use Rattle.two_thread.specs.View.{scope as scope_seen, order as order_seen, pair as pair_seen, seen_accesses};
 
 use crate::pairs::{Order, Pair, Scope};
 use access::{copy_all, elements_before, facts_before, index_of};

@@ -1,7 +1,8 @@
 -- Which obligation a refusal names.
 use Rattle.std.proofs.Common.{◌≡◌, ℕ, zero, suc, ◌+◌, ◌<◌, ◌==◌, Bool, true, false, List, [], ◌∷◌, ◌++◌, length, map, take, get_or, refl, ap, sym, subst, ◌∙◌, ◌⊎◌, ◌-◌, ◌≤◌, inl, inr, arith}
-use Rattle.std.specs.Prelude.{None, Some, Result, Ok, Err, IfErr, IsErrAnd}
+use Rattle.std.specs.Prelude.{None, Some, Result, Ok, Err, IfOk, IfErr, IsErrAnd}
 use Rattle.std.proofs.lemmas.Bool.{false≢true, cases_lt}
+use Rattle.std.proofs.lemmas.Bool.Decides.{nat_tests}
 use Rattle.std.proofs.lemmas.List.{length-map, length-append, get_or-map, get_or_append_left, get_or-append-add}
 use Rattle.semantics.specs.Launch.{Kernel}
 use Rattle.semantics.specs.Conditions.{Conditions}
@@ -17,7 +18,7 @@ use Rattle.walk.specs.declared.path.Path.{Path}
 use Rattle.walk.specs.declared.path.Claim.{Claim}
 use Rattle.two_thread.specs.View.{pair, seen_accesses}
 use Rattle.cert_check.specs.Entries.{entry_of, is_found, is_refuted, found_refutes, refutes_by}
-use Rattle.cert_check.specs.Lacking.{AllPass, IsNumbered, IsStopped, Passes, Stops, Names, Lacks, TellsOf}
+use Rattle.cert_check.specs.Lacking.{AllPass, IsNumbered, IsStopped, Passes, Stops, Names, Lacks, PassesOf, TellsOf}
 use Rattle.cert_check.specs.Owing.{owed, seen_claims, nth_claim, claims_owed, pairs_owed, all_owed}
 use Rattle.cert_check.specs.declared.findings.Findings.{Findings}
 use Rattle.cert_check.specs.declared.error.ShowError.{ShowError}
@@ -132,6 +133,9 @@ module _ (es : List Entry) (os more : List Obligation) where
 pub same_told : {E : Type 0} (g : Ghosts E) (k k' : Kernel) (c c' : Conditions) (es es' : List Entry) (e : ShowError) → k ≡ k' → c ≡ c' → es ≡ es' → TellsOf g k c es e → TellsOf g k' c' es' e
 same_told g k k' c c' es es' e p q r t = subst (λ x. TellsOf g k' c' x e) r (subst (λ x. TellsOf g k' x es e) q (subst (λ x. TellsOf g x c es e) p t))
 
+pub same_passed : {E : Type 0} (g : Ghosts E) (k k' : Kernel) (c c' : Conditions) (es es' : List Entry) → k ≡ k' → c ≡ c' → es ≡ es' → PassesOf g k c es → PassesOf g k' c' es'
+same_passed g k k' c c' es es' p q r t = subst (PassesOf g k' c') r (subst (λ x. PassesOf g k' x es) q (subst (λ x. PassesOf g x c es) p t))
+
 pub claims_length : {E : Type 0} (f : Findings E) → length (claims_owed f) ≡ length f.first.claims.items
 claims_length f = length-map (seen_claims f.first) (owed _) ∙ length_claims f.first
 
@@ -145,6 +149,11 @@ pub filled : {A B : Type 0} (view : A → B) (xs : List A) (ys : List B) (b : Bo
 filled view [] ys b p e h = absurd (false≢true (sym h ∙ e))
 filled view (x ∷ xs) ys b p e h = subst (λ zs. 0 < length zs) p (omega arith)
 
+pub unfilled : {A B : Type 0} (view : A → B) (xs : List A) (ys : List B) (b : Bool) → map view xs ≡ ys → b ≡ (length xs == 0) → b ≡ true → length ys ≡ 0
+unfilled view xs ys b p e h =
+    let z : length xs ≡ 0 = grind (arith, nat_tests) in
+    omega (arith, ap length p, length-map xs view, z)
+
 -- an error that is passed on
 pub passed : {T E : Type 0} (r : Result T E) (x : E) (P : E → Type 0) → IsErrAnd r (λ e. e ≡ x) → P x → IfErr r P
 passed (Ok t) x P h p = absurd h
@@ -153,3 +162,7 @@ passed (Err e) x P h p = subst P (sym h) p
 pub mapped : {T E : Type 0} (r : Result T E) (P Q : E → Type 0) → ((e : E) → P e → Q e) → IfErr r P → IfErr r Q
 mapped (Ok t) P Q f h = tt
 mapped (Err e) P Q f h = f e h
+
+pub gains : {T E : Type 0} (P Q : Type 0) (r : Result T E) → Q → IfOk r (λ _. P) → IfOk r (λ _. P × Q)
+gains P Q (Ok t) q p = (p, q)
+gains P Q (Err e) q p = tt

@@ -1,5 +1,5 @@
 -- What an error tells of what is to be shown.
-use Rattle.std.specs.Prelude.{◌≡◌, ◌<◌, ◌⊎◌, ℕ, zero, suc, ◌+◌, List, length, get_or, Bool, true, false}
+use Rattle.std.specs.Prelude.{◌≡◌, ◌<◌, ◌≤◌, ◌⊎◌, ℕ, zero, suc, ◌+◌, List, length, get_or, Bool, true, false}
 use Rattle.semantics.specs.Launch.{Kernel, product}
 use Rattle.semantics.specs.Conditions.{Conditions}
 use Rattle.domain.specs.declared.Domain.{Ghosts}
@@ -95,3 +95,7 @@ TellsOf g k c es (errors.NotShown n) = LacksOf g k c es n
 TellsOf g k c es (errors.Walk e) = IsUnwalked g k c es e
 TellsOf g k c es errors.OverBudget = c.budget < steps k.body
 TellsOf g k c es errors.Memory = Unit {0}
+
+-- of a kernel: nothing stops the check, and there are 65,536 obligations at most
+abbrev pub PassesOf : {E : Type 0} → Ghosts E → Kernel → Conditions → List Entry → Type 0
+PassesOf g k c es = ArePassed es (owing g k c es) × (length (owing g k c es) ≤ 65536)

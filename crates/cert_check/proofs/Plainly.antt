@@ -24,7 +24,7 @@ module _ (k : Kernel) (c : Conditions) (cert : Certificate) (limits : HasLimits 
   h = has_entry cert.entries
 
   named : (n : ℕ) → Stops cert.entries 0 (owing domain k c cert.entries) (suc n) → IsUnrefuted k c cert (suc n) × IsOwnRange k cert (suc n)
-  named n (o, (i, e, l, q), (s, a, r)) =
+  named n (o, (i, e, l, q), (s, a, r), p) =
       let m : i ≡ n = omega (arith, e) in
       ((o, (i, e, l, q), r), λ b. plain-range k c h limits plain n o b (subst (λ j. o ≡ get_or (owing domain k c cert.entries) j o) m q) s a)
 

@@ -28,10 +28,8 @@ use Rattle.two_thread.specs.Shown.{pairs, obligations, item_claims}
 use Rattle.two_thread.specs.View as views
 use Rattle.two_thread.specs.declared.pairs.Pair as declared
 use Rattle.cert_check.specs.Entries.{has_entry}
-use Rattle.cert_check.specs.Lacking.{AreUnfit, IsEarly, IsUnwalked}
+use Rattle.cert_check.specs.Lacking.{AreUnfit, IsUnwalked}
 use Rattle.cert_check.specs.Owing.{owed, seen_claims, no_claim, no_pair, nth_pair, denials_fit}
-use Rattle.cert_check.specs.declared.error.ShowError.{ShowError}
-use Rattle.cert_check.specs.declared.error.ShowError.TheVariants as errors
 use Rattle.cert_check.proofs.OneByOne.{claim_is, length_claims}
 use Rattle.cert_check.proofs.Collecting.{claims-collected}
 
@@ -153,10 +151,3 @@ module _ {E : Type 0} (g : Ghosts E) (k : Kernel) (c : Conditions) (es : List En
       let first : length p.claims.items ≡ length (item_claims g k c h) = sym (length_claims p) ∙ ap (λ (x : Found _). length x.claims) d ∙ count_first in
       let second : length ps ≡ length (map o (pairs g k c h)) = ap length q ∙ sym (length-map (pairs g k c h) o) in
       omega (arith, e, l, first, second, length-append (item_claims g k c h) (map o (pairs g k c h)))
-
--- an error before anything is to be shown, by what else it says
-pub early_too : (walk walk' : WalkError → Type 0) (e : ShowError) → ((w : WalkError) → walk w → walk' w) → IsEarly walk e → IsEarly walk' e
-early_too walk walk' (errors.NotShown n) f h = h
-early_too walk walk' (errors.Walk e) f h = f e h
-early_too walk walk' errors.OverBudget f h = h
-early_too walk walk' errors.Memory f h = h

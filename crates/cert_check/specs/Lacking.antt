@@ -1,5 +1,5 @@
 -- What an error tells of what is to be shown.
-use Rattle.std.specs.Prelude.{◌≡◌, ◌<◌, ◌⊎◌, ℕ, zero, suc, ◌+◌, List, length, get_or, Bool, true, false}
+use Rattle.std.specs.Prelude.{◌≡◌, ◌<◌, ◌≤◌, ◌⊎◌, ℕ, zero, suc, ◌+◌, List, length, get_or, Bool, true, false}
 use Rattle.semantics.specs.Launch.{Kernel, product}
 use Rattle.semantics.specs.Conditions.{Conditions}
 use Rattle.domain.specs.declared.Domain.{Ghosts}
@@ -22,9 +22,25 @@ IsLacking es n o = (o.settled ≡ false) × ((o.needed ≡ true) ⊎ (has_entry 
 abbrev pub IsNumbered : (before : ℕ) → List Obligation → (number : ℕ) → Obligation → Type 0
 IsNumbered before os n o = (i : ℕ) × (n ≡ before + (i + 1)) × (i < length os) × (o ≡ get_or os i o)
 
--- the obligation of this number stops the check
+-- an obligation that does not: it is settled, or neither needed nor has an entry, or its entry refutes its facts
+abbrev pub Passes : List Entry → (number : ℕ) → Obligation → Type 0
+Passes es n o = (o.settled ≡ true) ⊎ (((o.needed ≡ false) × (has_entry es n ≡ false)) ⊎ (is_refuted es n o.facts ≡ true))
+
+-- each obligation of a list passes
+abbrev pub AllPass : List Entry → (before : ℕ) → List Obligation → Type 0
+AllPass es before os = (n : ℕ) (o : Obligation) → IsNumbered before os n o → Passes es n o
+
+-- each whose number is below this one passes
+abbrev pub PassBelow : List Entry → (before : ℕ) → List Obligation → (number : ℕ) → Type 0
+PassBelow es before os n = (m : ℕ) (o : Obligation) → m < n → IsNumbered before os m o → Passes es m o
+
+-- the obligation of this number stops the check, and is the first that does
 abbrev pub Stops : List Entry → (before : ℕ) → List Obligation → (number : ℕ) → Type 0
-Stops es before os n = (o : Obligation) × IsNumbered before os n o × IsLacking es n o
+Stops es before os n = (o : Obligation) × IsNumbered before os n o × IsLacking es n o × PassBelow es before os n
+
+-- of one obligation alone: this is its number, and it stops the check
+abbrev pub IsStopped : List Entry → (own : ℕ) → Obligation → (number : ℕ) → Type 0
+IsStopped es own o n = (n ≡ own) × IsLacking es n o
 
 -- not all forms that are made are of i64, or there was no memory
 abbrev pub AreUnfit : (fit : Bool) → WalkError → Type 0
@@ -33,31 +49,29 @@ AreUnfit fit walks.TooLarge = fit ≡ false
 AreUnfit fit walks.Outside = ⊥
 AreUnfit fit walks.Memory = Unit {0}
 
--- an error that has a number has that of an obligation that stops the check; `walk` is what an error of a walk says
-abbrev pub Names : List Entry → (before : ℕ) → List Obligation → (walk : WalkError → Type 0) → ShowError → Type 0
-Names es before os walk (errors.NotShown n) = Stops es before os n
-Names es before os walk (errors.Walk e) = walk e
-Names es before os walk errors.OverBudget = ⊥
-Names es before os walk errors.Memory = Unit {0}
+-- an error that comes of what is to be shown: `stops` is what its number says, `walk` what an error of a walk says
+abbrev pub Names : (stops : ℕ → Type 0) → (walk : WalkError → Type 0) → ShowError → Type 0
+Names stops walk (errors.NotShown n) = stops n
+Names stops walk (errors.Walk e) = walk e
+Names stops walk errors.OverBudget = ⊥
+Names stops walk errors.Memory = Unit {0}
 
 -- an error that comes before anything is to be shown
 abbrev pub IsEarly : (walk : WalkError → Type 0) → ShowError → Type 0
-IsEarly walk (errors.NotShown n) = ⊥
-IsEarly walk (errors.Walk e) = walk e
-IsEarly walk errors.OverBudget = ⊥
-IsEarly walk errors.Memory = Unit {0}
+IsEarly = Names (λ n. ⊥)
 
--- 0, where an entry is past the last obligation, or the number of one that stops the check
+-- 0, where an entry is past the last obligation, or the number of the first that stops the check
 abbrev pub Lacks : List Entry → List Obligation → (number : ℕ) → Type 0
 Lacks es os zero = is_past es (length os) ≡ true
 Lacks es os (suc n) = Stops es 0 os (suc n)
 
 -- an error that comes of what is to be shown, or before it
 abbrev pub Tells : List Entry → List Obligation → (walk : WalkError → Type 0) → ShowError → Type 0
-Tells es os walk (errors.NotShown n) = Lacks es os n
-Tells es os walk (errors.Walk e) = walk e
-Tells es os walk errors.OverBudget = ⊥
-Tells es os walk errors.Memory = Unit {0}
+Tells es os = Names (Lacks es os)
+
+-- nothing stops the check: each obligation passes, and no entry is past the last
+abbrev pub ArePassed : List Entry → List Obligation → Type 0
+ArePassed es os = AllPass es 0 os × (is_past es (length os) ≡ false)
 
 -- all that is to be shown where these entries are
 abbrev pub owing : {E : Type 0} → Ghosts E → Kernel → Conditions → List Entry → List Obligation
@@ -81,3 +95,7 @@ TellsOf g k c es (errors.NotShown n) = LacksOf g k c es n
 TellsOf g k c es (errors.Walk e) = IsUnwalked g k c es e
 TellsOf g k c es errors.OverBudget = c.budget < steps k.body
 TellsOf g k c es errors.Memory = Unit {0}
+
+-- of a kernel: nothing stops the check, and there are 65,536 obligations at most
+abbrev pub PassesOf : {E : Type 0} → Ghosts E → Kernel → Conditions → List Entry → Type 0
+PassesOf g k c es = ArePassed es (owing g k c es) × (length (owing g k c es) ≤ 65536)

@@ -14,7 +14,7 @@ use Rattle.reading.specs.Answers as reading
 use Rattle.launch_text.specs.Answers as launches
 use Rattle.certificate.specs.Certificates.{Says}
 use Rattle.plain.specs.Domains.{domain}
-use Rattle.cert_check.specs.Lacking.{TellsOf}
+use Rattle.cert_check.specs.Lacking.{PassesOf, TellsOf}
 use Rattle.cert_check.specs.declared.accepted.Accepted.{Accepted}
 use Rattle.cert_check.specs.declared.error.CheckError.{CheckError}
 use Rattle.cert_check.specs.declared.error.CheckError.TheVariants as errors
@@ -50,3 +50,7 @@ Refuses (errors.Show e) kernel conditions certificate = (typed : Kernel × Core)
 abbrev pub Tells : Result Accepted CheckError → (kernel conditions certificate : List ℕ) → Type 0
 Tells (Ok a) kernel conditions certificate = Unit {0}
 Tells (Err e) kernel conditions certificate = Refuses e kernel conditions certificate
+
+-- what is accepted: the certificate is read, it tells of no places and no loops, and with it nothing stops the check
+abbrev pub IsPassed : semantics.Kernel → Conditions → (certificate : List ℕ) → Type 0
+IsPassed k c certificate = (cert : Certificate) × (certificates.certificate_of certificate ≡ Ok cert) × (length cert.places ≡ 0) × (length cert.bounds ≡ 0) × PassesOf domain k c cert.entries

@@ -17,8 +17,8 @@ ghost use Rattle.two_thread.specs.Shown.{IsShown};
 ghost use Rattle.certificate.specs.View.{entry as entry_seen};
 ghost use Rattle.cert_check.specs.Accepting.{IsAccepted, IsStraightUnder, HasHeadline};
 ghost use Rattle.cert_check.specs.Lacking as lacking;
-ghost use Rattle.cert_check.specs.Lacking.{owing, IsUnwalked, TellsOf};
-ghost use Rattle.cert_check.specs.Refusing.{Tells};
+ghost use Rattle.cert_check.specs.Lacking.{owing, IsUnwalked, PassesOf, TellsOf};
+ghost use Rattle.cert_check.specs.Refusing.{IsPassed, Tells};
 ghost use Rattle.cert_check.specs.Plainly.{OnPlain};
 ghost use Rattle.cert_check.specs.View.{typed_of, kept};
 
@@ -49,6 +49,7 @@ fn show_all<D: Domain>(
     entries: &[Entry],
 ) -> Result<(), ShowError>
     ensures shown { IfOk result (λ _. All IsShown (owing D.Domain (core_seen core.now) (conditions_seen conditions.now) (map entry_seen entries.now))) }
+    ensures passed { IfOk result (λ _. PassesOf D.Domain (core_seen core.now) (conditions_seen conditions.now) (map entry_seen entries.now)) }
     ensures lacks { IfErr result (lacking.Tells (map entry_seen entries.now) (owing D.Domain (core_seen core.now) (conditions_seen conditions.now) (map entry_seen entries.now)) (IsUnwalked D.Domain (core_seen core.now) (conditions_seen conditions.now) (map entry_seen entries.now))) }
 {
     let places = places_of(alloc, entries)?;
@@ -82,6 +83,7 @@ fn accept<D: Domain>(
     requires { ConditionsFit (core_seen core.now) (conditions_seen conditions.now) }
     ensures promise { IfOk result (λ _. IsAccepted (core_seen core.now) (conditions_seen conditions.now)) }
     ensures shape { IfOk result (λ _. IsStraightUnder (core_seen core.now) (conditions_seen conditions.now)) }
+    ensures passed { IfOk result (λ _. PassesOf D.Domain (core_seen core.now) (conditions_seen conditions.now) (map entry_seen entries.now)) }
     ensures lacks { IfErr result (TellsOf D.Domain (core_seen core.now) (conditions_seen conditions.now) (map entry_seen entries.now)) }
 {
     if !has_items(core.sizes) || !is_straight(core) {
@@ -106,6 +108,7 @@ pub fn check(
 ) -> Result<Accepted, CheckError>
     ensures kernel { IfOk result (λ a. read kernel.now ≡ Ok (kernel_seen (typed_of a))) }
     ensures conditions { IfOk result (λ a. conditions_of (tree_seen (typed_of a).0).parameters conditions.now ≡ Ok (lined (kept a))) }
+    ensures passed { IfOk result (λ a. IsPassed (core_seen (typed_of a).1) (conditions_seen (kept a)) certificate.now) }
     ensures refused { Tells result kernel.now conditions.now certificate.now }
     ensures plain { OnPlain result kernel.now conditions.now certificate.now }
     ensures pair { IfOk result (λ a. IsAccepted (core_seen (typed_of a).1) (conditions_seen (kept a))) }

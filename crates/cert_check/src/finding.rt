@@ -1,6 +1,6 @@
 //! What is to be shown is found: the walks of both items, and their pairs.
 
-ghost use Rattle.std.specs.Prelude.{◌≡◌, ℕ, map, length, slice_index_or, false, IfOk, IfErr, IsTrue};
+ghost use Rattle.std.specs.Prelude.{◌≡◌, ◌≤◌, ◌+◌, ℕ, map, length, slice_index_or, false, IfOk, IfErr, IsTrue};
 ghost use Rattle.std.specs.List.{All};
 ghost use Rattle.launch.specs.View.{conditions as conditions_seen};
 ghost use Rattle.types.specs.View.{kernel as core_seen};
@@ -75,6 +75,7 @@ pub fn find<D: Domain>(
 ) -> Result<Findings<D>, ShowError>
     requires { IsTable (map entry_seen entries.now) places.now }
     ensures owed { IfOk result (λ f. all_owed D.Domain f ≡ owing D.Domain (core_seen core.now) (conditions_seen conditions.now) (map entry_seen entries.now)) }
+    ensures few { IfOk result (λ f. length f.first.claims.items + length f.pairs.items ≤ 65536) }
     ensures inside { IfOk result (λ f. All (IsInside (length f.first.accesses.items) (length f.second.accesses.items)) f.pairs.items) }
     ensures fits { IfOk result (λ f. findings_fit f ≡ false → forms_fit D.Domain (core_seen core.now) (conditions_seen conditions.now) (has_entry (map entry_seen entries.now)) ≡ false) }
     ensures early { IfErr result (IsEarly (IsUnwalked D.Domain (core_seen core.now) (conditions_seen conditions.now) (map entry_seen entries.now))) }

@@ -1,6 +1,6 @@
 //! Obligations one by one, in the order of their numbers.
 
-ghost use Rattle.std.specs.Prelude.{◌≡◌, ◌≤◌, ◌<◌, ◌⊎◌, ℕ, IfOk, IfErr, IsTrue, MatchOption, None, Some, map, length, replicate, slice_index_or, slice_set, true, false};
+ghost use Rattle.std.specs.Prelude.{◌≡◌, ◌≤◌, ◌<◌, ◌+◌, ◌⊎◌, ℕ, IfOk, IfErr, IsTrue, MatchOption, None, Some, map, length, replicate, slice_index_or, slice_set, true, false};
 ghost use Rattle.std.specs.List.{All};
 ghost use Rattle.semantics.specs.Linear.{IsImpossible};
 ghost use Rattle.linear.specs.Forms.{forms};
@@ -12,7 +12,7 @@ ghost use Rattle.certificate.specs.View.{scaled as scaled_seen, step as step_see
 ghost use Rattle.cut_proof.specs.View.{line as line_seen};
 ghost use Rattle.cert_check.specs.Entries as entries;
 ghost use Rattle.cert_check.specs.Entries.{IsTable, entry_of, has_entry, is_past};
-ghost use Rattle.cert_check.specs.Lacking.{AreUnfit, Names, Tells};
+ghost use Rattle.cert_check.specs.Lacking.{AllPass, AreUnfit, ArePassed, IsStopped, Names, Passes, Stops, Tells};
 ghost use Rattle.cert_check.specs.Owing.{owed, nth_claim, nth_pair, seen_claims, all_owed, denials_fit, found_pairs, findings_fit};
 ghost use Rattle.two_thread.specs.Fitting.{pairs_fit};
 ghost use Rattle.two_thread.specs.Refusals.{IsInside};
@@ -156,7 +156,8 @@ fn show_claim<D: Copy>(
     requires claim { i < length path.now.claims.items }
     requires table { IsTable (map entry_seen entries.now) places.now }
     ensures shown { IfOk result (λ _. IsShown (owed (forms launch.now) (nth_claim (seen_claims path.now) i))) }
-    ensures lacks { IfErr result (Names (map entry_seen entries.now) 0 (map (owed (forms launch.now)) (seen_claims path.now)) (AreUnfit (denials_fit (seen_claims path.now)))) }
+    ensures passes { IfOk result (λ _. Passes (map entry_seen entries.now) (i + 1) (owed (forms launch.now) (nth_claim (seen_claims path.now) i))) }
+    ensures lacks { IfErr result (Names (IsStopped (map entry_seen entries.now) (i + 1) (owed (forms launch.now) (nth_claim (seen_claims path.now) i))) (AreUnfit (denials_fit (seen_claims path.now)))) }
 {
     let claim = &path.claims[i];
     if claim.settled {
@@ -185,7 +186,8 @@ fn show_claims<D: Copy>(
 ) -> Result<(), ShowError>
     requires { IsTable (map entry_seen entries.now) places.now }
     ensures shown { IfOk result (λ _. All IsShown (map (owed (forms launch.now)) (seen_claims path.now))) }
-    ensures lacks { IfErr result (Names (map entry_seen entries.now) 0 (map (owed (forms launch.now)) (seen_claims path.now)) (AreUnfit (denials_fit (seen_claims path.now)))) }
+    ensures passes { IfOk result (λ _. AllPass (map entry_seen entries.now) 0 (map (owed (forms launch.now)) (seen_claims path.now))) }
+    ensures lacks { IfErr result (Names (Stops (map entry_seen entries.now) 0 (map (owed (forms launch.now)) (seen_claims path.now))) (AreUnfit (denials_fit (seen_claims path.now)))) }
 {
     for i in 0..path.claims.len() {
         show_claim(alloc, launch, path, i, entries, places)?;
@@ -209,7 +211,8 @@ fn show_pair<D: Domain>(
     requires inside { All (IsInside (length first.now.accesses.items) (length second.now.accesses.items)) pairs.now }
     requires table { IsTable (map entry_seen entries.now) places.now }
     ensures shown { IfOk result (λ _. IsShown (specs.pair_obligation D.Domain (known_seen known.now) (forms launch.now) (pair_seen (seen_accesses first.now) (seen_accesses second.now) (nth_pair pairs.now i)))) }
-    ensures lacks { IfErr result (Names (map entry_seen entries.now) (length first.now.claims.items) (map (specs.pair_obligation D.Domain (known_seen known.now) (forms launch.now)) (map (pair_seen (seen_accesses first.now) (seen_accesses second.now)) pairs.now)) (AreUnfit (pairs_fit (found_pairs first.now second.now pairs.now)))) }
+    ensures passes { IfOk result (λ _. Passes (map entry_seen entries.now) (length first.now.claims.items + (i + 1)) (specs.pair_obligation D.Domain (known_seen known.now) (forms launch.now) (pair_seen (seen_accesses first.now) (seen_accesses second.now) (nth_pair pairs.now i)))) }
+    ensures lacks { IfErr result (Names (IsStopped (map entry_seen entries.now) (length first.now.claims.items + (i + 1)) (specs.pair_obligation D.Domain (known_seen known.now) (forms launch.now) (pair_seen (seen_accesses first.now) (seen_accesses second.now) (nth_pair pairs.now i)))) (AreUnfit (pairs_fit (found_pairs first.now second.now pairs.now)))) }
 {
     let pair = pairs[i];
     if is_apart(alloc, known, first, second, pair)? {
@@ -240,7 +243,8 @@ fn show_pairs<D: Domain>(
     requires inside { All (IsInside (length first.now.accesses.items) (length second.now.accesses.items)) pairs.now }
     requires table { IsTable (map entry_seen entries.now) places.now }
     ensures shown { IfOk result (λ _. All IsShown (map (specs.pair_obligation D.Domain (known_seen known.now) (forms launch.now)) (map (pair_seen (seen_accesses first.now) (seen_accesses second.now)) pairs.now))) }
-    ensures lacks { IfErr result (Names (map entry_seen entries.now) (length first.now.claims.items) (map (specs.pair_obligation D.Domain (known_seen known.now) (forms launch.now)) (map (pair_seen (seen_accesses first.now) (seen_accesses second.now)) pairs.now)) (AreUnfit (pairs_fit (found_pairs first.now second.now pairs.now)))) }
+    ensures passes { IfOk result (λ _. AllPass (map entry_seen entries.now) (length first.now.claims.items) (map (specs.pair_obligation D.Domain (known_seen known.now) (forms launch.now)) (map (pair_seen (seen_accesses first.now) (seen_accesses second.now)) pairs.now))) }
+    ensures lacks { IfErr result (Names (Stops (map entry_seen entries.now) (length first.now.claims.items) (map (specs.pair_obligation D.Domain (known_seen known.now) (forms launch.now)) (map (pair_seen (seen_accesses first.now) (seen_accesses second.now)) pairs.now))) (AreUnfit (pairs_fit (found_pairs first.now second.now pairs.now)))) }
 {
     for i in 0..pairs.len() {
         show_pair(
@@ -272,6 +276,7 @@ pub fn show_found<D: Domain>(
     requires inside { All (IsInside (length found.now.first.accesses.items) (length found.now.second.accesses.items)) found.now.pairs.items }
     requires table { IsTable (map entry_seen entries.now) places.now }
     ensures shown { IfOk result (λ _. All IsShown (all_owed D.Domain found.now)) }
+    ensures passed { IfOk result (λ _. ArePassed (map entry_seen entries.now) (all_owed D.Domain found.now)) }
     ensures lacks { IfErr result (Tells (map entry_seen entries.now) (all_owed D.Domain found.now) (AreUnfit (findings_fit found.now))) }
 {
     let launch = found.launch.as_slice();

@@ -1,11 +1,13 @@
-use Rattle.std.proofs.Common.{rules, arith, ◌≡◌, inl, inr, refl, ap, sym}
+use Rattle.std.proofs.Common.{rules, arith, ◌≡◌, ◌∙◌, inl, inr, refl, ap, sym}
 use Rattle.certificate.specs.Certificates.{certificate}
+use Rattle.syntax.specs.declared.tree.Kernel.{Kernel}
 use Rattle.types.specs.View.{kernel}
+use Rattle.types.specs.declared.core_tree.Core.{Core}
 use Rattle.launch.specs.View.{conditions}
 use Rattle.launch_text.specs.View.{lined}
 use Rattle.launch_text.proofs.LeastFits.{conditions_meant}
 use Rattle.plain.specs.Domains.{domain}
-use Rattle.cert_check.proofs.Unshown.{same_told, filled}
+use Rattle.cert_check.proofs.Unshown.{same_passed, same_told, filled, unfilled}
 use Rattle.certificate.specs.View.{place, bound}
 use Rattle.cert_check.specs.Refusing.{IsForOthers}
 use Rattle.cert_check.specs.Accepting.{IsAccepted}
@@ -60,3 +62,15 @@ returns-in-Err-accept-clause-plain c =
     let x = cond.groups.x in
     let limits : HasLimits k (meant (lined cond)) = record { size_x = z.0; size_y = z.1; size_z = z.2; groups_x = (omega (arith, ints, x.some, x.order), omega (arith, ints, x.most)) } in
     (c.in-Ok.typed, lined cond, cert, (c.in-Ok.ensures, c.in-Ok-read_conditions.ensures.value), c.in-Ok-read.ensures, λ p. tells_plain k (meant (lined cond)) cert limits p c.in-Err-accept.error (inl t))
+
+pub returns-clause-passed : goal.returns-clause-passed
+returns-clause-passed c =
+    let e : c.core.result.now ≡ c.in-Ok.typed.1 = c.core.ensures.value in
+    let k : kernel c.core.result.now ≡ kernel (typed_of c.of.result).1 = ap kernel (e ∙ ap (λ (x : Kernel × Core). x.1) (sym c.of.ensures.typed)) in
+    let m : conditions c.in-Ok-read_conditions.conditions ≡ conditions (kept c.of.result) = ap conditions (sym c.of.ensures.conditions) in (
+      certificate c.in-Ok-read.certificate,
+      c.in-Ok-read.ensures,
+      unfilled place c.places.result.now _ c.is_empty.result c.places.ensures c.is_empty.ensures c.if-not-is_empty.false,
+      unfilled bound c.bounds.result.now _ c.is_empty-else-not-is_empty.result c.bounds.ensures c.is_empty-else-not-is_empty.ensures c.if-not-is_empty-2.false,
+      same_passed domain _ _ _ _ _ _ k m c.entries-entries.ensures c.in-Ok-accept.ensures.passed,
+    )

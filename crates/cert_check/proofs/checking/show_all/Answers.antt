@@ -1,12 +1,12 @@
-use Rattle.std.proofs.Common.{map, subst, IfOk}
+use Rattle.std.proofs.Common.{map, length, subst, IfOk, ◌≤◌, arith}
 use Rattle.std.specs.List.{All}
 use Rattle.certificate.specs.View.{entry}
 use Rattle.two_thread.specs.Shown.{IsShown}
 use Rattle.types.specs.View.{kernel}
 use Rattle.launch.specs.View.{conditions}
-use Rattle.cert_check.specs.Lacking.{AreUnfit, IsUnwalked, Tells, owing}
+use Rattle.cert_check.specs.Lacking.{ArePassed, AreUnfit, Lacks, IsUnwalked, Tells, owing}
 use Rattle.cert_check.specs.Owing.{all_owed, findings_fit}
-use Rattle.cert_check.proofs.Unshown.{mapped, of_findings}
+use Rattle.cert_check.proofs.Unshown.{gains, owed_length, mapped, named}
 use Rattle.cert_check.proofs.Walked.{unfit_unwalked}
 use Rattle.cert_check.proofs.checking.show_all.Goals as goal
 
@@ -21,4 +21,12 @@ returns-clause-lacks g c =
     let es = map entry c.args.entries.now in
     let f = c.in_ok-found.found in
     mapped c.show_found.result (Tells es (all_owed d f) (AreUnfit (findings_fit f))) (Tells es (owing d k cs es) (IsUnwalked d k cs es))
-    (λ e t. subst (λ os. Tells es os (IsUnwalked d k cs es) e) c.in_ok-found.ensures.owed (of_findings es (all_owed d f) (AreUnfit (findings_fit f)) (IsUnwalked d k cs es) e (unfit_unwalked d k cs es (findings_fit f) c.in_ok-found.ensures.fits) t)) c.show_found.ensures.lacks
+    (λ e t. subst (λ os. Tells es os (IsUnwalked d k cs es) e) c.in_ok-found.ensures.owed (named (Lacks es (all_owed d f)) (Lacks es (all_owed d f)) (AreUnfit (findings_fit f)) (IsUnwalked d k cs es) e (λ n s. s) (unfit_unwalked d k cs es (findings_fit f) c.in_ok-found.ensures.fits) t)) c.show_found.ensures.lacks
+
+pub returns-clause-passed : goal.returns-clause-passed
+returns-clause-passed g c =
+    let d = g.D.Domain in
+    let es = map entry c.args.entries.now in
+    let f = c.in_ok-found.found in
+    let few : length (all_owed d f) ≤ 65536 = omega (arith, owed_length d f, c.in_ok-found.ensures.few) in
+    subst (λ os. IfOk c.show_found.result (λ _. ArePassed es os × (length os ≤ 65536))) c.in_ok-found.ensures.owed (gains (ArePassed es (all_owed d f)) (length (all_owed d f) ≤ 65536) c.show_found.result few c.show_found.ensures.passed)

@@ -18,8 +18,8 @@ use Rattle.two_thread.specs.View.{pair, seen_accesses}
 use Rattle.cert_check.specs.Entries.{has_entry}
 use Rattle.cert_check.specs.Lacking.{IsEarly, IsUnwalked}
 use Rattle.cert_check.specs.Owing.{seen_claims}
-use Rattle.cert_check.proofs.Unshown.{passed}
-use Rattle.cert_check.proofs.Walked.{early_too, first_unwalked, second_unwalked, many_found, unfit_found}
+use Rattle.cert_check.proofs.Unshown.{named, passed}
+use Rattle.cert_check.proofs.Walked.{first_unwalked, second_unwalked, many_found, unfit_found}
 use Rattle.cert_check.proofs.Collecting.{setting_is, found_is, pairs_are, all_are, pairs_from-map}
 use Rattle.cert_check.proofs.finding.find.Goals as goal
 
@@ -55,7 +55,7 @@ returns-in_err-first-clause-early g c =
     let same = setting_is d k cs (has_entry es) s core.sizes items.First t.known t.sizes refl t.arguments t.entries in
     let i : IsEarly (said (setting d s items.First)) e = search rules in
     passed c.from_residual-in_err-first.result e (IsEarly (IsUnwalked d k cs es)) c.from_residual-in_err-first.ensures.1
-    (early_too (said (setting d s items.First)) (IsUnwalked d k cs es) e (λ w r. first_unwalked d k cs es w (subst (λ x. said x w) same r)) i)
+    (named (λ n. ⊥) (λ n. ⊥) (said (setting d s items.First)) (IsUnwalked d k cs es) e (λ n z. z) (λ w r. first_unwalked d k cs es w (subst (λ x. said x w) same r)) i)
 
 pub returns-in_err-second-clause-early : goal.returns-in_err-second-clause-early
 returns-in_err-second-clause-early g c =
@@ -71,7 +71,7 @@ returns-in_err-second-clause-early g c =
     let same = setting_is d k cs (has_entry es) s core.sizes items.Second t.known t.sizes refl t.arguments t.entries in
     let i : IsEarly (said (setting d s items.Second)) e = search rules in
     passed c.from_residual-in_err-second.result e (IsEarly (IsUnwalked d k cs es)) c.from_residual-in_err-second.ensures.1
-    (early_too (said (setting d s items.Second)) (IsUnwalked d k cs es) e (λ w r. second_unwalked d k cs es w (subst (λ x. said x w) same r)) i)
+    (named (λ n. ⊥) (λ n. ⊥) (said (setting d s items.Second)) (IsUnwalked d k cs es) e (λ n z. z) (λ w r. second_unwalked d k cs es w (subst (λ x. said x w) same r)) i)
 
 pub returns-then-len-gt65536-clause-early : goal.returns-then-len-gt65536-clause-early
 returns-then-len-gt65536-clause-early g c =

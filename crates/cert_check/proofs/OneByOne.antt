@@ -8,9 +8,6 @@ use Rattle.std.proofs.lemmas.List.Elements.{All-from_get_or, All-get_or}
 use Rattle.semantics.specs.Linear.{IsImpossible}
 use Rattle.linear.specs.Forms.{form, forms}
 use Rattle.linear.specs.declared.form.Form.{Form}
-use Rattle.types.specs.View.{statements}
-use Rattle.types.specs.declared.core_tree.Statement.{Statement}
-use Rattle.walk.specs.Straight.{steps}
 use Rattle.walk.specs.Symbols.{Fact, denial}
 use Rattle.walk.specs.Trees.{Obligation}
 use Rattle.walk.specs.Before.{HasFacts}
@@ -66,9 +63,3 @@ pub at_place : {A : Type 0} (xs : List A) (i : ℕ) (d e : A) → i < length xs 
 at_place [] i d e h = absurd (omega arith)
 at_place (x ∷ xs) zero d e h = refl
 at_place (x ∷ xs) (suc i) d e h = at_place xs i d e (omega arith)
-
-pub steps-length : (b : List Statement) → steps (statements b) ≡ length b
-steps-length [] = refl
-steps-length (s ∷ b) = ap suc (steps-length b)
-
-pub ruleset lengths = (steps-length)

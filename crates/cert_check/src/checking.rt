@@ -1,6 +1,6 @@
 //! The check.
 
-ghost use Rattle.std.specs.Prelude.{◌≡◌, ◌<◌, map, false, Ok, IfOk, IfErr, IsTrue};
+ghost use Rattle.std.specs.Prelude.{◌≡◌, ◌<◌, nat_lt, true, map, false, Ok, IfOk, IfErr, IsTrue};
 ghost use Rattle.std.specs.List.{All};
 ghost use Rattle.semantics.specs.Launch.{product};
 ghost use Rattle.semantics.specs.Conditions.{ConditionsFit};
@@ -8,11 +8,11 @@ ghost use Rattle.launch.specs.View.{conditions as conditions_seen};
 ghost use Rattle.launch_text.specs.View.{lined};
 ghost use Rattle.texts.specs.ConditionsReading.{conditions_of};
 ghost use Rattle.syntax.specs.View.{kernel as tree_seen};
-ghost use Rattle.types.specs.View.{kernel as core_seen, statements};
+ghost use Rattle.types.specs.View.{kernel as core_seen};
 ghost use Rattle.reading.specs.Kernels.{read};
 ghost use Rattle.reading.specs.Answers.{kernel_seen};
 ghost use Rattle.walk.specs.View.{three};
-ghost use Rattle.walk.specs.Straight.{steps};
+ghost use Rattle.walk.specs.Straight.{is_straight, steps};
 ghost use Rattle.two_thread.specs.Shown.{IsShown};
 ghost use Rattle.certificate.specs.View.{entry as entry_seen};
 ghost use Rattle.cert_check.specs.Accepting.{IsAccepted, IsStraightUnder, HasHeadline};
@@ -32,13 +32,15 @@ use domain::Domain;
 use interval::Interval;
 use launch::conditions::Conditions;
 use launch_text::read_conditions;
+use loop_bounds::cost;
+use loop_bounds::laws::stores_are_steps;
 use product::Product;
 use reading::laws::local_sizes_are_within_limits;
 use reading::read_kernel;
 use reduction::headline;
 use std::alloc::Global;
 use two_thread::laws::what_is_shown_is_pair_safe;
-use types::core_tree::{Core, Statement};
+use types::core_tree::Core;
 use walk::is_straight;
 
 /// All that is to be shown is shown.
@@ -65,12 +67,16 @@ fn has_items(sizes: [u32; 3]) -> bool
     sizes[0] > 0 && sizes[1] > 0 && sizes[2] > 0
 }
 
-#[tactic(auto, using(crate::proofs::OneByOne::lengths))]
-/// How many steps each item takes.
-fn steps_of(body: &[Statement]) -> u64
-    ensures { result ≡ steps (statements body.now) }
+/// An item of a straight-line kernel takes more steps than the budget.
+fn is_over(core: &Core, budget: u64) -> bool
+    requires { is_straight (core_seen core.now) ≡ true }
+    ensures { result ≡ nat_lt budget (steps (core_seen core.now).body) }
 {
-    body.len() as u64
+    stores_are_steps();
+    match cost(core, &[]) {
+        Ok(steps) => steps > budget,
+        Err(_) => true,
+    }
 }
 
 /// A straight-line kernel under conditions, with the entries of its certificate.
@@ -90,7 +96,7 @@ fn accept<D: Domain>(
         return Err(ShowError::NotShown(0));
     }
     show_all::<D>(alloc, core, conditions, entries)?;
-    if steps_of(core.body.as_slice()) > conditions.budget {
+    if is_over(core, conditions.budget) {
         return Err(ShowError::OverBudget);
     }
     what_is_shown_is_pair_safe::<D>();

@@ -18,13 +18,13 @@ use Rattle.cert_check.specs.declared.error.ShowError.TheVariants as errors
 abbrev pub IsLacking : List Entry → (number : ℕ) → Obligation → Type 0
 IsLacking es n o = (o.settled ≡ false) × ((o.needed ≡ true) ⊎ (has_entry es n ≡ true)) × (is_refuted es n o.facts ≡ false)
 
+-- one that passes: the domain settles it, or it is not needed and has no entry, or its entry refutes its facts
+abbrev pub Passes : List Entry → (number : ℕ) → Obligation → Type 0
+Passes es n o = (o.settled ≡ true) ⊎ (((o.needed ≡ false) × (has_entry es n ≡ false)) ⊎ (is_refuted es n o.facts ≡ true))
+
 -- an obligation of a list has this number, counted on from those before the list
 abbrev pub IsNumbered : (before : ℕ) → List Obligation → (number : ℕ) → Obligation → Type 0
 IsNumbered before os n o = (i : ℕ) × (n ≡ before + (i + 1)) × (i < length os) × (o ≡ get_or os i o)
-
--- an obligation that does not: it is settled, or neither needed nor has an entry, or its entry refutes its facts
-abbrev pub Passes : List Entry → (number : ℕ) → Obligation → Type 0
-Passes es n o = (o.settled ≡ true) ⊎ (((o.needed ≡ false) × (has_entry es n ≡ false)) ⊎ (is_refuted es n o.facts ≡ true))
 
 -- each obligation of a list passes
 abbrev pub AllPass : List Entry → (before : ℕ) → List Obligation → Type 0

@@ -1,9 +1,10 @@
 -- What an error tells of a kernel, where it is plain.
-use Rattle.std.proofs.Common.{◌≡◌, ℕ, zero, suc, ◌*◌, ◌≤◌, Bool, get_or, arith, sym, subst, ◌∙◌, inl, inr, mul-le-mul}
+use Rattle.std.proofs.Common.{◌≡◌, ℕ, zero, suc, ◌*◌, ◌≤◌, Bool, List, get_or, arith, sym, subst, ◌∙◌, inl, inr, mul-le-mul}
 use Rattle.std.proofs.lemmas.Bool.{false≢true}
 use Rattle.semantics.specs.Launch.{Kernel}
 use Rattle.semantics.specs.Conditions.{Conditions}
 use Rattle.texts.specs.Certificate.{Certificate}
+use Rattle.texts.specs.Surface.{Parameter}
 use Rattle.walk.specs.declared.error.WalkError.TheVariants as walks
 use Rattle.plain.specs.Domains.{domain}
 use Rattle.plain.specs.Kernels.{HasLimits, IsPlain}
@@ -19,7 +20,7 @@ use Rattle.cert_check.specs.declared.error.ShowError.TheVariants as shows
 some_items : (x y z : ℕ) → 1 ≤ x → 1 ≤ y → 1 ≤ z → x * y * z ≡ 0 → ⊥
 some_items x y z h i j e = let p : 1 * 1 * 1 ≤ x * y * z = mul-le-mul (mul-le-mul h i) j in omega (arith, e, p)
 
-module _ (k : Kernel) (c : Conditions) (cert : Certificate) (limits : HasLimits k c) (plain : IsPlain k c) where
+module _ (k : Kernel) (ps : List Parameter) (c : Conditions) (cert : Certificate) (limits : HasLimits k c) (plain : IsPlain k c) where
   abbrev h : ℕ → Bool
   h = has_entry cert.entries
 
@@ -28,7 +29,7 @@ module _ (k : Kernel) (c : Conditions) (cert : Certificate) (limits : HasLimits 
       let m : i ≡ n = omega (arith, e) in
       ((o, (i, e, l, q), r), λ b. plain-range k c h limits plain n o b (subst (λ j. o ≡ get_or (owing domain k c cert.entries) j o) m q) s a)
 
-  pub tells_plain : (e : ShowError) → Shows k c cert e → TellsPlain k c cert e
+  pub tells_plain : (e : ShowError) → Shows k ps c cert e → TellsPlain k ps c cert e
   tells_plain (shows.NotShown zero) (inl (inl p)) = absurd (some_items k.sizes.x k.sizes.y k.sizes.z limits.size_x.0 limits.size_y.0 limits.size_z.0 p)
   tells_plain (shows.NotShown zero) (inl (inr (inl p))) = absurd (false≢true (sym p ∙ plain-straight k c h limits plain))
   tells_plain (shows.NotShown zero) (inl (inr (inr p))) = inr p

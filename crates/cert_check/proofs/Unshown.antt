@@ -1,8 +1,7 @@
 -- Which obligation a refusal names.
-use Rattle.std.proofs.Common.{◌≡◌, ℕ, zero, suc, ◌+◌, ◌<◌, ◌==◌, Bool, true, false, List, [], ◌∷◌, ◌++◌, length, map, take, get_or, refl, ap, sym, subst, ◌∙◌, ◌⊎◌, ◌-◌, ◌≤◌, inl, inr, arith}
+use Rattle.std.proofs.Common.{◌≡◌, ℕ, zero, suc, ◌+◌, ◌<◌, Bool, true, false, List, [], ◌∷◌, ◌++◌, length, map, take, get_or, refl, ap, sym, subst, ◌∙◌, ◌⊎◌, ◌-◌, ◌≤◌, inl, inr, arith}
 use Rattle.std.specs.Prelude.{None, Some, Result, Ok, Err, IfOk, IfErr, IsErrAnd}
-use Rattle.std.proofs.lemmas.Bool.{false≢true, cases_lt}
-use Rattle.std.proofs.lemmas.Bool.Decides.{nat_tests}
+use Rattle.std.proofs.lemmas.Bool.{cases_lt}
 use Rattle.std.proofs.lemmas.List.{length-map, length-append, get_or-map, get_or_append_left, get_or-append-add}
 use Rattle.semantics.specs.Launch.{Kernel}
 use Rattle.semantics.specs.Conditions.{Conditions}
@@ -144,15 +143,6 @@ owed_length g f =
     length-append (claims_owed f) (pairs_owed g f)
     ∙ ap (λ n. n + length (pairs_owed g f)) (claims_length f)
     ∙ ap (λ n. length f.first.claims.items + n) (length-map (map (pair (seen_accesses f.first) (seen_accesses f.second)) f.pairs.items) _ ∙ length-map f.pairs.items _)
-
-pub filled : {A B : Type 0} (view : A → B) (xs : List A) (ys : List B) (b : Bool) → map view xs ≡ ys → b ≡ (length xs == 0) → b ≡ false → 0 < length ys
-filled view [] ys b p e h = absurd (false≢true (sym h ∙ e))
-filled view (x ∷ xs) ys b p e h = subst (λ zs. 0 < length zs) p (omega arith)
-
-pub unfilled : {A B : Type 0} (view : A → B) (xs : List A) (ys : List B) (b : Bool) → map view xs ≡ ys → b ≡ (length xs == 0) → b ≡ true → length ys ≡ 0
-unfilled view xs ys b p e h =
-    let z : length xs ≡ 0 = grind (arith, nat_tests) in
-    omega (arith, ap length p, length-map xs view, z)
 
 -- an error that is passed on
 pub passed : {T E : Type 0} (r : Result T E) (x : E) (P : E → Type 0) → IsErrAnd r (λ e. e ≡ x) → P x → IfErr r P

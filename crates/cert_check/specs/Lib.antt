@@ -3,5 +3,6 @@ pub mod Owing
 pub mod View
 pub mod Entries
 pub mod Lacking
+pub mod Names
 pub mod Refusing
 pub mod Plainly

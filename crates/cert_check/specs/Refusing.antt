@@ -1,8 +1,9 @@
 -- What a refusal says of the three texts: those before the refused one are read, and its fault is the first of its text.
-use Rattle.std.specs.Prelude.{◌≡◌, ◌<◌, ◌⊎◌, ℕ, List, length, Result, Ok, Err}
+use Rattle.std.specs.Prelude.{◌≡◌, ◌⊎◌, ℕ, List, true, false, Result, Ok, Err}
 use Rattle.semantics.specs.Launch as semantics
 use Rattle.semantics.specs.Conditions.{Conditions}
 use Rattle.texts.specs.Certificate.{Certificate}
+use Rattle.texts.specs.Surface.{Parameter}
 use Rattle.texts.specs.ConditionsReading.{Lined, conditions_of, meant}
 use Rattle.texts.specs.CertificateReading as certificates
 use Rattle.syntax.specs.View.{kernel as tree_seen}
@@ -14,6 +15,7 @@ use Rattle.reading.specs.Answers as reading
 use Rattle.launch_text.specs.Answers as launches
 use Rattle.certificate.specs.Certificates.{Says}
 use Rattle.plain.specs.Domains.{domain}
+use Rattle.cert_check.specs.Names.{is_for_others}
 use Rattle.cert_check.specs.Lacking.{PassesOf, TellsOf}
 use Rattle.cert_check.specs.declared.accepted.Accepted.{Accepted}
 use Rattle.cert_check.specs.declared.error.CheckError.{CheckError}
@@ -29,17 +31,13 @@ IsRead typed kernel = read kernel ≡ Ok (reading.kernel_seen typed)
 abbrev pub AreRead : Kernel × Core → Lined → (kernel conditions : List ℕ) → Type 0
 AreRead typed found kernel conditions = IsRead typed kernel × (conditions_of (tree_seen typed.0).parameters conditions ≡ Ok found)
 
--- a certificate tells of places, or of how loops end: a straight-line kernel has none
-abbrev pub IsForOthers : Certificate → Type 0
-IsForOthers c = (0 < length c.places) ⊎ (0 < length c.bounds)
-
--- what the error tells of a kernel under conditions, with a certificate
-abbrev pub Shows : semantics.Kernel → Conditions → Certificate → ShowError → Type 0
-Shows k c cert e = TellsOf domain k c cert.entries e ⊎ ((e ≡ NotShown 0) × IsForOthers cert)
+-- what the error tells of a kernel with these parameters under conditions, with a certificate
+abbrev pub Shows : semantics.Kernel → List Parameter → Conditions → Certificate → ShowError → Type 0
+Shows k ps c cert e = TellsOf domain k c cert.entries e ⊎ ((e ≡ NotShown 0) × (is_for_others ps cert ≡ true))
 
 -- the certificate too, and the kernel under these conditions is not shown by it
 abbrev pub IsUnshown : ShowError → Kernel × Core → Lined → (certificate : List ℕ) → Type 0
-IsUnshown e typed found certificate = (cert : Certificate) × (certificates.certificate_of certificate ≡ Ok cert) × Shows (core_seen typed.1) (meant found) cert e
+IsUnshown e typed found certificate = (cert : Certificate) × (certificates.certificate_of certificate ≡ Ok cert) × Shows (core_seen typed.1) (tree_seen typed.0).parameters (meant found) cert e
 
 abbrev pub Refuses : CheckError → (kernel conditions certificate : List ℕ) → Type 0
 Refuses (errors.Kernel e) kernel conditions certificate = reading.Refuses e (read kernel)
@@ -51,6 +49,6 @@ abbrev pub Tells : Result Accepted CheckError → (kernel conditions certificate
 Tells (Ok a) kernel conditions certificate = Unit {0}
 Tells (Err e) kernel conditions certificate = Refuses e kernel conditions certificate
 
--- what is accepted: the certificate is read, it tells of no places and no loops, and with it nothing stops the check
-abbrev pub IsPassed : semantics.Kernel → Conditions → (certificate : List ℕ) → Type 0
-IsPassed k c certificate = (cert : Certificate) × (certificates.certificate_of certificate ≡ Ok cert) × (length cert.places ≡ 0) × (length cert.bounds ≡ 0) × PassesOf domain k c cert.entries
+-- what is accepted: the certificate is read, it tells of nothing that the kernel lacks, and with it nothing stops the check
+abbrev pub IsPassed : Kernel × Core → Conditions → (certificate : List ℕ) → Type 0
+IsPassed typed c certificate = (cert : Certificate) × (certificates.certificate_of certificate ≡ Ok cert) × (is_for_others (tree_seen typed.0).parameters cert ≡ false) × PassesOf domain (core_seen typed.1) c cert.entries

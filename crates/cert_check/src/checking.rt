@@ -25,6 +25,7 @@ ghost use Rattle.cert_check.specs.View.{typed_of, kept};
 use crate::accepted::Accepted;
 use crate::error::{CheckError, ShowError};
 use crate::finding::find;
+use crate::names::is_for_others;
 use crate::showing::{places_of, show_found};
 use certificate::tree::Entry;
 use congruence::Congruence;
@@ -114,7 +115,7 @@ pub fn check(
 ) -> Result<Accepted, CheckError>
     ensures kernel { IfOk result (λ a. read kernel.now ≡ Ok (kernel_seen (typed_of a))) }
     ensures conditions { IfOk result (λ a. conditions_of (tree_seen (typed_of a).0).parameters conditions.now ≡ Ok (lined (kept a))) }
-    ensures passed { IfOk result (λ a. IsPassed (core_seen (typed_of a).1) (conditions_seen (kept a)) certificate.now) }
+    ensures passed { IfOk result (λ a. IsPassed (typed_of a) (conditions_seen (kept a)) certificate.now) }
     ensures refused { Tells result kernel.now conditions.now certificate.now }
     ensures plain { OnPlain result kernel.now conditions.now certificate.now }
     ensures pair { IfOk result (λ a. IsAccepted (core_seen (typed_of a).1) (conditions_seen (kept a))) }
@@ -132,7 +133,7 @@ pub fn check(
         Ok(certificate) => certificate,
         Err(error) => return Err(CheckError::Certificate(error)),
     };
-    if !certificate.places().is_empty() || !certificate.bounds().is_empty() {
+    if is_for_others(typed.kernel().parameters.as_slice(), &certificate) {
         return Err(CheckError::Show(ShowError::NotShown(0)));
     }
     let entries = certificate.entries();

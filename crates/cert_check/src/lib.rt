@@ -8,6 +8,7 @@ pub mod error;
 mod finding;
 mod findings;
 mod keeping;
+mod names;
 mod showing;
 #[cfg(test)]
 mod tests;

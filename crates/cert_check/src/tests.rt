@@ -153,6 +153,20 @@ const ROWS: &[(&str, &str, &str, &str)] = &[
         "52 9",
     ),
     (
+        "\
+     kernel __attribute__((reqd_work_group_size(2, 1, 1))) void k(__global uint *a, int n) { a[get_global_id(0) * 2 + 3] = n; }\n",
+        "conditions 1\ngroups 1..9 1..1 1..1\narg n -5..5\nlength a >= 37\nbudget 1\n",
+        "certificate 1\nob 1 quot 1*arg.a + 0\nend\n",
+        "52 0",
+    ),
+    (
+        "\
+     kernel __attribute__((reqd_work_group_size(2, 1, 1))) void k(__global uint *a, int n) { a[get_global_id(0) * 2 + 3] = n; }\n",
+        "conditions 1\ngroups 1..9 1..1 1..1\narg n -5..5\nlength a >= 37\nbudget 1\n",
+        "certificate 1\nob 12 quot 1*#1 + 1*@n + 1*arg.n + 1*groups.0 + 1*len.a + 1*n + 0\nend\n",
+        "52 12",
+    ),
+    (
         "kernel __attribute__((reqd_work_group_size(2, 1, 1))) void k(__global uint *a) { a[get_local_id(0)] = ; }\n",
         "conditions 1\n",
         "certificate 1\nend\n",

@@ -1,15 +1,15 @@
-use Rattle.std.proofs.Common.{rules, arith, ◌≡◌, ◌∙◌, inl, inr, refl, ap, sym}
+use Rattle.std.proofs.Common.{rules, map, true, arith, ◌≡◌, ◌∙◌, inl, inr, refl, ap, sym}
 use Rattle.certificate.specs.Certificates.{certificate}
 use Rattle.syntax.specs.declared.tree.Kernel.{Kernel}
+use Rattle.syntax.specs.View.{parameter, kernel as tree}
+use Rattle.cert_check.specs.Names.{is_for_others}
 use Rattle.types.specs.View.{kernel}
 use Rattle.types.specs.declared.core_tree.Core.{Core}
 use Rattle.launch.specs.View.{conditions}
 use Rattle.launch_text.specs.View.{lined}
 use Rattle.launch_text.proofs.LeastFits.{conditions_meant}
 use Rattle.plain.specs.Domains.{domain}
-use Rattle.cert_check.proofs.Unshown.{same_passed, same_told, filled, unfilled}
-use Rattle.certificate.specs.View.{place, bound}
-use Rattle.cert_check.specs.Refusing.{IsForOthers}
+use Rattle.cert_check.proofs.Unshown.{same_passed, same_told}
 use Rattle.cert_check.specs.Accepting.{IsAccepted}
 use Rattle.cert_check.specs.View.{typed_of, kept}
 use Rattle.std.proofs.lemmas.Int.{ints}
@@ -19,7 +19,6 @@ use Rattle.plain.specs.Kernels.{HasLimits}
 use Rattle.cert_check.proofs.Plainly.{tells_plain}
 use Rattle.cert_check.proofs.Headlines.{has_headline}
 use Rattle.cert_check.proofs.checking.check.Goals as goal
-use Rattle.cert_check.proofs.checking.check.Goals.{then-not-is_empty-via-then-not-is_empty, then-not-is_empty-via-else-not-is_empty+then-not-is_empty-2}
 
 pub returns-clause-headline : goal.returns-clause-headline
 returns-clause-headline c =
@@ -29,13 +28,12 @@ returns-clause-headline c =
 pub returns-in-Err-read-clause-refused : goal.returns-in-Err-read-clause-refused
 returns-in-Err-read-clause-refused c = (c.in-Ok.typed, lined c.in-Ok-read_conditions.conditions, (c.in-Ok.ensures, c.in-Ok-read_conditions.ensures.value), c.in-Err-read.ensures)
 
-pub returns-then-not-is_empty-clause-refused : goal.returns-then-not-is_empty-clause-refused
-returns-then-not-is_empty-clause-refused c =
-    let more : IsForOthers (certificate c.in-Ok-read.certificate) = elim c.then-not-is_empty.branch [
-      | then-not-is_empty-via-then-not-is_empty w ↦ inl (filled place c.places.result.now _ c.is_empty.result c.places.ensures c.is_empty.ensures w.if-not-is_empty.true)
-      | then-not-is_empty-via-else-not-is_empty+then-not-is_empty-2 w ↦ inr (filled bound w.bounds.result.now _ w.is_empty-else-not-is_empty.result w.bounds.ensures w.is_empty-else-not-is_empty.ensures w.if-not-is_empty-2.true)
-    ] in
-    (c.in-Ok.typed, lined c.in-Ok-read_conditions.conditions, (c.in-Ok.ensures, c.in-Ok-read_conditions.ensures.value), (certificate c.in-Ok-read.certificate, c.in-Ok-read.ensures, inr (refl, more)))
+pub returns-then-is_for_others-clause-refused : goal.returns-then-is_for_others-clause-refused
+returns-then-is_for_others-clause-refused c =
+    let cert = certificate c.in-Ok-read.certificate in
+    let p : c.as_slice.result.now ≡ c.in-Ok.typed.0.parameters.items = c.as_slice.ensures.value ∙ ap (λ (t : Kernel). t.parameters.items) c.kernel.ensures.value in
+    let o : is_for_others (map parameter c.in-Ok.typed.0.parameters.items) cert ≡ true = ap (λ ps. is_for_others (map parameter ps) cert) (sym p) ∙ sym c.is_for_others.ensures ∙ c.if-is_for_others.true in
+    (c.in-Ok.typed, lined c.in-Ok-read_conditions.conditions, (c.in-Ok.ensures, c.in-Ok-read_conditions.ensures.value), (cert, c.in-Ok-read.ensures, inr (refl, o)))
 
 pub returns-in-Err-accept-clause-refused : goal.returns-in-Err-accept-clause-refused
 returns-in-Err-accept-clause-refused c =
@@ -43,13 +41,12 @@ returns-in-Err-accept-clause-refused c =
     let e : c.core.result.now ≡ c.in-Ok.typed.1 = c.core.ensures.value in
     (c.in-Ok.typed, lined c.in-Ok-read_conditions.conditions, (c.in-Ok.ensures, c.in-Ok-read_conditions.ensures.value), (certificate c.in-Ok-read.certificate, c.in-Ok-read.ensures, inl (same_told domain _ _ _ _ _ _ c.in-Err-accept.error (ap kernel e) (sym (conditions_meant c.in-Ok-read_conditions.conditions)) c.entries-entries.ensures t)))
 
-pub returns-then-not-is_empty-clause-plain : goal.returns-then-not-is_empty-clause-plain
-returns-then-not-is_empty-clause-plain c =
-    let more : IsForOthers (certificate c.in-Ok-read.certificate) = elim c.then-not-is_empty.branch [
-      | then-not-is_empty-via-then-not-is_empty w ↦ inl (filled place c.places.result.now _ c.is_empty.result c.places.ensures c.is_empty.ensures w.if-not-is_empty.true)
-      | then-not-is_empty-via-else-not-is_empty+then-not-is_empty-2 w ↦ inr (filled bound w.bounds.result.now _ w.is_empty-else-not-is_empty.result w.bounds.ensures w.is_empty-else-not-is_empty.ensures w.if-not-is_empty-2.true)
-    ] in
-    (c.in-Ok.typed, lined c.in-Ok-read_conditions.conditions, certificate c.in-Ok-read.certificate, (c.in-Ok.ensures, c.in-Ok-read_conditions.ensures.value), c.in-Ok-read.ensures, λ p. inl more)
+pub returns-then-is_for_others-clause-plain : goal.returns-then-is_for_others-clause-plain
+returns-then-is_for_others-clause-plain c =
+    let cert = certificate c.in-Ok-read.certificate in
+    let p : c.as_slice.result.now ≡ c.in-Ok.typed.0.parameters.items = c.as_slice.ensures.value ∙ ap (λ (t : Kernel). t.parameters.items) c.kernel.ensures.value in
+    let o : is_for_others (map parameter c.in-Ok.typed.0.parameters.items) cert ≡ true = ap (λ ps. is_for_others (map parameter ps) cert) (sym p) ∙ sym c.is_for_others.ensures ∙ c.if-is_for_others.true in
+    (c.in-Ok.typed, lined c.in-Ok-read_conditions.conditions, cert, (c.in-Ok.ensures, c.in-Ok-read_conditions.ensures.value), c.in-Ok-read.ensures, λ q. inl o)
 
 pub returns-in-Err-accept-clause-plain : goal.returns-in-Err-accept-clause-plain
 returns-in-Err-accept-clause-plain c =
@@ -61,16 +58,16 @@ returns-in-Err-accept-clause-plain c =
     let z = c.local_sizes_are_within_limits.ensures c.args.kernel.now (kernel_seen c.in-Ok.typed) c.in-Ok.ensures in
     let x = cond.groups.x in
     let limits : HasLimits k (meant (lined cond)) = record { size_x = z.0; size_y = z.1; size_z = z.2; groups_x = (omega (arith, ints, x.some, x.order), omega (arith, ints, x.most)) } in
-    (c.in-Ok.typed, lined cond, cert, (c.in-Ok.ensures, c.in-Ok-read_conditions.ensures.value), c.in-Ok-read.ensures, λ p. tells_plain k (meant (lined cond)) cert limits p c.in-Err-accept.error (inl t))
+    (c.in-Ok.typed, lined cond, cert, (c.in-Ok.ensures, c.in-Ok-read_conditions.ensures.value), c.in-Ok-read.ensures, λ p. tells_plain k (tree c.in-Ok.typed.0).parameters (meant (lined cond)) cert limits p c.in-Err-accept.error (inl t))
 
 pub returns-clause-passed : goal.returns-clause-passed
 returns-clause-passed c =
     let e : c.core.result.now ≡ c.in-Ok.typed.1 = c.core.ensures.value in
     let k : kernel c.core.result.now ≡ kernel (typed_of c.of.result).1 = ap kernel (e ∙ ap (λ (x : Kernel × Core). x.1) (sym c.of.ensures.typed)) in
+    let p : c.as_slice.result.now ≡ (typed_of c.of.result).0.parameters.items = c.as_slice.ensures.value ∙ ap (λ (t : Kernel). t.parameters.items) (c.kernel.ensures.value ∙ ap (λ (x : Kernel × Core). x.0) (sym c.of.ensures.typed)) in
     let m : conditions c.in-Ok-read_conditions.conditions ≡ conditions (kept c.of.result) = ap conditions (sym c.of.ensures.conditions) in (
       certificate c.in-Ok-read.certificate,
       c.in-Ok-read.ensures,
-      unfilled place c.places.result.now _ c.is_empty.result c.places.ensures c.is_empty.ensures c.if-not-is_empty.false,
-      unfilled bound c.bounds.result.now _ c.is_empty-else-not-is_empty.result c.bounds.ensures c.is_empty-else-not-is_empty.ensures c.if-not-is_empty-2.false,
+      ap (λ ps. is_for_others (map parameter ps) (certificate c.in-Ok-read.certificate)) (sym p) ∙ sym c.is_for_others.ensures ∙ c.if-is_for_others.false,
       same_passed domain _ _ _ _ _ _ k m c.entries-entries.ensures c.in-Ok-accept.ensures.passed,
     )

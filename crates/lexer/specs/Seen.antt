@@ -1,5 +1,5 @@
 -- What the code answers, as the definitions have it.
-use Rattle.std.specs.Prelude.{ℕ, ◌≡◌, List, Bool, map, Vec, Result, Ok, Err}
+use Rattle.std.specs.Prelude.{ℕ, ◌≡◌, List, Bool, map, Vec, Option, None, Some, Result, Ok, Err}
 use Rattle.std.specs.declared.alloc.Global.{Global}
 use Rattle.semantics.specs.Word as words
 use Rattle.texts.specs.Numbers as numbers
@@ -73,3 +73,7 @@ number_seen (Err f) = Err (fault f)
 abbrev pub error_number : TextError → ℕ
 error_number (errors.At f line column) = fault_number (fault f)
 error_number errors.Memory = 90
+
+abbrev pub error_place : TextError → Option (ℕ × ℕ)
+error_place (errors.At f line column) = Some (line, column)
+error_place errors.Memory = None

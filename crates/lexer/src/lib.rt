@@ -96,7 +96,7 @@ impl TextFault {
 }
 
 impl TextError {
-    ghost use Rattle.lexer.specs.Seen.{error_number};
+    ghost use Rattle.lexer.specs.Seen.{error_number, error_place};
 
     /// The number that it is printed under.
     pub fn number(&self) -> u8
@@ -105,6 +105,16 @@ impl TextError {
         match self {
             TextError::At { fault, .. } => fault.number(),
             TextError::Memory => 90,
+        }
+    }
+
+    /// The line and the column of the fault.
+    pub fn place(&self) -> Option<(u32, u32)>
+        ensures { result ≡ error_place self.now }
+    {
+        match self {
+            TextError::At { line, column, .. } => Some((*line, *column)),
+            TextError::Memory => None,
         }
     }
 }

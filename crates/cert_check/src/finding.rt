@@ -3,7 +3,7 @@
 ghost use Rattle.std.specs.Prelude.{◌≡◌, ◌≤◌, ◌+◌, ℕ, map, length, slice_index_or, false, IfOk, IfErr, IsTrue};
 ghost use Rattle.std.specs.List.{All};
 ghost use Rattle.launch.specs.View.{conditions as conditions_seen};
-ghost use Rattle.types.specs.View.{kernel as core_seen};
+ghost use Rattle.core_code.specs.View.{kernel as core_seen};
 ghost use Rattle.walk.specs.Collected.{collect, opening};
 ghost use Rattle.walk.specs.Launching as launching;
 ghost use Rattle.walk.specs.View.{met, which, known_seen, setting as setting_seen};
@@ -21,11 +21,11 @@ use crate::error::ShowError;
 use crate::findings::Findings;
 use crate::showing::flags_of;
 use certificate::tree::Entry;
+use core_code::tree::Core;
 use domain::Domain;
 use launch::conditions::Conditions;
 use std::alloc::Global;
 use two_thread::all_pairs;
-use types::core_tree::Core;
 use walk::{Path, Setting, WalkError, Which, item_facts, known, launch_facts, walk};
 
 /// What a walk is of.

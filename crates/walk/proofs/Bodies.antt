@@ -1,8 +1,8 @@
 -- A body statement by statement, and its end.
 use Rattle.std.proofs.Common.{◌≡◌, ℕ, zero, suc, ◌+◌, ◌<◌, ◌≤◌, false, List, [], ◌∷◌, length, drop, get_or, drop-cons, add-one, sym, ap, subst, ◌∙◌}
 use Rattle.std.proofs.Math.ListN.{drop_of_length-le}
-use Rattle.types.specs.View.{statement, statements}
-use Rattle.types.specs.declared.core_tree.Statement.{Statement}
+use Rattle.core_code.specs.View.{statement, statements}
+use Rattle.core_code.specs.declared.tree.Statement.{Statement}
 use Rattle.walk.specs.Trees.{Leaf}
 use Rattle.walk.specs.Walks.{Setting, walk_one, walk_all}
 use Rattle.walk.specs.Straight.{is_straight_statement, is_straight_body}

@@ -1,7 +1,7 @@
 use Rattle.std.proofs.Common.{rules, ◌+◌, refl, ap, subst, ◌∙◌, map, arith}
 use Rattle.linear.specs.Forms.{forms}
 use Rattle.words.specs.View.{kind}
-use Rattle.types.specs.View.{kernel}
+use Rattle.core_code.specs.View.{kernel}
 use Rattle.launch.specs.View.{conditions}
 use Rattle.certificate.specs.View.{entry}
 use Rattle.std.proofs.lemmas.List.{length-map}

@@ -5,7 +5,7 @@ use Rattle.cert_check.specs.Lacking.{IsEarly}
 use Rattle.cert_check.specs.declared.error.ShowError.TheVariants as errors
 use Rattle.cert_check.proofs.Unshown.{passed}
 use Rattle.linear.specs.Forms.{forms}
-use Rattle.types.specs.View.{kernel, statements}
+use Rattle.core_code.specs.View.{kernel, statements}
 use Rattle.walk.specs.Collected.{collect, opening}
 use Rattle.walk.specs.Walks.{tree}
 use Rattle.walk.specs.View.{which, setting}

@@ -1,7 +1,7 @@
 use Rattle.std.proofs.Common.{◌≡◌, ap, sym, ◌∙◌, subst, true, None}
 use Rattle.semantics.specs.Launch.{product}
 use Rattle.semantics.specs.Rounds.{log_of}
-use Rattle.types.specs.View.{kernel}
+use Rattle.core_code.specs.View.{kernel}
 use Rattle.launch.specs.View.{launch, conditions}
 use Rattle.walk.specs.Straight.{are_sizes, is_straight_body}
 use Rattle.cert_check.specs.View.{typed_of, kept}

@@ -2,7 +2,7 @@ use Rattle.std.proofs.Common.{◌≡◌, ap}
 use Rattle.std.specs.Prelude.{false}
 use Rattle.linear.specs.Forms.{form}
 use Rattle.linear.specs.Exact.{sum}
-use Rattle.syntax.specs.View.{operator}
+use Rattle.core_code.specs.View.{operator}
 use Rattle.walk.specs.Straight.{is_exact}
 use Rattle.walk.specs.View.{met, error_of_form, setting as seen}
 use Rattle.walk.proofs.Refusing.{unfit_of, sum_halts, handed}

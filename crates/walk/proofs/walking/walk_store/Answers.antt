@@ -1,4 +1,4 @@
-use Rattle.types.specs.View.{term}
+use Rattle.core_code.specs.View.{term}
 use Rattle.walk.specs.View.{met, value, setting as seen}
 use Rattle.walk.proofs.Leading.{store_steps}
 use Rattle.walk.specs.Refusals.{AreNoStraightTerms}

@@ -3,10 +3,10 @@ use Rattle.std.proofs.Common.{◌≡◌, ℕ, refl, ap, ◌∙◌}
 use Rattle.std.specs.Prelude.{Vec}
 use Rattle.std.specs.declared.alloc.Global.{Global}
 use Rattle.semantics.specs.Core as core
-use Rattle.types.specs.View.{term, statement, statement_row, statements}
-use Rattle.types.specs.declared.core_tree.Term.{Term}
-use Rattle.types.specs.declared.core_tree.Statement.{Statement, If, Loop, Row_of-Statement, end_of-Statement, more_of-Statement, items-the_row-Statement, items_hidden-the_row-Statement-0}
-use Rattle.types.specs.declared.core_tree.Statement.TheBlock.{hidden-the_row-Statement-0}
+use Rattle.core_code.specs.View.{term, statement, statement_row, statements}
+use Rattle.core_code.specs.declared.tree.Term.{Term}
+use Rattle.core_code.specs.declared.tree.Statement.{Statement, If, Loop, Row_of-Statement, end_of-Statement, more_of-Statement, items-the_row-Statement, items_hidden-the_row-Statement-0}
+use Rattle.core_code.specs.declared.tree.Statement.TheBlock.{hidden-the_row-Statement-0}
 
 statement_row-items : {m : _} → (r : Row_of-Statement m) → statement_row r ≡ statements (items-the_row-Statement m r)
 statement_row-items end_of-Statement = refl

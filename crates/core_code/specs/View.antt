@@ -4,18 +4,43 @@ use Rattle.semantics.specs.Core as core
 use Rattle.semantics.specs.Word as word
 use Rattle.semantics.specs.Launch as launch
 use Rattle.words.specs.View.{kind}
-use Rattle.syntax.specs.View.{site, operator, relation}
-use Rattle.types.specs.declared.core_tree.Space.{Space}
-use Rattle.types.specs.declared.core_tree.Space.TheVariants as spaces
-use Rattle.types.specs.declared.core_tree.Array.{Array}
-use Rattle.types.specs.declared.core_tree.Function.{Function}
-use Rattle.types.specs.declared.core_tree.Function.TheVariants as functions
-use Rattle.types.specs.declared.core_tree.UnaryOperator.{UnaryOperator}
-use Rattle.types.specs.declared.core_tree.UnaryOperator.TheVariants as unary
-use Rattle.types.specs.declared.core_tree.Term.{Term, Literal, Variable, Id, Load', Unary', Binary', Convert', Compare', Not', And', Or', Select', Minimum', Maximum'}
-use Rattle.types.specs.declared.core_tree.Statement.{Statement, Set, Store, If', Loop', Barrier, Return, Break, Continue, Row_of-Statement, end_of-Statement, more_of-Statement}
-use Rattle.types.specs.declared.core_tree.LocalArray.{LocalArray}
-use Rattle.types.specs.declared.core_tree.Core.{Core}
+use Rattle.core_code.specs.declared.tree.Site.{Site}
+use Rattle.core_code.specs.declared.tree.Operator.{Operator}
+use Rattle.core_code.specs.declared.tree.Operator.TheVariants as operators
+use Rattle.core_code.specs.declared.tree.Relation.{Relation}
+use Rattle.core_code.specs.declared.tree.Relation.TheVariants as relations
+use Rattle.core_code.specs.declared.tree.Space.{Space}
+use Rattle.core_code.specs.declared.tree.Space.TheVariants as spaces
+use Rattle.core_code.specs.declared.tree.Array.{Array}
+use Rattle.core_code.specs.declared.tree.Function.{Function}
+use Rattle.core_code.specs.declared.tree.Function.TheVariants as functions
+use Rattle.core_code.specs.declared.tree.UnaryOperator.{UnaryOperator}
+use Rattle.core_code.specs.declared.tree.UnaryOperator.TheVariants as unary
+use Rattle.core_code.specs.declared.tree.Term.{Term, Literal, Variable, Id, Load', Unary', Binary', Convert', Compare', Not', And', Or', Select', Minimum', Maximum'}
+use Rattle.core_code.specs.declared.tree.Statement.{Statement, Set, Store, If', Loop', Barrier, Return, Break, Continue, Row_of-Statement, end_of-Statement, more_of-Statement}
+use Rattle.core_code.specs.declared.tree.LocalArray.{LocalArray}
+use Rattle.core_code.specs.declared.tree.Core.{Core}
+
+abbrev pub site : Site → core.Site
+site s = record { line = s.line; column = s.column }
+
+abbrev pub operator : Operator → word.Operator
+operator operators.Add = word.Add
+operator operators.Subtract = word.Subtract
+operator operators.Multiply = word.Multiply
+operator operators.Divide = word.Divide
+operator operators.Remainder = word.Remainder
+operator operators.BitAnd = word.BitAnd
+operator operators.BitOr = word.BitOr
+operator operators.BitXor = word.BitXor
+
+abbrev pub relation : Relation → word.Relation
+relation relations.Less = word.Less
+relation relations.AtMost = word.AtMost
+relation relations.More = word.More
+relation relations.AtLeast = word.AtLeast
+relation relations.Equal = word.Equal
+relation relations.Unequal = word.Unequal
 
 abbrev pub space : Space → core.Space
 space spaces.Global = core.Global

@@ -12,7 +12,7 @@ use Rattle.core_code.specs.View.{kernel as core_seen}
 use Rattle.core_code.specs.declared.tree.Core.{Core}
 use Rattle.walk.specs.Straight.{steps}
 use Rattle.walk.specs.Trees.{Obligation}
-use Rattle.walk.specs.declared.error.WalkError.TheVariants as walks
+use Rattle.facts.specs.declared.error.WalkError.TheVariants as walks
 use Rattle.plain.specs.Domains.{domain}
 use Rattle.plain.specs.Claims.{is_range}
 use Rattle.plain.specs.Kernels.{IsPlain, has_signed}

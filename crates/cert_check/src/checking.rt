@@ -11,7 +11,7 @@ ghost use Rattle.syntax.specs.View.{kernel as tree_seen};
 ghost use Rattle.core_code.specs.View.{kernel as core_seen};
 ghost use Rattle.reading.specs.Kernels.{read};
 ghost use Rattle.reading.specs.Answers.{kernel_seen};
-ghost use Rattle.walk.specs.View.{three};
+ghost use Rattle.facts.specs.View.{three};
 ghost use Rattle.walk.specs.Straight.{is_straight, steps};
 ghost use Rattle.two_thread.specs.Shown.{IsShown};
 ghost use Rattle.certificate.specs.View.{entry as entry_seen};

@@ -7,7 +7,8 @@ ghost use Rattle.semantics.specs.Setup.{IsPlace, group_of, group_size, group_cou
 ghost use Rattle.semantics.specs.Rounds.{log_of, group_log};
 ghost use Rattle.core_code.specs.View.{kernel as core_seen};
 ghost use Rattle.launch.specs.View.{launch as launch_seen, counts as counts_seen};
-ghost use Rattle.walk.specs.Straight.{are_sizes, is_straight_body};
+ghost use Rattle.facts.specs.Launching.{are_sizes};
+ghost use Rattle.walk.specs.Straight.{is_straight_body};
 ghost use Rattle.cert_check.specs.View.{typed_of, kept};
 ghost use Rattle.cert_check.specs.Accepting.{at};
 ghost use Rattle.write_log.specs.Written.{written};

@@ -9,7 +9,7 @@ use Rattle.walk.specs.Straight.{is_straight_statement, is_straight_body}
 use Rattle.walk.specs.Collected.{Found, Met, collect, state_of}
 use Rattle.walk.specs.Leads.{Steps}
 use Rattle.walk.specs.Refusals.{Refused, Stops, IsNoStraightStatement, IsNoStraightBody}
-use Rattle.walk.specs.declared.error.WalkError.{WalkError}
+use Rattle.facts.specs.declared.error.WalkError.{WalkError}
 use Rattle.walk.proofs.Refusing.{and_left, and_right, loosened}
 
 pub body_end : {E : Type 0} (s : Setting E) (b : List Statement) (i : ℕ) (m : Met E) → length b ≤ i → collect m.found (walk_all s (statements (drop i b)) (state_of m) (λ st. Leaf)) ≡ m.found

@@ -9,14 +9,13 @@ ghost use Rattle.walk.specs.Leads.{Steps};
 ghost use Rattle.walk.specs.Refusals.{AreNoStraightTerms, IsNoStraightStatement, IsNoStraightBody, Refused, Stops};
 ghost use Rattle.walk.specs.View.{met, setting as seen};
 
-use crate::error::WalkError;
-use crate::forms::{Which, less_number, once_length};
 use crate::path::Path;
 use crate::ranges::claim;
 use crate::setting::Setting;
 use crate::terms::walk_term;
 use core_code::tree::{Statement, Term};
 use domain::Domain;
+use facts::{WalkError, Which, less_number, once_length};
 use linear::Form;
 use std::alloc::Global;
 

@@ -3,11 +3,11 @@
 ghost use Rattle.std.specs.Prelude.{◌≡◌};
 
 use certificate::error::CertError;
+use facts::WalkError;
 use launch_text::error::LaunchTextError;
 use reading::KernelError;
 use std::alloc::{AllocError, AllocFailed};
 use thiserror::Error;
-use walk::WalkError;
 
 /// Why what is to be shown of a kernel is not shown, or want of memory.
 #[derive(Debug, Drop, Error)]

@@ -10,8 +10,9 @@ use Rattle.texts.specs.Ended.{EndsOnce}
 use Rattle.texts.specs.KernelGrammar.{IsKernel}
 use Rattle.texts.specs.KernelLimits.{IsKept, IsWithinLimits}
 use Rattle.texts.specs.Surface as surface
-use Rattle.syntax.specs.View.{site, kernel}
-use Rattle.syntax.specs.declared.tree.Site.{Site}
+use Rattle.syntax.specs.View.{kernel}
+use Rattle.core_code.specs.View.{site}
+use Rattle.core_code.specs.declared.tree.Site.{Site}
 use Rattle.syntax.specs.declared.tree.Kernel.{Kernel}
 use Rattle.parser.specs.Reader.{Outcome, Took, Refused, front, run}
 use Rattle.parser.specs.Kernels.{kernel_reader}

@@ -2,9 +2,9 @@
 
 ghost use Rattle.std.specs.Prelude.{◌≡◌};
 
+use core_code::tree::Site;
 use lexer::Token;
 use std::alloc::{AllocError, AllocFailed};
-use syntax::tree::Site;
 use thiserror::Error;
 
 /// Another token is due, the tree or its brackets are too deep, or there is too much of something.

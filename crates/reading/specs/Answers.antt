@@ -5,11 +5,12 @@ use Rattle.lexer.specs.declared.TextError.TheVariants as texts
 use Rattle.parser.specs.View as parser
 use Rattle.parser.specs.Parsed as parsed
 use Rattle.parser.specs.declared.error.ParseError.TheVariants as trees
-use Rattle.syntax.specs.View.{site, kernel}
+use Rattle.syntax.specs.View.{kernel}
+use Rattle.core_code.specs.View.{site}
 use Rattle.syntax.specs.declared.tree.Kernel as tree
 use Rattle.types.specs.Answers as types
-use Rattle.types.specs.View as core
-use Rattle.types.specs.declared.core_tree.Core.{Core}
+use Rattle.core_code.specs.View as core
+use Rattle.core_code.specs.declared.tree.Core.{Core}
 use Rattle.types.specs.declared.error.TypeError.TheVariants as typing
 use Rattle.reading.specs.Kernels.{Kernel, Read, OfText, OfTree, OfTypes}
 use Rattle.reading.specs.declared.KernelError.{KernelError}

@@ -1,12 +1,12 @@
 // Texts to trees and to typed kernels.
 
 use crate::read_kernel;
+use core_code::tree::{Operator, Site, Statement, Term};
 use lexer::lex;
 use parser::parse;
 use std::alloc::Global;
 use std::test::Fail;
-use syntax::tree::{Expr, InfixSign, Operator, Site, Stmt};
-use types::core_tree::{Statement, Term};
+use syntax::tree::{Expr, InfixSign, Stmt};
 
 /// A text with local sizes 64, 1, 1, up to its body on the third line.
 fn text_of(alloc: Global, parameters: &str, body: &str) -> Result<String, Fail> {

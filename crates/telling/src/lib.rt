@@ -8,13 +8,13 @@ use cert_check::check;
 use cert_check::error::{CheckError, ShowError};
 use certificate::error::CertError;
 use executor::{RunError, run};
+use facts::WalkError;
 use launch_text::error::LaunchTextError;
 use launch_text::{read_launch, write_buffers};
 use std::alloc::{AllocError, Global};
 use std::fmt::Display;
 use std::sync::Wait;
 use std::thread::Threads;
-use walk::WalkError;
 use words::Open;
 
 /// What the program answers of texts: what it writes, or the line that refuses them.

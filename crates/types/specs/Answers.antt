@@ -6,10 +6,10 @@ use Rattle.texts.specs.TypeFaults as rules
 use Rattle.texts.specs.TypeFaults.{Checked}
 use Rattle.texts.specs.Typing as typing
 use Rattle.words.specs.View.{kind}
-use Rattle.syntax.specs.View.{site}
+use Rattle.core_code.specs.View.{site}
 use Rattle.words.specs.declared.word.Kind.{Kind}
-use Rattle.types.specs.View.{array, term}
-use Rattle.types.specs.declared.core_tree.Array.{Array}
+use Rattle.core_code.specs.View.{array, term}
+use Rattle.core_code.specs.declared.tree.Array.{Array}
 use Rattle.types.specs.declared.error.TypeFault.{TypeFault}
 use Rattle.types.specs.declared.error.TypeFault.TheVariants as faults
 use Rattle.types.specs.declared.error.TypeError.{TypeError}

@@ -5,14 +5,15 @@ ghost use Rattle.texts.specs.Elaboration as elaboration;
 ghost use Rattle.texts.specs.Scope as scoping;
 ghost use Rattle.texts.specs.TypeFaults as rules;
 ghost use Rattle.words.specs.View.{kind as kind_of};
-ghost use Rattle.syntax.specs.View.{site, parameter as parameter_of};
+ghost use Rattle.syntax.specs.View.{parameter as parameter_of};
+ghost use Rattle.core_code.specs.View.{site};
 ghost use Rattle.types.specs.Names.{scope_seen, meaning_seen};
 ghost use Rattle.types.specs.Answers.{Gives};
 
-use crate::core_tree::{Array, LocalArray, Space};
 use crate::error::{TypeError, TypeFault};
 use crate::scope::{Binding, Meaning, Scope, meaning_of};
-use syntax::tree::{Parameter, Site};
+use core_code::tree::{Array, LocalArray, Site, Space};
+use syntax::tree::Parameter;
 use words::Kind;
 
 #[tactic(auto, unfolding(texts::specs::Scope::reserved_names))]

@@ -2,8 +2,8 @@
 
 ghost use Rattle.std.specs.Prelude.{◌≡◌};
 
+use core_code::tree::Site;
 use std::alloc::{AllocError, AllocFailed};
-use syntax::tree::Site;
 use thiserror::Error;
 
 /// A broken typing rule.

@@ -6,3 +6,4 @@ pub mod Lacking
 pub mod Names
 pub mod Refusing
 pub mod Plainly
+pub mod Numbers

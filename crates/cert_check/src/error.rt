@@ -1,13 +1,24 @@
 //! Why a kernel is refused.
 
 ghost use Rattle.std.specs.Prelude.{◌≡◌};
+ghost use Rattle.cert_check.specs.Numbers as numbers;
 
-use certificate::error::CertError;
+use certificate::error::{CertError, CertFault};
 use launch_text::error::LaunchTextError;
+use lexer::TextError;
+use parser::error::ParseError;
 use reading::KernelError;
 use std::alloc::{AllocError, AllocFailed};
 use thiserror::Error;
+use types::error::TypeError;
 use walk::WalkError;
+
+/// Where a refusal points: a place of the kernel's text; or a number, that of a line or of an obligation.
+#[derive(Clone, Copy, Debug, PartialEq, Eq)]
+pub enum Place {
+    At { line: u32, column: u32 },
+    Number(u64),
+}
 
 /// Why what is to be shown of a kernel is not shown, or want of memory.
 #[derive(Debug, Drop, Error)]
@@ -20,7 +31,7 @@ pub enum ShowError {
     Walk(WalkError),
     #[error("56")]
     OverBudget,
-    #[error("out of memory")]
+    #[error("90")]
     Memory,
 }
 
@@ -35,6 +46,112 @@ pub enum CheckError {
     Certificate(CertError),
     #[error("{0}")]
     Show(ShowError),
+}
+
+/// The number of a walk's refusal.
+fn walk_number(error: &WalkError) -> u8
+    ensures { result ≡ numbers.walk_number error.now }
+{
+    match error {
+        WalkError::TooMany => 53,
+        WalkError::TooLarge => 54,
+        WalkError::Outside => 52,
+        WalkError::Memory => 90,
+    }
+}
+
+/// Where a walk's refusal points.
+fn walk_place(error: &WalkError) -> Option<Place>
+    ensures { result ≡ numbers.walk_place error.now }
+{
+    match error {
+        WalkError::TooMany => Some(Place::At { line: 1, column: 1 }),
+        WalkError::Outside => Some(Place::Number(0)),
+        WalkError::TooLarge | WalkError::Memory => None,
+    }
+}
+
+/// Where a refusal of the kernel's text points.
+fn kernel_place(error: &KernelError) -> Option<Place>
+    ensures { result ≡ numbers.kernel_place error.now }
+{
+    match error {
+        KernelError::Text(TextError::At { line, column, .. }) => Some(Place::At {
+            line: *line,
+            column: *column,
+        }),
+        KernelError::Tree(ParseError::At { site, .. })
+        | KernelError::Types(TypeError::At { site, .. }) => Some(Place::At {
+            line: site.line,
+            column: site.column,
+        }),
+        _ => None,
+    }
+}
+
+impl ShowError {
+    ghost use Rattle.cert_check.specs.Numbers.{show_number, show_place};
+
+    /// The number that it is printed under.
+    pub fn number(&self) -> u8
+        ensures { result ≡ show_number self.now }
+    {
+        match self {
+            ShowError::NotShown(_) => 52,
+            ShowError::Walk(error) => walk_number(error),
+            ShowError::OverBudget => 56,
+            ShowError::Memory => 90,
+        }
+    }
+
+    /// Where it points.
+    pub fn place(&self) -> Option<Place>
+        ensures { result ≡ show_place self.now }
+    {
+        match self {
+            ShowError::NotShown(number) => Some(Place::Number(*number)),
+            ShowError::Walk(error) => walk_place(error),
+            ShowError::OverBudget | ShowError::Memory => None,
+        }
+    }
+}
+
+impl CheckError {
+    ghost use Rattle.cert_check.specs.Numbers.{error_number, error_place};
+
+    /// The number that it is printed under.
+    pub fn number(&self) -> u8
+        ensures { result ≡ error_number self.now }
+    {
+        match self {
+            CheckError::Kernel(error) => error.number(),
+            CheckError::Conditions(LaunchTextError::Refused { fault, .. }) => fault.number(),
+            CheckError::Certificate(CertError::Refused { fault, .. }) => fault.number(),
+            CheckError::Conditions(LaunchTextError::Memory)
+            | CheckError::Certificate(CertError::Memory) => 90,
+            CheckError::Show(error) => error.number(),
+        }
+    }
+
+    /// Where it points. The version of a certificate has no place.
+    pub fn place(&self) -> Option<Place>
+        ensures { result ≡ error_place self.now }
+    {
+        match self {
+            CheckError::Kernel(error) => kernel_place(error),
+            CheckError::Conditions(LaunchTextError::Refused { line, .. }) => {
+                Some(Place::Number(*line as u64))
+            }
+            CheckError::Certificate(
+                CertError::Refused {
+                    fault: CertFault::BadLine,
+                    line,
+                },
+            ) => Some(Place::Number(*line as u64)),
+            CheckError::Conditions(_) | CheckError::Certificate(_) => None,
+            CheckError::Show(error) => error.place(),
+        }
+    }
 }
 
 impl From<WalkError> for ShowError {

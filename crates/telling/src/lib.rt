@@ -1,20 +1,19 @@
 //! What the program says of texts: it checks them, or runs an accepted kernel, and tells the answer or the refusal.
 #![tactic(auto)]
 
-ghost use Rattle.std.specs.Prelude.{ℕ, List};
-ghost use Rattle.telling.specs.Telling.{Checks, Runs};
+ghost use Rattle.telling.specs.Telling.{Checks, Runs, IsRefusal};
+
+mod refusal;
 
 use cert_check::check;
-use cert_check::error::{CheckError, ShowError};
-use certificate::error::{CertError, CertFault};
+use cert_check::error::{CheckError, Place};
 use executor::{RunError, run};
 use launch_text::error::LaunchTextError;
 use launch_text::{read_launch, write_buffers};
-use std::alloc::{AllocError, Global};
-use std::fmt::Display;
+use refusal::Refusal;
+use std::alloc::Global;
 use std::sync::Wait;
 use std::thread::Threads;
-use walk::WalkError;
 use words::Open;
 
 /// What the program answers of texts: what it writes, or the line that refuses them.
@@ -33,78 +32,50 @@ pub struct Texts<'a> {
     pub certificate: &'a [u8],
 }
 
-/// Memory was refused.
-fn is_memory(error: &CheckError) -> bool {
-    match error {
-        CheckError::Kernel(error) => error.number() == 90,
-        CheckError::Conditions(LaunchTextError::Memory)
-        | CheckError::Certificate(CertError::Memory)
-        | CheckError::Show(ShowError::Walk(WalkError::Memory) | ShowError::Memory) => true,
-        _ => false,
-    }
-}
+/// The number of want of memory.
+const MEMORY: u8 = 90;
 
-/// The version of a certificate has no place.
-fn is_version(error: &CheckError) -> bool {
-    match error {
-        CheckError::Certificate(
-            CertError::Refused {
-                fault: CertFault::OtherVersion,
-                ..
-            },
-        ) => true,
-        _ => false,
-    }
-}
-
-/// The line of a refusal, or want of memory.
-fn line_of(line: Result<String, AllocError>) -> Verdict
-    ensures { (kernel conditions launch : List ℕ) → Checks result kernel conditions × Runs result kernel conditions launch }
+/// A refusal by a number and where it points, or want of memory.
+fn refused(alloc: Global, number: u8, place: Option<Place>) -> Verdict
+    ensures { IsRefusal result }
 {
-    match line {
+    if number == MEMORY {
+        return Verdict::OutOfMemory;
+    }
+    match (Refusal { number, place }).line(alloc) {
         Ok(line) => Verdict::Refused(line),
         Err(_) => Verdict::OutOfMemory,
     }
 }
 
-/// A refusal: its number, and its place where it has one.
-fn refused(alloc: Global, refusal: &impl Display) -> Verdict
-    ensures { (kernel conditions launch : List ℕ) → Checks result kernel conditions × Runs result kernel conditions launch }
-{
-    line_of(format!(in alloc; "refused {refusal}\n"))
-}
-
 /// What is said where a kernel is not accepted.
 fn unaccepted(alloc: Global, error: &CheckError) -> Verdict
-    ensures { (kernel conditions launch : List ℕ) → Checks result kernel conditions × Runs result kernel conditions launch }
+    ensures { IsRefusal result }
 {
-    if is_memory(error) {
-        return Verdict::OutOfMemory;
-    }
-    if is_version(error) {
-        return refused(alloc, &51);
-    }
-    refused(alloc, error)
+    refused(alloc, error.number(), error.place())
 }
 
 /// What is said where a launch is not read.
 fn unread(alloc: Global, error: &LaunchTextError) -> Verdict
-    ensures { (kernel conditions launch : List ℕ) → Checks result kernel conditions × Runs result kernel conditions launch }
+    ensures { IsRefusal result }
 {
     match error {
+        LaunchTextError::Refused { fault, line } => {
+            refused(alloc, fault.number(), Some(Place::Number(*line as u64)))
+        }
         LaunchTextError::Memory => Verdict::OutOfMemory,
-        _ => refused(alloc, error),
     }
 }
 
 /// What is said where a launch is not run.
 fn not_run(alloc: Global, error: &RunError) -> Verdict
-    ensures { (kernel conditions launch : List ℕ) → Checks result kernel conditions × Runs result kernel conditions launch }
+    ensures { IsRefusal result }
 {
-    match error {
-        RunError::Memory => Verdict::OutOfMemory,
-        _ => refused(alloc, error),
-    }
+    let place = match error.place() {
+        Some(line) => Some(Place::Number(line as u64)),
+        None => None,
+    };
+    refused(alloc, error.number(), place)
 }
 
 /// Whether a kernel is accepted: `accepted`, or why not.

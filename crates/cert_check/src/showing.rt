@@ -12,7 +12,7 @@ ghost use Rattle.certificate.specs.View.{scaled as scaled_seen, step as step_see
 ghost use Rattle.cut_proof.specs.View.{line as line_seen};
 ghost use Rattle.cert_check.specs.Entries as entries;
 ghost use Rattle.cert_check.specs.Entries.{IsTable, entry_of, has_entry, is_past};
-ghost use Rattle.cert_check.specs.Lacking.{AllPass, AreUnfit, ArePassed, IsStopped, Names, Passes, Stops, Tells};
+ghost use Rattle.cert_check.specs.Lacking.{AllPass, AreUnfit, ArePassed, IsStopped, Lacks, Names, Passes, Stops};
 ghost use Rattle.cert_check.specs.Owing.{owed, nth_claim, nth_pair, seen_claims, all_owed, denials_fit, found_pairs, findings_fit};
 ghost use Rattle.two_thread.specs.Fitting.{pairs_fit};
 ghost use Rattle.two_thread.specs.Refusals.{IsInside};
@@ -277,7 +277,7 @@ pub fn show_found<D: Domain>(
     requires table { IsTable (map entry_seen entries.now) places.now }
     ensures shown { IfOk result (λ _. All IsShown (all_owed D.Domain found.now)) }
     ensures passed { IfOk result (λ _. ArePassed (map entry_seen entries.now) (all_owed D.Domain found.now)) }
-    ensures lacks { IfErr result (Tells (map entry_seen entries.now) (all_owed D.Domain found.now) (AreUnfit (findings_fit found.now))) }
+    ensures lacks { IfErr result (Names (Lacks (map entry_seen entries.now) (all_owed D.Domain found.now)) (AreUnfit (findings_fit found.now))) }
 {
     let launch = found.launch.as_slice();
     show_claims(alloc, launch, &found.first, entries, places)?;

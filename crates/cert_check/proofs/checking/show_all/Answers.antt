@@ -4,9 +4,9 @@ use Rattle.certificate.specs.View.{entry}
 use Rattle.two_thread.specs.Shown.{IsShown}
 use Rattle.types.specs.View.{kernel}
 use Rattle.launch.specs.View.{conditions}
-use Rattle.cert_check.specs.Lacking.{ArePassed, AreUnfit, Lacks, IsUnwalked, Tells, owing}
+use Rattle.cert_check.specs.Lacking.{ArePassed, AreUnfit, Lacks, IsUnwalked, Names, Tells, owing}
 use Rattle.cert_check.specs.Owing.{all_owed, findings_fit}
-use Rattle.cert_check.proofs.Unshown.{gains, owed_length, mapped, named}
+use Rattle.cert_check.proofs.Unshown.{gains, owed_length, mapped, told_few}
 use Rattle.cert_check.proofs.Walked.{unfit_unwalked}
 use Rattle.cert_check.proofs.checking.show_all.Goals as goal
 
@@ -20,8 +20,9 @@ returns-clause-lacks g c =
     let cs = conditions c.args.conditions.now in
     let es = map entry c.args.entries.now in
     let f = c.in_ok-found.found in
-    mapped c.show_found.result (Tells es (all_owed d f) (AreUnfit (findings_fit f))) (Tells es (owing d k cs es) (IsUnwalked d k cs es))
-    (λ e t. subst (λ os. Tells es os (IsUnwalked d k cs es) e) c.in_ok-found.ensures.owed (named (Lacks es (all_owed d f)) (Lacks es (all_owed d f)) (AreUnfit (findings_fit f)) (IsUnwalked d k cs es) e (λ n s. s) (unfit_unwalked d k cs es (findings_fit f) c.in_ok-found.ensures.fits) t)) c.show_found.ensures.lacks
+    let few : length (all_owed d f) ≤ 65536 = omega (arith, owed_length d f, c.in_ok-found.ensures.few) in
+    mapped c.show_found.result (Names (Lacks es (all_owed d f)) (AreUnfit (findings_fit f))) (Tells es (owing d k cs es) (IsUnwalked d k cs es))
+    (λ e t. subst (λ os. Tells es os (IsUnwalked d k cs es) e) c.in_ok-found.ensures.owed (told_few es (all_owed d f) (AreUnfit (findings_fit f)) (IsUnwalked d k cs es) e few (unfit_unwalked d k cs es (findings_fit f) c.in_ok-found.ensures.fits) t)) c.show_found.ensures.lacks
 
 pub returns-clause-passed : goal.returns-clause-passed
 returns-clause-passed g c =

@@ -10,7 +10,7 @@ use Rattle.two_thread.specs.declared.pairs.Pair.{Pair}
 use Rattle.two_thread.specs.View.{pair, seen_accesses}
 use Rattle.two_thread.specs.Shown.{IsShown}
 use Rattle.cert_check.specs.Entries.{is_past}
-use Rattle.cert_check.specs.Lacking.{AllPass, AreUnfit, Lacks, Names, Stops, Tells}
+use Rattle.cert_check.specs.Lacking.{AllPass, AreUnfit, Lacks, Names, Stops}
 use Rattle.cert_check.specs.Owing.{owed, seen_claims, claims_owed, pairs_owed, all_owed, denials_fit, found_pairs, findings_fit}
 use Rattle.two_thread.specs.Fitting.{pairs_fit}
 use Rattle.cert_check.proofs.Walked.{unfit_left, unfit_right}
@@ -28,7 +28,7 @@ returns-in_err-show_pairs-clause-lacks g c =
     let said : List Form → List Pair → Type 0 = λ l ps. Names (Stops es m (map (pair_obligation g.D.Domain (known_seen f.setting.known) (forms l)) (found_pairs f.first f.second ps))) (AreUnfit (pairs_fit (found_pairs f.first f.second ps))) e in
     let n : said c.as_slice-launch.result.now c.as_slice.result.now = search rules in
     let p : AllPass es 0 (claims_owed f) = subst (λ l. AllPass es 0 (map (owed (forms l)) (seen_claims f.first))) c.as_slice-launch.ensures.value c.in_ok-show_claims.ensures.passes in
-    passed c.from_residual-in_err-show_pairs.result e (Tells es (all_owed g.D.Domain f) (AreUnfit (findings_fit f))) c.from_residual-in_err-show_pairs.ensures.1
+    passed c.from_residual-in_err-show_pairs.result e (Names (Lacks es (all_owed g.D.Domain f)) (AreUnfit (findings_fit f))) c.from_residual-in_err-show_pairs.ensures.1
     (named (Stops es m (pairs_owed g.D.Domain f)) (Lacks es (all_owed g.D.Domain f)) (AreUnfit b) (AreUnfit (findings_fit f)) e (λ k s. back_stops es (claims_owed f) (pairs_owed g.D.Domain f) m k (claims_length f) p s) (unfit_right a b) (subst (λ l. said l f.pairs.items) c.as_slice-launch.ensures.value (subst (said c.as_slice-launch.result.now) c.as_slice.ensures.value n)))
 
 pub returns-in_err-show_claims-clause-lacks : goal.returns-in_err-show_claims-clause-lacks
@@ -40,13 +40,22 @@ returns-in_err-show_claims-clause-lacks g c =
     let b = pairs_fit (found_pairs f.first f.second f.pairs.items) in
     let said : List Form → Type 0 = λ l. Names (Stops es 0 (map (owed (forms l)) (seen_claims f.first))) (AreUnfit a) e in
     let n : said c.as_slice-launch.result.now = search rules in
-    passed c.from_residual.result e (Tells es (all_owed g.D.Domain f) (AreUnfit (findings_fit f))) c.from_residual.ensures.1
+    passed c.from_residual.result e (Names (Lacks es (all_owed g.D.Domain f)) (AreUnfit (findings_fit f))) c.from_residual.ensures.1
     (named (Stops es 0 (claims_owed f)) (Lacks es (all_owed g.D.Domain f)) (AreUnfit a) (AreUnfit (findings_fit f)) e (λ k s. front_stops es (claims_owed f) (pairs_owed g.D.Domain f) k s) (unfit_left a b) (subst said c.as_slice-launch.ensures.value n))
 
 pub returns-then-any_past-clause-lacks : goal.returns-then-any_past-clause-lacks
 returns-then-any_past-clause-lacks g c =
-    let n : length (all_owed g.D.Domain c.args.found.now) ≡ c.len.result + c.len-2.result = omega (arith, owed_length g.D.Domain c.args.found.now, c.len.ensures, c.len-2.ensures) in
-    ap (is_past (map entry c.args.entries.now)) n ∙ sym c.if-any_past.ensures
+    let f = c.args.found.now in
+    let es = map entry c.args.entries.now in
+    let us = seen_accesses f.first in
+    let vs = seen_accesses f.second in
+    let m = length f.first.claims.items in
+    let o = λ (l : List Form). pair_obligation g.D.Domain (known_seen f.setting.known) (forms l) in
+    let a : AllPass es 0 (claims_owed f) = subst (λ l. AllPass es 0 (map (owed (forms l)) (seen_claims f.first))) c.as_slice-launch.ensures.value c.in_ok-show_claims.ensures.passes in
+    let b : AllPass es m (pairs_owed g.D.Domain f) = subst (λ l. AllPass es m (map (o l) (map (pair us vs) f.pairs.items))) c.as_slice-launch.ensures.value
+    (subst (λ ps. AllPass es m (map (o c.as_slice-launch.result.now) (map (pair us vs) ps))) c.as_slice.ensures.value c.in_ok-show_pairs.ensures.passes) in
+    let n : length (all_owed g.D.Domain f) ≡ c.len.result + c.len-2.result = omega (arith, owed_length g.D.Domain f, c.len.ensures, c.len-2.ensures) in
+    (both_pass es (claims_owed f) (pairs_owed g.D.Domain f) m (claims_length f) a b, ap (is_past es) n ∙ sym c.if-any_past.ensures)
 
 pub returns-clause-shown : goal.returns-clause-shown
 returns-clause-shown g c =

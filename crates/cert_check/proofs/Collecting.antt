@@ -5,14 +5,15 @@ use Rattle.semantics.specs.Launch.{Three, Kernel}
 use Rattle.semantics.specs.Conditions.{Conditions}
 use Rattle.domain.specs.declared.Domain.{Ghosts}
 use Rattle.words.specs.View.{kind}
-use Rattle.walk.specs.Symbols.{Which, Fact, First, Second}
-use Rattle.walk.specs.Elements.{Known}
-use Rattle.walk.specs.Launching.{launch_facts, item_facts, known}
+use Rattle.facts.specs.Symbols.{Which, Fact, First, Second}
+use Rattle.facts.specs.Elements.{Known}
+use Rattle.facts.specs.Launching.{launch_facts, item_facts, known}
 use Rattle.walk.specs.Trees.{Tree, Leaf, Claim, Know, Touch, Access, claims, accesses}
 use Rattle.walk.specs.Walks.{Setting, setting, tree}
-use Rattle.walk.specs.View.{known_seen, which, three, setting as seen}
+use Rattle.facts.specs.View.{known_seen, which, three}
+use Rattle.walk.specs.View.{setting as seen}
 use Rattle.walk.specs.declared.setting.Setting as code
-use Rattle.walk.specs.declared.forms.Which as items
+use Rattle.facts.specs.declared.forms.Which as items
 use Rattle.walk.specs.Collected.{Found, collect, opening, add_claim, add_fact, add_access}
 use Rattle.two_thread.specs.Pairs.{Pair, pairs_from, pairs_of, pair_obligation}
 use Rattle.two_thread.specs.Shown.{obligations, pairs, item_claims, item_accesses}

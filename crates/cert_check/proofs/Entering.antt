@@ -1,7 +1,6 @@
 -- The entries of a certificate, and a table of their places.
-use Rattle.std.proofs.Common.{◌≡◌, ℕ, zero, suc, ◌+◌, ◌<◌, ◌≤◌, Bool, true, false, cond, ◌&&◌, nat_eq, nat_le, List, [], ◌∷◌, ◌++◌, length, map, drop, set, get_or, replicate, append_assoc, append-nil, refl, inl, inr, ap, sym, ◌∙◌, arith}
+use Rattle.std.proofs.Common.{◌≡◌, ℕ, zero, suc, ◌+◌, ◌<◌, ◌≤◌, Bool, true, false, cond, ◌&&◌, nat_eq, nat_le, List, [], ◌∷◌, ◌++◌, length, map, drop, set, get_or, replicate, append_assoc, append-nil, refl, inl, inr, ap, sym, ◌∙◌, arith, Bor}
 use Rattle.std.specs.Prelude.{Option, None, Some, IfSome, MatchOption, is_some}
-use Rattle.std.proofs.Common.{Bor}
 use Rattle.std.proofs.lemmas.Bool.{cases_eq, cases_lt}
 use Rattle.std.proofs.lemmas.Bool.Decides.{nat_tests}
 use Rattle.std.proofs.lemmas.List.{map-append, length-set, length-replicate, drop_more, drop_all, set_past, get_or-set_same, get_or-set_other, get_or_past, get_or_push, get_or_append_left, length-append}

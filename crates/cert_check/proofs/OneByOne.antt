@@ -8,7 +8,7 @@ use Rattle.std.proofs.lemmas.List.Elements.{All-from_get_or, All-get_or}
 use Rattle.semantics.specs.Linear.{IsImpossible}
 use Rattle.linear.specs.Forms.{form, forms}
 use Rattle.linear.specs.declared.form.Form.{Form}
-use Rattle.walk.specs.Symbols.{Fact, denial}
+use Rattle.facts.specs.Symbols.{Fact, denial}
 use Rattle.walk.specs.Trees.{Obligation}
 use Rattle.walk.specs.Before.{HasFacts}
 use Rattle.walk.specs.View.{met, claim_seen}

@@ -5,7 +5,7 @@ use Rattle.semantics.specs.Launch.{Kernel}
 use Rattle.semantics.specs.Conditions.{Conditions}
 use Rattle.texts.specs.Certificate.{Certificate}
 use Rattle.texts.specs.Surface.{Parameter}
-use Rattle.walk.specs.declared.error.WalkError.TheVariants as walks
+use Rattle.facts.specs.declared.error.WalkError.TheVariants as walks
 use Rattle.plain.specs.Domains.{domain}
 use Rattle.plain.specs.Kernels.{HasLimits, IsPlain}
 use Rattle.plain.proofs.Plainly.{plain-straight, plain-fits, plain-range}

@@ -9,10 +9,10 @@ use Rattle.domain.specs.declared.Domain.{Ghosts}
 use Rattle.texts.specs.Certificate.{Entry}
 use Rattle.cut_proof.specs.Derivations.{Forms}
 use Rattle.linear.specs.Forms.{form, forms}
-use Rattle.walk.specs.Symbols.{Fact, denial}
+use Rattle.facts.specs.Symbols.{Fact, denial}
 use Rattle.walk.specs.Collected.{Claimed}
 use Rattle.walk.specs.Trees.{Obligation}
-use Rattle.walk.specs.declared.error.WalkError.{WalkError}
+use Rattle.facts.specs.declared.error.WalkError.{WalkError}
 use Rattle.walk.specs.declared.path.Path.{Path}
 use Rattle.walk.specs.declared.path.Claim.{Claim}
 use Rattle.two_thread.specs.View.{pair, seen_accesses}

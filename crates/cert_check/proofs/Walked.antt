@@ -7,16 +7,17 @@ use Rattle.domain.specs.declared.Domain.{Ghosts}
 use Rattle.linear.specs.Exact.{fits}
 use Rattle.linear.specs.Forms.{form}
 use Rattle.texts.specs.Certificate.{Entry}
-use Rattle.walk.specs.Symbols.{Fact, First, Second, denial}
-use Rattle.walk.specs.Straight.{are_sizes, is_straight, is_straight_body}
-use Rattle.walk.specs.Launching.{launch_facts, item_facts, known}
+use Rattle.facts.specs.Symbols.{Fact, First, Second, denial}
+use Rattle.facts.specs.Launching.{are_sizes, launch_facts, item_facts, known}
+use Rattle.walk.specs.Straight.{is_straight, is_straight_body}
 use Rattle.walk.specs.View.{met}
 use Rattle.walk.specs.Trees.{Tree, Leaf, Claim, Know, Touch, claims}
 use Rattle.walk.specs.Collected.{Claimed, Found, opening}
 use Rattle.walk.specs.Walks.{setting, tree}
-use Rattle.walk.specs.Refusals.{IsMemory, IsUnfit, IsNoStraightBody, Refused, are_fit, all_fit}
-use Rattle.walk.specs.declared.error.WalkError.{WalkError}
-use Rattle.walk.specs.declared.error.WalkError.TheVariants as walks
+use Rattle.facts.specs.Refusals.{IsMemory, IsUnfit}
+use Rattle.walk.specs.Refusals.{IsNoStraightBody, Refused, are_fit, all_fit}
+use Rattle.facts.specs.declared.error.WalkError.{WalkError}
+use Rattle.facts.specs.declared.error.WalkError.TheVariants as walks
 use Rattle.walk.specs.declared.path.Claim as code
 use Rattle.walk.specs.declared.path.Path.{Path}
 use Rattle.walk.proofs.TwinTrees.{Same}

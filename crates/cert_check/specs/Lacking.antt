@@ -8,8 +8,8 @@ use Rattle.walk.specs.Straight.{is_straight, steps}
 use Rattle.walk.specs.Trees.{Obligation}
 use Rattle.two_thread.specs.Shown.{obligations}
 use Rattle.two_thread.specs.Fitting.{forms_fit}
-use Rattle.walk.specs.declared.error.WalkError.{WalkError}
-use Rattle.walk.specs.declared.error.WalkError.TheVariants as walks
+use Rattle.facts.specs.declared.error.WalkError.{WalkError}
+use Rattle.facts.specs.declared.error.WalkError.TheVariants as walks
 use Rattle.cert_check.specs.Entries.{has_entry, is_refuted, is_past}
 use Rattle.cert_check.specs.declared.error.ShowError.{ShowError}
 use Rattle.cert_check.specs.declared.error.ShowError.TheVariants as errors

@@ -1,11 +1,12 @@
 -- What is to be shown of what was found: the claims of the first item's path, then the pairs.
 use Rattle.std.specs.Prelude.{ℕ, pos, List, [], ◌∷◌, ◌++◌, map, get_or, Bool, false, ◌&&◌}
-use Rattle.walk.specs.Symbols.{Fact, constant, denial}
+use Rattle.facts.specs.Symbols.{Fact, constant, denial}
 use Rattle.domain.specs.declared.Domain.{Ghosts}
 use Rattle.linear.specs.Forms.{forms}
 use Rattle.walk.specs.Trees.{Obligation}
 use Rattle.walk.specs.Collected.{Claimed}
-use Rattle.walk.specs.View.{met, known_seen}
+use Rattle.walk.specs.View.{met}
+use Rattle.facts.specs.View.{known_seen}
 use Rattle.walk.specs.declared.path.Path.{Path}
 use Rattle.cert_check.specs.declared.findings.Findings.{Findings}
 use Rattle.walk.specs.Refusals.{are_fit}

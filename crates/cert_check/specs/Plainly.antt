@@ -8,11 +8,11 @@ use Rattle.texts.specs.CertificateReading.{certificate_of}
 use Rattle.texts.specs.Surface.{Parameter}
 use Rattle.syntax.specs.View.{kernel as tree_seen}
 use Rattle.syntax.specs.declared.tree.Kernel.{Kernel}
-use Rattle.types.specs.View.{kernel as core_seen}
-use Rattle.types.specs.declared.core_tree.Core.{Core}
+use Rattle.core_code.specs.View.{kernel as core_seen}
+use Rattle.core_code.specs.declared.tree.Core.{Core}
 use Rattle.walk.specs.Straight.{steps}
 use Rattle.walk.specs.Trees.{Obligation}
-use Rattle.walk.specs.declared.error.WalkError.TheVariants as walks
+use Rattle.facts.specs.declared.error.WalkError.TheVariants as walks
 use Rattle.plain.specs.Domains.{domain}
 use Rattle.plain.specs.Claims.{is_range}
 use Rattle.plain.specs.Kernels.{IsPlain, has_signed}

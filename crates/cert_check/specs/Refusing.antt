@@ -8,8 +8,8 @@ use Rattle.texts.specs.ConditionsReading.{Lined, conditions_of, meant}
 use Rattle.texts.specs.CertificateReading as certificates
 use Rattle.syntax.specs.View.{kernel as tree_seen}
 use Rattle.syntax.specs.declared.tree.Kernel.{Kernel}
-use Rattle.types.specs.View.{kernel as core_seen}
-use Rattle.types.specs.declared.core_tree.Core.{Core}
+use Rattle.core_code.specs.View.{kernel as core_seen}
+use Rattle.core_code.specs.declared.tree.Core.{Core}
 use Rattle.reading.specs.Kernels.{read}
 use Rattle.reading.specs.Answers as reading
 use Rattle.launch_text.specs.Answers as launches

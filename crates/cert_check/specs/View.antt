@@ -1,6 +1,6 @@
 -- What an accepted kernel keeps.
 use Rattle.syntax.specs.declared.tree.Kernel.{Kernel}
-use Rattle.types.specs.declared.core_tree.Core.{Core}
+use Rattle.core_code.specs.declared.tree.Core.{Core}
 use Rattle.launch.specs.declared.conditions.Conditions.{Conditions}
 use Rattle.cert_check.specs.declared.accepted.Accepted.{Accepted}
 

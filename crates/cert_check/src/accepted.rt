@@ -1,6 +1,6 @@
 //! Kernels that are accepted.
 
-ghost use Rattle.types.specs.View.{kernel as core_seen};
+ghost use Rattle.core_code.specs.View.{kernel as core_seen};
 ghost use Rattle.launch.specs.View.{conditions as conditions_seen};
 ghost use Rattle.cert_check.specs.Accepting.{IsAccepted, IsStraightUnder};
 

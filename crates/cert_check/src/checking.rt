@@ -8,10 +8,10 @@ ghost use Rattle.launch.specs.View.{conditions as conditions_seen};
 ghost use Rattle.launch_text.specs.View.{lined};
 ghost use Rattle.texts.specs.ConditionsReading.{conditions_of};
 ghost use Rattle.syntax.specs.View.{kernel as tree_seen};
-ghost use Rattle.types.specs.View.{kernel as core_seen};
+ghost use Rattle.core_code.specs.View.{kernel as core_seen};
 ghost use Rattle.reading.specs.Kernels.{read};
 ghost use Rattle.reading.specs.Answers.{kernel_seen};
-ghost use Rattle.walk.specs.View.{three};
+ghost use Rattle.facts.specs.View.{three};
 ghost use Rattle.walk.specs.Straight.{is_straight, steps};
 ghost use Rattle.two_thread.specs.Shown.{IsShown};
 ghost use Rattle.certificate.specs.View.{entry as entry_seen};
@@ -29,6 +29,7 @@ use crate::names::is_for_others;
 use crate::showing::{places_of, show_found};
 use certificate::tree::Entry;
 use congruence::Congruence;
+use core_code::tree::Core;
 use domain::Domain;
 use interval::Interval;
 use launch::conditions::Conditions;
@@ -41,7 +42,6 @@ use reading::read_kernel;
 use reduction::headline;
 use std::alloc::Global;
 use two_thread::laws::what_is_shown_is_pair_safe;
-use types::core_tree::Core;
 use walk::is_straight;
 
 /// All that is to be shown is shown.

@@ -3,15 +3,12 @@
 ghost use Rattle.std.specs.Prelude.{◌≡◌};
 ghost use Rattle.cert_check.specs.Numbers as numbers;
 
-use certificate::error::{CertError, CertFault};
+use certificate::error::CertError;
+use facts::WalkError;
 use launch_text::error::LaunchTextError;
-use lexer::TextError;
-use parser::error::ParseError;
 use reading::KernelError;
 use std::alloc::{AllocError, AllocFailed};
 use thiserror::Error;
-use types::error::TypeError;
-use walk::WalkError;
 
 /// Where a refusal points: a place of the kernel's text; or a number, that of a line or of an obligation.
 #[derive(Clone, Copy, Debug, PartialEq, Eq)]
@@ -71,21 +68,23 @@ fn walk_place(error: &WalkError) -> Option<Place>
     }
 }
 
-/// Where a refusal of the kernel's text points.
-fn kernel_place(error: &KernelError) -> Option<Place>
-    ensures { result ≡ numbers.kernel_place error.now }
+/// Where a refusal points that points to a line and a column.
+fn at_place(place: Option<(u32, u32)>) -> Option<Place>
+    ensures { result ≡ numbers.at_place place }
 {
-    match error {
-        KernelError::Text(TextError::At { line, column, .. }) => Some(Place::At {
-            line: *line,
-            column: *column,
-        }),
-        KernelError::Tree(ParseError::At { site, .. })
-        | KernelError::Types(TypeError::At { site, .. }) => Some(Place::At {
-            line: site.line,
-            column: site.column,
-        }),
-        _ => None,
+    match place {
+        Some((line, column)) => Some(Place::At { line, column }),
+        None => None,
+    }
+}
+
+/// Where a refusal points that points to a line.
+fn at_line(line: Option<u64>) -> Option<Place>
+    ensures { result ≡ numbers.at_line line }
+{
+    match line {
+        Some(line) => Some(Place::Number(line)),
+        None => None,
     }
 }
 
@@ -125,30 +124,20 @@ impl CheckError {
     {
         match self {
             CheckError::Kernel(error) => error.number(),
-            CheckError::Conditions(LaunchTextError::Refused { fault, .. }) => fault.number(),
-            CheckError::Certificate(CertError::Refused { fault, .. }) => fault.number(),
-            CheckError::Conditions(LaunchTextError::Memory)
-            | CheckError::Certificate(CertError::Memory) => 90,
+            CheckError::Conditions(error) => error.number(),
+            CheckError::Certificate(error) => error.number(),
             CheckError::Show(error) => error.number(),
         }
     }
 
-    /// Where it points. The version of a certificate has no place.
+    /// Where it points.
     pub fn place(&self) -> Option<Place>
         ensures { result ≡ error_place self.now }
     {
         match self {
-            CheckError::Kernel(error) => kernel_place(error),
-            CheckError::Conditions(LaunchTextError::Refused { line, .. }) => {
-                Some(Place::Number(*line as u64))
-            }
-            CheckError::Certificate(
-                CertError::Refused {
-                    fault: CertFault::BadLine,
-                    line,
-                },
-            ) => Some(Place::Number(*line as u64)),
-            CheckError::Conditions(_) | CheckError::Certificate(_) => None,
+            CheckError::Kernel(error) => at_place(error.place()),
+            CheckError::Conditions(error) => at_line(error.place().map(u64::from)),
+            CheckError::Certificate(error) => at_line(error.place().map(|line| line as u64)),
             CheckError::Show(error) => error.place(),
         }
     }

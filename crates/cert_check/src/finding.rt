@@ -3,17 +3,19 @@
 ghost use Rattle.std.specs.Prelude.{◌≡◌, ◌≤◌, ◌+◌, ℕ, map, length, slice_index_or, false, IfOk, IfErr, IsTrue};
 ghost use Rattle.std.specs.List.{All};
 ghost use Rattle.launch.specs.View.{conditions as conditions_seen};
-ghost use Rattle.types.specs.View.{kernel as core_seen};
+ghost use Rattle.core_code.specs.View.{kernel as core_seen};
 ghost use Rattle.walk.specs.Collected.{collect, opening};
-ghost use Rattle.walk.specs.Launching as launching;
-ghost use Rattle.walk.specs.View.{met, which, known_seen, setting as setting_seen};
+ghost use Rattle.facts.specs.Launching as launching;
+ghost use Rattle.walk.specs.View.{met, setting as setting_seen};
+ghost use Rattle.facts.specs.View.{which, known_seen};
 ghost use Rattle.words.specs.View.{kind};
 ghost use Rattle.walk.specs.Walks as walks;
 ghost use Rattle.certificate.specs.View.{entry as entry_seen};
 ghost use Rattle.cert_check.specs.Entries.{IsTable, has_entry};
 ghost use Rattle.cert_check.specs.Lacking.{owing, IsEarly, IsUnwalked};
 ghost use Rattle.cert_check.specs.Owing.{all_owed, findings_fit};
-ghost use Rattle.walk.specs.Refusals.{IsMemory, Refused, IsNoStraightBody};
+ghost use Rattle.facts.specs.Refusals.{IsMemory};
+ghost use Rattle.walk.specs.Refusals.{Refused, IsNoStraightBody};
 ghost use Rattle.two_thread.specs.Fitting.{forms_fit};
 ghost use Rattle.two_thread.specs.Refusals.{IsInside};
 
@@ -21,12 +23,13 @@ use crate::error::ShowError;
 use crate::findings::Findings;
 use crate::showing::flags_of;
 use certificate::tree::Entry;
+use core_code::tree::Core;
 use domain::Domain;
+use facts::{WalkError, Which, item_facts, known, launch_facts};
 use launch::conditions::Conditions;
 use std::alloc::Global;
 use two_thread::all_pairs;
-use types::core_tree::Core;
-use walk::{Path, Setting, WalkError, Which, item_facts, known, launch_facts, walk};
+use walk::{Path, Setting, walk};
 
 /// What a walk is of.
 fn setting_of<D: Domain>(

@@ -1,7 +1,7 @@
 //! What an accepted kernel keeps.
 
 ghost use Rattle.std.specs.Prelude.{◌≡◌};
-ghost use Rattle.types.specs.View.{kernel as core_seen};
+ghost use Rattle.core_code.specs.View.{kernel as core_seen};
 ghost use Rattle.launch.specs.View.{conditions as conditions_seen};
 ghost use Rattle.cert_check.specs.Accepting.{IsAccepted, IsStraightUnder};
 ghost use Rattle.cert_check.specs.View.{typed_of, kept};

@@ -4,7 +4,7 @@ ghost use Rattle.std.specs.Prelude.{◌≡◌, ◌≤◌, ◌<◌, ◌+◌, ◌�
 ghost use Rattle.std.specs.List.{All};
 ghost use Rattle.semantics.specs.Linear.{IsImpossible};
 ghost use Rattle.linear.specs.Forms.{forms};
-ghost use Rattle.walk.specs.View.{known_seen};
+ghost use Rattle.facts.specs.View.{known_seen};
 ghost use Rattle.two_thread.specs.Pairs as specs;
 ghost use Rattle.two_thread.specs.Shown.{IsShown};
 ghost use Rattle.two_thread.specs.View.{pair as pair_seen, seen_accesses};
@@ -22,10 +22,11 @@ use crate::findings::Findings;
 use certificate::tree::{Claim as Word, Entry, Scaled, Step};
 use cut_proof::{Derivation, Line, refutes};
 use domain::Domain;
+use facts::Known;
 use linear::Form;
 use std::alloc::{AllocError, Global};
 use two_thread::{Pair, claim_facts, is_apart, pair_facts};
-use walk::{Claim, Known, Path};
+use walk::{Claim, Path};
 
 /// A number of a line or a fact; one that is none, or too large to be one, is 0, which names nothing.
 fn line_number(number: i64) -> u32

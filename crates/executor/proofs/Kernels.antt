@@ -15,7 +15,8 @@ use Rattle.launch.specs.View.{argument_range, length_sum, buffer}
 use Rattle.launch.specs.declared.conditions.ArgumentRange.{ArgumentRange}
 use Rattle.launch.specs.declared.conditions.Length.{Length}
 use Rattle.words.specs.declared.word.Word as code
-use Rattle.walk.specs.Straight.{is_straight, are_sizes, is_straight_body, steps}
+use Rattle.walk.specs.Straight.{is_straight, is_straight_body, steps}
+use Rattle.facts.specs.Launching.{are_sizes}
 use Rattle.cert_check.specs.Accepting.{at}
 use Rattle.executor.specs.Runs.{stores_by}
 use Rattle.executor.proofs.OneRound.{one-round}

@@ -5,8 +5,8 @@ use Rattle.std.proofs.lemmas.Bool.{and_parts}
 use Rattle.semantics.specs.Setup.{Setup, member}
 use Rattle.semantics.specs.Memory.{Cell, same_cell}
 use Rattle.semantics.specs.Rounds.{log_of}
-use Rattle.types.specs.View.{statement, statements}
-use Rattle.types.specs.declared.core_tree.Statement.{Statement}
+use Rattle.core_code.specs.View.{statement, statements}
+use Rattle.core_code.specs.declared.tree.Statement.{Statement}
 use Rattle.walk.specs.Straight.{is_straight_statement, is_straight_body}
 use Rattle.executor.specs.Runs.{stored, going_on, item_stores, stores_by}
 

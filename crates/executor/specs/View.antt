@@ -8,8 +8,8 @@ use Rattle.semantics.specs.Setup.{Setup}
 use Rattle.semantics.specs.Evaluation.{Outcome, Gives, Faults}
 use Rattle.words.specs.View.{word}
 use Rattle.words.specs.declared.word.Word as code
-use Rattle.types.specs.View.{kernel}
-use Rattle.types.specs.declared.core_tree.Core.{Core}
+use Rattle.core_code.specs.View.{kernel}
+use Rattle.core_code.specs.declared.tree.Core.{Core}
 use Rattle.launch.specs.View.{launch}
 use Rattle.launch.specs.declared.launches.Launch.{Launch}
 use Rattle.executor.specs.declared.dimension.Dimension.{Dimension}

@@ -26,7 +26,7 @@ impl RunError {
         ensures { result ≡ error_number self.now }
     {
         match self {
-            RunError::Condition(_) => 40,
+            RunError::Condition(error) => error.number(),
             RunError::Workers => 70,
             RunError::Memory => 90,
         }
@@ -37,7 +37,7 @@ impl RunError {
         ensures { result ≡ error_line self.now }
     {
         match self {
-            RunError::Condition(error) => Some(error.line),
+            RunError::Condition(error) => error.place(),
             RunError::Workers | RunError::Memory => None,
         }
     }

@@ -4,16 +4,14 @@ ghost use Rattle.std.specs.Prelude.{◌≡◌, ◌<◌, ℕ, List, [], pos, true
 ghost use Rattle.semantics.specs.Word as meaning;
 ghost use Rattle.semantics.specs.Evaluation.{evaluate, within, At, Outside};
 ghost use Rattle.words.specs.View.{kind as kind_seen, word as word_seen, value_of, kind_of};
-ghost use Rattle.types.specs.View.{term as term_seen};
+ghost use Rattle.core_code.specs.View.{term as term_seen, operator as operator_seen};
 ghost use Rattle.walk.specs.Straight.{is_straight_term, is_exact};
-ghost use Rattle.syntax.specs.View.{operator as operator_seen};
 ghost use Rattle.executor.specs.Runs.{slots};
 ghost use Rattle.executor.specs.View.{setup_of, ids, ids_of, IsItem, Settles};
 
 use crate::dimension::Dimension;
+use core_code::tree::{Core, Operator, Term};
 use launch::launches::Launch;
-use syntax::tree::Operator;
-use types::core_tree::{Core, Term};
 use words::{Kind, Word, add, convert, mul};
 
 /// A work-item of a kernel at a launch.

@@ -6,9 +6,10 @@ ghost use Rattle.semantics.specs.Conditions.{Meets};
 ghost use Rattle.semantics.specs.Setup as setup;
 ghost use Rattle.semantics.specs.Setup.{IsPlace, group_of, group_size, group_count};
 ghost use Rattle.semantics.specs.Rounds.{log_of, group_log};
-ghost use Rattle.types.specs.View.{kernel as core_seen};
+ghost use Rattle.core_code.specs.View.{kernel as core_seen};
 ghost use Rattle.launch.specs.View.{launch as launch_seen, conditions as conditions_seen, counts as counts_seen};
-ghost use Rattle.walk.specs.Straight.{are_sizes, is_straight_body};
+ghost use Rattle.facts.specs.Launching.{are_sizes};
+ghost use Rattle.walk.specs.Straight.{is_straight_body};
 ghost use Rattle.cert_check.specs.View.{typed_of, kept};
 ghost use Rattle.cert_check.specs.Accepting.{at};
 ghost use Rattle.write_log.specs.Written.{written};
@@ -20,9 +21,9 @@ use crate::dimension::Dimension;
 use crate::evaluation::Item;
 use crate::ids::place;
 use cert_check::Accepted;
+use core_code::tree::Core;
 use launch::launches::{Counts, Launch};
 use std::alloc::{AllocError, Global};
-use types::core_tree::Core;
 use write_log::WriteLog;
 
 /// The local sizes of a kernel.

@@ -4,12 +4,12 @@ ghost use Rattle.std.specs.Prelude.{◌≡◌, ◌<◌};
 ghost use Rattle.semantics.specs.Launch.{product};
 ghost use Rattle.semantics.specs.Setup as setup;
 ghost use Rattle.launch.specs.View.{counts as counts_seen};
-ghost use Rattle.types.specs.View.{function as function_seen};
+ghost use Rattle.core_code.specs.View.{function as function_seen};
 ghost use Rattle.executor.specs.View.{ids, id_by};
 
 use crate::dimension::Dimension;
+use core_code::tree::Function;
 use launch::launches::Counts;
-use types::core_tree::Function;
 
 impl Dimension {
     /// Past the third dimension (OpenCL 1.2, 6.12.1).

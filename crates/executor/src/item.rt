@@ -8,7 +8,7 @@ ghost use Rattle.semantics.specs.Core.{Site};
 ghost use Rattle.semantics.specs.Evaluation.{within, At, Outside};
 ghost use Rattle.semantics.specs.Rounds.{log_of};
 ghost use Rattle.words.specs.View.{kind as kind_seen, value_of};
-ghost use Rattle.types.specs.View.{term as term_seen, array as array_seen, statement as statement_seen, statements as statements_seen};
+ghost use Rattle.core_code.specs.View.{term as term_seen, array as array_seen, statement as statement_seen, statements as statements_seen};
 ghost use Rattle.launch.specs.View.{buffer as buffer_seen};
 ghost use Rattle.walk.specs.Straight.{is_global, is_straight_term, is_straight_statement, is_straight_body};
 ghost use Rattle.write_log.specs.Written.{written};
@@ -17,8 +17,8 @@ ghost use Rattle.executor.specs.View.{setup_of, IsItem};
 ghost use Rattle.executor.specs.Stores.{store_seen, at};
 
 use crate::evaluation::{Item, read_as};
+use core_code::tree::{Array, Statement, Term};
 use std::alloc::AllocError;
-use types::core_tree::{Array, Statement, Term};
 use words::{Kind, Word};
 use write_log::WriteLog;
 

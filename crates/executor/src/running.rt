@@ -3,7 +3,7 @@
 ghost use Rattle.std.specs.Prelude.{◌≡◌, ◌≤◌, ℕ, IfOk, map, length};
 ghost use Rattle.semantics.specs.Launch.{Fits};
 ghost use Rattle.semantics.specs.Conditions.{Meets};
-ghost use Rattle.types.specs.View.{kernel as core_seen};
+ghost use Rattle.core_code.specs.View.{kernel as core_seen};
 ghost use Rattle.launch.specs.View.{launch as launch_seen, conditions as conditions_seen};
 ghost use Rattle.cert_check.specs.View.{typed_of, kept};
 ghost use Rattle.cert_check.specs.Accepting.{at};

@@ -6,7 +6,7 @@ ghost use Rattle.semantics.specs.Conditions.{ConditionsFit};
 ghost use Rattle.texts.specs.ConditionsReading as conditions;
 ghost use Rattle.texts.specs.LaunchReading as launches;
 ghost use Rattle.syntax.specs.View.{kernel as tree_of};
-ghost use Rattle.types.specs.View.{kernel as core_of};
+ghost use Rattle.core_code.specs.View.{kernel as core_of};
 ghost use Rattle.launch.specs.View.{conditions as conditions_seen, launch as launch_seen};
 ghost use Rattle.launch_text.specs.Answers.{Gives};
 ghost use Rattle.launch_text.specs.Fits.{IsOf};

@@ -1,10 +1,11 @@
 // All lines, and what is refused, for a kernel of `__global uint *a, uint n, __global const int *b, int i`.
 use crate::error::LaunchTextError;
 use crate::{read_conditions, read_launch, write_buffers};
+use core_code::tree::Site;
 use launch::meets::meets;
 use std::alloc::{AllocError, Global};
 use std::test::Fail;
-use syntax::tree::{Kernel, Parameter, Site};
+use syntax::tree::{Kernel, Parameter};
 use types::check::check_types;
 use types::typed::Typed;
 use words::{Kind, Word};

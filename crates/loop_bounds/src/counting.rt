@@ -1,7 +1,7 @@
 //! The count of steps.
 
 ghost use Rattle.std.specs.Prelude.{◌≡◌, ◌+◌, ◌*◌, ◌<◌, max};
-ghost use Rattle.types.specs.View.{term as term_seen, statement as statement_seen, statements as statements_seen};
+ghost use Rattle.core_code.specs.View.{term as term_seen, statement as statement_seen, statements as statements_seen};
 ghost use Rattle.loop_bounds.specs.Answers.{Counts};
 ghost use Rattle.loop_bounds.specs.Costs as specs;
 ghost use Rattle.loop_bounds.specs.Turns as turns;
@@ -9,7 +9,7 @@ ghost use Rattle.loop_bounds.specs.Turns as turns;
 use crate::bound::LoopBound;
 use crate::error::BoundError;
 use crate::turning::turns_of;
-use types::core_tree::{Core, Statement, Term};
+use core_code::tree::{Core, Statement, Term};
 
 fn plus(left: u64, right: u64) -> Result<u64, BoundError>
     ensures { Counts result (left + right) }

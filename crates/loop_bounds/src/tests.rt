@@ -1,10 +1,9 @@
 // Turns, and the counts of small kernels.
 use super::*;
+use core_code::tree::{Array, Core, Site, Space, Statement, Term};
 use linear::Form;
 use std::alloc::{AllocError, Global};
 use std::test::Fail;
-use syntax::tree::Site;
-use types::core_tree::{Array, Core, Space, Statement, Term};
 use words::Kind;
 
 fn down(alloc: Global, step: u64, most: i64) -> u64 {

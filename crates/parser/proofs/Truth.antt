@@ -15,7 +15,8 @@ use Rattle.parser.specs.Parsed.{Parsed, Gives, Says, judged, finished, parsed}
 use Rattle.parser.specs.View.{fault}
 use Rattle.parser.specs.declared.error.ParseError.{ParseError}
 use Rattle.parser.specs.declared.error.ParseError.TheVariants as errors
-use Rattle.syntax.specs.View.{site, kernel}
+use Rattle.syntax.specs.View.{kernel}
+use Rattle.core_code.specs.View.{site}
 use Rattle.syntax.specs.declared.tree.Kernel as code
 use Rattle.parser.proofs.Inversion.{not-taken, same-value}
 use Rattle.parser.proofs.Locality.{refused_there}

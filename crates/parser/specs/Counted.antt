@@ -3,8 +3,9 @@ use Rattle.std.specs.Prelude.{◌≡◌, List, map, Result, Ok, Err}
 use Rattle.semantics.specs.Core as core
 use Rattle.texts.specs.Limits as limits
 use Rattle.texts.specs.Surface as surface
-use Rattle.syntax.specs.View.{site, parameter}
-use Rattle.syntax.specs.declared.tree.Site.{Site}
+use Rattle.syntax.specs.View.{parameter}
+use Rattle.core_code.specs.View.{site}
+use Rattle.core_code.specs.declared.tree.Site.{Site}
 use Rattle.syntax.specs.declared.tree.Parameter.{Parameter}
 use Rattle.parser.specs.declared.counts.Counts as code
 

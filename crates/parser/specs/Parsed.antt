@@ -1,5 +1,5 @@
 -- What tokens are read as: the one kernel within the limits, or a fault and its place.
-use Rattle.std.specs.Prelude.{◌≡◌, ℕ, List, Result, Ok, Err}
+use Rattle.std.specs.Prelude.{◌≡◌, ℕ, List, Option, None, Some, Result, Ok, Err}
 use Rattle.semantics.specs.Core as core
 use Rattle.texts.specs.Lexemes.{Lexeme}
 use Rattle.texts.specs.ParseFaults as rules
@@ -10,8 +10,9 @@ use Rattle.texts.specs.Ended.{EndsOnce}
 use Rattle.texts.specs.KernelGrammar.{IsKernel}
 use Rattle.texts.specs.KernelLimits.{IsKept, IsWithinLimits}
 use Rattle.texts.specs.Surface as surface
-use Rattle.syntax.specs.View.{site, kernel}
-use Rattle.syntax.specs.declared.tree.Site.{Site}
+use Rattle.syntax.specs.View.{kernel}
+use Rattle.core_code.specs.View.{site}
+use Rattle.core_code.specs.declared.tree.Site.{Site}
 use Rattle.syntax.specs.declared.tree.Kernel.{Kernel}
 use Rattle.parser.specs.Reader.{Outcome, Took, Refused, front, run}
 use Rattle.parser.specs.Kernels.{kernel_reader}
@@ -59,3 +60,7 @@ Measures (Err e) answer = answer ≡ Err (fault e.0, site e.1)
 abbrev pub error_number : ParseError → ℕ
 error_number (errors.At f s) = parse_fault_number (fault f)
 error_number errors.Memory = 90
+
+abbrev pub error_place : ParseError → Option (ℕ × ℕ)
+error_place (errors.At f s) = Some (s.line, s.column)
+error_place errors.Memory = None

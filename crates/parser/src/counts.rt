@@ -1,11 +1,13 @@
 //! How many names a kernel declares.
 
 ghost use Rattle.std.specs.Prelude.{◌≡◌};
-ghost use Rattle.syntax.specs.View.{site as site_of, first, statement, statements, parameter};
+ghost use Rattle.syntax.specs.View.{first, statement, statements, parameter};
+ghost use Rattle.core_code.specs.View.{site as site_of};
 ghost use Rattle.parser.specs.Counted.{counts, Counts as CountsAre, parameters};
 ghost use Rattle.texts.specs.Limits as limits;
 
-use syntax::tree::{First, Parameter, Site, Stmt};
+use core_code::tree::Site;
+use syntax::tree::{First, Parameter, Stmt};
 
 /// How many names of each sort are declared so far.
 #[derive(Clone, Copy)]

@@ -4,7 +4,8 @@ ghost use Rattle.std.specs.Prelude.{◌≡◌, ℕ, suc, zero, ◌≤◌, ◌+�
 ghost use Rattle.std.specs.Option.{option_map};
 ghost use Rattle.lexer.specs.Seen.{kind};
 ghost use Rattle.texts.specs.Surface.{Conditional};
-ghost use Rattle.syntax.specs.View.{site as site_of, expression};
+ghost use Rattle.syntax.specs.View.{expression};
+ghost use Rattle.core_code.specs.View.{site as site_of};
 ghost use Rattle.words.specs.View.{kind as number_kind};
 ghost use Rattle.parser.specs.Reader.{front, behind, run, Took};
 ghost use Rattle.parser.specs.View.{lexemes, Reads, arguments_seen};
@@ -15,9 +16,10 @@ use crate::front::{
     behind, infix_at, is_colon, is_comma, is_left_bracket, is_left_parenthesis, is_question,
     is_right_bracket, is_right_parenthesis, kind_at, kind_named, pass, prefix_of, site_at,
 };
+use core_code::tree::Site;
 use lexer::{Literal, Token, TokenKind};
 use std::alloc::Global;
-use syntax::tree::{Expr, PrefixSign, Site};
+use syntax::tree::{Expr, PrefixSign};
 use words::Kind;
 
 /// How many arguments are read after the first: a text within its limit has fewer.

@@ -5,7 +5,8 @@ ghost use Rattle.std.specs.Option.{option_map};
 ghost use Rattle.lexer.specs.Seen.{kind};
 ghost use Rattle.lexer.specs.Spelling.{sign};
 ghost use Rattle.texts.specs.Lexemes as lexemes_of;
-ghost use Rattle.syntax.specs.View.{site, infix_sign, prefix_sign, assign_sign};
+ghost use Rattle.syntax.specs.View.{infix_sign, prefix_sign, assign_sign};
+ghost use Rattle.core_code.specs.View.{site};
 ghost use Rattle.words.specs.View.{kind as number_kind};
 ghost use Rattle.parser.specs.Reader.{front, behind, run, Passes, Gives, Fails};
 ghost use Rattle.parser.specs.View.{lexemes, Reads, ranked_sign, text_seen};
@@ -16,8 +17,9 @@ ghost use Rattle.texts.specs.KernelGrammar as grammar;
 ghost use Rattle.texts.specs.ParseFaults.{Expected};
 
 use crate::error::{ParseFault, Stop};
+use core_code::tree::{Operator, Relation, Site};
 use lexer::{Literal, Reserved, Sign, Token, TokenKind};
-use syntax::tree::{AssignSign, InfixSign, Operator, PrefixSign, Relation, Site};
+use syntax::tree::{AssignSign, InfixSign, PrefixSign};
 use words::Kind;
 
 /// What the token at the front is: the end, where none is left.

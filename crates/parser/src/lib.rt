@@ -17,6 +17,7 @@ pub(crate) mod limits;
 pub(crate) mod parts;
 pub(crate) mod statements;
 
+use core_code::tree::Site;
 use counts::{Counts, count_parameters, count_statements};
 use error::{ParseError, ParseFault, Stop};
 use front::site_at;
@@ -24,7 +25,7 @@ use kernels::whole_kernel;
 use lexer::Token;
 use limits::deep_statements;
 use std::alloc::Global;
-use syntax::tree::{Kernel, Site};
+use syntax::tree::Kernel;
 
 #[tactic(auto, unfolding(texts::specs::Limits::within_limits))]
 fn measure(kernel: &Kernel) -> Result<Counts, (ParseFault, Site)>

@@ -4,9 +4,11 @@ ghost use Rattle.std.specs.Prelude.{◌≡◌, ◌<◌, ◌++◌, map, OnOk};
 ghost use Rattle.std.specs.Option.{option_map};
 ghost use Rattle.texts.specs.Elaboration.{either as either_of};
 ghost use Rattle.texts.specs.Limits as limits;
-ghost use Rattle.syntax.specs.View.{site as site_of, expression, expressions, declaration, assignment, first, statement, statements, index_of};
+ghost use Rattle.syntax.specs.View.{expression, expressions, declaration, assignment, first, statement, statements, index_of};
+ghost use Rattle.core_code.specs.View.{site as site_of};
 
-use syntax::tree::{Assignment, Declaration, Expr, First, Site, Stmt};
+use core_code::tree::Site;
+use syntax::tree::{Assignment, Declaration, Expr, First, Stmt};
 
 /// The levels that a tree may have.
 const DEEPEST: u32 = 32;

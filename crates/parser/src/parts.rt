@@ -1,7 +1,8 @@
 //! Assignments, declarations and what stands in parentheses behind a statement's word.
 
 ghost use Rattle.std.specs.Prelude.{◌≡◌, ◌≤◌, ◌+◌, ◌&&◌, nat_lt, nat_le, string_bytes};
-ghost use Rattle.syntax.specs.View.{site as site_of, expression, assignment, declaration, first, statement, index_of};
+ghost use Rattle.syntax.specs.View.{expression, assignment, declaration, first, statement, index_of};
+ghost use Rattle.core_code.specs.View.{site as site_of};
 ghost use Rattle.parser.specs.Reader.{run};
 ghost use Rattle.parser.specs.View.{lexemes, Reads};
 ghost use Rattle.parser.specs.Expressions.{expression_reader, is_right_parenthesis as is_right_parenthesis_of};
@@ -14,9 +15,10 @@ use crate::front::{
     assign_of, behind, is_equal, is_left_bracket, is_left_parenthesis, is_right_bracket,
     is_right_parenthesis, is_semicolon, kind_at, kind_named, name_of, number_of, pass, site_at,
 };
+use core_code::tree::Site;
 use lexer::Token;
 use std::alloc::Global;
-use syntax::tree::{Assignment, Declaration, Expr, First, Site, Stmt};
+use syntax::tree::{Assignment, Declaration, Expr, First, Stmt};
 
 /// What a `for` has in parentheses.
 #[derive(Drop)]

@@ -2,7 +2,8 @@
 //! statement.
 
 ghost use Rattle.std.specs.Prelude.{◌≡◌, ◌≤◌, ◌+◌};
-ghost use Rattle.syntax.specs.View.{site as site_of, expression};
+ghost use Rattle.syntax.specs.View.{expression};
+ghost use Rattle.core_code.specs.View.{site as site_of};
 ghost use Rattle.parser.specs.Reader.{run, Looks};
 ghost use Rattle.parser.specs.View.{lexemes, Reads, numbered, all_numbered};
 ghost use Rattle.parser.specs.Heads.{choice_reader, counting_reader};
@@ -14,9 +15,10 @@ use crate::front::{
     pass, site_at,
 };
 use crate::parts::{array, assignment, declaration, head_of_for, tested};
+use core_code::tree::Site;
 use lexer::{Reserved, Sign, Token, TokenKind};
 use std::alloc::Global;
-use syntax::tree::{Expr, Site, Stmt};
+use syntax::tree::{Expr, Stmt};
 
 /// A kernel has fewer statements than this.
 const MOST_ITEMS: u32 = 513;

@@ -6,8 +6,8 @@ use Rattle.semantics.specs.Launch.{Three}
 use Rattle.semantics.specs.Conditions.{Conditions}
 use Rattle.linear.specs.Exact.{fits}
 use Rattle.linear.proofs.Sizes.{size_difference, fits_small}
-use Rattle.walk.specs.Symbols.{Which, Groups, Local, Group, Fact, constant, once, minus, denial}
-use Rattle.walk.specs.Launching.{item_facts}
+use Rattle.facts.specs.Symbols.{Which, Groups, Local, Group, Fact, constant, once, minus, denial}
+use Rattle.facts.specs.Launching.{item_facts}
 use Rattle.walk.specs.Trees as trees
 use Rattle.walk.specs.Trees.{Tree, Leaf, Claim, Know, Touch, Obligation, Access}
 use Rattle.walk.specs.Collected.{Claimed, Found, collect, add_claim, add_fact, add_access}

@@ -8,11 +8,11 @@ use Rattle.semantics.specs.Conditions.{Conditions}
 use Rattle.semantics.specs.Word.{Uint}
 use Rattle.semantics.specs.Core.{GlobalId}
 use Rattle.linear.specs.Exact.{Terms, put, merge, multiple, sum}
-use Rattle.walk.specs.Symbols.{Which, First, Second, Local, Group, number, symbol_of, Fact, constant, once, minus}
-use Rattle.walk.specs.Elements.{Known, element, element_of, nth}
-use Rattle.walk.specs.Launching.{known, below}
-use Rattle.walk.specs.Walks.{Setting, State, setting, elements_at, elements_of, settles, id_form, low_end}
-use Rattle.walk.proofs.Naming.{symbol_of-number}
+use Rattle.facts.specs.Symbols.{Which, First, Second, Local, Group, number, symbol_of, Fact, constant, once, minus}
+use Rattle.facts.specs.Elements.{Known, element, element_of, nth, elements_of}
+use Rattle.facts.specs.Launching.{known, below}
+use Rattle.walk.specs.Walks.{Setting, State, setting, elements_at, settles, id_form, low_end}
+use Rattle.facts.proofs.Naming.{symbol_of-number}
 use Rattle.interval.specs.Ends.{all, at_least, at_most}
 use Rattle.plain.specs.Domains.{domain}
 use Rattle.plain.proofs.Ends.{EndsIn, IsEnd, Scales, counts, one-number}

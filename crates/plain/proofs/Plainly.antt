@@ -6,10 +6,10 @@ use Rattle.std.proofs.lemmas.Bool.{false≢true}
 use Rattle.std.proofs.lemmas.Bool.Decides.{nat_tests}
 use Rattle.semantics.specs.Launch.{Kernel}
 use Rattle.semantics.specs.Conditions.{Conditions}
-use Rattle.walk.specs.Symbols.{Which, First, Second, Fact}
+use Rattle.facts.specs.Symbols.{Which, First, Second, Fact}
 use Rattle.walk.specs.Straight.{is_straight}
 use Rattle.walk.specs.Trees.{Access, Obligation}
-use Rattle.walk.specs.Launching.{launch_facts, item_facts, known}
+use Rattle.facts.specs.Launching.{launch_facts, item_facts, known}
 use Rattle.walk.specs.Walks.{setting, tree}
 use Rattle.walk.specs.Collected.{Claimed, Found, opening}
 use Rattle.walk.specs.Refusals.{are_fit, all_fit}

@@ -10,8 +10,8 @@ use Rattle.semantics.specs.Conditions.{Conditions}
 use Rattle.linear.specs.Exact.{Terms, put, multiple}
 use Rattle.linear.specs.Sizes.{terms_size, size}
 use Rattle.linear.proofs.Sizes.{size_difference}
-use Rattle.walk.specs.Symbols.{Which, Length, Given, Fact, constant, once, minus}
-use Rattle.walk.specs.Elements.{between}
+use Rattle.facts.specs.Symbols.{Which, Length, Given, Fact, constant, once, minus}
+use Rattle.facts.specs.Elements.{between}
 use Rattle.walk.specs.Trees.{Tree, Leaf, Touch}
 use Rattle.walk.specs.Walks.{Setting, State, Value, value, newest, with_new, Onward, setting, settles, claimed, ranged, kept_or_new, brought_from, id_form, walk, walk_all, in_buffer, joined, exact}
 use Rattle.plain.specs.Domains.{domain}

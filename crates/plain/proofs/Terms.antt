@@ -11,8 +11,8 @@ use Rattle.interval.specs.Members.{yes-le}
 use Rattle.interval.specs.Products.{mul-le_pos}
 use Rattle.product.specs.Both.{larger}
 use Rattle.product.specs.declared.Product.{Product}
-use Rattle.walk.specs.Symbols.{symbol_of}
-use Rattle.walk.specs.Elements.{Elements, element, with_terms, is_from_zero}
+use Rattle.facts.specs.Symbols.{symbol_of}
+use Rattle.facts.specs.Elements.{Elements, element, with_terms, is_from_zero}
 use Rattle.plain.specs.Domains.{domain}
 use Rattle.plain.proofs.Ends.{EndsIn, EndIn, IsEnd, Scales, wider, adds, multiplies, one-number}
 

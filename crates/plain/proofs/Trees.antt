@@ -3,7 +3,7 @@ use Rattle.std.proofs.Common.{◌≡◌, ℕ, suc, ◌+◌, ◌≤◌, Bool, tru
 use Rattle.std.specs.Prelude.{◌&&◌, ◌||◌}
 use Rattle.std.proofs.lemmas.Bool.{and_parts}
 use Rattle.semantics.specs.Word.{Uint}
-use Rattle.walk.specs.Symbols.{Fact}
+use Rattle.facts.specs.Symbols.{Fact}
 use Rattle.walk.specs.Trees.{Tree, Leaf, Claim, Know, Touch}
 use Rattle.walk.specs.Walks.{Setting, State, value, Onward, settles, claimed, ranged, kept_or_new, in_range, is_kept, low_end, high_end}
 use Rattle.linear.specs.Sizes.{size}

@@ -1,12 +1,12 @@
 // Texts to trees and to typed kernels.
 
 use crate::read_kernel;
+use core_code::tree::{Operator, Site, Statement, Term};
 use lexer::lex;
 use parser::parse;
 use std::alloc::Global;
 use std::test::Fail;
-use syntax::tree::{Expr, InfixSign, Operator, Site, Stmt};
-use types::core_tree::{Statement, Term};
+use syntax::tree::{Expr, InfixSign, Stmt};
 
 /// A text with local sizes 64, 1, 1, up to its body on the third line.
 fn text_of(alloc: Global, parameters: &str, body: &str) -> Result<String, Fail> {
@@ -161,6 +161,9 @@ const KERNELS: &[(&str, &str)] = &[
     ("b[0] = f(1);\n}", "20 3:8 20"),
     ("int n = 1;\n}", "21 3:5 21"),
     ("__local int min[4];\n}", "21 3:13 21"),
+    ("int __x = 1;\n}", "21 3:5 21"),
+    ("int _X = 1;\n}", "21 3:5 21"),
+    ("int _x = 1;\n}", "1"),
     ("b = 1;\n}", "22 3:1 22"),
     ("n = b;\n}", "22 3:5 22"),
     ("n[0] = 1;\n}", "22 3:1 22"),

@@ -1,10 +1,11 @@
 // Where the nodes of trees stand: of each statement its number and its site, then the sites of what it has, in the order of the source.
 
+use core_code::tree::Site;
 use lexer::lex;
 use parser::parse;
 use std::alloc::Global;
 use std::test::Fail;
-use syntax::tree::{Assignment, Declaration, Expr, First, Site, Stmt};
+use syntax::tree::{Assignment, Declaration, Expr, First, Stmt};
 
 /// The site of an expression, and then those of its operands.
 fn expression(text: &mut String, e: &Expr) -> Result<(), Fail> {

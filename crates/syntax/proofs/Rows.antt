@@ -3,8 +3,9 @@ use Rattle.std.proofs.Common.{◌≡◌, ℕ, refl, ap, ◌∙◌}
 use Rattle.std.specs.Prelude.{Vec, String, string_bytes}
 use Rattle.std.specs.declared.alloc.Global.{Global}
 use Rattle.texts.specs.Surface as surface
-use Rattle.syntax.specs.View.{site, expression, argument_row, expressions, first, assignment, statement, body_row, statements}
-use Rattle.syntax.specs.declared.tree.Site.{Site}
+use Rattle.syntax.specs.View.{expression, argument_row, expressions, first, assignment, statement, body_row, statements}
+use Rattle.core_code.specs.View.{site}
+use Rattle.core_code.specs.declared.tree.Site.{Site}
 use Rattle.syntax.specs.declared.tree.Expr.{Expr, Call, Row_of-Expr, end_of-Expr, more_of-Expr, items-the_row-Expr, items_hidden-the_row-Expr-0}
 use Rattle.syntax.specs.declared.tree.Expr.TheBlock.{hidden-the_row-Expr-0}
 use Rattle.syntax.specs.declared.tree.Stmt.{Stmt, If, While, For, Block, Row_of-Stmt, end_of-Stmt, more_of-Stmt, items-the_row-Stmt, items_hidden-the_row-Stmt-0}

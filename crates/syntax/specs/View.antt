@@ -1,14 +1,8 @@
 -- What the code's trees stand for: the same trees, without where they lie in memory.
 use Rattle.std.specs.Prelude.{List, [], ◌∷◌, Option, Some, None, map, slice_index, string_bytes}
-use Rattle.semantics.specs.Core as core
-use Rattle.semantics.specs.Word as word
 use Rattle.texts.specs.Surface as surface
 use Rattle.words.specs.View.{kind}
-use Rattle.syntax.specs.declared.tree.Site.{Site}
-use Rattle.syntax.specs.declared.tree.Operator.{Operator}
-use Rattle.syntax.specs.declared.tree.Operator.TheVariants as operators
-use Rattle.syntax.specs.declared.tree.Relation.{Relation}
-use Rattle.syntax.specs.declared.tree.Relation.TheVariants as relations
+use Rattle.core_code.specs.View.{site, operator, relation}
 use Rattle.syntax.specs.declared.tree.InfixSign.{InfixSign}
 use Rattle.syntax.specs.declared.tree.InfixSign.TheVariants as infixes
 use Rattle.syntax.specs.declared.tree.PrefixSign.{PrefixSign}
@@ -24,27 +18,6 @@ use Rattle.syntax.specs.declared.tree.Stmt.{Stmt, Declare, DeclareArray, Assign,
 use Rattle.syntax.specs.declared.tree.Parameter.{Parameter}
 use Rattle.syntax.specs.declared.tree.Parameter.TheVariants as parameters
 use Rattle.syntax.specs.declared.tree.Kernel.{Kernel}
-
-abbrev pub site : Site → core.Site
-site s = record { line = s.line; column = s.column }
-
-abbrev pub operator : Operator → word.Operator
-operator operators.Add = word.Add
-operator operators.Subtract = word.Subtract
-operator operators.Multiply = word.Multiply
-operator operators.Divide = word.Divide
-operator operators.Remainder = word.Remainder
-operator operators.BitAnd = word.BitAnd
-operator operators.BitOr = word.BitOr
-operator operators.BitXor = word.BitXor
-
-abbrev pub relation : Relation → word.Relation
-relation relations.Less = word.Less
-relation relations.AtMost = word.AtMost
-relation relations.More = word.More
-relation relations.AtLeast = word.AtLeast
-relation relations.Equal = word.Equal
-relation relations.Unequal = word.Unequal
 
 abbrev pub infix_sign : InfixSign → surface.InfixSign
 infix_sign (infixes.Arithmetic op) = surface.Arithmetic (operator op)

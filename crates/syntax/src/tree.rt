@@ -2,40 +2,11 @@
 
 ghost use Rattle.std.specs.Prelude.{◌≡◌};
 ghost use Rattle.texts.specs.Surface as surface;
-ghost use Rattle.syntax.specs.View.{site, expression, statement};
+ghost use Rattle.syntax.specs.View.{expression, statement};
+ghost use Rattle.core_code.specs.View.{site};
 
+use core_code::tree::{Operator, Relation, Site};
 use words::Kind;
-
-/// Where a token begins: line and column from 1, the column in bytes.
-#[derive(Debug, Clone, Copy, PartialEq, Eq)]
-pub struct Site {
-    pub line: u32,
-    pub column: u32,
-}
-
-/// An arithmetic or bitwise operator on two numbers (C99 6.5.5, 6.5.6, 6.5.10 to 6.5.12).
-#[derive(Clone, Copy)]
-pub enum Operator {
-    Add,
-    Subtract,
-    Multiply,
-    Divide,
-    Remainder,
-    BitAnd,
-    BitOr,
-    BitXor,
-}
-
-/// A comparison (C99 6.5.8, 6.5.9).
-#[derive(Clone, Copy)]
-pub enum Relation {
-    Less,
-    AtMost,
-    More,
-    AtLeast,
-    Equal,
-    Unequal,
-}
 
 /// A sign between two operands.
 #[derive(Clone, Copy)]

@@ -5,8 +5,8 @@ use Rattle.texts.specs.LaunchReading.{launch_of}
 use Rattle.texts.specs.LaunchText.{buffers_text}
 use Rattle.syntax.specs.View.{kernel as tree_seen}
 use Rattle.syntax.specs.declared.tree.Kernel.{Kernel}
-use Rattle.types.specs.View.{kernel as core_seen}
-use Rattle.types.specs.declared.core_tree.Core.{Core}
+use Rattle.core_code.specs.View.{kernel as core_seen}
+use Rattle.core_code.specs.declared.tree.Core.{Core}
 use Rattle.launch.specs.View.{conditions as conditions_seen, launch as launch_seen}
 use Rattle.launch.specs.declared.conditions.Conditions.{Conditions}
 use Rattle.launch.specs.declared.launches.Launch.{Launch}

@@ -1,6 +1,8 @@
 //! What the program says of texts: it checks them, or runs an accepted kernel, and tells the answer or the refusal.
 #![tactic(auto)]
 
+ghost use Rattle.std.specs.Prelude.{◌≡◌};
+ghost use Rattle.cert_check.specs.Numbers.{at_line};
 ghost use Rattle.telling.specs.Telling.{Checks, Runs, IsRefusal};
 
 mod refusal;
@@ -48,6 +50,16 @@ fn refused(alloc: Global, number: u8, place: Option<Place>) -> Verdict
     }
 }
 
+/// Where a refusal points that points to a line.
+fn line_of(line: Option<u32>) -> Option<Place>
+    ensures { result ≡ at_line line }
+{
+    match line {
+        Some(line) => Some(Place::Number(line as u64)),
+        None => None,
+    }
+}
+
 /// What is said where a kernel is not accepted.
 fn unaccepted(alloc: Global, error: &CheckError) -> Verdict
     ensures { IsRefusal result }
@@ -59,23 +71,14 @@ fn unaccepted(alloc: Global, error: &CheckError) -> Verdict
 fn unread(alloc: Global, error: &LaunchTextError) -> Verdict
     ensures { IsRefusal result }
 {
-    match error {
-        LaunchTextError::Refused { fault, line } => {
-            refused(alloc, fault.number(), Some(Place::Number(*line as u64)))
-        }
-        LaunchTextError::Memory => Verdict::OutOfMemory,
-    }
+    refused(alloc, error.number(), line_of(error.place()))
 }
 
 /// What is said where a launch is not run.
 fn not_run(alloc: Global, error: &RunError) -> Verdict
     ensures { IsRefusal result }
 {
-    let place = match error.place() {
-        Some(line) => Some(Place::Number(line as u64)),
-        None => None,
-    };
-    refused(alloc, error.number(), place)
+    refused(alloc, error.number(), line_of(error.place()))
 }
 
 /// Whether a kernel is accepted: `accepted`, or why not.

@@ -8,12 +8,13 @@ use Rattle.semantics.specs.Item.{Item, Waiting, Stopped, enter, status_of}
 use Rattle.semantics.specs.Ask.{Ask, ask}
 use Rattle.semantics.specs.Solo.{Access, after, touch, Touched, is_waiting, passed, arrived}
 use Rattle.semantics.proofs.Steps.{not_waiting}
-use Rattle.walk.specs.Symbols.{First}
-use Rattle.walk.specs.Launching.{launch_facts, item_facts}
+use Rattle.facts.specs.Symbols.{First}
+use Rattle.facts.specs.Launching.{launch_facts, item_facts}
 use Rattle.walk.specs.Trees.{claims}
 use Rattle.walk.specs.Walks.{tree}
 use Rattle.walk.specs.Straight.{is_straight_body, steps}
-use Rattle.walk.proofs.Worlds.{View, setup, walks}
+use Rattle.facts.proofs.Worlds.{View, setup}
+use Rattle.walk.proofs.FirstWalk.{walks}
 use Rattle.walk.proofs.Journeys.{Shown}
 use Rattle.walk.proofs.Stores.{Noted}
 use Rattle.two_thread.proofs.SoloStores.{Standing, Asks, rests, stores, tree_accesses, asks, stands_in}

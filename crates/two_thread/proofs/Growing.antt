@@ -1,15 +1,12 @@
 -- Pairs found one after the other.
-use Rattle.std.proofs.Common.{◌≡◌, ℕ, zero, suc, min, ◌+◌, ◌<◌, ◌≤◌, List, [], ◌∷◌, ◌++◌, length, drop, get_or, append_assoc, append-nil, drop-cons, add-one, refl, sym, ap, ◌∙◌, ◌⊎◌, inl, inr, arith}
+use Rattle.std.proofs.Common.{◌≡◌, ℕ, zero, suc, min, ◌+◌, ◌<◌, ◌≤◌, List, [], ◌∷◌, ◌++◌, length, drop, get_or, append-nil, drop-cons, add-one, refl, sym, ap, ◌∙◌, ◌⊎◌, inl, inr, arith}
 use Rattle.std.proofs.Math.ListN.{drop_of_length-le}
 use Rattle.semantics.specs.Launch.{Three}
 use Rattle.semantics.specs.Conditions.{Conditions}
 use Rattle.walk.specs.Trees.{Access}
+use Rattle.facts.proofs.Facts.{carried}
 use Rattle.two_thread.specs.Pairs.{Pair, Scope, with_one, with_each, pairs_in, pairs_of, pairs_from}
 use Rattle.two_thread.specs.View.{nth_access, no_access}
-
--- one part more
-carried : {A : Type 0} (out out' part rest all : List A) → out' ≡ out ++ part → out ++ (part ++ rest) ≡ all → out' ++ rest ≡ all
-carried out out' part rest all d e = ap (λ l. l ++ rest) d ∙ append_assoc out part rest ∙ e
 
 front : {A : Type 0} (xs : List A) (i : ℕ) (d : A) → i < length xs → drop i xs ≡ get_or xs i d ∷ drop (i + 1) xs
 front xs i d h = drop-cons xs i d h ∙ ap (λ k. get_or xs i d ∷ drop k xs) (sym (add-one i))

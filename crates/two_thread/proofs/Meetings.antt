@@ -7,22 +7,22 @@ use Rattle.std.proofs.lemmas.Bool.{and_from}
 use Rattle.std.proofs.lemmas.List.Elements.{All-append, All-cons, All-nil}
 use Rattle.semantics.specs.Setup.{Setup, along, group_of, item_count, local_id, group_id, place}
 use Rattle.semantics.specs.Linear.{value_of, IsMet}
-use Rattle.walk.specs.Symbols as symbols
-use Rattle.walk.specs.Symbols.{Which, First, Second, Symbol, Given, Length, Local, Group, New, number, symbol_of, Fact, constant, once, minus, equals}
-use Rattle.walk.specs.Elements.{Elements, element_of}
-use Rattle.walk.specs.Launching.{launch_facts, known, count_range}
+use Rattle.facts.specs.Symbols as symbols
+use Rattle.facts.specs.Symbols.{Which, First, Second, Symbol, Given, Length, Local, Group, New, number, symbol_of, Fact, constant, once, minus, equals}
+use Rattle.facts.specs.Elements.{Elements, element_of}
+use Rattle.facts.specs.Launching.{launch_facts, known, count_range}
 use Rattle.walk.specs.Trees.{Access}
-use Rattle.walk.proofs.Integers.{lt_true}
-use Rattle.walk.proofs.Naming.{symbol_of-number}
-use Rattle.walk.proofs.Values.{value-minus, value-once, met_equals}
-use Rattle.walk.proofs.Members.{Members, by_number, element_of-has, zero_lacks}
-use Rattle.walk.proofs.Worlds.{Walked, setup_of, View, meaning, Agrees}
-use Rattle.walk.proofs.Launched.{each_dimension-all, local-below, group_id-below, count_in, launch_known}
-use Rattle.walk.proofs.Fitting.{Fit, members}
+use Rattle.facts.proofs.Integers.{lt_true}
+use Rattle.facts.proofs.Naming.{symbol_of-number}
+use Rattle.facts.proofs.Values.{value-minus, value-once, met_equals}
+use Rattle.facts.proofs.Members.{Members, by_number, element_of-has, zero_lacks}
+use Rattle.facts.proofs.Worlds.{Walked, setup_of, View, meaning, Agrees}
+use Rattle.facts.proofs.Launched.{each_dimension-all, local-below, group_id-below, count_in, launch_known}
+use Rattle.facts.proofs.Fitting.{Fit, members}
 use Rattle.walk.proofs.Stores.{Noted}
-use Rattle.walk.proofs.Twins.{twin, Twins, value_of-alike}
+use Rattle.facts.proofs.Twins.{twin, Twins, value_of-alike}
 use Rattle.walk.proofs.TwinTrees.{Twin}
-use Rattle.walk.proofs.TwinFacts.{groups-twin, given-twin, length-twin, local-twin, group-twin, new-twin}
+use Rattle.facts.proofs.TwinFacts.{groups-twin, given-twin, length-twin, local-twin, group-twin, new-twin}
 use Rattle.two_thread.specs.Pairs.{Scope, Within, Across, Order, Below, Above, Pair, id, order_fact, same_group, scope_facts, pair_facts, is_apart, pair_obligation, differs, two_orders, all_orders, conflict, where_so}
 use Rattle.two_thread.specs.Shown.{IsShown}
 use Rattle.two_thread.proofs.PairLists.{Each, each-dimension}

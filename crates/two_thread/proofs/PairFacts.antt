@@ -5,10 +5,9 @@ use Rattle.std.specs.List.{All}
 use Rattle.std.proofs.lemmas.Int.{ints}
 use Rattle.std.proofs.lemmas.List.Elements.{All-cons, All-nil, All-head, All-tail}
 use Rattle.semantics.specs.Linear.{IsMet}
-use Rattle.walk.specs.Symbols.{Symbol, number, Fact, constant, once, minus}
-use Rattle.walk.proofs.Values.{value-minus, value-constant, value-once}
-use Rattle.walk.proofs.Twins.{twin, value_of-alike}
-use Rattle.walk.proofs.TwinTrees.{AreAlike}
+use Rattle.facts.specs.Symbols.{Symbol, number, Fact, constant, once, minus}
+use Rattle.facts.proofs.Values.{value-minus, value-constant, value-once}
+use Rattle.facts.proofs.Twins.{twin, value_of-alike, AreAlike}
 use Rattle.two_thread.specs.Pairs.{less, where_so}
 use Rattle.two_thread.proofs.PairLists.{Each}
 

@@ -6,7 +6,7 @@ use Rattle.std.proofs.lemmas.List.Elements.{All-head, All-tail}
 use Rattle.semantics.specs.Launch.{Three}
 use Rattle.semantics.specs.Conditions.{Conditions}
 use Rattle.walk.specs.Trees.{Access}
-use Rattle.walk.specs.Launching.{each_dimension}
+use Rattle.facts.specs.Launching.{each_dimension}
 use Rattle.walk.proofs.Journeys.{Has}
 use Rattle.walk.proofs.TwinTrees.{Twin}
 use Rattle.two_thread.specs.Pairs.{Scope, Within, Across, Pair, all_orders, conflict, where_so, with_each, pairs_in, pairs_of, pairs_from}

@@ -11,12 +11,12 @@ use Rattle.semantics.specs.Solo.{after}
 use Rattle.semantics.specs.Solo as solo
 use Rattle.semantics.specs.Safety.{IsPairSafe}
 use Rattle.domain.specs.declared.Domain.{Ghosts}
-use Rattle.walk.specs.Symbols.{First, Second}
-use Rattle.walk.specs.Launching.{launch_facts, known}
+use Rattle.facts.specs.Symbols.{First, Second}
+use Rattle.facts.specs.Launching.{launch_facts, known, are_sizes}
 use Rattle.walk.specs.Trees.{Access}
-use Rattle.walk.specs.Straight.{are_sizes, is_straight, is_straight_body, steps}
-use Rattle.walk.proofs.Members.{Lawful}
-use Rattle.walk.proofs.Worlds.{Walked, View, setup_of}
+use Rattle.walk.specs.Straight.{is_straight, is_straight_body, steps}
+use Rattle.facts.proofs.Members.{Lawful}
+use Rattle.facts.proofs.Worlds.{Walked, View, setup_of}
 use Rattle.walk.proofs.Journeys.{Shown}
 use Rattle.walk.proofs.Stores.{Noted}
 use Rattle.walk.proofs.TwinTrees.{Twin}

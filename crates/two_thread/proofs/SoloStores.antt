@@ -9,14 +9,15 @@ use Rattle.semantics.specs.Launch.{IsArgument}
 use Rattle.semantics.specs.Item.{Item, enter, status_of}
 use Rattle.semantics.specs.Ask.{Ask, Stores, Rests, ask}
 use Rattle.semantics.specs.Solo.{opening, moved, after}
-use Rattle.walk.specs.Symbols.{First}
-use Rattle.walk.specs.Launching.{launch_facts, item_facts}
+use Rattle.facts.specs.Symbols.{First}
+use Rattle.facts.specs.Launching.{launch_facts, item_facts}
 use Rattle.walk.specs.Trees as trees
 use Rattle.walk.specs.Trees.{accesses, claims}
 use Rattle.walk.specs.Walks.{tree, opening_state}
 use Rattle.walk.specs.Straight.{is_straight_body, steps}
-use Rattle.walk.proofs.Worlds.{View, setup, walks}
-use Rattle.walk.proofs.Launched.{launch_known, item_known}
+use Rattle.facts.proofs.Worlds.{View, setup}
+use Rattle.walk.proofs.FirstWalk.{walks}
+use Rattle.facts.proofs.Launched.{launch_known, item_known}
 use Rattle.walk.proofs.Journeys.{Shown}
 use Rattle.walk.proofs.Expressions.{AreGiven}
 use Rattle.walk.proofs.Stores.{Noted, Placed, store_sound}

@@ -3,8 +3,8 @@ use Rattle.std.specs.Prelude.{ℕ, List, [], ◌∷◌, map, Bool, true, ◌&&�
 use Rattle.semantics.specs.Launch.{Kernel}
 use Rattle.semantics.specs.Conditions.{Conditions}
 use Rattle.domain.specs.declared.Domain.{Ghosts}
-use Rattle.walk.specs.Symbols.{Which, First, Second, Fact, denial}
-use Rattle.walk.specs.Launching.{item_facts}
+use Rattle.facts.specs.Symbols.{Which, First, Second, Fact, denial}
+use Rattle.facts.specs.Launching.{item_facts}
 use Rattle.walk.specs.Walks.{setting, tree}
 use Rattle.walk.specs.Collected.{Claimed, Found, collect, opening}
 use Rattle.walk.specs.Refusals.{are_fit, all_fit}

@@ -4,9 +4,9 @@ use Rattle.semantics.specs.Launch.{Three}
 use Rattle.semantics.specs.Setup.{along}
 use Rattle.semantics.specs.Conditions.{Conditions}
 use Rattle.domain.specs.declared.Domain.{Ghosts}
-use Rattle.walk.specs.Symbols.{Which, First, Second, Symbol, Local, Group, Fact, constant, once, minus, equals}
-use Rattle.walk.specs.Elements.{Known, element_of, lacks_zero}
-use Rattle.walk.specs.Launching.{each_dimension, count_range}
+use Rattle.facts.specs.Symbols.{Which, First, Second, Symbol, Local, Group, Fact, constant, once, minus, equals}
+use Rattle.facts.specs.Elements.{Known, element_of, lacks_zero}
+use Rattle.facts.specs.Launching.{each_dimension, count_range}
 use Rattle.walk.specs.Trees.{Access, Obligation}
 
 -- items of one group, which differ in a local id, or of two groups, which differ in a group id

@@ -1,9 +1,9 @@
 -- What an error about two items says.
 use Rattle.std.specs.Prelude.{◌≡◌, ◌<◌, ℕ, Bool, false, ◌&&◌}
 use Rattle.linear.specs.Exact.{fits}
-use Rattle.walk.specs.Symbols.{Fact, minus}
-use Rattle.walk.specs.declared.error.WalkError.{WalkError}
-use Rattle.walk.specs.declared.error.WalkError.TheVariants as errors
+use Rattle.facts.specs.Symbols.{Fact, minus}
+use Rattle.facts.specs.declared.error.WalkError.{WalkError}
+use Rattle.facts.specs.declared.error.WalkError.TheVariants as errors
 use Rattle.two_thread.specs.Pairs.{Pair}
 use Rattle.two_thread.specs.declared.pairs.Pair as declared
 

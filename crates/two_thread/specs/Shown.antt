@@ -4,8 +4,8 @@ use Rattle.semantics.specs.Launch.{Kernel}
 use Rattle.semantics.specs.Conditions.{Conditions}
 use Rattle.semantics.specs.Linear.{IsImpossible}
 use Rattle.domain.specs.declared.Domain.{Ghosts}
-use Rattle.walk.specs.Symbols.{Which, First, Second}
-use Rattle.walk.specs.Launching.{launch_facts, item_facts, known}
+use Rattle.facts.specs.Symbols.{Which, First, Second}
+use Rattle.facts.specs.Launching.{launch_facts, item_facts, known}
 use Rattle.walk.specs.Trees.{Access, Obligation, claims, accesses}
 use Rattle.walk.specs.Walks.{setting, tree}
 use Rattle.two_thread.specs.Pairs.{Pair, pairs_from, pair_obligation}

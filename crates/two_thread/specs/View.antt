@@ -1,5 +1,5 @@
 -- What the code's pairs stand for.
-pub use Rattle.access.specs.View.{no_access, nth_access, seen_accesses}
+pub use Rattle.walk.specs.Accesses.{no_access, nth_access, seen_accesses}
 use Rattle.std.specs.Prelude.{◌≡◌, List, ◌++◌, map}
 use Rattle.walk.specs.Trees.{Access}
 use Rattle.two_thread.specs.Pairs as specs

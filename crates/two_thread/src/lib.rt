@@ -6,9 +6,9 @@
 //! no memory (`specs/Refusals.antt`).
 #![tactic(auto)]
 
-mod facts;
+mod clashing;
 pub mod laws;
 mod pairs;
 
-pub use facts::{claim_facts, is_apart, pair_facts};
+pub use clashing::{claim_facts, is_apart, pair_facts};
 pub use pairs::{Order, Pair, Scope, all_pairs};

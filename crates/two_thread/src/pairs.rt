@@ -3,16 +3,17 @@
 ghost use Rattle.std.specs.Prelude.{◌≡◌, ◌++◌, ◌<◌, ◌≤◌, ℕ, List, pos, IfOk, MatchResult, map, length, drop, nat_eq};
 ghost use Rattle.std.specs.List.{All};
 ghost use Rattle.launch.specs.View.{conditions as conditions_seen};
-ghost use Rattle.walk.specs.Launching.{count_range};
-ghost use Rattle.walk.specs.View.{three};
+ghost use Rattle.facts.specs.Launching.{count_range};
+ghost use Rattle.facts.specs.View.{three};
 ghost use Rattle.two_thread.specs.Pairs as specs;
-ghost use Rattle.walk.specs.Refusals.{IsMemory};
+ghost use Rattle.facts.specs.Refusals.{IsMemory};
 ghost use Rattle.two_thread.specs.Refusals.{IsInside};
 ghost use Rattle.two_thread.specs.View.{scope as scope_seen, order as order_seen, pair as pair_seen, nth_access, seen_accesses, Adds};
 
+use facts::WalkError;
 use launch::conditions::Conditions;
 use std::alloc::Global;
-use walk::{Path, WalkError};
+use walk::Path;
 use words::Kind;
 
 /// Items of one group, which differ in a local id, or of two groups, which differ in a group id.

@@ -7,15 +7,15 @@ use Rattle.texts.specs.TypeFaults.{Checked, then}
 use Rattle.texts.specs.Scope.{Scope, leave_block}
 use Rattle.texts.specs.Typing.{TypedTerm, type_of}
 use Rattle.texts.specs.Elaboration.{Elaborated, elaborated, single, join, elaborate_first, elaborate_assignment, elaborate_statement, elaborate_all}
-use Rattle.types.specs.View.{statement, statements}
+use Rattle.core_code.specs.View.{statement, statements}
 use Rattle.types.specs.Blocks.{behind, block, repeated, otherwise}
 use Rattle.types.specs.Answers.{Gives, Refuses}
-use Rattle.types.specs.declared.core_tree.Statement.{Statement}
+use Rattle.core_code.specs.declared.tree.Statement.{Statement}
 use Rattle.types.specs.declared.error.TypeError.{TypeError}
 use Rattle.types.specs.declared.error.TypeError.TheVariants as errors
 use Rattle.syntax.specs.View.{statement as stmt, statements as stmts}
 use Rattle.syntax.specs.declared.tree.Stmt.{Stmt}
-use Rattle.types.proofs.Rows.{seen_if, seen_loop}
+use Rattle.core_code.proofs.Rows.{seen_if, seen_loop}
 
 then-then : {A B C : Type 0} → (a : Checked A) (f : A → Checked B) (g : B → Checked C) → then (then a f) g ≡ then a (λ x. then (f x) g)
 then-then (Ok a) f g = refl

@@ -1,5 +1,4 @@
 pub mod Arguments
 pub mod Blocks
 pub mod Names
-pub mod Rows
 pub mod Kernels

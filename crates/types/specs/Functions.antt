@@ -1,8 +1,8 @@
 -- What the code's functions stand for.
 use Rattle.std.specs.Prelude.{Option, Some, None}
 use Rattle.semantics.specs.Core as core
-use Rattle.types.specs.View.{function}
-use Rattle.types.specs.declared.core_tree.Function.{Function}
+use Rattle.core_code.specs.View.{function}
+use Rattle.core_code.specs.declared.tree.Function.{Function}
 use Rattle.types.specs.declared.calls.Pick.{Pick}
 use Rattle.types.specs.declared.calls.Pick.TheVariants as picks
 

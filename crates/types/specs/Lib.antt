@@ -1,4 +1,3 @@
-pub mod View
 pub mod Names
 pub mod Functions
 pub mod Answers

@@ -2,9 +2,9 @@
 use Rattle.std.specs.Prelude.{List, map}
 use Rattle.texts.specs.Scope as scope
 use Rattle.words.specs.View.{kind}
-use Rattle.types.specs.View.{array, local_array, statement, statements}
+use Rattle.core_code.specs.View.{array, local_array, statement, statements}
 use Rattle.texts.specs.Elaboration.{Elaborated, elaborated, single}
-use Rattle.types.specs.declared.core_tree.Statement.{Statement}
+use Rattle.core_code.specs.declared.tree.Statement.{Statement}
 use Rattle.types.specs.declared.scope.Meaning.{Meaning}
 use Rattle.types.specs.declared.scope.Meaning.TheVariants as meanings
 use Rattle.types.specs.declared.scope.Binding.{Binding}

@@ -8,18 +8,19 @@ ghost use Rattle.texts.specs.Scope as scoping;
 ghost use Rattle.texts.specs.TypeFaults as rules;
 ghost use Rattle.texts.specs.Typing as typing;
 ghost use Rattle.words.specs.View.{kind as kind_of};
-ghost use Rattle.syntax.specs.View.{site, expression, assign_sign, assignment};
-ghost use Rattle.types.specs.View.{array as array_of, statement, term};
+ghost use Rattle.syntax.specs.View.{expression, assign_sign, assignment};
+ghost use Rattle.core_code.specs.View.{site};
+ghost use Rattle.core_code.specs.View.{array as array_of, statement, term};
 ghost use Rattle.types.specs.Names.{names, meaning_seen, scope_seen};
 ghost use Rattle.types.specs.Answers.{typed_term, Gives, IsTyped, IsArrayOf};
 
-use crate::core_tree::{Array, Statement, Term};
 use crate::error::{TypeError, TypeFault};
 use crate::loads::first_load;
 use crate::scope::{Binding, Meaning, Scope, meaning_of};
 use crate::typing::{TypedTerm, bring, infix_term, type_of};
+use core_code::tree::{Array, Site, Statement, Term};
 use std::alloc::Global;
-use syntax::tree::{AssignSign, Assignment, Expr, InfixSign, Site};
+use syntax::tree::{AssignSign, Assignment, Expr, InfixSign};
 use words::Kind;
 
 fn target_array(at: Site, meaning: Option<Meaning>) -> Result<(Array, Kind), TypeError>

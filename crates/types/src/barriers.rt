@@ -3,13 +3,14 @@
 ghost use Rattle.std.specs.Prelude.{◌≡◌};
 ghost use Rattle.texts.specs.Elaboration as elaboration;
 ghost use Rattle.texts.specs.Surface as surface;
-ghost use Rattle.syntax.specs.View.{site as site_of, infix_sign, expression};
-ghost use Rattle.types.specs.View.{statement};
+ghost use Rattle.syntax.specs.View.{infix_sign, expression};
+ghost use Rattle.core_code.specs.View.{site as site_of};
+ghost use Rattle.core_code.specs.View.{statement};
 ghost use Rattle.types.specs.Answers.{Gives};
 
-use crate::core_tree::Statement;
 use crate::error::{TypeError, TypeFault};
-use syntax::tree::{Expr, InfixSign, Operator, Site};
+use core_code::tree::{Operator, Site, Statement};
+use syntax::tree::{Expr, InfixSign};
 
 // Whether a flag is the local one.
 fn flag_named(name: &str) -> Option<bool>

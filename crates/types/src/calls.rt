@@ -5,7 +5,7 @@ ghost use Rattle.texts.specs.Scope as scope;
 ghost use Rattle.texts.specs.Typing as typing;
 ghost use Rattle.types.specs.Functions.{function_seen, pick_seen};
 
-use crate::core_tree::Function;
+use core_code::tree::Function;
 
 /// The work-item function of a name.
 #[tactic(auto, unfolding(texts::specs::Typing::function_named))]

@@ -3,7 +3,7 @@
 ghost use Rattle.std.specs.Prelude.{◌≡◌, IfOk};
 ghost use Rattle.texts.specs.Elaboration.{elaborate as elaborates};
 ghost use Rattle.syntax.specs.View.{kernel as tree_seen};
-ghost use Rattle.types.specs.View.{kernel as core_seen};
+ghost use Rattle.core_code.specs.View.{kernel as core_seen};
 ghost use Rattle.types.specs.Answers.{Gives};
 
 use crate::elaboration::elaborate;

@@ -5,14 +5,15 @@ ghost use Rattle.texts.specs.Elaboration as elaboration;
 ghost use Rattle.texts.specs.Scope as scoping;
 ghost use Rattle.texts.specs.TypeFaults as rules;
 ghost use Rattle.words.specs.View.{kind as kind_of};
-ghost use Rattle.syntax.specs.View.{site, parameter as parameter_of};
+ghost use Rattle.syntax.specs.View.{parameter as parameter_of};
+ghost use Rattle.core_code.specs.View.{site};
 ghost use Rattle.types.specs.Names.{scope_seen, meaning_seen};
 ghost use Rattle.types.specs.Answers.{Gives};
 
-use crate::core_tree::{Array, LocalArray, Space};
 use crate::error::{TypeError, TypeFault};
 use crate::scope::{Binding, Meaning, Scope, meaning_of};
-use syntax::tree::{Parameter, Site};
+use core_code::tree::{Array, LocalArray, Site, Space};
+use syntax::tree::Parameter;
 use words::Kind;
 
 #[tactic(auto, unfolding(texts::specs::Scope::reserved_names))]
@@ -37,11 +38,22 @@ fn is_reserved(name: &str) -> bool
     )
 }
 
-/// Whether a declaration may take the name: it is neither visible nor reserved.
+/// A name that belongs to the compiler, which may have a macro of that name (C99 7.1.3).
+fn is_compilers(name: &str) -> bool
+    ensures { result ≡ scoping.is_compilers name.now }
+{
+    match name.as_bytes() {
+        [first, second, ..] => *first == b'_'
+            && (*second == b'_' || 65 <= *second && *second <= 90),
+        _ => false,
+    }
+}
+
+/// Whether a declaration may take the name: it is not visible, not reserved and not the compiler's.
 pub fn may_declare(scope: &Scope, name: &str) -> bool
     ensures { result ≡ scoping.may_declare (scope_seen scope.now) name.now }
 {
-    meaning_of(&scope.visible, name).is_none() && !is_reserved(name)
+    meaning_of(&scope.visible, name).is_none() && !is_reserved(name) && !is_compilers(name)
 }
 
 impl<'a> Scope<'a> {

@@ -5,17 +5,18 @@ ghost use Rattle.semantics.specs.Core as core;
 ghost use Rattle.texts.specs.Elaboration as elaboration;
 ghost use Rattle.texts.specs.Surface as surface;
 ghost use Rattle.words.specs.View.{kind as kind_of};
-ghost use Rattle.syntax.specs.View.{site as site_of, declaration, first as first_of};
+ghost use Rattle.syntax.specs.View.{declaration, first as first_of};
+ghost use Rattle.core_code.specs.View.{site as site_of};
 ghost use Rattle.types.specs.Names.{scope_seen, one_seen};
 ghost use Rattle.types.specs.Answers.{Gives};
 
 use crate::assignments::elaborate_assignment;
-use crate::core_tree::Statement;
 use crate::error::{TypeError, TypeFault};
 use crate::scope::Scope;
 use crate::typing::{bring, type_of};
+use core_code::tree::{Site, Statement};
 use std::alloc::Global;
-use syntax::tree::{Declaration, First, Site};
+use syntax::tree::{Declaration, First};
 use words::Kind;
 
 /// The core statement of a declaration, whose name is visible after its value.

@@ -3,13 +3,13 @@
 ghost use Rattle.std.specs.Prelude.{◌≡◌, drop};
 ghost use Rattle.texts.specs.Elaboration as elaboration;
 ghost use Rattle.syntax.specs.View.{kernel as tree_of};
-ghost use Rattle.types.specs.View.{kernel};
+ghost use Rattle.core_code.specs.View.{kernel};
 ghost use Rattle.types.specs.Answers.{Gives};
 
-use crate::core_tree::Core;
 use crate::error::TypeError;
 use crate::scope::Scope;
 use crate::statements::elaborate_all;
+use core_code::tree::Core;
 use std::alloc::Global;
 use syntax::tree::Kernel;
 use words::Kind;

@@ -5,7 +5,7 @@ ghost use Rattle.std.specs.Option.{option_map};
 ghost use Rattle.texts.specs.Scope as scope;
 ghost use Rattle.types.specs.Names.{meaning_seen, names};
 
-use crate::core_tree::{Array, LocalArray};
+use core_code::tree::{Array, LocalArray};
 use words::Kind;
 
 /// A private variable or value parameter, or a buffer parameter or local array.

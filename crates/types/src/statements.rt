@@ -7,18 +7,18 @@ ghost use Rattle.texts.specs.Surface as surface;
 ghost use Rattle.texts.specs.Scope as scoping;
 ghost use Rattle.texts.specs.TypeFaults.{Checked};
 ghost use Rattle.syntax.specs.View.{expression, assignment, first as first_of, statement as stmt, statements as stmts};
-ghost use Rattle.types.specs.View.{term, statement, statements};
+ghost use Rattle.core_code.specs.View.{term, statement, statements};
 ghost use Rattle.types.specs.Blocks.{behind, block, otherwise, repeated};
 ghost use Rattle.types.specs.Names.{scope_seen, one_seen, all_seen};
 ghost use Rattle.types.specs.Answers.{Gives};
 
 use crate::assignments::elaborate_assignment;
 use crate::barriers::barrier_of;
-use crate::core_tree::{Statement, Term};
 use crate::declared::{declare_local, elaborate_declaration, elaborate_first};
 use crate::error::TypeError;
 use crate::scope::Scope;
 use crate::typing::type_of;
+use core_code::tree::{Statement, Term};
 use std::alloc::Global;
 use syntax::tree::{Assignment, Expr, First, Stmt};
 

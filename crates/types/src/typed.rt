@@ -3,9 +3,9 @@
 ghost use Rattle.std.specs.Prelude.{◌≡◌, Ok};
 ghost use Rattle.texts.specs.Elaboration.{elaborate as elaborates};
 ghost use Rattle.syntax.specs.View.{kernel as tree_seen};
-ghost use Rattle.types.specs.View.{kernel as core_seen};
+ghost use Rattle.core_code.specs.View.{kernel as core_seen};
 
-use crate::core_tree::Core;
+use core_code::tree::Core;
 use std::marker::Model;
 use syntax::tree::Kernel;
 
@@ -23,9 +23,9 @@ impl Model for Typed {
     ghost use Rattle.syntax.specs.View.{kernel as tree_seen};
     ghost use Rattle.syntax.specs.contracts.tree.Kernel as tree_type;
     ghost use Rattle.syntax.specs.declared.tree.Kernel.{Kernel};
-    ghost use Rattle.types.specs.View.{kernel as core_seen};
-    ghost use Rattle.types.specs.contracts.core_tree.Core as core_type;
-    ghost use Rattle.types.specs.declared.core_tree.Core.{Core};
+    ghost use Rattle.core_code.specs.View.{kernel as core_seen};
+    ghost use Rattle.core_code.specs.contracts.tree.Core as core_type;
+    ghost use Rattle.core_code.specs.declared.tree.Core.{Core};
 
     ghost Value = { Kernel × Core };
 

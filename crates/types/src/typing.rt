@@ -8,18 +8,19 @@ ghost use Rattle.texts.specs.Surface as surface;
 ghost use Rattle.texts.specs.TypeFaults as rules;
 ghost use Rattle.texts.specs.Typing as typing;
 ghost use Rattle.words.specs.View.{kind};
-ghost use Rattle.syntax.specs.View.{site, expression, expressions, infix_sign, prefix_sign};
-ghost use Rattle.types.specs.View.{term, array as array_seen, unary_operator, function as function_of};
+ghost use Rattle.syntax.specs.View.{expression, expressions, infix_sign, prefix_sign};
+ghost use Rattle.core_code.specs.View.{site};
+ghost use Rattle.core_code.specs.View.{term, array as array_seen, unary_operator, function as function_of};
 ghost use Rattle.types.specs.Functions.{pick as pick_of};
 ghost use Rattle.types.specs.Names.{names, meaning_seen};
 ghost use Rattle.types.specs.Answers.{typed_term, IsTyped, IsArrayOf};
 
 use crate::calls::{Pick, function_named, is_left_out, pick_named};
-use crate::core_tree::{Array, Function, Term, UnaryOperator};
 use crate::error::{TypeError, TypeFault};
 use crate::scope::{Binding, Meaning, meaning_of};
+use core_code::tree::{Array, Function, Site, Term, UnaryOperator};
 use std::alloc::{AllocError, Global};
-use syntax::tree::{Expr, InfixSign, PrefixSign, Site};
+use syntax::tree::{Expr, InfixSign, PrefixSign};
 use words::Kind;
 
 /// A term with its kind.

@@ -1,15 +1,15 @@
 -- A body statement by statement, and its end.
 use Rattle.std.proofs.Common.{◌≡◌, ℕ, zero, suc, ◌+◌, ◌<◌, ◌≤◌, false, List, [], ◌∷◌, length, drop, get_or, drop-cons, add-one, sym, ap, subst, ◌∙◌}
 use Rattle.std.proofs.Math.ListN.{drop_of_length-le}
-use Rattle.types.specs.View.{statement, statements}
-use Rattle.types.specs.declared.core_tree.Statement.{Statement}
+use Rattle.core_code.specs.View.{statement, statements}
+use Rattle.core_code.specs.declared.tree.Statement.{Statement}
 use Rattle.walk.specs.Trees.{Leaf}
 use Rattle.walk.specs.Walks.{Setting, walk_one, walk_all}
 use Rattle.walk.specs.Straight.{is_straight_statement, is_straight_body}
 use Rattle.walk.specs.Collected.{Found, Met, collect, state_of}
 use Rattle.walk.specs.Leads.{Steps}
 use Rattle.walk.specs.Refusals.{Refused, Stops, IsNoStraightStatement, IsNoStraightBody}
-use Rattle.walk.specs.declared.error.WalkError.{WalkError}
+use Rattle.facts.specs.declared.error.WalkError.{WalkError}
 use Rattle.walk.proofs.Refusing.{and_left, and_right, loosened}
 
 pub body_end : {E : Type 0} (s : Setting E) (b : List Statement) (i : ℕ) (m : Met E) → length b ≤ i → collect m.found (walk_all s (statements (drop i b)) (state_of m) (λ st. Leaf)) ≡ m.found

@@ -7,11 +7,12 @@ use Rattle.semantics.specs.Core.{Term, Literal, Variable, Id, Load, Unary, Binar
 use Rattle.semantics.specs.Setup.{identity}
 use Rattle.semantics.specs.Evaluation.{Gives, evaluate, settled, operate, and_then}
 use Rattle.semantics.proofs.Words.{as_kind-in_kind}
-use Rattle.walk.specs.Symbols.{Given, Fact, constant, once}
+use Rattle.facts.specs.Symbols.{Given, Fact, constant, once}
 use Rattle.walk.specs.Straight.{is_straight_term, is_exact}
 use Rattle.walk.specs.Walks.{State, Onward, value, walk, brought, exact, ranged, id_form}
-use Rattle.walk.proofs.Values.{value-once}
-use Rattle.walk.proofs.Worlds.{View, setup, walks}
+use Rattle.facts.proofs.Values.{value-once}
+use Rattle.facts.proofs.Worlds.{View, setup}
+use Rattle.walk.proofs.FirstWalk.{walks}
 use Rattle.walk.proofs.Journeys.{Stands, Goes, gives, goes_then, at_kind, at_once}
 use Rattle.walk.proofs.RangeRule.{means_constant, brought_sound}
 use Rattle.walk.proofs.Identities.{id-below, means_id, argument-is}

@@ -9,13 +9,14 @@ use Rattle.semantics.specs.Core.{Function, GlobalId, LocalId, GroupId, GlobalSiz
 use Rattle.semantics.specs.Launch.{Three, IsArgument, IsCount}
 use Rattle.semantics.specs.Setup.{along, local_id, group_id, identity}
 use Rattle.linear.specs.Exact.{sum, multiple}
-use Rattle.walk.specs.Symbols as symbols
-use Rattle.walk.specs.Symbols.{First, Local, Group, Fact, constant, once}
-use Rattle.walk.specs.Straight.{are_sizes}
+use Rattle.facts.specs.Symbols as symbols
+use Rattle.facts.specs.Symbols.{First, Local, Group, Fact, constant, once}
+use Rattle.facts.specs.Launching.{are_sizes}
 use Rattle.walk.specs.Walks.{id_form}
-use Rattle.walk.proofs.Values.{value-sum, value-multiple, value-once}
-use Rattle.walk.proofs.Worlds.{View, setup, walks, Means}
-use Rattle.walk.proofs.Launched.{local-below, group_id-below}
+use Rattle.facts.proofs.Values.{value-sum, value-multiple, value-once}
+use Rattle.facts.proofs.Worlds.{View, setup, Means}
+use Rattle.walk.proofs.FirstWalk.{walks}
+use Rattle.facts.proofs.Launched.{local-below, group_id-below}
 use Rattle.walk.proofs.RangeRule.{means_constant}
 
 along-past : (t : Three ℕ) (d past : ℕ) → 3 ≤ d → along t d past ≡ past

@@ -6,13 +6,14 @@ use Rattle.std.proofs.lemmas.List.Elements.{All-append, All-cons, All-nil, All-h
 use Rattle.semantics.specs.Word.{Word, Kind, in_kind}
 use Rattle.semantics.specs.Evaluation.{Outcome, Gives, and_then}
 use Rattle.semantics.specs.Linear.{value_of, IsMet, IsImpossible}
-use Rattle.walk.specs.Symbols.{Fact, denial}
+use Rattle.facts.specs.Symbols.{Fact, denial}
 use Rattle.walk.specs.Trees.{Tree, Claim, Obligation, Access, claims, accesses}
 use Rattle.walk.specs.Walks.{State, value, Onward, elements_at, settles, claimed, claim, know_all}
-use Rattle.walk.proofs.Values.{claimed as denied}
-use Rattle.walk.proofs.Members.{settled_holds, by_number}
-use Rattle.walk.proofs.Worlds.{View, walks, Agrees, Means, Knows, own, agrees_itself, agrees_before}
-use Rattle.walk.proofs.Fitting.{Fit, fit-append, members}
+use Rattle.facts.proofs.Values.{claimed as denied}
+use Rattle.facts.proofs.Members.{settled_holds, by_number}
+use Rattle.facts.proofs.Worlds.{View, Agrees, Means, Knows, own, agrees_itself, agrees_before}
+use Rattle.walk.proofs.FirstWalk.{walks}
+use Rattle.facts.proofs.Fitting.{Fit, fit-append, members}
 
 -- where it is needed, the domain settles it or its facts are impossible
 abbrev pub Shown : Obligation → Type 0

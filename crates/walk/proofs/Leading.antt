@@ -4,8 +4,8 @@ use Rattle.std.specs.Prelude.{ℤ, pos, Option, Some}
 use Rattle.semantics.specs.Word.{Kind, Uint}
 use Rattle.semantics.specs.Core.{Term}
 use Rattle.domain.specs.declared.Bounds.{Bounds}
-use Rattle.walk.specs.Symbols.{Length, Fact, constant, once, minus}
-use Rattle.walk.specs.Elements.{between}
+use Rattle.facts.specs.Symbols.{Length, Fact, constant, once, minus}
+use Rattle.facts.specs.Elements.{between}
 use Rattle.walk.specs.Trees.{Tree, Know, Touch}
 use Rattle.walk.specs.Walks as walks
 use Rattle.walk.specs.Walks.{Setting, State, Value, Onward, settles, newest, claimed, know_all, bound_facts, lower_fact, upper_fact, low_end, high_end}

@@ -8,15 +8,16 @@ use Rattle.semantics.specs.Evaluation.{Gives, settled, operate}
 use Rattle.semantics.specs.Linear.{Weighted, terms_value}
 use Rattle.semantics.proofs.Words.{as_kind-in_kind}
 use Rattle.linear.specs.Exact.{sum, multiple}
-use Rattle.walk.specs.Symbols.{Fact}
+use Rattle.facts.specs.Symbols.{Fact}
 use Rattle.walk.specs.Straight.{is_exact}
-use Rattle.walk.specs.Elements.{element_of}
+use Rattle.facts.specs.Elements.{element_of}
 use Rattle.walk.specs.Trees.{Tree}
 use Rattle.walk.specs.Walks.{State, Onward, value, elements_at, product, exact, ranged, brought}
-use Rattle.walk.proofs.Values.{value-sum, value-multiple}
-use Rattle.walk.proofs.Members.{element_of-has, by_number}
-use Rattle.walk.proofs.Worlds.{View, walks, Means, own, agrees_itself}
-use Rattle.walk.proofs.Fitting.{members}
+use Rattle.facts.proofs.Values.{value-sum, value-multiple}
+use Rattle.facts.proofs.Members.{element_of-has, by_number}
+use Rattle.facts.proofs.Worlds.{View, Means, own, agrees_itself}
+use Rattle.walk.proofs.FirstWalk.{walks}
+use Rattle.facts.proofs.Fitting.{members}
 use Rattle.walk.proofs.Journeys.{Stands, Comes, Goes, gives, at_kind, onward, at_once}
 use Rattle.walk.proofs.RangeRule.{invent_sound, ranged_sound, brought_sound}
 

@@ -1,27 +1,17 @@
 -- A path with one claim, fact, new symbol or access more.
-use Rattle.std.proofs.Common.{◌≡◌, ℕ, suc, ◌≤◌, List, [], ◌∷◌, ◌++◌, length, take, map, refl, sym, ap, subst, ◌∙◌, append-nil}
+use Rattle.std.proofs.Common.{◌≡◌, ℕ, ◌≤◌, List, [], ◌∷◌, ◌++◌, length, take, map, refl, sym, ap, subst, ◌∙◌, append-nil}
 use Rattle.std.specs.List.{All}
 use Rattle.std.proofs.lemmas.List.{take-append-le, map-append}
 use Rattle.std.proofs.lemmas.List.Elements.{All-head, All-tail}
 use Rattle.std.proofs.Math.Seq.{take-length}
 use Rattle.linear.specs.Forms.{form, forms}
 use Rattle.linear.specs.declared.form.Form.{Form}
-use Rattle.walk.specs.Symbols.{Fact}
+use Rattle.facts.specs.Symbols.{Fact}
+use Rattle.facts.proofs.Facts.{length-forms, forms_more}
 use Rattle.walk.specs.Before.{HasFacts, HasAll}
 use Rattle.walk.specs.View.{claim_seen, access_seen}
 use Rattle.walk.specs.declared.path.Claim.{Claim}
 use Rattle.walk.specs.declared.path.Access.{Access}
-
-pub forms-append : (a b : List Form) → forms (a ++ b) ≡ forms a ++ forms b
-forms-append [] b = refl
-forms-append (f ∷ a) b = ap (λ fs. form f ∷ fs) (forms-append a b)
-
-pub length-forms : (a : List Form) → length (forms a) ≡ length a
-length-forms [] = refl
-length-forms (f ∷ a) = ap suc (length-forms a)
-
-pub forms_more : (a b : List Form) (f : Form) → b ≡ a ++ f ∷ [] → forms b ≡ forms a ++ form f ∷ []
-forms_more a b f e = ap forms e ∙ forms-append a (f ∷ [])
 
 whole : (fs : List Form) (n : ℕ) → n ≡ length fs → take n (forms fs) ≡ forms fs
 whole fs n e = ap (λ k. take k (forms fs)) (e ∙ sym (length-forms fs)) ∙ take-length (forms fs)

@@ -10,15 +10,17 @@ use Rattle.semantics.specs.Linear.{value_of, IsMet}
 use Rattle.semantics.proofs.Words.{as_kind-in_kind, as_kind-same}
 use Rattle.domain.specs.declared.Bounds.{Bounds}
 use Rattle.domain.specs.Members.{is_above, is_below, is_within}
-use Rattle.walk.specs.Symbols.{First, New, number, Fact, constant, once, minus}
-use Rattle.walk.specs.Elements.{between}
+use Rattle.facts.specs.Symbols.{First, New, number, Fact, constant, once, minus}
+use Rattle.facts.specs.Elements.{between}
 use Rattle.walk.specs.Trees.{Tree}
 use Rattle.walk.specs.Walks.{State, Onward, value, claimed, claim, know_all, lower_fact, upper_fact, bound_facts, newest, with_new, invent, least, greatest, low_end, high_end, in_range, is_kept, kept_or_new, ranged, brought_from}
-use Rattle.walk.proofs.Integers.{le_test, in_kind-between, in_kind-ends, settle-same}
-use Rattle.walk.proofs.Values.{value-minus, value-constant, value-once}
-use Rattle.walk.proofs.Members.{between-has}
-use Rattle.walk.proofs.Worlds.{View, walks, Means, agrees_new}
-use Rattle.walk.proofs.Fitting.{fit-length}
+use Rattle.facts.proofs.Integers.{le_test}
+use Rattle.walk.proofs.KindEnds.{in_kind-between, in_kind-ends, settle-same}
+use Rattle.facts.proofs.Values.{value-minus, value-constant, value-once}
+use Rattle.facts.proofs.Members.{between-has}
+use Rattle.facts.proofs.Worlds.{View, Means, agrees_new}
+use Rattle.walk.proofs.FirstWalk.{walks}
+use Rattle.facts.proofs.Fitting.{fit-length}
 use Rattle.walk.proofs.Journeys.{Stands, Comes, at_kind, at_once, stands_behind, stands_knowing, stands_anew, from_claim, from_facts, from_new, told_by}
 
 pub means-minus : {E : Type 0} (c : View E) (news : List ℤ) (f g : Fact) (x y z : ℤ) → Means c news f x → Means c news g y → z +ℤ y ≡ x → Means c news (minus f g) z

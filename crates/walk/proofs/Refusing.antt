@@ -1,6 +1,6 @@
 -- A refusal of a part is one of the whole.
 use Rattle.std.proofs.Common.{◌≡◌, ◌≤◌, ◌<◌, ◌^◌, ◌-◌, ℕ, Bool, true, false, ◌&&◌, List, [], ◌∷◌, ◌++◌, map, length, refl, sym, ap, subst, ◌∙◌, ◌⊎◌, inl, inr, arith}
-use Rattle.std.specs.Prelude.{ℤ, pos, negsuc, ◌+ℤ◌, ◌*ℤ◌, ◌≤ℤ◌, ◌<ℤ◌, Option, Some, Result, Ok, Err, IsErr, IsErrAnd, IsErrOf, MatchResult}
+use Rattle.std.specs.Prelude.{ℤ, pos, negsuc, ◌+ℤ◌, ◌*ℤ◌, ◌≤ℤ◌, ◌<ℤ◌, Option, Some, Result, Ok, Err, MatchResult}
 use Rattle.std.proofs.lemmas.Int.{ints}
 use Rattle.std.proofs.lemmas.Bool.Decides.{nat_tests}
 use Rattle.std.proofs.lemmas.List.{map-append, length-map}
@@ -11,24 +11,21 @@ use Rattle.domain.specs.declared.Bounds.{Bounds}
 use Rattle.linear.specs.Exact.{fits_i64, fits_terms, fits, sum, multiple}
 use Rattle.linear.proofs.Lists.{merge-none}
 use Rattle.linear.specs.Forms.{form, forms}
-use Rattle.linear.specs.Sizes.{size}
-use Rattle.linear.proofs.Sizes.{fits_small}
 use Rattle.linear.specs.declared.form.Form.{Form}
-use Rattle.linear.specs.declared.form.LinearError.{LinearError}
-use Rattle.linear.specs.declared.form.LinearError.TheVariants as linear
-use Rattle.walk.specs.View.{met, claim_seen, error_of_form, is_none}
+use Rattle.walk.specs.View.{met, claim_seen, is_none}
 use Rattle.walk.specs.declared.path.Path.{Path}
-use Rattle.walk.specs.Symbols.{Length, Fact, constant, once, minus}
-use Rattle.walk.specs.Elements.{between, element_of}
+use Rattle.facts.specs.Symbols.{Length, Fact, constant, once, minus}
+use Rattle.facts.specs.Elements.{between, element_of}
 use Rattle.walk.specs.Trees.{Tree, Leaf, Claim, Know, Touch, Access}
 use Rattle.walk.specs.Walks as walks
 use Rattle.walk.specs.Walks.{Setting, State, Onward, settles, elements_at, newest, claimed, know_all, bound_facts, lower_fact, upper_fact, low_end, high_end, least, greatest}
 use Rattle.walk.specs.Collected.{Claimed, Found, Met, collect, state_of, add_claim, add_fact, add_access, with_claim}
 use Rattle.walk.specs.Leads.{Steps, Leads}
-use Rattle.walk.specs.Refusals.{IsMemory, IsUnfit, are_fit, all_fit, Refused, Stops, Halts, HaltsAtForm}
+use Rattle.facts.specs.Refusals.{IsUnfit}
+use Rattle.walk.specs.Refusals.{are_fit, all_fit, Refused, Stops, Halts, HaltsAtForm}
 use Rattle.walk.proofs.Leading.{one_more}
-use Rattle.walk.specs.declared.error.WalkError.{WalkError}
-use Rattle.walk.specs.declared.error.WalkError.TheVariants as errors
+use Rattle.facts.specs.declared.error.WalkError.{WalkError}
+use Rattle.facts.specs.declared.error.WalkError.TheVariants as errors
 
 pub and_left : (a b : Bool) → a ≡ false → (a && b) ≡ false
 and_left true b h = cc
@@ -243,27 +240,12 @@ end_stops s b i low last room l m e d p q a h go =
     ((λ j. collect l.found (walks.claim s true (sym d j) (state_of l) (λ st'. walks.claim s true (sym (q ∙ ap (λ x. minus x i) p) j) st' go))) ∙ a (λ st'. walks.claim s true room st' go))
     (h go)
 
--- an error handed on as it is
-pub handed : {T : Type 0} (r : Result T WalkError) (e : WalkError) (P : T → Type 0) (Q : WalkError → Type 0) → IsErr r × IsErrAnd r (λ x. x ≡ e) → Q e → MatchResult r P Q
-handed (Ok x) e P Q h q = absurd h.1
-handed (Err x) e P Q h q = subst Q (sym h.1) q
-
 -- a path with as many claims as are made
 pub full : {E : Type 0} (p : Path E) (needed settled : Bool) (f : Fact) → 65536 ≤ length p.claims.items → 65536 < length (with_claim (met p) needed settled f).found.claims
 unfolding met
 full p needed settled f h =
     let c : Claimed = record { needed = needed; settled = settled; claim = f; facts = forms p.facts.items } in
     omega (arith, h, one_more (map (claim_seen (forms p.facts.items)) p.claims.items) c, length-map p.claims.items (claim_seen (forms p.facts.items)))
-
--- a form that was not made
-pub unfit_of : (r : Result Form LinearError) (e : LinearError) (f : Fact) → r ≡ Err e → (IsErrOf r linear.TooLarge → fits f ≡ false) → IsUnfit (error_of_form e) f
-unfit_of r linear.TooLarge f d h = h d
-unfit_of r linear.Memory f d h = tt
-
--- a small form is made, but for memory
-pub memory_of : (r : Result Form LinearError) (e : LinearError) (f : Fact) → r ≡ Err e → (IsErrOf r linear.TooLarge → fits f ≡ false) → size f < 2 ^ 63 → IsMemory (error_of_form e)
-memory_of r linear.TooLarge f d h l = cc (h d, fits_small f l)
-memory_of r linear.Memory f d h l = refl
 
 -- a product by a number whose form was not made, and one that is a new symbol
 pub right_halts : {E : Type 0} (s : Setting E) (ts us : List (Weighted ℕ)) (f g : Fact) (m : Met E) (e : WalkError) → is_none us ≡ true → IsUnfit e (multiple g.constant f) → HaltsAtForm ⊥ s m e (walks.product s ts us f g)

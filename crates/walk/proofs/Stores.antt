@@ -10,13 +10,14 @@ use Rattle.semantics.specs.Memory.{Cell, extent, extent_in, owner_of, kind_at}
 use Rattle.semantics.specs.Evaluation.{Outcome, evaluate, At, Outside, within}
 use Rattle.semantics.specs.Item.{Item, Entry, finished}
 use Rattle.semantics.specs.Ask.{Ask, Stores, on_value, stores, act}
-use Rattle.walk.specs.Symbols.{Length, Fact, constant, once, minus}
+use Rattle.facts.specs.Symbols.{Length, Fact, constant, once, minus}
 use Rattle.walk.specs.Straight.{is_straight_term, is_straight_statement, is_straight_body, is_global}
 use Rattle.walk.specs.Trees.{Tree, Leaf, Touch, Access, accesses}
 use Rattle.walk.specs.Walks.{State, Onward, claimed, claim, walk, in_buffer, walk_all}
-use Rattle.walk.proofs.Values.{value-once}
-use Rattle.walk.proofs.Worlds.{View, setup, walks, Means, Knows, length_at}
-use Rattle.walk.proofs.Fitting.{Fit}
+use Rattle.facts.proofs.Values.{value-once}
+use Rattle.facts.proofs.Worlds.{View, setup, Means, Knows, length_at}
+use Rattle.walk.proofs.FirstWalk.{walks}
+use Rattle.facts.proofs.Fitting.{Fit}
 use Rattle.walk.proofs.Journeys.{Has, Stands, Comes, Goes, gives, at_kind, stands_behind, told_by}
 use Rattle.walk.proofs.RangeRule.{means-minus, means_constant}
 use Rattle.walk.proofs.Expressions.{AreGiven, term_sound}

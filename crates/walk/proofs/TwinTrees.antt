@@ -1,13 +1,11 @@
 -- Trees of the first item, and the same trees of the second one: their accesses correspond one by one.
-use Rattle.std.proofs.Common.{◌≡◌, List, [], ◌∷◌, ◌++◌}
+use Rattle.std.proofs.Common.{◌≡◌, List, [], ◌∷◌, ◌++◌, Option, Some, None}
+use Rattle.std.specs.Prelude.{ℤ}
 use Rattle.std.specs.List.{AllZip}
-use Rattle.walk.specs.Symbols.{Fact}
+use Rattle.facts.specs.Symbols.{Fact, constant}
 use Rattle.walk.specs.Trees.{Tree, Leaf, Claim, Know, Touch, Access, accesses}
-use Rattle.walk.specs.Walks.{know_all}
-use Rattle.walk.proofs.Twins.{Alike}
-
-abbrev pub AreAlike : List Fact → List Fact → Type 0
-AreAlike fs gs = AllZip Alike fs gs
+use Rattle.walk.specs.Walks.{know_all, lower_fact, upper_fact}
+use Rattle.facts.proofs.Twins.{Alike, AreAlike, alike-append, constant-alike, minus-alike}
 
 -- claims may differ, facts and accesses may not
 abbrev pub Same : {E : Type 0} → Tree E → Tree E → Type 0
@@ -24,11 +22,13 @@ pub record Twin {E : Type 0} (a b : Access E) : Type 0 where
   pub elements : b.elements ≡ a.elements
   pub facts : AreAlike a.facts b.facts
 
-pub alike-append : (fs gs hs ks : List Fact) → AreAlike fs gs → AreAlike hs ks → AreAlike (fs ++ hs) (gs ++ ks)
-alike-append [] [] hs ks p q = q
-alike-append [] (g ∷ gs) hs ks p q = elim p [ ]
-alike-append (f ∷ fs) [] hs ks p q = elim p [ ]
-alike-append (f ∷ fs) (g ∷ gs) hs ks p q = (p.0, alike-append fs gs hs ks p.1 q)
+pub lower-alike : (f g : Fact) (o : Option ℤ) (fs gs : List Fact) → Alike f g → AreAlike fs gs → AreAlike (lower_fact f o fs) (lower_fact g o gs)
+lower-alike f g None fs gs p q = q
+lower-alike f g (Some low) fs gs p q = (minus-alike f (constant low) g (constant low) p (constant-alike low), q)
+
+pub upper-alike : (f g : Fact) (o : Option ℤ) → Alike f g → AreAlike (upper_fact f o) (upper_fact g o)
+upper-alike f g None p = tt
+upper-alike f g (Some high) p = (minus-alike (constant high) f (constant high) g (constant-alike high) p, tt)
 
 pub know_all-same : {E : Type 0} (fs gs : List Fact) (t u : Tree E) → AreAlike fs gs → Same t u → Same (know_all fs t) (know_all gs u)
 know_all-same [] [] t u p s = s

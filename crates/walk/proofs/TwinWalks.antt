@@ -9,16 +9,16 @@ use Rattle.semantics.specs.Setup.{along}
 use Rattle.semantics.specs.Conditions.{Conditions}
 use Rattle.linear.specs.Exact.{Terms, sum, multiple}
 use Rattle.domain.specs.declared.Domain.{Ghosts}
-use Rattle.walk.specs.Symbols as symbols
-use Rattle.walk.specs.Symbols.{First, Second, Symbol, Given, Length, Local, Group, New, number, Fact, constant, once, minus}
-use Rattle.walk.specs.Elements.{between, element_of, is_from_zero}
-use Rattle.walk.specs.Launching.{item_facts}
+use Rattle.facts.specs.Symbols as symbols
+use Rattle.facts.specs.Symbols.{First, Second, Symbol, Given, Length, Local, Group, New, number, Fact, constant, once, minus}
+use Rattle.facts.specs.Elements.{between, element_of, is_from_zero}
+use Rattle.facts.specs.Launching.{item_facts}
 use Rattle.walk.specs.Trees.{Tree, Leaf, accesses}
 use Rattle.walk.specs.Walks.{Setting, State, Onward, value, elements_at, settles, claimed, upper_fact, bound_facts, newest, with_new, invent, least, greatest, low_end, high_end, is_kept, kept_or_new, ranged, brought_from, product, exact, id_form, walk, walk_all, tree, setting}
-use Rattle.walk.proofs.Twins.{AreTwins, Alike, constant-alike, once-alike, sum-alike, multiple-alike, minus-alike}
-use Rattle.walk.proofs.TwinElements.{element_of-alike}
-use Rattle.walk.proofs.TwinTrees.{Same, Twin, know_all-same, accesses-twins}
-use Rattle.walk.proofs.TwinFacts.{groups-twin, given-twin, local-twin, group-twin, new-twin, lower-alike, upper-alike, item_facts-alike}
+use Rattle.facts.proofs.Twins.{AreTwins, Alike, constant-alike, once-alike, sum-alike, multiple-alike, minus-alike}
+use Rattle.facts.proofs.TwinElements.{element_of-alike}
+use Rattle.walk.proofs.TwinTrees.{Same, Twin, know_all-same, accesses-twins, lower-alike, upper-alike}
+use Rattle.facts.proofs.TwinFacts.{groups-twin, given-twin, local-twin, group-twin, new-twin, item_facts-alike}
 
 module _ {E : Type 0} (g : Ghosts E) (k : Kernel) (c : Conditions) (has_entry : ℕ → Bool) where
   abbrev s1 : Setting E

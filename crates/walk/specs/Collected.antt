@@ -1,6 +1,6 @@
 -- A tree without choices as four lists.
 use Rattle.std.specs.Prelude.{ℕ, List, [], ◌∷◌, ◌++◌, length, Bool}
-use Rattle.walk.specs.Symbols.{Fact}
+use Rattle.facts.specs.Symbols.{Fact}
 use Rattle.walk.specs.Trees.{Tree, Leaf, Claim, Know, Touch, Access}
 use Rattle.walk.specs.Walks.{State}
 

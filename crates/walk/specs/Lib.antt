@@ -1,11 +1,9 @@
-pub mod Symbols
-pub mod Elements
-pub mod Launching
 pub mod Trees
 pub mod Walks
 pub mod Straight
 pub mod Collected
 pub mod View
+pub mod Accesses
 pub mod Before
 pub mod Leads
 pub mod Refusals

@@ -3,24 +3,13 @@ use Rattle.std.specs.Prelude.{◌≡◌, ◌<◌, ℕ, List, [], ◌∷◌, map,
 use Rattle.semantics.specs.Core.{Term, Statement, Statements}
 use Rattle.semantics.specs.Word.{Kind}
 use Rattle.linear.specs.Exact.{fits}
-use Rattle.walk.specs.Symbols.{Fact}
+use Rattle.facts.specs.Symbols.{Fact}
 use Rattle.walk.specs.Straight.{is_straight_term, is_straight_statement, is_straight_body}
 use Rattle.walk.specs.Trees.{Tree, Access}
 use Rattle.walk.specs.Walks.{Setting, State, ranged}
 use Rattle.walk.specs.Collected.{Claimed, Found, Met, collect, state_of}
-use Rattle.walk.specs.declared.error.WalkError.{WalkError}
-use Rattle.walk.specs.declared.error.WalkError.TheVariants as errors
-
--- there was no memory
-abbrev pub IsMemory : WalkError → Type 0
-IsMemory e = e ≡ errors.Memory
-
--- a form was not made: a number of it is no i64, or there was no memory
-abbrev pub IsUnfit : WalkError → Fact → Type 0
-IsUnfit errors.TooMany f = ⊥
-IsUnfit errors.TooLarge f = fits f ≡ false
-IsUnfit errors.Outside f = ⊥
-IsUnfit errors.Memory f = Unit {0}
+use Rattle.facts.specs.declared.error.WalkError.{WalkError}
+use Rattle.facts.specs.declared.error.WalkError.TheVariants as errors
 
 abbrev pub are_fit : List Fact → Bool
 are_fit [] = true

@@ -1,9 +1,10 @@
 -- Straight-line kernels: the body is a list of stores to buffers, whose terms have numbers, value parameters, ids, sums, products
 -- and conversions.
-use Rattle.std.specs.Prelude.{ℕ, suc, length, Bool, true, false, ◌&&◌, nat_lt, nat_le}
+use Rattle.std.specs.Prelude.{ℕ, suc, length, Bool, true, false, ◌&&◌, nat_lt}
 use Rattle.semantics.specs.Word.{Operator, Add, Multiply, in_kind}
 use Rattle.semantics.specs.Core.{Space, Global, Term, Literal, Variable, Id, Binary, Convert, Statement, Store, Statements, none, one}
-use Rattle.semantics.specs.Launch.{Three, Kernel}
+use Rattle.semantics.specs.Launch.{Kernel}
+use Rattle.facts.specs.Launching.{are_sizes}
 
 abbrev pub is_exact : Operator → Bool
 is_exact Add = true
@@ -29,10 +30,6 @@ is_straight_statement n s = false
 abbrev pub is_straight_body : (arguments : ℕ) → Statements → Bool
 is_straight_body n none = true
 is_straight_body n (one s rest) = is_straight_statement n s && is_straight_body n rest
-
--- local sizes are those that a device has (OpenCL 1.2, 4.2 lets it choose; ours are at most 1,024)
-abbrev pub are_sizes : Three ℕ → Bool
-are_sizes t = nat_le t.x 1024 && (nat_le t.y 1024 && nat_le t.z 1024)
 
 abbrev pub is_straight : Kernel → Bool
 is_straight k = are_sizes k.sizes && is_straight_body (length k.arguments) k.body

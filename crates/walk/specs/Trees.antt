@@ -1,7 +1,7 @@
 -- The tree of what an item does from a place on: claims that are to be shown, facts that hold from there on, and accesses, in the
 -- order in which an item meets them.
 use Rattle.std.specs.Prelude.{ℕ, List, [], ◌∷◌, ◌++◌, Bool}
-use Rattle.walk.specs.Symbols.{Fact, denial}
+use Rattle.facts.specs.Symbols.{Fact, denial}
 
 -- an access has the elements of the new symbols before it
 pub data Tree (E : Type 0) : Type 0 where

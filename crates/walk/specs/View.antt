@@ -1,41 +1,19 @@
 -- What the code's values stand for.
-use Rattle.std.specs.Prelude.{ℕ, List, [], ◌∷◌, map, take, Bool, true, false, slice_index, slice_index_or}
-use Rattle.semantics.specs.Launch.{Three}
+use Rattle.std.specs.Prelude.{List, [], ◌∷◌, map, take, Bool, true, false, slice_index_or}
 use Rattle.domain.specs.declared.Domain.{Ghosts}
 use Rattle.words.specs.View.{kind}
+use Rattle.facts.specs.View.{which, known_seen, three}
 use Rattle.linear.specs.Forms.{form, forms}
-use Rattle.linear.specs.declared.form.LinearError.{LinearError}
-use Rattle.linear.specs.declared.form.LinearError.TheVariants as linear
-use Rattle.walk.specs.Symbols as symbols
-use Rattle.walk.specs.Symbols.{Fact}
-use Rattle.walk.specs.Elements as elements
+use Rattle.facts.specs.Symbols.{Fact}
 use Rattle.walk.specs.Trees as trees
 use Rattle.walk.specs.Walks as walks
 use Rattle.walk.specs.Collected.{Claimed, Met}
-use Rattle.walk.specs.declared.elements.Known.{Known}
 use Rattle.walk.specs.declared.path.Claim.{Claim}
 use Rattle.walk.specs.declared.path.Access.{Access}
 use Rattle.walk.specs.declared.path.Path.{Path}
 use Rattle.walk.specs.declared.setting.Setting.{Setting}
 use Rattle.walk.specs.declared.ranges.Value.{Value}
-use Rattle.walk.specs.declared.error.WalkError.{WalkError}
-use Rattle.walk.specs.declared.error.WalkError.TheVariants as errors
-use Rattle.walk.specs.declared.forms.Which.{Which}
-use Rattle.walk.specs.declared.forms.Which.TheVariants as items
-
-abbrev pub error_of_form : LinearError → WalkError
-error_of_form linear.TooLarge = errors.TooLarge
-error_of_form linear.Memory = errors.Memory
-
-abbrev pub which : Which → symbols.Which
-which items.First = symbols.First
-which items.Second = symbols.Second
-
-abbrev pub known_seen : {E : Type 0} → Known E → elements.Known E
-known_seen k = record { counts = k.counts.items; arguments = k.arguments.items; lengths = k.lengths.items; locals = k.locals.items; groups = k.groups.items }
-
-abbrev pub elements_seen : {E : Type 0} → Known E → (first second : List E) → elements.Elements E
-elements_seen k first second = record { known = known_seen k; first = first; second = second }
+use Rattle.facts.specs.declared.forms.Which.{Which}
 
 abbrev pub claim_seen : List Fact → Claim → Claimed
 claim_seen facts c = record { needed = c.needed; settled = c.settled; claim = form c.form; facts = take c.facts facts }
@@ -52,9 +30,6 @@ met p = record {
   };
   elements = p.elements.items;
 }
-
-abbrev pub three : List ℕ → Three ℕ
-three sizes = record { x = slice_index sizes 0; y = slice_index sizes 1; z = slice_index sizes 2 }
 
 -- of a setting, for one item
 abbrev pub setting : {E : Type 0} → Ghosts E → Setting E → Which → walks.Setting E

@@ -10,10 +10,10 @@ use Rattle.semantics.specs.Conditions.{Conditions}
 use Rattle.linear.specs.Exact.{sum, multiple}
 use Rattle.domain.specs.declared.Domain.{Ghosts}
 use Rattle.domain.specs.declared.Bounds.{Bounds}
-use Rattle.walk.specs.Symbols as symbols
-use Rattle.walk.specs.Symbols.{Which, First, Second, Symbol, Given, Length, New, Fact, constant, once, minus}
-use Rattle.walk.specs.Elements.{Known, Elements, between, element_of, is_settled}
-use Rattle.walk.specs.Launching.{known}
+use Rattle.facts.specs.Symbols as symbols
+use Rattle.facts.specs.Symbols.{Which, First, Second, Symbol, Given, Length, New, Fact, constant, once, minus}
+use Rattle.facts.specs.Elements.{Known, Elements, elements_of, between, element_of, is_settled}
+use Rattle.facts.specs.Launching.{known}
 use Rattle.walk.specs.Trees.{Tree, Leaf, Claim, Know, Touch}
 
 -- what a walk is of: a domain with what it knows, the local sizes, the kinds of the value parameters, the item, and the numbers
@@ -41,10 +41,6 @@ value k f = record { kind = k; form = f }
 
 abbrev pub Onward : Type 0 → Type 0
 Onward E = Value → State E → Tree E
-
-abbrev pub elements_of : {E : Type 0} → Known E → Which → List E → Elements E
-elements_of k First es = record { known = k; first = es; second = [] }
-elements_of k Second es = record { known = k; first = []; second = es }
 
 abbrev pub elements_at : {E : Type 0} → Setting E → State E → Elements E
 elements_at s st = elements_of s.known s.item st.elements

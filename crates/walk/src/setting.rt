@@ -1,6 +1,6 @@
 //! What a walk is of.
 
-use crate::elements::Known;
+use facts::Known;
 use words::Kind;
 
 /// What the domain knows, the local sizes, the kinds of the value parameters, and, by its number, whether an obligation has an entry.

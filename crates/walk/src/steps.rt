@@ -3,11 +3,12 @@
 ghost use Rattle.std.specs.Prelude.{◌≡◌, MatchResult};
 ghost use Rattle.linear.specs.Forms.{form as form_seen, forms};
 ghost use Rattle.walk.specs.Collected.{opening, with_claim, with_fact, with_element, with_access};
-ghost use Rattle.walk.specs.Refusals.{IsMemory, Refused};
+ghost use Rattle.facts.specs.Refusals.{IsMemory};
+ghost use Rattle.walk.specs.Refusals.{Refused};
 ghost use Rattle.walk.specs.View.{met};
 
-use crate::error::WalkError;
 use crate::path::{Access, Claim, Path};
+use facts::WalkError;
 use linear::Form;
 use std::alloc::Global;
 

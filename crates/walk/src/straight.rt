@@ -3,11 +3,10 @@
 ghost use Rattle.std.specs.Prelude.{◌≡◌, pos};
 ghost use Rattle.semantics.specs.Word.{in_kind};
 ghost use Rattle.words.specs.View.{kind as kind_seen};
-ghost use Rattle.types.specs.View.{term as term_seen, statements as statements_seen, statement as statement_seen, kernel as kernel_seen};
+ghost use Rattle.core_code.specs.View.{term as term_seen, statements as statements_seen, statement as statement_seen, kernel as kernel_seen};
 ghost use Rattle.walk.specs.Straight as straight;
 
-use syntax::tree::Operator;
-use types::core_tree::{Core, Space, Statement, Term};
+use core_code::tree::{Core, Operator, Space, Statement, Term};
 use words::Kind;
 
 /// The number is one of the kind.

@@ -3,27 +3,24 @@
 ghost use Rattle.std.specs.Prelude.{◌≡◌, ◌<◌, false, MatchResult};
 ghost use Rattle.linear.specs.Forms.{form as form_seen};
 ghost use Rattle.words.specs.View.{kind as kind_seen};
-ghost use Rattle.syntax.specs.View.{operator as operator_seen};
-ghost use Rattle.types.specs.View.{term as term_seen, function as function_seen};
+ghost use Rattle.core_code.specs.View.{operator as operator_seen, term as term_seen, function as function_seen};
 ghost use Rattle.walk.specs.Walks as walks;
-ghost use Rattle.walk.specs.Elements as elements;
+ghost use Rattle.facts.specs.Elements as elements;
 ghost use Rattle.walk.specs.Collected.{state_of};
 ghost use Rattle.walk.specs.Leads.{Leads};
 ghost use Rattle.walk.specs.Straight.{is_exact};
-ghost use Rattle.walk.specs.Refusals.{IsMemory, IsNoStraightTerm, Halts, HaltsAtForm};
+ghost use Rattle.facts.specs.Refusals.{IsMemory};
+ghost use Rattle.walk.specs.Refusals.{IsNoStraightTerm, Halts, HaltsAtForm};
 ghost use Rattle.walk.specs.View.{met, is_number as is_number_seen, setting as seen, value as value_seen};
 
-use crate::elements::element_of;
-use crate::error::WalkError;
-use crate::forms::{Which, once_given, once_group, once_groups, once_local};
 use crate::path::Path;
 use crate::ranges::{Value, brought, invent, ranged};
 use crate::setting::Setting;
+use core_code::tree::{Function, Operator, Term};
 use domain::Domain;
+use facts::{WalkError, Which, element_of, once_given, once_group, once_groups, once_local};
 use linear::Form;
 use std::alloc::Global;
-use syntax::tree::Operator;
-use types::core_tree::{Function, Term};
 use words::Kind;
 
 /// A form without terms.

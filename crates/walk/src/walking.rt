@@ -2,23 +2,22 @@
 
 ghost use Rattle.std.specs.Prelude.{◌≡◌, MatchResult};
 ghost use Rattle.linear.specs.Forms.{form as form_seen, forms};
-ghost use Rattle.types.specs.View.{term as term_seen, statement as statement_seen, statements as statements_seen};
+ghost use Rattle.core_code.specs.View.{term as term_seen, statement as statement_seen, statements as statements_seen};
 ghost use Rattle.walk.specs.Walks as walks;
 ghost use Rattle.walk.specs.Collected.{collect, opening};
 ghost use Rattle.walk.specs.Leads.{Steps};
 ghost use Rattle.walk.specs.Refusals.{AreNoStraightTerms, IsNoStraightStatement, IsNoStraightBody, Refused, Stops};
 ghost use Rattle.walk.specs.View.{met, setting as seen};
 
-use crate::error::WalkError;
-use crate::forms::{Which, less_number, once_length};
 use crate::path::Path;
 use crate::ranges::claim;
 use crate::setting::Setting;
 use crate::terms::walk_term;
+use core_code::tree::{Statement, Term};
 use domain::Domain;
+use facts::{WalkError, Which, less_number, once_length};
 use linear::Form;
 use std::alloc::Global;
-use types::core_tree::{Statement, Term};
 
 /// An index is at least 0, and below its buffer's length.
 fn in_buffer<D: Domain>(

@@ -1,5 +1,5 @@
 use Rattle.std.proofs.Common.{rules, ◌≡◌, ◌≤◌, true, map}
-use Rattle.types.specs.View.{kernel, statements}
+use Rattle.core_code.specs.View.{kernel, statements}
 use Rattle.launch.specs.View.{conditions}
 use Rattle.walk.specs.Straight.{is_straight, steps}
 use Rattle.certificate.specs.View.{entry}

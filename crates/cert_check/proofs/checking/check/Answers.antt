@@ -3,8 +3,8 @@ use Rattle.certificate.specs.Certificates.{certificate}
 use Rattle.syntax.specs.declared.tree.Kernel.{Kernel}
 use Rattle.syntax.specs.View.{parameter, kernel as tree}
 use Rattle.cert_check.specs.Names.{is_for_others}
-use Rattle.types.specs.View.{kernel}
-use Rattle.types.specs.declared.core_tree.Core.{Core}
+use Rattle.core_code.specs.View.{kernel}
+use Rattle.core_code.specs.declared.tree.Core.{Core}
 use Rattle.launch.specs.View.{conditions}
 use Rattle.launch_text.specs.View.{lined}
 use Rattle.launch_text.proofs.LeastFits.{conditions_meant}

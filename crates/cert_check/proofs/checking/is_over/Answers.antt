@@ -1,8 +1,9 @@
 use Rattle.std.proofs.Common.{rules, ◌≤◌, ◌<◌, ◌^◌, length, ap, sym, subst, ◌∙◌, arith}
 use Rattle.std.specs.Prelude.{nat_lt}
 use Rattle.std.proofs.lemmas.Bool.{and_parts, lt-ltb}
-use Rattle.types.specs.View.{kernel}
-use Rattle.walk.specs.Straight.{are_sizes, is_straight_body, steps}
+use Rattle.core_code.specs.View.{kernel}
+use Rattle.facts.specs.Launching.{are_sizes}
+use Rattle.walk.specs.Straight.{is_straight_body, steps}
 use Rattle.cert_check.proofs.checking.is_over.Goals as goal
 
 pub returns-in-Ok : goal.returns-in-Ok

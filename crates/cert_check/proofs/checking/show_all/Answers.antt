@@ -2,7 +2,7 @@ use Rattle.std.proofs.Common.{map, length, subst, IfOk, ◌≤◌, arith}
 use Rattle.std.specs.List.{All}
 use Rattle.certificate.specs.View.{entry}
 use Rattle.two_thread.specs.Shown.{IsShown}
-use Rattle.types.specs.View.{kernel}
+use Rattle.core_code.specs.View.{kernel}
 use Rattle.launch.specs.View.{conditions}
 use Rattle.cert_check.specs.Lacking.{ArePassed, AreUnfit, Lacks, IsUnwalked, Names, Tells, owing}
 use Rattle.cert_check.specs.Owing.{all_owed, findings_fit}

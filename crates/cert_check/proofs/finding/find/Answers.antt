@@ -1,18 +1,19 @@
 use Rattle.std.proofs.Common.{rules, ◌+◌, refl, ap, subst, ◌∙◌, map, arith}
 use Rattle.linear.specs.Forms.{forms}
 use Rattle.words.specs.View.{kind}
-use Rattle.types.specs.View.{kernel}
+use Rattle.core_code.specs.View.{kernel}
 use Rattle.launch.specs.View.{conditions}
 use Rattle.certificate.specs.View.{entry}
 use Rattle.std.proofs.lemmas.List.{length-map}
-use Rattle.walk.specs.Symbols.{First, Second}
-use Rattle.walk.specs.Launching.{item_facts}
+use Rattle.facts.specs.Symbols.{First, Second}
+use Rattle.facts.specs.Launching.{item_facts}
 use Rattle.walk.specs.Walks.{Setting, tree}
 use Rattle.walk.specs.Collected.{Found, collect, opening}
 use Rattle.walk.specs.Refusals.{IsNoStraightBody, Refused}
-use Rattle.walk.specs.declared.error.WalkError.{WalkError}
-use Rattle.walk.specs.View.{met, known_seen, setting, three}
-use Rattle.walk.specs.declared.forms.Which.TheVariants as items
+use Rattle.facts.specs.declared.error.WalkError.{WalkError}
+use Rattle.walk.specs.View.{met, setting}
+use Rattle.facts.specs.View.{known_seen, three}
+use Rattle.facts.specs.declared.forms.Which.TheVariants as items
 use Rattle.two_thread.specs.Pairs.{pairs_from}
 use Rattle.two_thread.specs.View.{pair, seen_accesses}
 use Rattle.cert_check.specs.Entries.{has_entry}

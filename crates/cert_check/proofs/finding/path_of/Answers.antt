@@ -1,14 +1,15 @@
 use Rattle.std.proofs.Common.{rules, ap, subst, ◌∙◌}
-use Rattle.walk.specs.Launching.{item_facts}
+use Rattle.facts.specs.Launching.{item_facts}
 use Rattle.walk.specs.Refusals.{IsNoStraightBody, Refused}
 use Rattle.cert_check.specs.Lacking.{IsEarly}
 use Rattle.cert_check.specs.declared.error.ShowError.TheVariants as errors
 use Rattle.cert_check.proofs.Unshown.{passed}
 use Rattle.linear.specs.Forms.{forms}
-use Rattle.types.specs.View.{kernel, statements}
+use Rattle.core_code.specs.View.{kernel, statements}
 use Rattle.walk.specs.Collected.{collect, opening}
 use Rattle.walk.specs.Walks.{tree}
-use Rattle.walk.specs.View.{which, setting}
+use Rattle.facts.specs.View.{which}
+use Rattle.walk.specs.View.{setting}
 use Rattle.cert_check.proofs.finding.path_of.Goals as goal
 
 pub returns-clause-path : goal.returns-clause-path

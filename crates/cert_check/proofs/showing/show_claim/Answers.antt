@@ -5,8 +5,8 @@ use Rattle.cert_check.proofs.Walked.{claim_unfit}
 use Rattle.cert_check.specs.Lacking.{AreUnfit, IsStopped, Names}
 use Rattle.cert_check.specs.Owing.{owed, seen_claims, nth_claim, denials_fit}
 use Rattle.cert_check.specs.declared.error.ShowError.TheVariants as errors
-use Rattle.walk.specs.Refusals.{IsUnfit}
-use Rattle.walk.specs.Symbols.{denial}
+use Rattle.facts.specs.Refusals.{IsUnfit}
+use Rattle.facts.specs.Symbols.{denial}
 use Rattle.linear.specs.Forms.{form, forms}
 use Rattle.cert_check.proofs.OneByOne.{settled_shown, unneeded_shown, refuted_shown, refuted}
 use Rattle.cert_check.proofs.showing.show_claim.Goals as goal

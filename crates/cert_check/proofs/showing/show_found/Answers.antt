@@ -4,7 +4,7 @@ use Rattle.std.proofs.lemmas.List.Elements.{All-append}
 use Rattle.certificate.specs.View.{entry}
 use Rattle.linear.specs.Forms.{forms}
 use Rattle.linear.specs.declared.form.Form.{Form}
-use Rattle.walk.specs.View.{known_seen}
+use Rattle.facts.specs.View.{known_seen}
 use Rattle.two_thread.specs.Pairs.{pair_obligation}
 use Rattle.two_thread.specs.declared.pairs.Pair.{Pair}
 use Rattle.two_thread.specs.View.{pair, seen_accesses}

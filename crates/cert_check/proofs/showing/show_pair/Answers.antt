@@ -2,7 +2,7 @@ use Rattle.std.proofs.Common.{rules, ◌≡◌, inl, inr, subst, refl, length, m
 use Rattle.semantics.specs.Linear.{IsImpossible}
 use Rattle.linear.specs.Forms.{forms}
 use Rattle.certificate.specs.View.{entry}
-use Rattle.walk.specs.View.{known_seen}
+use Rattle.facts.specs.View.{known_seen}
 use Rattle.two_thread.specs.Pairs.{pair_obligation}
 use Rattle.two_thread.specs.View.{pair, seen_accesses}
 use Rattle.cert_check.specs.Owing.{nth_pair}

@@ -2,7 +2,7 @@ use Rattle.std.proofs.Common.{rules, arith, ℕ, ◌≤◌, ◌+◌, length, map
 use Rattle.std.specs.List.{All}
 use Rattle.certificate.specs.View.{entry}
 use Rattle.linear.specs.Forms.{forms}
-use Rattle.walk.specs.View.{known_seen}
+use Rattle.facts.specs.View.{known_seen}
 use Rattle.two_thread.specs.Fitting.{pairs_fit}
 use Rattle.two_thread.specs.Pairs.{pair_obligation}
 use Rattle.two_thread.specs.Shown.{IsShown}

@@ -1,6 +1,6 @@
 use Rattle.std.proofs.Common.{◌<◌, ℕ, ◌+◌, get_or, length, map}
 use Rattle.linear.specs.Forms.{forms}
-use Rattle.walk.specs.View.{known_seen}
+use Rattle.facts.specs.View.{known_seen}
 use Rattle.two_thread.specs.Shown.{IsShown}
 use Rattle.two_thread.specs.Pairs.{pair_obligation}
 use Rattle.two_thread.specs.View.{pair, seen_accesses}

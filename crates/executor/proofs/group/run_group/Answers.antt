@@ -1,9 +1,10 @@
 use Rattle.std.proofs.Common.{◌≡◌, ap, sym, ◌∙◌, subst, true, None}
 use Rattle.semantics.specs.Launch.{product}
 use Rattle.semantics.specs.Rounds.{log_of}
-use Rattle.types.specs.View.{kernel}
+use Rattle.core_code.specs.View.{kernel}
 use Rattle.launch.specs.View.{launch, conditions}
-use Rattle.walk.specs.Straight.{are_sizes, is_straight_body}
+use Rattle.facts.specs.Launching.{are_sizes}
+use Rattle.walk.specs.Straight.{is_straight_body}
 use Rattle.cert_check.specs.View.{typed_of, kept}
 use Rattle.executor.specs.Runs.{stores_by}
 use Rattle.executor.specs.Stores.{at}

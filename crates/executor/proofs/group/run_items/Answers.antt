@@ -4,7 +4,7 @@ use Rattle.semantics.specs.Setup as setup
 use Rattle.semantics.specs.Setup.{Setup, member, group_of, group_size, group_count}
 use Rattle.semantics.specs.Rounds.{log_of}
 use Rattle.semantics.proofs.Groups.{group_of-member, place-member}
-use Rattle.types.specs.View.{kernel, statements}
+use Rattle.core_code.specs.View.{kernel, statements}
 use Rattle.launch.specs.View.{launch}
 use Rattle.write_log.specs.Written.{written}
 use Rattle.executor.specs.Runs.{item_stores}

@@ -1,5 +1,5 @@
 use Rattle.std.proofs.Common.{sym, ◌∙◌, subst, ap, length, refl}
-use Rattle.types.specs.View.{kernel}
+use Rattle.core_code.specs.View.{kernel}
 use Rattle.launch.specs.View.{launch, conditions}
 use Rattle.semantics.specs.Conditions.{Meets}
 use Rattle.cert_check.specs.Accepting.{at}

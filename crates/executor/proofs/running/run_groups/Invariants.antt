@@ -1,4 +1,4 @@
-use Rattle.types.specs.View.{kernel}
+use Rattle.core_code.specs.View.{kernel}
 use Rattle.launch.specs.View.{launch, conditions}
 use Rattle.semantics.specs.Rounds.{result_of}
 use Rattle.cert_check.specs.Accepting.{at}

@@ -1,7 +1,7 @@
 use Rattle.std.proofs.Common.{ap, sym, ◌∙◌, ◌+◌, ◌<◌, ◌^◌, arith}
 use Rattle.std.proofs.lemmas.Grind.{common_steps}
-use Rattle.types.specs.View.{term, statement, statements}
-use Rattle.types.proofs.Rows.{seen_if, seen_loop}
+use Rattle.core_code.specs.View.{term, statement, statements}
+use Rattle.core_code.proofs.Rows.{seen_if, seen_loop}
 use Rattle.loop_bounds.specs.Turns.{turns_of}
 use Rattle.loop_bounds.specs.Costs.{loads, cost}
 use Rattle.loop_bounds.proofs.Products.{a_body, an_update}

@@ -1,5 +1,5 @@
 use Rattle.std.proofs.Common.{◌≡◌, ◌+◌, drop}
-use Rattle.types.specs.View.{statements}
+use Rattle.core_code.specs.View.{statements}
 use Rattle.loop_bounds.specs.Turns.{turns_of}
 use Rattle.loop_bounds.specs.Costs.{cost}
 use Rattle.loop_bounds.proofs.counting.+cost.Given as goal

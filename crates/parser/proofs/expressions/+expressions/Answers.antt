@@ -2,7 +2,8 @@ use Rattle.std.proofs.Common.{◌≡◌, suc, ◌+◌, ◌-◌, [], ◌∷◌, �
 use Rattle.std.specs.Prelude.{string_bytes}
 use Rattle.std.specs.Option.{option_map}
 use Rattle.texts.specs.Surface.{Infix}
-use Rattle.syntax.specs.View.{site, expression, expressions, infix_sign}
+use Rattle.syntax.specs.View.{expression, expressions, infix_sign}
+use Rattle.core_code.specs.View.{site}
 use Rattle.syntax.proofs.Rows.{seen_call}
 use Rattle.parser.specs.Reader.{front, behind, run, Took, carry}
 use Rattle.parser.specs.View.{lexemes}

@@ -1,6 +1,7 @@
 use Rattle.std.proofs.Common.{◌≡◌, ℕ, ◌+◌, ◌-◌, [], ◌∷◌, ◌++◌, true, false, ap, sym, ◌∙◌, rules, arith}
 use Rattle.texts.specs.Surface as surface
-use Rattle.syntax.specs.View.{site, expression, first, assignment, statements}
+use Rattle.syntax.specs.View.{expression, first, assignment, statements}
+use Rattle.core_code.specs.View.{site}
 use Rattle.syntax.proofs.Rows.{seen_if, seen_while, seen_for, seen_block}
 use Rattle.parser.specs.Reader.{Reader, front, run, Took, carry}
 use Rattle.parser.specs.View.{lexemes}

@@ -1,7 +1,7 @@
 use Rattle.std.proofs.Common.{◌≡◌, ◌++◌, ◌+◌, suc, rules, sym, subst, add-one, drop, map}
 use Rattle.launch.specs.View.{conditions}
 use Rattle.words.specs.declared.word.Kind.TheVariants.{Uint}
-use Rattle.walk.specs.View.{three}
+use Rattle.facts.specs.View.{three}
 use Rattle.two_thread.specs.Pairs.{pairs_from}
 use Rattle.two_thread.specs.View.{pair, seen_accesses}
 use Rattle.two_thread.proofs.Growing.{from_step}

@@ -1,7 +1,7 @@
 use Rattle.std.proofs.Common.{ap, sym, ◌∙◌, nat_eq}
 use Rattle.walk.specs.Trees as trees
 use Rattle.walk.specs.declared.path.Access.{Access}
-use Rattle.access.proofs.Nth.{nth_seen}
+use Rattle.walk.proofs.Nth.{nth_seen}
 use Rattle.two_thread.proofs.pairs.is_of.Goals as goal
 
 pub returns : goal.returns

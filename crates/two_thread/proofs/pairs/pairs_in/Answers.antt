@@ -1,8 +1,8 @@
 use Rattle.std.proofs.Common.{arith, ◌<◌, ◌≤◌, length, map, min}
 use Rattle.launch.specs.View.{conditions}
-use Rattle.walk.specs.View.{three}
+use Rattle.facts.specs.View.{three}
 use Rattle.two_thread.specs.View.{scope, pair, seen_accesses}
-use Rattle.access.proofs.Nth.{length_seen}
+use Rattle.walk.proofs.Nth.{length_seen}
 use Rattle.two_thread.proofs.Growing.{in_step, in_end}
 use Rattle.two_thread.proofs.pairs.pairs_in.Goals as goal
 

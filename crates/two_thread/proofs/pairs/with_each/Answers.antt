@@ -1,8 +1,8 @@
 use Rattle.std.proofs.Common.{arith, ◌<◌, ◌≤◌, length, map}
 use Rattle.launch.specs.View.{conditions}
-use Rattle.walk.specs.View.{three}
+use Rattle.facts.specs.View.{three}
 use Rattle.two_thread.specs.View.{scope, pair, nth_access, seen_accesses}
-use Rattle.access.proofs.Nth.{length_seen}
+use Rattle.walk.proofs.Nth.{length_seen}
 use Rattle.two_thread.proofs.Growing.{each_step, each_end}
 use Rattle.two_thread.proofs.pairs.with_each.Goals as goal
 

@@ -1,6 +1,6 @@
 use Rattle.std.proofs.Common.{length, ◌≡◌, ◌++◌, drop, map}
 use Rattle.launch.specs.View.{conditions}
-use Rattle.walk.specs.View.{three}
+use Rattle.facts.specs.View.{three}
 use Rattle.two_thread.specs.Pairs as specs
 use Rattle.std.specs.List.{All}
 use Rattle.two_thread.specs.Refusals.{IsInside}

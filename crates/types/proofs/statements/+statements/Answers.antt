@@ -5,14 +5,15 @@ use Rattle.texts.specs.Surface.{DeclareArray}
 use Rattle.words.specs.View.{kind}
 use Rattle.texts.specs.Elaboration.{elaborated, single, elaborate_statement, elaborate_assignment, barrier_of}
 use Rattle.syntax.proofs.Rows.{seen_if, seen_while, seen_for, seen_block}
-use Rattle.syntax.specs.View.{site as site_of, statement as stmt, statements as stmts, first as first_of, assignment, expression}
+use Rattle.syntax.specs.View.{statement as stmt, statements as stmts, first as first_of, assignment, expression}
+use Rattle.core_code.specs.View.{site as site_of}
 use Rattle.types.specs.Names.{scope_seen, one_seen, all_seen}
-use Rattle.types.specs.View.{term, statement, statements}
+use Rattle.core_code.specs.View.{term, statement, statements}
 use Rattle.types.specs.Answers.{typed_term}
 use Rattle.types.proofs.Blocks.{all-done, all-step, gives-behind, gives-alone, if-taken, if-refused, otherwise-done, while-done, repeated-done, for-done, for-first, for-repeated, behind-two, block-done}
 use Rattle.types.proofs.Names.{names-left, for-left, names-kept}
-use Rattle.types.proofs.Rows as core_rows
-use Rattle.types.proofs.Rows.{seen_loop}
+use Rattle.core_code.proofs.Rows as core_rows
+use Rattle.core_code.proofs.Rows.{seen_loop}
 use Rattle.types.proofs.statements.+statements.Goals as goal
 
 pub elaborate_all-loop-s-preserved : goal.elaborate_all-loop-s-preserved

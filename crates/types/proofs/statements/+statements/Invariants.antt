@@ -1,7 +1,7 @@
 use Rattle.std.proofs.Common.{◌≡◌, drop}
 use Rattle.texts.specs.Elaboration as elaboration
 use Rattle.syntax.specs.View.{statements as stmts}
-use Rattle.types.specs.View.{statements}
+use Rattle.core_code.specs.View.{statements}
 use Rattle.types.specs.Names.{scope_seen}
 use Rattle.types.specs.Blocks.{behind}
 use Rattle.types.proofs.statements.+statements.Given as goal

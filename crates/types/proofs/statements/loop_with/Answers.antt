@@ -1,7 +1,7 @@
 use Rattle.std.proofs.Common.{ap, sym, ◌∙◌, Ok}
 use Rattle.semantics.specs.Core.{Loop}
-use Rattle.types.specs.View.{term, statements}
-use Rattle.types.proofs.Rows.{seen_loop}
+use Rattle.core_code.specs.View.{term, statements}
+use Rattle.core_code.proofs.Rows.{seen_loop}
 use Rattle.types.proofs.statements.loop_with.Goals as goal
 
 pub returns : goal.returns

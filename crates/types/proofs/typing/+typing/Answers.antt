@@ -1,7 +1,8 @@
 use Rattle.std.proofs.Common.{ap, ◌∙◌, rules, arith}
 use Rattle.std.proofs.lemmas.Grind.{common_steps}
 use Rattle.syntax.proofs.Rows.{seen_call}
-use Rattle.syntax.specs.View.{site, expression}
+use Rattle.syntax.specs.View.{expression}
+use Rattle.core_code.specs.View.{site}
 use Rattle.types.specs.Functions.{pick as pick_of}
 use Rattle.types.specs.Names.{names}
 use Rattle.types.proofs.Arguments.{pick-two}

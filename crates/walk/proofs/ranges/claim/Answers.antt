@@ -1,6 +1,7 @@
 use Rattle.linear.specs.Forms.{form}
 use Rattle.walk.specs.View.{met, setting as seen}
-use Rattle.walk.proofs.Refusing.{claim_stops, handed}
+use Rattle.walk.proofs.Refusing.{claim_stops}
+use Rattle.facts.proofs.Unmade.{handed}
 use Rattle.walk.proofs.Leading.{claim_steps}
 use Rattle.walk.proofs.ranges.claim.Goals as goal
 

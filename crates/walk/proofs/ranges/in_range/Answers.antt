@@ -1,7 +1,8 @@
 use Rattle.linear.specs.Forms.{form}
 use Rattle.walk.specs.View.{met, setting as seen}
 use Rattle.words.specs.View.{kind}
-use Rattle.walk.proofs.Refusing.{low_stops, high_stops, first_stops, second_stops, handed}
+use Rattle.walk.proofs.Refusing.{low_stops, high_stops, first_stops, second_stops}
+use Rattle.facts.proofs.Unmade.{handed}
 use Rattle.walk.proofs.Leading.{range_steps}
 use Rattle.walk.proofs.ranges.in_range.Goals as goal
 

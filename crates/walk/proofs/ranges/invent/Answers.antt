@@ -1,10 +1,12 @@
 use Rattle.std.proofs.Common.{◌∙◌, ◌≡◌, ap, rules, length}
 use Rattle.linear.specs.Forms.{form}
-use Rattle.walk.specs.View.{met, which, setting as seen}
+use Rattle.walk.specs.View.{met, setting as seen}
+use Rattle.facts.specs.View.{which}
 use Rattle.std.specs.Prelude.{ℕ}
-use Rattle.walk.specs.Symbols.{New, once}
+use Rattle.facts.specs.Symbols.{New, once}
 use Rattle.walk.specs.declared.path.Path.{Path}
-use Rattle.walk.proofs.Refusing.{invent_low, invent_high, handed}
+use Rattle.walk.proofs.Refusing.{invent_low, invent_high}
+use Rattle.facts.proofs.Unmade.{handed}
 use Rattle.walk.proofs.Leading.{invents}
 use Rattle.walk.proofs.ranges.invent.Goals as goal
 

@@ -3,7 +3,8 @@ use Rattle.std.proofs.lemmas.Int.{to_z-of_z}
 use Rattle.linear.specs.Forms.{form}
 use Rattle.walk.specs.View.{met}
 use Rattle.walk.specs.Collected.{with_fact}
-use Rattle.walk.proofs.Refusing.{high_refused, handed}
+use Rattle.walk.proofs.Refusing.{high_refused}
+use Rattle.facts.proofs.Unmade.{handed}
 use Rattle.walk.proofs.Leading.{knows_high}
 use Rattle.walk.proofs.ranges.know_high.Goals as goal
 

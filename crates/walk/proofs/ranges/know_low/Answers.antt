@@ -4,7 +4,8 @@ use Rattle.linear.specs.Forms.{form}
 use Rattle.walk.specs.View.{met}
 use Rattle.walk.specs.Collected.{with_fact}
 use Rattle.walk.proofs.Leading.{knows_low}
-use Rattle.walk.proofs.Refusing.{low_refused, handed}
+use Rattle.walk.proofs.Refusing.{low_refused}
+use Rattle.facts.proofs.Unmade.{handed}
 use Rattle.walk.proofs.ranges.know_low.Goals as goal
 
 pub returns-in_ok-know-clause-leads : goal.returns-in_ok-know-clause-leads

@@ -1,6 +1,7 @@
 use Rattle.linear.specs.Forms.{form}
 use Rattle.walk.specs.View.{met, setting as seen}
-use Rattle.walk.proofs.Refusing.{kept_halts, range_halts, wrapped_halts, handed}
+use Rattle.walk.proofs.Refusing.{kept_halts, range_halts, wrapped_halts}
+use Rattle.facts.proofs.Unmade.{handed}
 use Rattle.walk.proofs.Leading.{wraps}
 use Rattle.walk.proofs.ranges.ranged_uint.Goals as goal
 

@@ -1,5 +1,5 @@
 use Rattle.std.proofs.Common.{◌≡◌, drop}
-use Rattle.types.specs.View.{statements}
+use Rattle.core_code.specs.View.{statements}
 use Rattle.walk.specs.Straight.{is_straight_body}
 use Rattle.walk.proofs.straight.is_straight_body.Given as goal
 

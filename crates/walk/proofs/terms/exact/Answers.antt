@@ -2,10 +2,12 @@ use Rattle.std.proofs.Common.{◌≡◌, ap}
 use Rattle.std.specs.Prelude.{false}
 use Rattle.linear.specs.Forms.{form}
 use Rattle.linear.specs.Exact.{sum}
-use Rattle.syntax.specs.View.{operator}
+use Rattle.core_code.specs.View.{operator}
 use Rattle.walk.specs.Straight.{is_exact}
-use Rattle.walk.specs.View.{met, error_of_form, setting as seen}
-use Rattle.walk.proofs.Refusing.{unfit_of, sum_halts, handed}
+use Rattle.walk.specs.View.{met, setting as seen}
+use Rattle.facts.specs.View.{error_of_form}
+use Rattle.facts.proofs.Unmade.{unfit_of, handed}
+use Rattle.walk.proofs.Refusing.{sum_halts}
 use Rattle.walk.proofs.terms.exact.Goals as goal
 
 pub returns-in_err-form-in-Add : goal.returns-in_err-form-in-Add

@@ -2,8 +2,10 @@ use Rattle.std.proofs.Common.{sym, ◌∙◌, rules, SFits, w64}
 use Rattle.std.proofs.lemmas.Int.{to_z-of_z}
 use Rattle.linear.specs.Forms.{form}
 use Rattle.linear.specs.Exact.{multiple}
-use Rattle.walk.specs.View.{met, error_of_form, setting as seen}
-use Rattle.walk.proofs.Refusing.{unfit_of, right_halts, left_halts, new_product, handed}
+use Rattle.walk.specs.View.{met, setting as seen}
+use Rattle.facts.specs.View.{error_of_form}
+use Rattle.facts.proofs.Unmade.{unfit_of, handed}
+use Rattle.walk.proofs.Refusing.{right_halts, left_halts, new_product}
 use Rattle.walk.proofs.terms.product.Goals as goal
 
 pub returns-in_err-form : goal.returns-in_err-form

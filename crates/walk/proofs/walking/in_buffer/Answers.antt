@@ -1,9 +1,11 @@
 use Rattle.std.proofs.Common.{◌∙◌, ap}
 use Rattle.std.specs.Prelude.{pos}
 use Rattle.linear.specs.Forms.{form}
-use Rattle.walk.specs.Symbols.{constant, minus}
-use Rattle.walk.specs.View.{met, setting as seen, error_of_form}
-use Rattle.walk.proofs.Refusing.{room_stops, index_stops, end_stops, unfit_of, handed}
+use Rattle.facts.specs.Symbols.{constant, minus}
+use Rattle.walk.specs.View.{met, setting as seen}
+use Rattle.facts.specs.View.{error_of_form}
+use Rattle.walk.proofs.Refusing.{room_stops, index_stops, end_stops}
+use Rattle.facts.proofs.Unmade.{unfit_of, handed}
 use Rattle.walk.proofs.Leading.{buffer_steps}
 use Rattle.walk.proofs.walking.in_buffer.Goals as goal
 

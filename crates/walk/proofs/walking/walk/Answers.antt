@@ -1,7 +1,7 @@
 use Rattle.std.proofs.Common.{rules, ◌≤◌, length, sym, ◌∙◌}
 use Rattle.walk.specs.View.{met, setting as seen}
 use Rattle.walk.proofs.Bodies.{body_end, body_step, body_refused}
-use Rattle.walk.proofs.Refusing.{handed}
+use Rattle.facts.proofs.Unmade.{handed}
 use Rattle.walk.proofs.walking.walk.Goals as goal
 
 pub returns : goal.returns

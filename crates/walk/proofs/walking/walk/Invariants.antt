@@ -1,6 +1,6 @@
 use Rattle.std.proofs.Common.{◌≡◌, drop}
 use Rattle.linear.specs.Forms.{forms}
-use Rattle.types.specs.View.{statements}
+use Rattle.core_code.specs.View.{statements}
 use Rattle.walk.specs.Trees.{Leaf}
 use Rattle.walk.specs.Walks.{walk_all, tree}
 use Rattle.walk.specs.Collected.{collect, opening, state_of}

@@ -1,8 +1,9 @@
-use Rattle.types.specs.View.{term}
+use Rattle.core_code.specs.View.{term}
 use Rattle.walk.specs.View.{met, value, setting as seen}
 use Rattle.walk.proofs.Leading.{store_steps}
 use Rattle.walk.specs.Refusals.{AreNoStraightTerms}
-use Rattle.walk.proofs.Refusing.{store_halts, handed}
+use Rattle.walk.proofs.Refusing.{store_halts}
+use Rattle.facts.proofs.Unmade.{handed}
 use Rattle.walk.proofs.walking.walk_store.Goals as goal
 
 pub returns : goal.returns

@@ -1,6 +1,6 @@
 use Rattle.std.proofs.Common.{◌≡◌, ℕ, true, length, drop}
 use Rattle.semantics.specs.Rounds.{log_of}
-use Rattle.types.specs.View.{statements}
+use Rattle.core_code.specs.View.{statements}
 use Rattle.walk.specs.Straight.{is_straight_body}
 use Rattle.write_log.specs.Written.{written}
 use Rattle.executor.specs.Runs.{item_stores}

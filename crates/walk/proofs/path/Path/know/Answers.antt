@@ -1,5 +1,6 @@
 use Rattle.walk.specs.View.{met}
-use Rattle.walk.proofs.Paths.{forms_more, claims_kept, accesses_kept}
+use Rattle.facts.proofs.Facts.{forms_more}
+use Rattle.walk.proofs.Paths.{claims_kept, accesses_kept}
 use Rattle.walk.proofs.path.Path.know.Goals as goal
 
 pub returns : goal.returns

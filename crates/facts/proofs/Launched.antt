@@ -1,0 +1,115 @@
+-- The facts of a launch that meets the conditions, and of an item, hold.
+use Rattle.std.proofs.Common.{◌≡◌, ℕ, zero, suc, ◌+◌, ◌<◌, ◌%◌, List, [], ◌∷◌, ◌++◌, map, length, slice_index_or, arith, ap, ◌∙◌}
+use Rattle.std.specs.Prelude.{ℤ, pos, ◌+ℤ◌, ◌-ℤ◌, ◌*ℤ◌}
+use Rattle.std.specs.List.{All, AllZip}
+use Rattle.std.proofs.lemmas.Int.{ints}
+use Rattle.std.proofs.lemmas.List.Elements.{All-append, All-cons, All-nil, All-head, All-tail}
+use Rattle.semantics.specs.Word.{Kind, Word, zero_word}
+use Rattle.semantics.specs.Launch.{Three, Launch, IsBuffer}
+use Rattle.semantics.specs.Setup.{Setup, along, place, IsPlace, group_size, group_count, group_of, item_count, local_id, group_id}
+use Rattle.semantics.specs.Conditions.{Range, Summand, Constant, Argument, Groups, Requirement, Conditions, IsIn, IsLongEnough, IsRequired, Meets, summand_value, sum_value}
+use Rattle.semantics.specs.Linear.{value_of, IsMet}
+use Rattle.semantics.proofs.Groups.{group_size-pos, place-below, group-below}
+use Rattle.semantics.proofs.Places.{place-is}
+use Rattle.linear.specs.Exact.{sum}
+use Rattle.facts.specs.Symbols as symbols
+use Rattle.facts.specs.Symbols.{First, Symbol, Given, Length, Local, Group, number, Fact, constant, once, minus}
+use Rattle.facts.specs.Launching.{each_dimension, summand_form, sum_from, sum_form, ends, argument_facts, length_facts, required, count_range, launch_facts, id_facts, item_facts}
+use Rattle.facts.proofs.Values.{value-sum, value-multiple, value-minus, value-constant, value-once}
+use Rattle.facts.proofs.Worlds.{View, setup, groups_at, given_at, Knows}
+
+pub each_dimension-all : {A : Type 0} (P : A → Type 0) (f : ℕ → List A) → ((d : ℕ) → d < 3 → All P (f d)) → All P (each_dimension f)
+each_dimension-all P f h = All-append P (f 0) (f 1 ++ f 2) (h 0 (omega arith)) (All-append P (f 1) (f 2) (h 1 (omega arith)) (h 2 (omega arith)))
+
+-- ids are below their counts
+along-place : (t p : Three ℕ) → IsPlace t p → (d : ℕ) → d < 3 → along p d 0 < along t d 1
+along-place t p h zero l = h.0
+along-place t p h (suc zero) l = h.1
+along-place t p h (suc (suc zero)) l = h.2
+along-place t p h (suc (suc (suc d))) l = absurd (omega arith)
+
+pub local-below : (s : Setup) (i : ℕ) → i < item_count s → (d : ℕ) → d < 3 → local_id s i d < along s.kernel.sizes d 1
+unfolding group_size
+local-below s i h = along-place s.kernel.sizes (place s.kernel.sizes (i % group_size s)) (place-is s.kernel.sizes (i % group_size s) (place-below s i (group_size-pos s i h))).0
+
+pub group_id-below : (s : Setup) (i : ℕ) → i < item_count s → (d : ℕ) → d < 3 → group_id s i d < along s.launch.groups d 1
+unfolding group_count
+group_id-below s i h = along-place s.launch.groups (place s.launch.groups (group_of s i)) (place-is s.launch.groups (group_of s i) (group-below s i h)).0
+
+-- a count is in its range
+pub count_in : (c : Conditions) (l : Launch) → Meets c l → (d : ℕ) → d < 3 → IsIn (count_range c d) (groups_at l d)
+count_in c l m zero h = m.groups_x
+count_in c l m (suc zero) h = m.groups_y
+count_in c l m (suc (suc zero)) h = m.groups_z
+count_in c l m (suc (suc (suc d))) h = absurd (omega arith)
+
+summand-value : (v : ℕ → ℤ) (l : Launch) → ((d : ℕ) → v (number (symbols.Groups d)) ≡ groups_at l d) → ((n : ℕ) → v (number (Given n)) ≡ given_at l n) → (x : Summand) → value_of v (summand_form x) ≡ summand_value l x
+summand-value v l g a (Constant z) = value-constant v z
+summand-value v l g a (Argument c n) = value-multiple v c (once (Given n)) ∙ ap (λ z. c *ℤ z) (value-once v (Given n) ∙ a n)
+summand-value v l g a (Groups c d) = value-multiple v c (once (symbols.Groups d)) ∙ ap (λ z. c *ℤ z) (value-once v (symbols.Groups d) ∙ g d)
+
+sum_from-value : (v : ℕ → ℤ) (l : Launch) → ((d : ℕ) → v (number (symbols.Groups d)) ≡ groups_at l d) → ((n : ℕ) → v (number (Given n)) ≡ given_at l n) → (f : Fact) (xs : List Summand) → value_of v (sum_from f xs) ≡ value_of v f +ℤ sum_value l xs
+sum_from-value v l g a f [] = omega (arith, ints)
+sum_from-value v l g a f (x ∷ xs) = omega (arith, ints, sum_from-value v l g a (sum f (summand_form x)) xs, value-sum v f (summand_form x), summand-value v l g a x)
+
+pub sum_form-value : (v : ℕ → ℤ) (l : Launch) → ((d : ℕ) → v (number (symbols.Groups d)) ≡ groups_at l d) → ((n : ℕ) → v (number (Given n)) ≡ given_at l n) → (xs : List Summand) → value_of v (sum_form xs) ≡ sum_value l xs
+sum_form-value v l g a xs = omega (arith, ints, sum_from-value v l g a (constant (pos 0)) xs, value-constant v (pos 0))
+
+ends_hold : (v : ℕ → ℤ) (r : Range) (s : Symbol) (z : ℤ) → v (number s) ≡ z → IsIn r z → All (IsMet v) (ends r (once s))
+ends_hold v r s z e h =
+    All-cons (IsMet v) (minus (once s) (constant r.low)) (minus (constant r.high) (once s) ∷ []) (omega (arith, ints, value-minus v (once s) (constant r.low), value-once v s, value-constant v r.low, e, h.0))
+    (All-cons (IsMet v) (minus (constant r.high) (once s)) [] (omega (arith, ints, value-minus v (constant r.high) (once s), value-once v s, value-constant v r.high, e, h.1)) (All-nil (IsMet v)))
+
+arguments_hold : (v : ℕ → ℤ) (n : ℕ) (rs : List Range) (ws : List Word) → AllZip (λ (r : Range) (w : Word). IsIn r w.value) rs ws → ((k : ℕ) → v (number (Given (n + k))) ≡ (slice_index_or ws k zero_word).value) → All (IsMet v) (argument_facts n rs)
+arguments_hold v n [] ws h e = All-nil (IsMet v)
+arguments_hold v n (r ∷ rs) [] h e = elim h [ ]
+arguments_hold v n (r ∷ rs) (w ∷ ws) h e =
+    let here : v (number (Given n)) ≡ w.value = ap (λ m. v (number (Given m))) (omega arith) ∙ e 0 in
+    All-append (IsMet v) (ends r (once (Given n))) (argument_facts (suc n) rs) (ends_hold v r (Given n) w.value here h.0) (arguments_hold v (suc n) rs ws h.1 (λ k. let m : suc n + k ≡ n + suc k = omega arith in ap (λ x. v (number (Given x))) m ∙ e (suc k)))
+
+lengths_hold : (v : ℕ → ℤ) (l : Launch) → ((d : ℕ) → v (number (symbols.Groups d)) ≡ groups_at l d) → ((n : ℕ) → v (number (Given n)) ≡ given_at l n) → (n : ℕ) (ss : List (List Summand)) (ks : List Kind) (bs : List (List ℤ)) → AllZip (IsLongEnough l) ss bs → AllZip IsBuffer ks bs → ((k : ℕ) → v (number (Length (n + k))) ≡ pos (length (slice_index_or bs k []))) → All (IsMet v) (length_facts n ss)
+lengths_hold v l g a n [] ks bs h j e = All-nil (IsMet v)
+lengths_hold v l g a n (s ∷ ss) ks [] h j e = elim h [ ]
+lengths_hold v l g a n (s ∷ ss) [] (b ∷ bs) h j e = elim j [ ]
+lengths_hold v l g a n (s ∷ ss) (k ∷ ks) (b ∷ bs) h j e =
+    let here : v (number (Length n)) ≡ pos (length b) = ap (λ m. v (number (Length m))) (omega arith) ∙ e 0 in
+    let long : Fact = once (Length n) in
+    let enough = h.0 in
+    let most = j.0.0 in
+    All-cons (IsMet v) (minus long (sum_form s)) (minus (constant (pos 4294967295)) long ∷ length_facts (suc n) ss) (omega (arith, ints, value-minus v long (sum_form s), sum_form-value v l g a s, value-once v (Length n), here, enough))
+    (All-cons (IsMet v) (minus (constant (pos 4294967295)) long) (length_facts (suc n) ss) (omega (arith, ints, value-minus v (constant (pos 4294967295)) long, value-constant v (pos 4294967295), value-once v (Length n), here, most))
+    (lengths_hold v l g a (suc n) ss ks bs h.1 j.1 (λ k. let m : suc n + k ≡ n + suc k = omega arith in ap (λ x. v (number (Length x))) m ∙ e (suc k))))
+
+requires_hold : (v : ℕ → ℤ) (l : Launch) → ((d : ℕ) → v (number (symbols.Groups d)) ≡ groups_at l d) → ((n : ℕ) → v (number (Given n)) ≡ given_at l n) → (rs : List Requirement) → All (IsRequired l) rs → All (IsMet v) (map required rs)
+requires_hold v l g a [] h = All-nil (IsMet v)
+requires_hold v l g a (r ∷ rs) h =
+    let here = All-head (IsRequired l) r rs h in
+    All-cons (IsMet v) (required r) (map required rs) (omega (arith, ints, value-minus v (sum_form r.left) (sum_form r.right), sum_form-value v l g a r.left, sum_form-value v l g a r.right, here)) (requires_hold v l g a rs (All-tail (IsRequired l) r rs h))
+
+pub launch_known : {E : Type 0} (c : View E) (news : List ℤ) → Knows c news (launch_facts c.conditions)
+launch_known c news v a =
+    let m = c.meets in
+    let k = c.conditions in
+    All-append (IsMet v) (each_dimension (λ d. ends (count_range k d) (once (symbols.Groups d)))) (argument_facts 0 k.arguments ++ (length_facts 0 k.lengths ++ map required k.requires))
+    (each_dimension-all (IsMet v) (λ d. ends (count_range k d) (once (symbols.Groups d))) (λ d l. ends_hold v (count_range k d) (symbols.Groups d) (groups_at c.launch d) (a.groups d) (count_in k c.launch m d l)))
+    (All-append (IsMet v) (argument_facts 0 k.arguments) (length_facts 0 k.lengths ++ map required k.requires)
+    (arguments_hold v 0 k.arguments c.launch.arguments m.arguments (λ n. ap (λ x. v (number (Given x))) (omega arith) ∙ a.given n))
+    (All-append (IsMet v) (length_facts 0 k.lengths) (map required k.requires)
+    (lengths_hold v c.launch a.groups a.given 0 k.lengths c.kernel.buffers c.launch.buffers m.lengths c.fits.buffers (λ n. ap (λ x. v (number (Length x))) (omega arith) ∙ a.lengths n))
+    (requires_hold v c.launch a.groups a.given k.requires m.requires)))
+
+pub item_known : {E : Type 0} (c : View E) (news : List ℤ) → Knows c news (item_facts c.kernel.sizes First)
+item_known c news v a = each_dimension-all (IsMet v) (id_facts c.kernel.sizes First) (λ d h.
+    let n : ℤ = pos (along c.kernel.sizes d 1) -ℤ pos 1 in
+    let own : Fact = once (Local First d) in
+    let group : Fact = once (Group First d) in
+    let groups : Fact = once (symbols.Groups d) in
+    let l = value-once v (Local First d) ∙ a.local d in
+    let g = value-once v (Group First d) ∙ a.group d in
+    let t = value-once v (symbols.Groups d) ∙ a.groups d in
+    let lb = local-below (setup c) c.item c.place d h in
+    let gb = group_id-below (setup c) c.item c.place d h in
+    let most : Fact = minus (constant n) own in
+    let last : Fact = minus (minus groups group) (constant (pos 1)) in
+    All-cons (IsMet v) own (most ∷ group ∷ last ∷ []) (omega (arith, ints, l)) (All-cons (IsMet v) most (group ∷ last ∷ []) (omega (arith, ints, l, lb, value-minus v (constant n) own, value-constant v n))
+    (All-cons (IsMet v) group (last ∷ []) (omega (arith, ints, g)) (All-cons (IsMet v) last [] (omega (arith, ints, g, t, gb, value-minus v (minus groups group) (constant (pos 1)), value-minus v groups group, value-constant v (pos 1))) (All-nil (IsMet v))))))

@@ -1,0 +1,13 @@
+pub mod Integers
+pub mod Facts
+pub mod Unmade
+pub mod Values
+pub mod Naming
+pub mod Families
+pub mod Members
+pub mod Worlds
+pub mod Launched
+pub mod Fitting
+pub mod Twins
+pub mod TwinElements
+pub mod TwinFacts

@@ -1,0 +1,28 @@
+-- Errors that are handed on, and forms that were not made.
+use Rattle.std.proofs.Common.{◌≡◌, ◌<◌, ◌^◌, false, refl, sym, subst}
+use Rattle.std.specs.Prelude.{Result, Ok, Err, IsErr, IsErrAnd, IsErrOf, MatchResult}
+use Rattle.linear.specs.Exact.{fits}
+use Rattle.linear.specs.Sizes.{size}
+use Rattle.linear.proofs.Sizes.{fits_small}
+use Rattle.linear.specs.declared.form.Form.{Form}
+use Rattle.linear.specs.declared.form.LinearError.{LinearError}
+use Rattle.linear.specs.declared.form.LinearError.TheVariants as linear
+use Rattle.facts.specs.View.{error_of_form}
+use Rattle.facts.specs.Symbols.{Fact}
+use Rattle.facts.specs.Refusals.{IsMemory, IsUnfit}
+use Rattle.facts.specs.declared.error.WalkError.{WalkError}
+
+-- an error handed on as it is
+pub handed : {T : Type 0} (r : Result T WalkError) (e : WalkError) (P : T → Type 0) (Q : WalkError → Type 0) → IsErr r × IsErrAnd r (λ x. x ≡ e) → Q e → MatchResult r P Q
+handed (Ok x) e P Q h q = absurd h.1
+handed (Err x) e P Q h q = subst Q (sym h.1) q
+
+-- a form that was not made
+pub unfit_of : (r : Result Form LinearError) (e : LinearError) (f : Fact) → r ≡ Err e → (IsErrOf r linear.TooLarge → fits f ≡ false) → IsUnfit (error_of_form e) f
+unfit_of r linear.TooLarge f d h = h d
+unfit_of r linear.Memory f d h = tt
+
+-- a small form is made, but for memory
+pub memory_of : (r : Result Form LinearError) (e : LinearError) (f : Fact) → r ≡ Err e → (IsErrOf r linear.TooLarge → fits f ≡ false) → size f < 2 ^ 63 → IsMemory (error_of_form e)
+memory_of r linear.TooLarge f d h l = cc (h d, fits_small f l)
+memory_of r linear.Memory f d h l = refl

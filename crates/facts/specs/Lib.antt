@@ -1,0 +1,5 @@
+pub mod Symbols
+pub mod Elements
+pub mod Launching
+pub mod View
+pub mod Refusals

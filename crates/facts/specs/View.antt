@@ -1,0 +1,29 @@
+-- What the code's values stand for.
+use Rattle.std.specs.Prelude.{ℕ, List, slice_index}
+use Rattle.semantics.specs.Launch.{Three}
+use Rattle.linear.specs.declared.form.LinearError.{LinearError}
+use Rattle.linear.specs.declared.form.LinearError.TheVariants as linear
+use Rattle.facts.specs.Symbols as symbols
+use Rattle.facts.specs.Elements as elements
+use Rattle.facts.specs.declared.elements.Known.{Known}
+use Rattle.facts.specs.declared.error.WalkError.{WalkError}
+use Rattle.facts.specs.declared.error.WalkError.TheVariants as errors
+use Rattle.facts.specs.declared.forms.Which.{Which}
+use Rattle.facts.specs.declared.forms.Which.TheVariants as items
+
+abbrev pub error_of_form : LinearError → WalkError
+error_of_form linear.TooLarge = errors.TooLarge
+error_of_form linear.Memory = errors.Memory
+
+abbrev pub which : Which → symbols.Which
+which items.First = symbols.First
+which items.Second = symbols.Second
+
+abbrev pub known_seen : {E : Type 0} → Known E → elements.Known E
+known_seen k = record { counts = k.counts.items; arguments = k.arguments.items; lengths = k.lengths.items; locals = k.locals.items; groups = k.groups.items }
+
+abbrev pub elements_seen : {E : Type 0} → Known E → (first second : List E) → elements.Elements E
+elements_seen k first second = record { known = known_seen k; first = first; second = second }
+
+abbrev pub three : List ℕ → Three ℕ
+three sizes = record { x = slice_index sizes 0; y = slice_index sizes 1; z = slice_index sizes 2 }

@@ -1,0 +1,87 @@
+//! What an abstract domain knows of symbols and forms.
+
+ghost use Rattle.std.specs.Prelude.{◌≡◌};
+ghost use Rattle.linear.specs.Forms.{form as form_seen};
+ghost use Rattle.linear.specs.Terms.{term as term_seen};
+ghost use Rattle.facts.specs.Symbols.{symbol_of};
+ghost use Rattle.facts.specs.Elements as elements;
+ghost use Rattle.facts.specs.View.{elements_seen as seen};
+
+use domain::Domain;
+use linear::{Form, Symbol, Term};
+
+/// The elements of a launch's symbols and of the ids of its items: by dimension, by value parameter, by buffer.
+#[derive(Drop)]
+pub struct Known<D> {
+    pub counts: Vec<D>,
+    pub arguments: Vec<D>,
+    pub lengths: Vec<D>,
+    pub locals: Vec<D>,
+    pub groups: Vec<D>,
+}
+
+/// The element at an index, and past the end all numbers.
+fn nth<D: Domain>(of: &[D], index: u32) -> D
+    ensures { result ≡ elements.nth D.Domain of.now index }
+{
+    match of.get(index as usize) {
+        Some(element) => *element,
+        None => D::top(),
+    }
+}
+
+#[tactic(auto, unfolding(crate::specs::Symbols::symbol_of), using(crate::proofs::Families::families))]
+/// A symbol's element, with those of the new symbols of each item.
+fn element<D: Domain>(known: &Known<D>, first: &[D], second: &[D], symbol: Symbol) -> D
+    ensures { result ≡ elements.element D.Domain (seen known.now first.now second.now) (symbol_of symbol.number) }
+{
+    let index = symbol.number / 16;
+    let family = symbol.number % 16;
+    if family >= 8 {
+        return nth(second, index);
+    }
+    match family {
+        0 => nth(known.counts.as_slice(), index),
+        1 => nth(known.arguments.as_slice(), index),
+        2 => nth(known.lengths.as_slice(), index),
+        3 | 6 => nth(known.locals.as_slice(), index),
+        4 | 7 => nth(known.groups.as_slice(), index),
+        _ => nth(first, index),
+    }
+}
+
+/// The element of a sum with one more term.
+fn with_term<D: Domain>(known: &Known<D>, first: &[D], second: &[D], so_far: D, term: Term) -> D
+    ensures { result ≡ D.add_of so_far (D.mul_of (D.number_of (term_seen term).coefficient) (elements.element D.Domain (seen known.now first.now second.now) (symbol_of (term_seen term).symbol))) }
+{
+    let factor = D::of(term.coefficient);
+    so_far.add(factor.mul(element(known, first, second, term.symbol)))
+}
+
+/// A form's element, by its constant and then its terms in their order.
+pub fn element_of<D: Domain>(known: &Known<D>, first: &[D], second: &[D], form: &Form) -> D
+    ensures { result ≡ elements.element_of D.Domain (seen known.now first.now second.now) (form_seen form.now) }
+{
+    let mut so_far = D::of(form.constant_part());
+    for term in form.terms() {
+        so_far = with_term(known, first, second, so_far, *term);
+    }
+    so_far
+}
+
+/// The domain alone tells that a form is at least 0.
+pub fn is_settled<D: Domain>(known: &Known<D>, first: &[D], second: &[D], form: &Form) -> bool
+    ensures { result ≡ elements.is_settled D.Domain (seen known.now first.now second.now) (form_seen form.now) }
+{
+    match element_of(known, first, second, form).bounds().low {
+        Some(low) => low >= 0,
+        None => false,
+    }
+}
+
+/// The numbers from `low` to `high`.
+pub fn between<D: Domain>(low: i64, high: i64) -> D
+    ensures { result ≡ elements.between D.Domain low high }
+{
+    D::top().at_least(low).at_most(high)
+}

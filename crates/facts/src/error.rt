@@ -1,0 +1,54 @@
+//! Why there is no walk.
+
+ghost use Rattle.std.specs.Prelude.{◌≡◌};
+
+use linear::LinearError;
+use std::alloc::{AllocError, AllocFailed};
+use thiserror::Error;
+
+/// Why a kernel was not walked.
+#[derive(Error, Debug, Drop)]
+pub enum WalkError {
+    #[error("53 1:1")]
+    TooMany,
+    #[error("54")]
+    TooLarge,
+    #[error("52 0")]
+    Outside,
+    #[error("out of memory")]
+    Memory,
+}
+
+impl From<LinearError> for WalkError {
+    ghost use Rattle.linear.specs.declared.form.LinearError.TheVariants as linear;
+    ghost use Rattle.facts.specs.View.{error_of_form};
+
+    ghost from_gives = { λ e r. r ≡ error_of_form e };
+
+    fn from(e: LinearError) -> WalkError {
+        match e {
+            LinearError::TooLarge => WalkError::TooLarge,
+            LinearError::Memory => WalkError::Memory,
+        }
+    }
+}
+
+impl From<AllocError> for WalkError {
+    ghost use Rattle.facts.specs.declared.error.WalkError.TheVariants.{Memory};
+
+    ghost from_gives = { λ _ e. e ≡ Memory };
+
+    fn from(_: AllocError) -> WalkError {
+        WalkError::Memory
+    }
+}
+
+impl<T: Drop> From<AllocFailed<T>> for WalkError {
+    ghost use Rattle.facts.specs.declared.error.WalkError.TheVariants.{Memory};
+
+    ghost from_gives = { λ _ e. e ≡ Memory };
+
+    fn from(_: AllocFailed<T>) -> WalkError {
+        WalkError::Memory
+    }
+}

@@ -1,0 +1,296 @@
+//! What conditions say of each launch that meets them, and of its items.
+
+ghost use Rattle.std.specs.Prelude.{◌≡◌, ◌<◌, ◌++◌, ◌∷◌, [], ℕ, pos, ◌*◌, ◌≤◌, ◌-ℤ◌, IfOk, MatchResult, map};
+ghost use Rattle.linear.specs.Forms.{form as form_seen, forms};
+ghost use Rattle.linear.specs.Sizes.{size};
+ghost use Rattle.words.specs.View.{value_of};
+ghost use Rattle.launch.specs.Numbers.{number as number_seen};
+ghost use Rattle.launch.specs.View.{summand as summand_seen, sum as sum_seen, length_sum, requirement as requirement_seen, dimension as dimension_seen, count_range as count_range_seen, argument_range as argument_range_seen, conditions as conditions_seen};
+ghost use Rattle.semantics.specs.Setup.{along};
+ghost use Rattle.facts.specs.Symbols as symbols;
+ghost use Rattle.facts.specs.Launching as launching;
+ghost use Rattle.facts.specs.View.{which, three};
+ghost use Rattle.facts.specs.Refusals.{IsMemory};
+
+use crate::error::WalkError;
+use crate::forms::{
+    Which, less_number, number_less, once_given, once_group, once_groups, once_length, once_local,
+};
+use launch::conditions::{
+    ArgumentRange, Conditions, CountRange, Dimension, Length, Requirement, Sum, Summand,
+};
+use launch::number::Number;
+use linear::Form;
+use std::alloc::Global;
+use words::Word;
+
+/// A number of 32 bits and a sign.
+fn signed(number: Number) -> i64
+    ensures { result ≡ number_seen number }
+{
+    if number.negative {
+        -(number.size as i64)
+    } else {
+        number.size as i64
+    }
+}
+
+/// A dimension's number.
+fn index_of(dimension: Dimension) -> u32
+    ensures { result ≡ dimension_seen dimension }
+{
+    match dimension {
+        Dimension::X => 0,
+        Dimension::Y => 1,
+        Dimension::Z => 2,
+    }
+}
+
+/// A summand's form.
+fn summand_form(alloc: Global, summand: Summand) -> Result<Form, WalkError>
+    ensures exact { MatchResult result (λ f. form_seen f ≡ launching.summand_form (summand_seen summand)) IsMemory }
+    ensures small { IfOk result (λ f. size (form_seen f) ≤ 4294967295) }
+{
+    match summand {
+        Summand::Constant(number) => Ok(Form::constant(alloc, signed(number))),
+        Summand::Argument { factor, parameter } => {
+            let form = once_given(alloc, parameter)?.times(alloc, signed(factor))?;
+            Ok(form)
+        }
+        Summand::Groups { factor, dimension } => {
+            let form = once_groups(alloc, index_of(dimension))?.times(alloc, signed(factor))?;
+            Ok(form)
+        }
+    }
+}
+
+/// A sum's form.
+pub fn sum_form(alloc: Global, sum: &Sum) -> Result<Form, WalkError>
+    ensures exact { MatchResult result (λ f. form_seen f ≡ launching.sum_form (sum_seen sum.now)) IsMemory }
+    ensures small { IfOk result (λ f. size (form_seen f) ≤ 8 * 4294967295) }
+{
+    let mut total = Form::constant(alloc, 0);
+    for summand in sum.terms.as_slice() {
+        let form = summand_form(alloc, *summand)?;
+        total = total.add(alloc, &form)?;
+    }
+    Ok(total)
+}
+
+/// A word's number.
+pub fn number_of(word: Word) -> i64
+    ensures { result ≡ value_of word }
+{
+    match word {
+        Word::Int(value) => value as i64,
+        Word::Uint(value) => value as i64,
+    }
+}
+
+#[tactic(auto, using(crate::proofs::Facts::facts))]
+/// Two facts more.
+fn push_two(facts: &mut Vec<Form>, low: Form, high: Form) -> Result<(), WalkError>
+    ensures { MatchResult result (λ _. forms facts.new.items ≡ forms facts.old.items ++ form_seen low ∷ form_seen high ∷ []) IsMemory }
+{
+    facts.push(low)?;
+    facts.push(high)?;
+    Ok(())
+}
+
+/// Group counts of a dimension are in their range.
+fn count_facts(
+    alloc: Global,
+    facts: &mut Vec<Form>,
+    dimension: u32,
+    range: CountRange,
+) -> Result<(), WalkError>
+    ensures { MatchResult result (λ _. forms facts.new.items ≡ forms facts.old.items ++ launching.ends (count_range_seen range) (symbols.once (symbols.Groups dimension))) IsMemory }
+{
+    let count = once_groups(alloc, dimension)?;
+    let low = less_number(alloc, &count, range.low as i64)?;
+    let high = number_less(alloc, range.high as i64, &count)?;
+    push_two(facts, low, high)
+}
+
+/// An argument is in its range.
+fn argument_fact(
+    alloc: Global,
+    facts: &mut Vec<Form>,
+    parameter: u32,
+    range: ArgumentRange,
+) -> Result<(), WalkError>
+    ensures { MatchResult result (λ _. forms facts.new.items ≡ forms facts.old.items ++ launching.ends (argument_range_seen range) (symbols.once (symbols.Given parameter))) IsMemory }
+{
+    let argument = once_given(alloc, parameter)?;
+    let low = less_number(alloc, &argument, number_of(range.low))?;
+    let high = number_less(alloc, number_of(range.high), &argument)?;
+    push_two(facts, low, high)
+}
+
+/// The arguments are in their ranges; a list longer than 32 bits count stands in no memory.
+fn argument_facts(
+    alloc: Global,
+    facts: &mut Vec<Form>,
+    ranges: &[ArgumentRange],
+) -> Result<(), WalkError>
+    ensures { MatchResult result (λ _. forms facts.new.items ≡ forms facts.old.items ++ launching.argument_facts 0 (map argument_range_seen ranges.now)) IsMemory }
+{
+    let mut parameter = 0u32;
+    for range in ranges {
+        argument_fact(alloc, facts, parameter, *range)?;
+        let Some(next) = parameter.checked_add(1) else {
+            return Err(WalkError::Memory);
+        };
+        parameter = next;
+    }
+    Ok(())
+}
+
+/// A buffer is as long as its sum, and a `uint` counts its elements.
+fn length_fact(
+    alloc: Global,
+    facts: &mut Vec<Form>,
+    buffer: u32,
+    length: &Length,
+) -> Result<(), WalkError>
+    ensures { MatchResult result (λ _. forms facts.new.items ≡ forms facts.old.items ++ launching.length_ends buffer (length_sum length.now)) IsMemory }
+{
+    let elements = once_length(alloc, buffer)?;
+    let low = elements.sub(alloc, &sum_form(alloc, &length.least)?)?;
+    let high = number_less(alloc, 4_294_967_295, &elements)?;
+    push_two(facts, low, high)
+}
+
+/// The buffers are as long as their sums; a list longer than 32 bits count stands in no memory.
+fn length_facts(alloc: Global, facts: &mut Vec<Form>, lengths: &[Length]) -> Result<(), WalkError>
+    ensures { MatchResult result (λ _. forms facts.new.items ≡ forms facts.old.items ++ launching.length_facts 0 (map length_sum lengths.now)) IsMemory }
+{
+    let mut buffer = 0u32;
+    for length in lengths {
+        length_fact(alloc, facts, buffer, length)?;
+        let Some(next) = buffer.checked_add(1) else {
+            return Err(WalkError::Memory);
+        };
+        buffer = next;
+    }
+    Ok(())
+}
+
+/// The left sum is at least the right one.
+fn required(alloc: Global, requirement: &Requirement) -> Result<Form, WalkError>
+    ensures { MatchResult result (λ f. form_seen f ≡ launching.required (requirement_seen requirement.now)) IsMemory }
+{
+    let left = sum_form(alloc, &requirement.left)?;
+    let right = sum_form(alloc, &requirement.right)?;
+    let form = left.sub(alloc, &right)?;
+    Ok(form)
+}
+
+#[tactic(auto, using(crate::proofs::Facts::facts))]
+/// A requirement is met.
+fn requirement_fact(
+    alloc: Global,
+    facts: &mut Vec<Form>,
+    requirement: &Requirement,
+) -> Result<(), WalkError>
+    ensures { MatchResult result (λ _. forms facts.new.items ≡ forms facts.old.items ++ launching.required (requirement_seen requirement.now) ∷ []) IsMemory }
+{
+    let fact = required(alloc, requirement)?;
+    facts.push(fact)?;
+    Ok(())
+}
+
+#[tactic(auto, using(crate::proofs::Facts::carried))]
+/// The requirements are met.
+fn requirement_facts(
+    alloc: Global,
+    facts: &mut Vec<Form>,
+    requirements: &[Requirement],
+) -> Result<(), WalkError>
+    ensures { MatchResult result (λ _. forms facts.new.items ≡ forms facts.old.items ++ map launching.required (map requirement_seen requirements.now)) IsMemory }
+{
+    for requirement in requirements {
+        requirement_fact(alloc, facts, requirement)?;
+    }
+    Ok(())
+}
+
+/// What each launch has that meets the conditions.
+pub fn launch_facts(alloc: Global, conditions: &Conditions) -> Result<Vec<Form>, WalkError>
+    ensures { MatchResult result (λ fs. forms fs.items ≡ launching.launch_facts (conditions_seen conditions.now)) IsMemory }
+{
+    let mut facts = Vec::new(alloc);
+    count_facts(alloc, &mut facts, 0, conditions.groups.x)?;
+    count_facts(alloc, &mut facts, 1, conditions.groups.y)?;
+    count_facts(alloc, &mut facts, 2, conditions.groups.z)?;
+    argument_facts(alloc, &mut facts, conditions.arguments.as_slice())?;
+    length_facts(alloc, &mut facts, conditions.lengths.as_slice())?;
+    requirement_facts(alloc, &mut facts, conditions.requirements.as_slice())?;
+    Ok(facts)
+}
+
+/// A dimension's last local id.
+fn last_id(sizes: [u32; 3], dimension: u32) -> i64
+    requires { dimension < 3 }
+    ensures { result ≡ pos (along (three sizes) dimension 1) -ℤ pos 1 }
+{
+    sizes[dimension as usize] as i64 - 1
+}
+
+/// An item's local id is below the local size.
+fn local_facts(
+    alloc: Global,
+    facts: &mut Vec<Form>,
+    sizes: [u32; 3],
+    item: Which,
+    dimension: u32,
+) -> Result<(), WalkError>
+    requires { dimension < 3 }
+    ensures { MatchResult result (λ _. forms facts.new.items ≡ forms facts.old.items ++ launching.local_facts (three sizes) (which item) dimension) IsMemory }
+{
+    let local = once_local(alloc, item, dimension)?;
+    let last = number_less(alloc, last_id(sizes, dimension), &local)?;
+    push_two(facts, local, last)
+}
+
+/// An item's group id is below the group count.
+fn group_facts(
+    alloc: Global,
+    facts: &mut Vec<Form>,
+    item: Which,
+    dimension: u32,
+) -> Result<(), WalkError>
+    ensures { MatchResult result (λ _. forms facts.new.items ≡ forms facts.old.items ++ launching.group_facts (which item) dimension) IsMemory }
+{
+    let group = once_group(alloc, item, dimension)?;
+    let behind = once_groups(alloc, dimension)?.sub(alloc, &group)?;
+    let room = less_number(alloc, &behind, 1)?;
+    push_two(facts, group, room)
+}
+
+/// An item's ids are below the local size and the group count.
+fn id_facts(
+    alloc: Global,
+    facts: &mut Vec<Form>,
+    sizes: [u32; 3],
+    item: Which,
+    dimension: u32,
+) -> Result<(), WalkError>
+    requires { dimension < 3 }
+    ensures { MatchResult result (λ _. forms facts.new.items ≡ forms facts.old.items ++ launching.id_facts (three sizes) (which item) dimension) IsMemory }
+{
+    local_facts(alloc, facts, sizes, item, dimension)?;
+    group_facts(alloc, facts, item, dimension)?;
+    Ok(())
+}
+
+/// What each item has.
+pub fn item_facts(alloc: Global, sizes: [u32; 3], item: Which) -> Result<Vec<Form>, WalkError>
+    ensures { MatchResult result (λ fs. forms fs.items ≡ launching.item_facts (three sizes) (which item)) IsMemory }
+{
+    let mut facts = Vec::new(alloc);
+    id_facts(alloc, &mut facts, sizes, item, 0)?;
+    id_facts(alloc, &mut facts, sizes, item, 1)?;
+    id_facts(alloc, &mut facts, sizes, item, 2)?;
+    Ok(facts)
+}

@@ -1,0 +1,8 @@
+use Rattle.std.proofs.Common.{◌∙◌, sym}
+use Rattle.std.proofs.lemmas.List.{take_rest}
+use Rattle.lexer.proofs.Pieces.{comment_more}
+use Rattle.lexer.proofs.comment.comment_at.Goals as goal
+
+pub loop-i-preserved : goal.loop-i-preserved
+loop-i-preserved c =
+    c.loop-i.invariant ∙ comment_more c.args.bytes.now c.loop-i.i c.loop-i-test.true (rw take_rest at (sym c.starts_with.ensures.value ∙ c.if-starts_with.false))

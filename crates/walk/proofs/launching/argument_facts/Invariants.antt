@@ -1,8 +1,0 @@
-use Rattle.std.proofs.Common.{◌≡◌, ◌++◌, drop, map}
-use Rattle.linear.specs.Forms.{forms}
-use Rattle.launch.specs.View.{argument_range}
-use Rattle.walk.specs.Launching as launching
-use Rattle.walk.proofs.launching.argument_facts.Given as goal
-
-abbrev pub invariant-loop-range : goal.invariant-loop-range
-invariant-loop-range l = forms l.facts.items ++ launching.argument_facts l.parameter (map argument_range (drop l.range-index l.ranges)) ≡ forms l.fn.facts.items ++ launching.argument_facts 0 (map argument_range l.ranges)

@@ -1,8 +1,0 @@
-use Rattle.std.proofs.Common.{◌≡◌, ◌++◌, drop, map}
-use Rattle.linear.specs.Forms.{forms}
-use Rattle.launch.specs.View.{requirement}
-use Rattle.walk.specs.Launching as launching
-use Rattle.walk.proofs.launching.requirement_facts.Given as goal
-
-abbrev pub invariant-loop-requirement : goal.invariant-loop-requirement
-invariant-loop-requirement l = forms l.facts.items ++ map launching.required (map requirement (drop l.requirement-index l.requirements)) ≡ forms l.fn.facts.items ++ map launching.required (map requirement l.requirements)

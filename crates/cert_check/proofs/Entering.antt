@@ -7,7 +7,8 @@ use Rattle.std.proofs.lemmas.List.{map-append, length-set, length-replicate, dro
 use Rattle.texts.specs.Certificate as certificate
 use Rattle.certificate.specs.View.{entry}
 use Rattle.certificate.specs.declared.tree.Entry.{Entry}
-use Rattle.cert_check.proofs.OneByOne.{at_place, one_more}
+use Rattle.two_thread.proofs.Listing.{at_place}
+use Rattle.cert_check.proofs.OneByOne.{one_more}
 use Rattle.cert_check.specs.Entries.{IsTable, placed, last_of, is_of, entry_of, is_found, has_entry}
 
 -- a list made one by one of another list

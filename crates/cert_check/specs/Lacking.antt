@@ -1,5 +1,5 @@
 -- What an error tells of what is to be shown.
-use Rattle.std.specs.Prelude.{◌≡◌, ◌<◌, ◌≤◌, ◌⊎◌, ℕ, zero, suc, ◌+◌, List, length, get_or, Bool, true, false}
+use Rattle.std.specs.Prelude.{◌≡◌, ◌<◌, ◌≤◌, ◌⊎◌, ℕ, zero, suc, ◌+◌, List, length, get_or, true, false}
 use Rattle.semantics.specs.Launch.{Kernel, product}
 use Rattle.semantics.specs.Conditions.{Conditions}
 use Rattle.domain.specs.declared.Domain.{Ghosts}
@@ -7,9 +7,8 @@ use Rattle.texts.specs.Certificate.{Entry}
 use Rattle.walk.specs.Straight.{is_straight, steps}
 use Rattle.walk.specs.Trees.{Obligation}
 use Rattle.two_thread.specs.Shown.{obligations}
-use Rattle.two_thread.specs.Fitting.{forms_fit}
+use Rattle.two_thread.specs.Unfound as unfound
 use Rattle.facts.specs.declared.error.WalkError.{WalkError}
-use Rattle.facts.specs.declared.error.WalkError.TheVariants as walks
 use Rattle.cert_check.specs.Entries.{has_entry, is_refuted, is_past}
 use Rattle.cert_check.specs.declared.error.ShowError.{ShowError}
 use Rattle.cert_check.specs.declared.error.ShowError.TheVariants as errors
@@ -42,23 +41,12 @@ Stops es before os n = (o : Obligation) × IsNumbered before os n o × IsLacking
 abbrev pub IsStopped : List Entry → (own : ℕ) → Obligation → (number : ℕ) → Type 0
 IsStopped es own o n = (n ≡ own) × IsLacking es n o
 
--- not all forms that are made are of i64, or there was no memory
-abbrev pub AreUnfit : (fit : Bool) → WalkError → Type 0
-AreUnfit fit walks.TooMany = ⊥
-AreUnfit fit walks.TooLarge = fit ≡ false
-AreUnfit fit walks.Outside = ⊥
-AreUnfit fit walks.Memory = Unit {0}
-
 -- an error that comes of what is to be shown: `stops` is what its number says, `walk` what an error of a walk says
 abbrev pub Names : (stops : ℕ → Type 0) → (walk : WalkError → Type 0) → ShowError → Type 0
 Names stops walk (errors.NotShown n) = stops n
 Names stops walk (errors.Walk e) = walk e
 Names stops walk errors.OverBudget = ⊥
 Names stops walk errors.Memory = Unit {0}
-
--- an error that comes before anything is to be shown
-abbrev pub IsEarly : (walk : WalkError → Type 0) → ShowError → Type 0
-IsEarly = Names (λ n. ⊥)
 
 -- 0, where all pass and an entry is past the last obligation, or the number of the first that stops the check
 abbrev pub Lacks : List Entry → List Obligation → (number : ℕ) → Type 0
@@ -75,10 +63,7 @@ owing g k c es = obligations g k c (has_entry es)
 
 -- over 65,536 obligations, a form that is not of i64, or a kernel that is not a straight-line one
 abbrev pub IsUnwalked : {E : Type 0} → Ghosts E → Kernel → Conditions → List Entry → WalkError → Type 0
-IsUnwalked g k c es walks.TooMany = 65536 < length (owing g k c es)
-IsUnwalked g k c es walks.TooLarge = forms_fit g k c (has_entry es) ≡ false
-IsUnwalked g k c es walks.Outside = is_straight k ≡ false
-IsUnwalked g k c es walks.Memory = Unit {0}
+IsUnwalked g k c es = unfound.IsUnwalked g k c (has_entry es)
 
 -- the kernel's obligations are told: a work-group has work-items, and the kernel is a straight-line one
 abbrev pub HasObligations : Kernel → Type 0

@@ -1,5 +1,4 @@
 pub mod Accepting
-pub mod Owing
 pub mod View
 pub mod Entries
 pub mod Lacking

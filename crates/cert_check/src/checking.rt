@@ -24,9 +24,8 @@ ghost use Rattle.cert_check.specs.View.{typed_of, kept};
 
 use crate::accepted::Accepted;
 use crate::error::{CheckError, ShowError};
-use crate::finding::find;
 use crate::names::is_for_others;
-use crate::showing::{places_of, show_found};
+use crate::showing::{flags_of, places_of, show_found};
 use certificate::tree::Entry;
 use congruence::Congruence;
 use core_code::tree::Core;
@@ -41,6 +40,7 @@ use reading::laws::local_sizes_are_within_limits;
 use reading::read_kernel;
 use reduction::headline;
 use std::alloc::Global;
+use two_thread::Obligations;
 use two_thread::laws::what_is_shown_is_pair_safe;
 use walk::is_straight;
 
@@ -56,7 +56,8 @@ fn show_all<D: Domain>(
     ensures lacks { IfErr result (lacking.Tells (map entry_seen entries.now) (owing D.Domain (core_seen core.now) (conditions_seen conditions.now) (map entry_seen entries.now)) (IsUnwalked D.Domain (core_seen core.now) (conditions_seen conditions.now) (map entry_seen entries.now))) }
 {
     let places = places_of(alloc, entries)?;
-    let found = find::<D>(alloc, core, conditions, entries, places.as_slice())?;
+    let flags = flags_of(alloc, entries, places.as_slice())?;
+    let found = Obligations::<D>::find(alloc, core, conditions, flags)?;
     show_found(alloc, &found, entries, places.as_slice())
 }
 

@@ -5,8 +5,6 @@
 mod accepted;
 mod checking;
 pub mod error;
-mod finding;
-mod findings;
 mod keeping;
 mod names;
 mod showing;

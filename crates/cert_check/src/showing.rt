@@ -1,32 +1,25 @@
 //! Obligations one by one, in the order of their numbers.
 
-ghost use Rattle.std.specs.Prelude.{◌≡◌, ◌≤◌, ◌<◌, ◌+◌, ◌⊎◌, ℕ, IfOk, IfErr, IsTrue, MatchOption, None, Some, map, length, replicate, slice_index_or, slice_set, true, false};
+ghost use Rattle.std.specs.Prelude.{◌≡◌, ◌≤◌, ◌<◌, ℕ, IfOk, IfErr, IsTrue, MatchOption, None, Some, map, length, replicate, slice_index_or, slice_set, false};
 ghost use Rattle.std.specs.List.{All};
 ghost use Rattle.semantics.specs.Linear.{IsImpossible};
 ghost use Rattle.linear.specs.Forms.{forms};
-ghost use Rattle.facts.specs.View.{known_seen};
-ghost use Rattle.two_thread.specs.Pairs as specs;
+ghost use Rattle.two_thread.specs.Listed.{listed, nth_obligation, made_fit};
+ghost use Rattle.two_thread.specs.Refusals.{DoNotFit};
 ghost use Rattle.two_thread.specs.Shown.{IsShown};
-ghost use Rattle.two_thread.specs.View.{pair as pair_seen, seen_accesses};
 ghost use Rattle.certificate.specs.View.{scaled as scaled_seen, step as step_seen, entry as entry_seen};
 ghost use Rattle.cut_proof.specs.View.{line as line_seen};
 ghost use Rattle.cert_check.specs.Entries as entries;
 ghost use Rattle.cert_check.specs.Entries.{IsTable, entry_of, has_entry, is_past};
-ghost use Rattle.cert_check.specs.Lacking.{AllPass, AreUnfit, ArePassed, IsStopped, Lacks, Names, Passes, Stops};
-ghost use Rattle.cert_check.specs.Owing.{owed, nth_claim, nth_pair, seen_claims, all_owed, denials_fit, found_pairs, findings_fit};
-ghost use Rattle.two_thread.specs.Fitting.{pairs_fit};
-ghost use Rattle.two_thread.specs.Refusals.{IsInside};
+ghost use Rattle.cert_check.specs.Lacking.{ArePassed, IsStopped, Lacks, Names, Passes};
 
 use crate::error::ShowError;
-use crate::findings::Findings;
 use certificate::tree::{Claim as Word, Entry, Scaled, Step};
 use cut_proof::{Derivation, Line, refutes};
 use domain::Domain;
-use facts::Known;
 use linear::Form;
 use std::alloc::{AllocError, Global};
-use two_thread::{Pair, claim_facts, is_apart, pair_facts};
-use walk::{Claim, Path};
+use two_thread::Obligations;
 
 /// A number of a line or a fact; one that is none, or too large to be one, is 0, which names nothing.
 fn line_number(number: i64) -> u32
@@ -145,114 +138,35 @@ fn entry_at<'a>(entries: &'a [Entry], places: &[usize], number: usize) -> Option
     entries.get(*place - 1)
 }
 
-/// A claim is settled, or refuted by its entry, or is not needed and has no entry.
-fn show_claim<D: Copy>(
+/// An obligation is settled, or refuted by its entry, or is not needed and has no entry.
+fn show_one<D: Domain>(
     alloc: Global,
-    launch: &[Form],
-    path: &Path<D>,
-    i: usize,
+    found: &Obligations<D>,
+    number: usize,
     entries: &[Entry],
     places: &[usize],
 ) -> Result<(), ShowError>
-    requires claim { i < length path.now.claims.items }
+    requires first { 0 < number }
+    requires last { number ≤ length (listed D.Domain found.now) }
     requires table { IsTable (map entry_seen entries.now) places.now }
-    ensures shown { IfOk result (λ _. IsShown (owed (forms launch.now) (nth_claim (seen_claims path.now) i))) }
-    ensures passes { IfOk result (λ _. Passes (map entry_seen entries.now) (i + 1) (owed (forms launch.now) (nth_claim (seen_claims path.now) i))) }
-    ensures lacks { IfErr result (Names (IsStopped (map entry_seen entries.now) (i + 1) (owed (forms launch.now) (nth_claim (seen_claims path.now) i))) (AreUnfit (denials_fit (seen_claims path.now)))) }
+    ensures shown { IfOk result (λ _. IsShown (nth_obligation (listed D.Domain found.now) number)) }
+    ensures passes { IfOk result (λ _. Passes (map entry_seen entries.now) number (nth_obligation (listed D.Domain found.now) number)) }
+    ensures lacks { IfErr result (Names (IsStopped (map entry_seen entries.now) number (nth_obligation (listed D.Domain found.now) number)) (DoNotFit (made_fit found.now))) }
 {
-    let claim = &path.claims[i];
-    if claim.settled {
+    if found.is_settled(alloc, number)? {
         return Ok(());
     }
-    let Some(entry) = entry_at(entries, places, i + 1) else {
-        if claim.needed {
-            return Err(ShowError::NotShown(i as u64 + 1));
+    let Some(entry) = entry_at(entries, places, number) else {
+        if found.is_needed(number) {
+            return Err(ShowError::NotShown(number as u64));
         }
         return Ok(());
     };
-    let facts = claim_facts(alloc, launch, path, claim)?;
-    if is_refuted(alloc, facts.as_slice(), entry)? {
-        return Ok(());
-    }
-    Err(ShowError::NotShown(i as u64 + 1))
-}
-
-/// The claims of a path, by their numbers from 1.
-fn show_claims<D: Copy>(
-    alloc: Global,
-    launch: &[Form],
-    path: &Path<D>,
-    entries: &[Entry],
-    places: &[usize],
-) -> Result<(), ShowError>
-    requires { IsTable (map entry_seen entries.now) places.now }
-    ensures shown { IfOk result (λ _. All IsShown (map (owed (forms launch.now)) (seen_claims path.now))) }
-    ensures passes { IfOk result (λ _. AllPass (map entry_seen entries.now) 0 (map (owed (forms launch.now)) (seen_claims path.now))) }
-    ensures lacks { IfErr result (Names (Stops (map entry_seen entries.now) 0 (map (owed (forms launch.now)) (seen_claims path.now))) (AreUnfit (denials_fit (seen_claims path.now)))) }
-{
-    for i in 0..path.claims.len() {
-        show_claim(alloc, launch, path, i, entries, places)?;
-    }
-    Ok(())
-}
-
-/// A pair is settled, or refuted by its entry.
-fn show_pair<D: Domain>(
-    alloc: Global,
-    launch: &[Form],
-    known: &Known<D>,
-    first: &Path<D>,
-    second: &Path<D>,
-    pairs: &[Pair],
-    i: usize,
-    entries: &[Entry],
-    places: &[usize],
-) -> Result<(), ShowError>
-    requires pair { i < length pairs.now }
-    requires inside { All (IsInside (length first.now.accesses.items) (length second.now.accesses.items)) pairs.now }
-    requires table { IsTable (map entry_seen entries.now) places.now }
-    ensures shown { IfOk result (λ _. IsShown (specs.pair_obligation D.Domain (known_seen known.now) (forms launch.now) (pair_seen (seen_accesses first.now) (seen_accesses second.now) (nth_pair pairs.now i)))) }
-    ensures passes { IfOk result (λ _. Passes (map entry_seen entries.now) (length first.now.claims.items + (i + 1)) (specs.pair_obligation D.Domain (known_seen known.now) (forms launch.now) (pair_seen (seen_accesses first.now) (seen_accesses second.now) (nth_pair pairs.now i)))) }
-    ensures lacks { IfErr result (Names (IsStopped (map entry_seen entries.now) (length first.now.claims.items + (i + 1)) (specs.pair_obligation D.Domain (known_seen known.now) (forms launch.now) (pair_seen (seen_accesses first.now) (seen_accesses second.now) (nth_pair pairs.now i)))) (AreUnfit (pairs_fit (found_pairs first.now second.now pairs.now)))) }
-{
-    let pair = pairs[i];
-    if is_apart(alloc, known, first, second, pair)? {
-        return Ok(());
-    }
-    let number = first.claims.len() + i + 1;
-    let Some(entry) = entry_at(entries, places, number) else {
-        return Err(ShowError::NotShown(number as u64));
-    };
-    let facts = pair_facts(alloc, launch, first, second, pair)?;
+    let facts = found.facts(alloc, number)?;
     if is_refuted(alloc, facts.as_slice(), entry)? {
         return Ok(());
     }
     Err(ShowError::NotShown(number as u64))
-}
-
-/// Pairs, by their numbers behind those of the claims.
-fn show_pairs<D: Domain>(
-    alloc: Global,
-    launch: &[Form],
-    known: &Known<D>,
-    first: &Path<D>,
-    second: &Path<D>,
-    pairs: &[Pair],
-    entries: &[Entry],
-    places: &[usize],
-) -> Result<(), ShowError>
-    requires inside { All (IsInside (length first.now.accesses.items) (length second.now.accesses.items)) pairs.now }
-    requires table { IsTable (map entry_seen entries.now) places.now }
-    ensures shown { IfOk result (λ _. All IsShown (map (specs.pair_obligation D.Domain (known_seen known.now) (forms launch.now)) (map (pair_seen (seen_accesses first.now) (seen_accesses second.now)) pairs.now))) }
-    ensures passes { IfOk result (λ _. AllPass (map entry_seen entries.now) (length first.now.claims.items) (map (specs.pair_obligation D.Domain (known_seen known.now) (forms launch.now)) (map (pair_seen (seen_accesses first.now) (seen_accesses second.now)) pairs.now))) }
-    ensures lacks { IfErr result (Names (Stops (map entry_seen entries.now) (length first.now.claims.items) (map (specs.pair_obligation D.Domain (known_seen known.now) (forms launch.now)) (map (pair_seen (seen_accesses first.now) (seen_accesses second.now)) pairs.now))) (AreUnfit (pairs_fit (found_pairs first.now second.now pairs.now)))) }
-{
-    for i in 0..pairs.len() {
-        show_pair(
-            alloc, launch, known, first, second, pairs, i, entries, places,
-        )?;
-    }
-    Ok(())
 }
 
 /// An entry has a number past the last.
@@ -267,33 +181,23 @@ fn any_past(entries: &[Entry], last: u64) -> bool
     false
 }
 
-/// All that is found is shown: claims, then pairs, and no entry is past them.
+/// All that is found is shown, by its numbers, and no entry is past the last.
 pub fn show_found<D: Domain>(
     alloc: Global,
-    found: &Findings<D>,
+    found: &Obligations<D>,
     entries: &[Entry],
     places: &[usize],
 ) -> Result<(), ShowError>
-    requires inside { All (IsInside (length found.now.first.accesses.items) (length found.now.second.accesses.items)) found.now.pairs.items }
-    requires table { IsTable (map entry_seen entries.now) places.now }
-    ensures shown { IfOk result (λ _. All IsShown (all_owed D.Domain found.now)) }
-    ensures passed { IfOk result (λ _. ArePassed (map entry_seen entries.now) (all_owed D.Domain found.now)) }
-    ensures lacks { IfErr result (Names (Lacks (map entry_seen entries.now) (all_owed D.Domain found.now)) (AreUnfit (findings_fit found.now))) }
+    requires { IsTable (map entry_seen entries.now) places.now }
+    ensures shown { IfOk result (λ _. All IsShown (listed D.Domain found.now)) }
+    ensures passed { IfOk result (λ _. ArePassed (map entry_seen entries.now) (listed D.Domain found.now)) }
+    ensures lacks { IfErr result (Names (Lacks (map entry_seen entries.now) (listed D.Domain found.now)) (DoNotFit (made_fit found.now))) }
 {
-    let launch = found.launch.as_slice();
-    show_claims(alloc, launch, &found.first, entries, places)?;
-    show_pairs(
-        alloc,
-        launch,
-        &found.setting.known,
-        &found.first,
-        &found.second,
-        found.pairs.as_slice(),
-        entries,
-        places,
-    )?;
-    let last = found.first.claims.len() + found.pairs.len();
-    if any_past(entries, last as u64) {
+    let count = found.len();
+    for i in 0..count {
+        show_one(alloc, found, i + 1, entries, places)?;
+    }
+    if any_past(entries, count as u64) {
         return Err(ShowError::NotShown(0));
     }
     Ok(())

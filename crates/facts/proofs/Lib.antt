@@ -1,5 +1,6 @@
 pub mod Integers
 pub mod Facts
+pub mod Tests
 pub mod Unmade
 pub mod Values
 pub mod Naming

@@ -1,6 +1,6 @@
 -- Errors that are handed on, and forms that were not made.
 use Rattle.std.proofs.Common.{◌≡◌, ◌<◌, ◌^◌, false, refl, sym, subst}
-use Rattle.std.specs.Prelude.{Result, Ok, Err, IsErr, IsErrAnd, IsErrOf, MatchResult}
+use Rattle.std.specs.Prelude.{Result, Ok, Err, IsErr, IsErrAnd, IsErrOf, IfErr, MatchResult}
 use Rattle.linear.specs.Exact.{fits}
 use Rattle.linear.specs.Sizes.{size}
 use Rattle.linear.proofs.Sizes.{fits_small}
@@ -26,3 +26,13 @@ unfit_of r linear.Memory f d h = tt
 pub memory_of : (r : Result Form LinearError) (e : LinearError) (f : Fact) → r ≡ Err e → (IsErrOf r linear.TooLarge → fits f ≡ false) → size f < 2 ^ 63 → IsMemory (error_of_form e)
 memory_of r linear.TooLarge f d h l = cc (h d, fits_small f l)
 memory_of r linear.Memory f d h l = refl
+
+-- of an error alone
+pub passed : {T E : Type 0} (r : Result T E) (x : E) (P : E → Type 0) → IsErrAnd r (λ e. e ≡ x) → P x → IfErr r P
+passed (Ok t) x P h p = absurd h
+passed (Err e) x P h p = subst P (sym h) p
+
+-- what an answer or an error says, and what follows of it
+pub matched : {T E : Type 0} (r : Result T E) (P P' : T → Type 0) (Q Q' : E → Type 0) → ((t : T) → P t → P' t) → ((e : E) → Q e → Q' e) → MatchResult r P Q → MatchResult r P' Q'
+matched (Ok t) P P' Q Q' f g m = f t m
+matched (Err e) P P' Q Q' f g m = g e m

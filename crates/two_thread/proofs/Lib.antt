@@ -7,3 +7,6 @@ pub mod PairLists
 pub mod PairFacts
 pub mod Meetings
 pub mod Safe
+pub mod Listing
+pub mod Collecting
+pub mod Walked

@@ -25,6 +25,13 @@ AreUnfit errors.Memory f g = Unit {0}
 abbrev pub IsUnfitPair : {E : Type 0} → WalkError → Pair E → Type 0
 IsUnfitPair e p = AreUnfit e p.first.index p.second.index
 
+-- not all forms that are made are of i64, or there was no memory
+abbrev pub DoNotFit : (fit : Bool) → WalkError → Type 0
+DoNotFit fit errors.TooMany = ⊥
+DoNotFit fit errors.TooLarge = fit ≡ false
+DoNotFit fit errors.Outside = ⊥
+DoNotFit fit errors.Memory = Unit {0}
+
 -- a pair of accesses of two lists that are so long
 abbrev pub IsInside : (first second : ℕ) → declared.Pair → Type 0
 IsInside n m p = (p.first < n) × (p.second < m)

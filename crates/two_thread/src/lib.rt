@@ -1,14 +1,14 @@
 //! What is to be shown of two work-items, and what it promises: where all of it is shown, each launch that meets the conditions is
 //! pair-safe.
 //!
-//! `all_pairs` lists the pairs of accesses that may clash, dimension by dimension and both ways round, in the order of their numbers;
-//! `pair_facts` are the facts of one of them, which are to be impossible. An error says which form is not of `i64`, or that there was
-//! no memory (`specs/Refusals.antt`).
+//! `Obligations` are all that is to be shown of a kernel under conditions, by their numbers from 1: whether one is needed, whether the
+//! domain alone settles it, and the facts that are to be impossible. An error says which form is not of `i64`, or that there was
+//! no memory (`specs/Refusals.antt`, `specs/Unfound.antt`).
 #![tactic(auto)]
 
 mod clashing;
 pub mod laws;
+mod obligations;
 mod pairs;
 
-pub use clashing::{claim_facts, is_apart, pair_facts};
-pub use pairs::{Order, Pair, Scope, all_pairs};
+pub use obligations::Obligations;

@@ -10,7 +10,8 @@ use Rattle.walk.specs.Collected.{Found, Met, collect, state_of}
 use Rattle.walk.specs.Leads.{Steps}
 use Rattle.walk.specs.Refusals.{Refused, Stops, IsNoStraightStatement, IsNoStraightBody}
 use Rattle.facts.specs.declared.error.WalkError.{WalkError}
-use Rattle.walk.proofs.Refusing.{and_left, and_right, loosened}
+use Rattle.facts.proofs.Tests.{and_left, and_right}
+use Rattle.walk.proofs.Refusing.{loosened}
 
 pub body_end : {E : Type 0} (s : Setting E) (b : List Statement) (i : ℕ) (m : Met E) → length b ≤ i → collect m.found (walk_all s (statements (drop i b)) (state_of m) (λ st. Leaf)) ≡ m.found
 unfolding collect

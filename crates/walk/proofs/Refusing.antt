@@ -23,17 +23,10 @@ use Rattle.walk.specs.Collected.{Claimed, Found, Met, collect, state_of, add_cla
 use Rattle.walk.specs.Leads.{Steps, Leads}
 use Rattle.facts.specs.Refusals.{IsUnfit}
 use Rattle.walk.specs.Refusals.{are_fit, all_fit, Refused, Stops, Halts, HaltsAtForm}
+use Rattle.facts.proofs.Tests.{and_left, and_right}
 use Rattle.walk.proofs.Leading.{one_more}
 use Rattle.facts.specs.declared.error.WalkError.{WalkError}
 use Rattle.facts.specs.declared.error.WalkError.TheVariants as errors
-
-pub and_left : (a b : Bool) → a ≡ false → (a && b) ≡ false
-and_left true b h = cc
-and_left false b h = refl
-
-pub and_right : (a b : Bool) → b ≡ false → (a && b) ≡ false
-and_right true b h = h
-and_right false b h = refl
 
 and_more : (a b c d : Bool) → (a ≡ false → c ≡ false) → (b ≡ false → d ≡ false) → (a && b) ≡ false → (c && d) ≡ false
 and_more true b c d f g h = and_right c d (g h)

@@ -1,17 +1,40 @@
-use Rattle.std.proofs.Common.{map, length, subst, IfOk, ◌≤◌, arith}
+use Rattle.std.proofs.Common.{rules, ◌≡◌, map, length, subst, IfOk, ◌≤◌, ◌∙◌, arith}
 use Rattle.std.specs.List.{All}
 use Rattle.certificate.specs.View.{entry}
-use Rattle.two_thread.specs.Shown.{IsShown}
 use Rattle.core_code.specs.View.{kernel}
 use Rattle.launch.specs.View.{conditions}
-use Rattle.cert_check.specs.Lacking.{ArePassed, AreUnfit, Lacks, IsUnwalked, Names, Tells, owing}
-use Rattle.cert_check.specs.Owing.{all_owed, findings_fit}
-use Rattle.cert_check.proofs.Unshown.{gains, owed_length, mapped, told_few}
-use Rattle.cert_check.proofs.Walked.{unfit_unwalked}
+use Rattle.facts.proofs.Unmade.{passed}
+use Rattle.two_thread.specs.Listed.{listed, flagged, made_fit}
+use Rattle.two_thread.specs.Refusals.{DoNotFit}
+use Rattle.two_thread.specs.Shown.{IsShown, obligations}
+use Rattle.two_thread.specs.Unfound as unfound
+use Rattle.two_thread.proofs.Listing.{listed_length}
+use Rattle.two_thread.proofs.Walked.{unfit_unwalked}
+use Rattle.cert_check.specs.Entries.{has_entry}
+use Rattle.cert_check.specs.Lacking.{ArePassed, Lacks, IsUnwalked, Names, Tells, owing}
+use Rattle.cert_check.specs.declared.error.ShowError.TheVariants as errors
+use Rattle.cert_check.proofs.Unshown.{gains, mapped, told_few}
 use Rattle.cert_check.proofs.checking.show_all.Goals as goal
 
 pub returns-clause-shown : goal.returns-clause-shown
-returns-clause-shown g c = subst (λ os. IfOk c.show_found.result (λ _. All IsShown os)) c.in_ok-found.ensures.owed c.show_found.ensures.shown
+returns-clause-shown g c =
+    let d = g.D.Domain in
+    let k = kernel c.args.core.now in
+    let cs = conditions c.args.conditions.now in
+    let es = map entry c.args.entries.now in
+    let same : listed d c.in_ok-found.found ≡ owing d k cs es = c.in_ok-found.ensures.listed ∙ (λ i. obligations d k cs (λ n. c.in_ok-flags.ensures n i)) in
+    subst (λ os. IfOk c.show_found.result (λ _. All IsShown os)) same c.show_found.ensures.shown
+
+pub returns-in_err-found-clause-lacks : goal.returns-in_err-found-clause-lacks
+returns-in_err-found-clause-lacks g c =
+    let d = g.D.Domain in
+    let k = kernel c.args.core.now in
+    let cs = conditions c.args.conditions.now in
+    let es = map entry c.args.entries.now in
+    let e = c.in_err-found.field-0.0 in
+    let h : flagged c.in_ok-flags.flags.items ≡ has_entry es = λ i n. c.in_ok-flags.ensures n i in
+    let u : unfound.IsUnwalked d k cs (flagged c.in_ok-flags.flags.items) e = search rules in
+    passed c.from_residual-in_err-found.result (errors.Walk e) (Tells es (owing d k cs es) (IsUnwalked d k cs es)) c.from_residual-in_err-found.ensures.1 (subst (λ x. unfound.IsUnwalked d k cs x e) h u)
 
 pub returns-clause-lacks : goal.returns-clause-lacks
 returns-clause-lacks g c =
@@ -20,14 +43,19 @@ returns-clause-lacks g c =
     let cs = conditions c.args.conditions.now in
     let es = map entry c.args.entries.now in
     let f = c.in_ok-found.found in
-    let few : length (all_owed d f) ≤ 65536 = omega (arith, owed_length d f, c.in_ok-found.ensures.few) in
-    mapped c.show_found.result (Names (Lacks es (all_owed d f)) (AreUnfit (findings_fit f))) (Tells es (owing d k cs es) (IsUnwalked d k cs es))
-    (λ e t. subst (λ os. Tells es os (IsUnwalked d k cs es) e) c.in_ok-found.ensures.owed (told_few es (all_owed d f) (AreUnfit (findings_fit f)) (IsUnwalked d k cs es) e few (unfit_unwalked d k cs es (findings_fit f) c.in_ok-found.ensures.fits) t)) c.show_found.ensures.lacks
+    let h : flagged c.in_ok-flags.flags.items ≡ has_entry es = λ i n. c.in_ok-flags.ensures n i in
+    let same : listed d f ≡ owing d k cs es = c.in_ok-found.ensures.listed ∙ (λ i. obligations d k cs (h i)) in
+    let few : length (listed d f) ≤ 65536 = omega (arith, listed_length d f, f.few) in
+    mapped c.show_found.result (Names (Lacks es (listed d f)) (DoNotFit (made_fit f))) (Tells es (owing d k cs es) (IsUnwalked d k cs es))
+    (λ e t. subst (λ os. Tells es os (IsUnwalked d k cs es) e) same (told_few es (listed d f) (DoNotFit (made_fit f)) (IsUnwalked d k cs es) e few (λ w u. subst (λ x. unfound.IsUnwalked d k cs x w) h (unfit_unwalked d k cs (flagged c.in_ok-flags.flags.items) (made_fit f) c.in_ok-found.ensures.fits w u)) t)) c.show_found.ensures.lacks
 
 pub returns-clause-passed : goal.returns-clause-passed
 returns-clause-passed g c =
     let d = g.D.Domain in
+    let k = kernel c.args.core.now in
+    let cs = conditions c.args.conditions.now in
     let es = map entry c.args.entries.now in
     let f = c.in_ok-found.found in
-    let few : length (all_owed d f) ≤ 65536 = omega (arith, owed_length d f, c.in_ok-found.ensures.few) in
-    subst (λ os. IfOk c.show_found.result (λ _. ArePassed es os × (length os ≤ 65536))) c.in_ok-found.ensures.owed (gains (ArePassed es (all_owed d f)) (length (all_owed d f) ≤ 65536) c.show_found.result few c.show_found.ensures.passed)
+    let same : listed d f ≡ owing d k cs es = c.in_ok-found.ensures.listed ∙ (λ i. obligations d k cs (λ n. c.in_ok-flags.ensures n i)) in
+    let few : length (listed d f) ≤ 65536 = omega (arith, listed_length d f, f.few) in
+    subst (λ os. IfOk c.show_found.result (λ _. ArePassed es os × (length os ≤ 65536))) same (gains (ArePassed es (listed d f)) (length (listed d f) ≤ 65536) c.show_found.result few c.show_found.ensures.passed)

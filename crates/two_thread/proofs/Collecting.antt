@@ -18,7 +18,7 @@ use Rattle.walk.specs.Collected.{Found, collect, opening, add_claim, add_fact, a
 use Rattle.two_thread.specs.Pairs.{Pair, pairs_from, pairs_of, pair_obligation}
 use Rattle.two_thread.specs.Shown.{obligations, pairs, item_claims, item_accesses}
 use Rattle.two_thread.specs.Fitting.{found}
-use Rattle.cert_check.specs.Owing.{owed}
+use Rattle.two_thread.specs.Listed.{owed}
 
 pub claims-collected : {E : Type 0} (launch : List Fact) (m : Found E) (t : Tree E) → map (owed launch) (collect m t).claims ≡ map (owed launch) m.claims ++ claims launch m.facts t
 unfolding collect

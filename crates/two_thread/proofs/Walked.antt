@@ -1,12 +1,11 @@
 -- An error of a walk says of the kernel what it says of a part.
-use Rattle.std.proofs.Common.{◌≡◌, ℕ, zero, suc, ◌+◌, ◌<◌, Bool, true, false, ◌&&◌, List, [], ◌∷◌, length, map, get_or, arith, refl, sym, ap, subst, ◌∙◌}
+use Rattle.std.proofs.Common.{◌≡◌, ℕ, zero, suc, ◌+◌, ◌<◌, Bool, false, ◌&&◌, List, [], ◌∷◌, length, map, get_or, arith, refl, sym, ap, subst, ◌∙◌}
 use Rattle.std.proofs.lemmas.List.{length-map, length-append, get_or-map}
 use Rattle.semantics.specs.Launch.{Kernel}
 use Rattle.semantics.specs.Conditions.{Conditions}
 use Rattle.domain.specs.declared.Domain.{Ghosts}
 use Rattle.linear.specs.Exact.{fits}
 use Rattle.linear.specs.Forms.{form}
-use Rattle.texts.specs.Certificate.{Entry}
 use Rattle.facts.specs.Symbols.{Fact, First, Second, denial}
 use Rattle.facts.specs.Launching.{are_sizes, launch_facts, item_facts, known}
 use Rattle.walk.specs.Straight.{is_straight, is_straight_body}
@@ -20,27 +19,19 @@ use Rattle.facts.specs.declared.error.WalkError.{WalkError}
 use Rattle.facts.specs.declared.error.WalkError.TheVariants as walks
 use Rattle.walk.specs.declared.path.Claim as code
 use Rattle.walk.specs.declared.path.Path.{Path}
+use Rattle.facts.proofs.Tests.{and_left, and_right}
 use Rattle.walk.proofs.TwinTrees.{Same}
 use Rattle.walk.proofs.TwinWalks.{trees-same}
 use Rattle.two_thread.specs.Pairs.{Pair, pair_obligation}
-use Rattle.two_thread.specs.Refusals.{pair_fits, IsUnfitPair}
+use Rattle.two_thread.specs.Refusals.{pair_fits, IsUnfitPair, DoNotFit}
 use Rattle.two_thread.specs.Fitting.{found, denied, pairs_fit, forms_fit}
 use Rattle.two_thread.specs.Shown.{pairs, obligations, item_claims}
 use Rattle.two_thread.specs.View as views
 use Rattle.two_thread.specs.declared.pairs.Pair as declared
-use Rattle.cert_check.specs.Entries.{has_entry}
-use Rattle.cert_check.specs.Lacking.{AreUnfit, IsUnwalked}
-use Rattle.cert_check.specs.Owing.{owed, seen_claims, no_claim, no_pair, nth_pair, denials_fit}
-use Rattle.cert_check.proofs.OneByOne.{claim_is, length_claims}
-use Rattle.cert_check.proofs.Collecting.{claims-collected}
-
-and_left : (a b : Bool) → a ≡ false → (a && b) ≡ false
-and_left true b h = cc
-and_left false b h = refl
-
-and_right : (a b : Bool) → b ≡ false → (a && b) ≡ false
-and_right true b h = h
-and_right false b h = refl
+use Rattle.two_thread.specs.Unfound.{IsUnwalked}
+use Rattle.two_thread.specs.Listed.{owed, seen_claims, no_claim, denials_fit}
+use Rattle.two_thread.proofs.Listing.{claim_is, length_claims}
+use Rattle.two_thread.proofs.Collecting.{claims-collected}
 
 unfit_at : {A : Type 0} (view : A → Fact) (xs : List A) (i : ℕ) (d : A) → i < length xs → fits (view (get_or xs i d)) ≡ false → are_fit (map view xs) ≡ false
 unfit_at view [] i d h f = absurd (omega arith)
@@ -53,27 +44,27 @@ pairs_unfit_at (p ∷ ps) zero d h f = and_left (pair_fits p) (pairs_fit ps) f
 pairs_unfit_at (p ∷ ps) (suc i) d h f = and_right (pair_fits p) (pairs_fit ps) (pairs_unfit_at ps i d (omega arith) f)
 
 -- of a claim, as the code has it
-pub claim_unfit : {E : Type 0} (p : Path E) (i : ℕ) (c : code.Claim) (e : WalkError) → i < length p.claims.items → c ≡ get_or p.claims.items i c → IsUnfit e (denial (form c.form)) → AreUnfit (denials_fit (seen_claims p)) e
+pub claim_unfit : {E : Type 0} (p : Path E) (i : ℕ) (c : code.Claim) (e : WalkError) → i < length p.claims.items → c ≡ get_or p.claims.items i c → IsUnfit e (denial (form c.form)) → DoNotFit (denials_fit (seen_claims p)) e
 claim_unfit p i c walks.TooMany h q u = u
 claim_unfit p i c walks.TooLarge h q u = unfit_at denied (seen_claims p) i no_claim (subst (λ m. i < m) (sym (length_claims p)) h) (ap (λ (x : Claimed). fits (denied x)) (claim_is p i c h q) ∙ u)
 claim_unfit p i c walks.Outside h q u = u
 claim_unfit p i c walks.Memory h q u = tt
 
-pub pair_unfit : {E : Type 0} (p q : Path E) (ps : List declared.Pair) (i : ℕ) (e : WalkError) → i < length ps → IsUnfitPair e (views.pair (views.seen_accesses p) (views.seen_accesses q) (nth_pair ps i)) → AreUnfit (pairs_fit (map (views.pair (views.seen_accesses p) (views.seen_accesses q)) ps)) e
-pair_unfit p q ps i walks.TooMany h u = u
-pair_unfit p q ps i walks.TooLarge h u =
+pub pair_unfit : {E : Type 0} (p q : Path E) (ps : List declared.Pair) (i : ℕ) (r : declared.Pair) (e : WalkError) → i < length ps → r ≡ get_or ps i r → IsUnfitPair e (views.pair (views.seen_accesses p) (views.seen_accesses q) r) → DoNotFit (pairs_fit (map (views.pair (views.seen_accesses p) (views.seen_accesses q)) ps)) e
+pair_unfit p q ps i r walks.TooMany h d u = u
+pair_unfit p q ps i r walks.TooLarge h d u =
     let view = views.pair (views.seen_accesses p) (views.seen_accesses q) in
-    pairs_unfit_at (map view ps) i (view no_pair) (subst (λ m. i < m) (sym (length-map ps view)) h) (ap pair_fits (get_or-map view ps i no_pair (view no_pair) h) ∙ u)
-pair_unfit p q ps i walks.Outside h u = u
-pair_unfit p q ps i walks.Memory h u = tt
+    pairs_unfit_at (map view ps) i (view r) (subst (λ m. i < m) (sym (length-map ps view)) h) (ap pair_fits (get_or-map view ps i r (view r) h ∙ ap view (sym d)) ∙ u)
+pair_unfit p q ps i r walks.Outside h d u = u
+pair_unfit p q ps i r walks.Memory h d u = tt
 
-pub unfit_left : (a b : Bool) (e : WalkError) → AreUnfit a e → AreUnfit (a && b) e
+pub unfit_left : (a b : Bool) (e : WalkError) → DoNotFit a e → DoNotFit (a && b) e
 unfit_left a b walks.TooMany u = u
 unfit_left a b walks.TooLarge u = and_left a b u
 unfit_left a b walks.Outside u = u
 unfit_left a b walks.Memory u = u
 
-pub unfit_right : (a b : Bool) (e : WalkError) → AreUnfit b e → AreUnfit (a && b) e
+pub unfit_right : (a b : Bool) (e : WalkError) → DoNotFit b e → DoNotFit (a && b) e
 unfit_right a b walks.TooMany u = u
 unfit_right a b walks.TooLarge u = and_right a b u
 unfit_right a b walks.Outside u = u
@@ -98,10 +89,7 @@ same_count (Touch q b i es t) (Claim m r g u) l l' fs gs s = elim s [ ]
 same_count (Touch q b i es t) (Know g u) l l' fs gs s = elim s [ ]
 same_count (Touch q b i es t) (Touch r d j hs u) l l' fs gs s = same_count t u l l' fs gs s.4
 
-module _ {E : Type 0} (g : Ghosts E) (k : Kernel) (c : Conditions) (es : List Entry) where
-  abbrev h : ℕ → Bool
-  h = has_entry es
-
+module _ {E : Type 0} (g : Ghosts E) (k : Kernel) (c : Conditions) (h : ℕ → Bool) where
   count_first : length (found g k c h First).claims ≡ length (item_claims g k c h)
   count_first =
       sym (length-map (found g k c h First).claims (owed (launch_facts c)))
@@ -121,22 +109,22 @@ module _ {E : Type 0} (g : Ghosts E) (k : Kernel) (c : Conditions) (es : List En
       let more = map (pair_obligation g (known g k.sizes c) (launch_facts c)) (pairs g k c h) in
       omega (arith, e, l, length-append (item_claims g k c h) more)
 
-  pub first_unwalked : (e : WalkError) → Refused (IsNoStraightBody k.body) e (found g k c h First) → IsUnwalked g k c es e
+  pub first_unwalked : (e : WalkError) → Refused (IsNoStraightBody k.body) e (found g k c h First) → IsUnwalked g k c h e
   first_unwalked walks.TooMany r = many _ count_first r
   first_unwalked walks.TooLarge r = and_left (all_fit (found g k c h First)) _ r
   first_unwalked walks.Outside r = not_straight r
   first_unwalked walks.Memory r = tt
 
-  pub second_unwalked : (e : WalkError) → Refused (IsNoStraightBody k.body) e (found g k c h Second) → IsUnwalked g k c es e
+  pub second_unwalked : (e : WalkError) → Refused (IsNoStraightBody k.body) e (found g k c h Second) → IsUnwalked g k c h e
   second_unwalked walks.TooMany r = many _ count_second r
   second_unwalked walks.TooLarge r = and_right (all_fit (found g k c h First)) _ (and_left (all_fit (found g k c h Second)) _ r)
   second_unwalked walks.Outside r = not_straight r
   second_unwalked walks.Memory r = tt
 
-  pub memory_unwalked : (e : WalkError) → IsMemory e → IsUnwalked g k c es e
-  memory_unwalked e m = subst (IsUnwalked g k c es) (sym m) tt
+  pub memory_unwalked : (e : WalkError) → IsMemory e → IsUnwalked g k c h e
+  memory_unwalked e m = subst (IsUnwalked g k c h) (sym m) tt
 
-  pub unfit_unwalked : (fit : Bool) → (fit ≡ false → forms_fit g k c h ≡ false) → (e : WalkError) → AreUnfit fit e → IsUnwalked g k c es e
+  pub unfit_unwalked : (fit : Bool) → (fit ≡ false → forms_fit g k c h ≡ false) → (e : WalkError) → DoNotFit fit e → IsUnwalked g k c h e
   unfit_unwalked fit f walks.TooMany u = absurd u
   unfit_unwalked fit f walks.TooLarge u = f u
   unfit_unwalked fit f walks.Outside u = absurd u

@@ -1,9 +1,8 @@
-use Rattle.std.proofs.Common.{rules, ◌+◌, refl, ap, subst, ◌∙◌, map, arith}
+use Rattle.std.proofs.Common.{rules, ℕ, ◌+◌, refl, ap, subst, ◌∙◌, map, arith}
 use Rattle.linear.specs.Forms.{forms}
 use Rattle.words.specs.View.{kind}
 use Rattle.core_code.specs.View.{kernel}
 use Rattle.launch.specs.View.{conditions}
-use Rattle.certificate.specs.View.{entry}
 use Rattle.std.proofs.lemmas.List.{length-map}
 use Rattle.facts.specs.Symbols.{First, Second}
 use Rattle.facts.specs.Launching.{item_facts}
@@ -16,84 +15,86 @@ use Rattle.facts.specs.View.{known_seen, three}
 use Rattle.facts.specs.declared.forms.Which.TheVariants as items
 use Rattle.two_thread.specs.Pairs.{pairs_from}
 use Rattle.two_thread.specs.View.{pair, seen_accesses}
-use Rattle.cert_check.specs.Entries.{has_entry}
-use Rattle.cert_check.specs.Lacking.{IsEarly, IsUnwalked}
-use Rattle.cert_check.specs.Owing.{seen_claims}
-use Rattle.cert_check.proofs.Unshown.{named, passed}
-use Rattle.cert_check.proofs.Walked.{first_unwalked, second_unwalked, many_found, unfit_found}
-use Rattle.cert_check.proofs.Collecting.{setting_is, found_is, pairs_are, all_are, pairs_from-map}
-use Rattle.cert_check.proofs.finding.find.Goals as goal
+use Rattle.two_thread.specs.Unfound.{IsUnwalked}
+use Rattle.two_thread.specs.Listed.{seen_claims, flagged}
+use Rattle.facts.proofs.Unmade.{passed}
+use Rattle.two_thread.proofs.Walked.{first_unwalked, second_unwalked, many_found, unfit_found}
+use Rattle.two_thread.proofs.Collecting.{setting_is, found_is, pairs_are, all_are, pairs_from-map}
+use Rattle.two_thread.proofs.obligations.Obligations.find.Goals as goal
 
-pub returns-clause-owed : goal.returns-clause-owed
-returns-clause-owed g c =
+pub returns-clause-listed : goal.returns-clause-listed
+returns-clause-listed g c =
     let d = g.D.Domain in
     let core = c.args.core.now in
     let k = kernel core in
     let cs = conditions c.args.conditions.now in
-    let h = has_entry (map entry c.args.entries.now) in
+    let h = flagged c.args.entries.items in
     let s = c.in_ok-setting.setting in
     let t = c.in_ok-setting.ensures in
+    let e_h = λ (n : ℕ). ap (λ l. flagged l n) t.entries in
     let first = c.in_ok-first.first in
     let second = c.in_ok-second.second in
     let us = seen_accesses first in
     let vs = seen_accesses second in
-    let d1 = found_is d k cs h (setting d s items.First) (met first).found First (setting_is d k cs h s core.sizes items.First t.known t.sizes refl t.arguments t.entries) c.in_ok-first.ensures.path in
-    let d2 = found_is d k cs h (setting d s items.Second) (met second).found Second (setting_is d k cs h s core.sizes items.Second t.known t.sizes refl t.arguments t.entries) c.in_ok-second.ensures.path in
+    let d1 = found_is d k cs h (setting d s items.First) (met first).found First (setting_is d k cs h s core.sizes items.First t.known t.sizes refl t.arguments e_h) c.in_ok-first.ensures.path in
+    let d2 = found_is d k cs h (setting d s items.Second) (met second).found Second (setting_is d k cs h s core.sizes items.Second t.known t.sizes refl t.arguments e_h) c.in_ok-second.ensures.path in
     let ep = c.in_ok-pairs.ensures.exact ∙ ap (λ b. pairs_from (three core.sizes) cs 0 b us vs) c.as_slice-buffers.ensures.value ∙ pairs_from-map (three core.sizes) cs 0 kind core.buffers.items us vs in
     all_are d k cs h (forms c.in_ok-launch.launch.items) (known_seen s.known) (met first).found (met second).found (map (pair us vs) c.in_ok-pairs.pairs.items) c.in_ok-launch.ensures t.known d1 d2 ep
 
-pub returns-in_err-first-clause-early : goal.returns-in_err-first-clause-early
-returns-in_err-first-clause-early g c =
+pub returns-in_err-first-clause-unwalked : goal.returns-in_err-first-clause-unwalked
+returns-in_err-first-clause-unwalked g c =
     let d = g.D.Domain in
     let core = c.args.core.now in
     let k = kernel core in
     let cs = conditions c.args.conditions.now in
-    let es = map entry c.args.entries.now in
+    let h = flagged c.args.entries.items in
     let s = c.in_ok-setting.setting in
     let t = c.in_ok-setting.ensures in
+    let e_h = λ (n : ℕ). ap (λ l. flagged l n) t.entries in
     let said : Setting _ → WalkError → Type 0 = λ x w. Refused (IsNoStraightBody k.body) w (collect (opening (item_facts k.sizes First)).found (tree x k.body)) in
     let e = c.in_err-first.field-0.0 in
-    let same = setting_is d k cs (has_entry es) s core.sizes items.First t.known t.sizes refl t.arguments t.entries in
-    let i : IsEarly (said (setting d s items.First)) e = search rules in
-    passed c.from_residual-in_err-first.result e (IsEarly (IsUnwalked d k cs es)) c.from_residual-in_err-first.ensures.1
-    (named (λ n. ⊥) (λ n. ⊥) (said (setting d s items.First)) (IsUnwalked d k cs es) e (λ n z. z) (λ w r. first_unwalked d k cs es w (subst (λ x. said x w) same r)) i)
+    let same = setting_is d k cs h s core.sizes items.First t.known t.sizes refl t.arguments e_h in
+    let i : said (setting d s items.First) e = search rules in
+    passed c.from_residual-in_err-first.result e (IsUnwalked d k cs h) c.from_residual-in_err-first.ensures.1
+    (first_unwalked d k cs h e (subst (λ x. said x e) same i))
 
-pub returns-in_err-second-clause-early : goal.returns-in_err-second-clause-early
-returns-in_err-second-clause-early g c =
+pub returns-in_err-second-clause-unwalked : goal.returns-in_err-second-clause-unwalked
+returns-in_err-second-clause-unwalked g c =
     let d = g.D.Domain in
     let core = c.args.core.now in
     let k = kernel core in
     let cs = conditions c.args.conditions.now in
-    let es = map entry c.args.entries.now in
+    let h = flagged c.args.entries.items in
     let s = c.in_ok-setting.setting in
     let t = c.in_ok-setting.ensures in
+    let e_h = λ (n : ℕ). ap (λ l. flagged l n) t.entries in
     let said : Setting _ → WalkError → Type 0 = λ x w. Refused (IsNoStraightBody k.body) w (collect (opening (item_facts k.sizes Second)).found (tree x k.body)) in
     let e = c.in_err-second.field-0.0 in
-    let same = setting_is d k cs (has_entry es) s core.sizes items.Second t.known t.sizes refl t.arguments t.entries in
-    let i : IsEarly (said (setting d s items.Second)) e = search rules in
-    passed c.from_residual-in_err-second.result e (IsEarly (IsUnwalked d k cs es)) c.from_residual-in_err-second.ensures.1
-    (named (λ n. ⊥) (λ n. ⊥) (said (setting d s items.Second)) (IsUnwalked d k cs es) e (λ n z. z) (λ w r. second_unwalked d k cs es w (subst (λ x. said x w) same r)) i)
+    let same = setting_is d k cs h s core.sizes items.Second t.known t.sizes refl t.arguments e_h in
+    let i : said (setting d s items.Second) e = search rules in
+    passed c.from_residual-in_err-second.result e (IsUnwalked d k cs h) c.from_residual-in_err-second.ensures.1
+    (second_unwalked d k cs h e (subst (λ x. said x e) same i))
 
-pub returns-then-len-gt65536-clause-early : goal.returns-then-len-gt65536-clause-early
-returns-then-len-gt65536-clause-early g c =
+pub returns-then-len-gt65536-clause-unwalked : goal.returns-then-len-gt65536-clause-unwalked
+returns-then-len-gt65536-clause-unwalked g c =
     let d = g.D.Domain in
     let core = c.args.core.now in
     let k = kernel core in
     let cs = conditions c.args.conditions.now in
-    let es = map entry c.args.entries.now in
-    let h = has_entry es in
+    let h = flagged c.args.entries.items in
     let s = c.in_ok-setting.setting in
     let t = c.in_ok-setting.ensures in
+    let e_h = λ (n : ℕ). ap (λ l. flagged l n) t.entries in
     let first = c.in_ok-first.first in
     let second = c.in_ok-second.second in
     let us = seen_accesses first in
     let vs = seen_accesses second in
-    let d1 = found_is d k cs h (setting d s items.First) (met first).found First (setting_is d k cs h s core.sizes items.First t.known t.sizes refl t.arguments t.entries) c.in_ok-first.ensures.path in
-    let d2 = found_is d k cs h (setting d s items.Second) (met second).found Second (setting_is d k cs h s core.sizes items.Second t.known t.sizes refl t.arguments t.entries) c.in_ok-second.ensures.path in
+    let d1 = found_is d k cs h (setting d s items.First) (met first).found First (setting_is d k cs h s core.sizes items.First t.known t.sizes refl t.arguments e_h) c.in_ok-first.ensures.path in
+    let d2 = found_is d k cs h (setting d s items.Second) (met second).found Second (setting_is d k cs h s core.sizes items.Second t.known t.sizes refl t.arguments e_h) c.in_ok-second.ensures.path in
     let ps = map (pair us vs) c.in_ok-pairs.pairs.items in
     let ep = c.in_ok-pairs.ensures.exact ∙ ap (λ b. pairs_from (three core.sizes) cs 0 b us vs) c.as_slice-buffers.ensures.value ∙ pairs_from-map (three core.sizes) cs 0 kind core.buffers.items us vs in
     let dp = pairs_are d k cs h (met first).found (met second).found ps d1 d2 ep in
-    many_found d k cs es first ps (c.len.result + c.len-2.result) d1 dp (omega (arith, c.len.ensures, c.len-2.ensures, length-map c.in_ok-pairs.pairs.items (pair us vs))) c.if-len-gt65536.true
+    many_found d k cs h first ps (c.len.result + c.len-2.result) d1 dp (omega (arith, c.len.ensures, c.len-2.ensures, length-map c.in_ok-pairs.pairs.items (pair us vs))) c.if-len-gt65536.true
 
 pub returns-clause-fits : goal.returns-clause-fits
 returns-clause-fits g c =
@@ -101,17 +102,17 @@ returns-clause-fits g c =
     let core = c.args.core.now in
     let k = kernel core in
     let cs = conditions c.args.conditions.now in
-    let es = map entry c.args.entries.now in
-    let h = has_entry es in
+    let h = flagged c.args.entries.items in
     let s = c.in_ok-setting.setting in
     let t = c.in_ok-setting.ensures in
+    let e_h = λ (n : ℕ). ap (λ l. flagged l n) t.entries in
     let first = c.in_ok-first.first in
     let second = c.in_ok-second.second in
     let us = seen_accesses first in
     let vs = seen_accesses second in
-    let d1 = found_is d k cs h (setting d s items.First) (met first).found First (setting_is d k cs h s core.sizes items.First t.known t.sizes refl t.arguments t.entries) c.in_ok-first.ensures.path in
-    let d2 = found_is d k cs h (setting d s items.Second) (met second).found Second (setting_is d k cs h s core.sizes items.Second t.known t.sizes refl t.arguments t.entries) c.in_ok-second.ensures.path in
+    let d1 = found_is d k cs h (setting d s items.First) (met first).found First (setting_is d k cs h s core.sizes items.First t.known t.sizes refl t.arguments e_h) c.in_ok-first.ensures.path in
+    let d2 = found_is d k cs h (setting d s items.Second) (met second).found Second (setting_is d k cs h s core.sizes items.Second t.known t.sizes refl t.arguments e_h) c.in_ok-second.ensures.path in
     let ps = map (pair us vs) c.in_ok-pairs.pairs.items in
     let ep = c.in_ok-pairs.ensures.exact ∙ ap (λ b. pairs_from (three core.sizes) cs 0 b us vs) c.as_slice-buffers.ensures.value ∙ pairs_from-map (three core.sizes) cs 0 kind core.buffers.items us vs in
     let dp = pairs_are d k cs h (met first).found (met second).found ps d1 d2 ep in
-    unfit_found d k cs es (seen_claims first) ps (ap (λ (x : Found _). x.claims) d1) dp
+    unfit_found d k cs h (seen_claims first) ps (ap (λ (x : Found _). x.claims) d1) dp

@@ -1,16 +1,14 @@
 use Rattle.std.proofs.Common.{rules, ap, subst, ◌∙◌}
-use Rattle.facts.specs.Launching.{item_facts}
-use Rattle.walk.specs.Refusals.{IsNoStraightBody, Refused}
-use Rattle.cert_check.specs.Lacking.{IsEarly}
-use Rattle.cert_check.specs.declared.error.ShowError.TheVariants as errors
-use Rattle.cert_check.proofs.Unshown.{passed}
-use Rattle.linear.specs.Forms.{forms}
 use Rattle.core_code.specs.View.{kernel, statements}
-use Rattle.walk.specs.Collected.{collect, opening}
-use Rattle.walk.specs.Walks.{tree}
+use Rattle.linear.specs.Forms.{forms}
+use Rattle.facts.specs.Launching.{item_facts}
 use Rattle.facts.specs.View.{which}
+use Rattle.facts.proofs.Unmade.{passed}
+use Rattle.walk.specs.Collected.{collect, opening}
+use Rattle.walk.specs.Refusals.{IsNoStraightBody, Refused}
 use Rattle.walk.specs.View.{setting}
-use Rattle.cert_check.proofs.finding.path_of.Goals as goal
+use Rattle.walk.specs.Walks.{tree}
+use Rattle.two_thread.proofs.obligations.path_of.Goals as goal
 
 pub returns-clause-path : goal.returns-clause-path
 returns-clause-path g c =
@@ -19,13 +17,13 @@ returns-clause-path g c =
     ∙ ap (λ b. collect (opening (forms c.in_ok-facts.facts.items)).found (tree s (statements b))) c.as_slice.ensures.value
     ∙ ap (λ fs. collect (opening fs).found (tree s (kernel c.args.core.now).body)) c.in_ok-facts.ensures
 
-pub returns-in_err-walk-clause-early : goal.returns-in_err-walk-clause-early
-returns-in_err-walk-clause-early g c =
+pub returns-in_err-walk-clause-refused : goal.returns-in_err-walk-clause-refused
+returns-in_err-walk-clause-refused g c =
     let s = setting g.D.Domain c.args.setting.now c.args.item in
     let e = c.in_err-walk.field-0.0 in
     let k = kernel c.args.core.now in
     let facts = forms c.in_ok-facts.facts.items in
     let r : Refused (IsNoStraightBody (statements c.as_slice.result.now)) e (collect (opening facts).found (tree s (statements c.as_slice.result.now))) = search rules in
-    passed c.from_residual-in_err-walk.result (errors.Walk e) (IsEarly (λ w. Refused (IsNoStraightBody k.body) w (collect (opening (item_facts k.sizes (which c.args.item))).found (tree s k.body)))) c.from_residual-in_err-walk.ensures.1
+    passed c.from_residual-in_err-walk.result e (λ w. Refused (IsNoStraightBody k.body) w (collect (opening (item_facts k.sizes (which c.args.item))).found (tree s k.body))) c.from_residual-in_err-walk.ensures.1
     (subst (λ fs. Refused (IsNoStraightBody k.body) e (collect (opening fs).found (tree s k.body))) c.in_ok-facts.ensures
     (subst (λ b. Refused (IsNoStraightBody (statements b)) e (collect (opening facts).found (tree s (statements b)))) c.as_slice.ensures.value r))

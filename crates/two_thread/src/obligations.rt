@@ -1,0 +1,173 @@
+//! All that is to be shown of a kernel under conditions, by its numbers.
+
+ghost use Rattle.std.specs.Prelude.{◌≡◌, ◌≤◌, ◌<◌, ◌+◌, map, length, IfOk, IfErr, MatchResult};
+ghost use Rattle.std.specs.List.{All};
+ghost use Rattle.core_code.specs.View.{kernel as core_seen};
+ghost use Rattle.linear.specs.Forms.{forms};
+ghost use Rattle.launch.specs.View.{conditions as conditions_seen};
+ghost use Rattle.words.specs.View.{kind};
+ghost use Rattle.facts.specs.Launching as launching;
+ghost use Rattle.facts.specs.Refusals.{IsMemory};
+ghost use Rattle.facts.specs.View.{which, known_seen};
+ghost use Rattle.walk.specs.Collected.{collect, opening};
+ghost use Rattle.walk.specs.Refusals.{Refused, IsNoStraightBody};
+ghost use Rattle.walk.specs.View.{met, setting as setting_seen};
+ghost use Rattle.walk.specs.Walks as walks;
+ghost use Rattle.two_thread.specs.Fitting.{forms_fit};
+ghost use Rattle.two_thread.specs.Refusals.{IsInside, DoNotFit};
+ghost use Rattle.two_thread.specs.Shown.{obligations};
+ghost use Rattle.two_thread.specs.Unfound.{IsUnwalked};
+
+use crate::clashing::{claim_facts, is_apart, pair_facts};
+use crate::pairs::{Pair, all_pairs};
+use core_code::tree::Core;
+use domain::Domain;
+use facts::{WalkError, Which, item_facts, known, launch_facts};
+use launch::conditions::Conditions;
+use linear::Form;
+use std::alloc::Global;
+use walk::{Path, Setting, walk};
+
+/// The obligations of a kernel, numbered from 1: the claims of one item, then the pairs of accesses of two items that may clash. There
+/// are at most 65,536.
+#[derive(Drop)]
+pub struct Obligations<D> {
+    pub(crate) launch: Vec<Form>,
+    pub(crate) setting: Setting<D>,
+    pub(crate) first: Path<D>,
+    pub(crate) second: Path<D>,
+    pub(crate) pairs: Vec<Pair>,
+    pub(crate) ghost few: { length first.claims.items + length pairs.items ≤ 65536 },
+    pub(crate) ghost inside: { All (IsInside (length first.accesses.items) (length second.accesses.items)) pairs.items },
+}
+
+/// What a walk is of.
+fn setting_of<D: Domain>(
+    alloc: Global,
+    core: &Core,
+    conditions: &Conditions,
+    entries: Vec<bool>,
+) -> Result<Setting<D>, WalkError>
+    ensures known { IfOk result (λ s. known_seen s.known ≡ launching.known D.Domain (core_seen core.now).sizes (conditions_seen conditions.now)) }
+    ensures sizes { IfOk result (λ s. s.sizes ≡ core.now.sizes) }
+    ensures arguments { IfOk result (λ s. map kind s.arguments.items ≡ (core_seen core.now).arguments) }
+    ensures entries { IfOk result (λ s. s.entries.items ≡ entries.items) }
+    ensures memory { IfErr result IsMemory }
+{
+    Ok(Setting {
+        known: known::<D>(alloc, core.sizes, conditions)?,
+        sizes: core.sizes,
+        arguments: Vec::from_slice(alloc, core.arguments.as_slice())?,
+        entries,
+    })
+}
+
+/// What one item meets on its way.
+fn path_of<D: Domain>(
+    alloc: Global,
+    core: &Core,
+    setting: &Setting<D>,
+    item: Which,
+) -> Result<Path<D>, WalkError>
+    ensures path { IfOk result (λ p. (met p).found ≡ collect (opening (launching.item_facts (core_seen core.now).sizes (which item))).found (walks.tree (setting_seen D.Domain setting.now item) (core_seen core.now).body)) }
+    ensures refused { IfErr result (λ e. Refused (IsNoStraightBody (core_seen core.now).body) e (collect (opening (launching.item_facts (core_seen core.now).sizes (which item))).found (walks.tree (setting_seen D.Domain setting.now item) (core_seen core.now).body))) }
+{
+    let facts = item_facts(alloc, core.sizes, item)?;
+    Ok(walk(alloc, setting, item, facts, core.body.as_slice())?)
+}
+
+impl<D: Domain> Obligations<D> {
+    ghost use Rattle.std.specs.Prelude.{◌≡◌, ◌≤◌, ◌<◌, length, false, IfOk, IfErr, MatchResult};
+    ghost use Rattle.core_code.specs.View.{kernel as core_seen};
+    ghost use Rattle.linear.specs.Forms.{forms};
+    ghost use Rattle.launch.specs.View.{conditions as conditions_seen};
+    ghost use Rattle.two_thread.specs.Fitting.{forms_fit};
+    ghost use Rattle.two_thread.specs.Refusals.{DoNotFit};
+    ghost use Rattle.two_thread.specs.Shown.{obligations};
+    ghost use Rattle.two_thread.specs.Unfound.{IsUnwalked};
+    ghost use Rattle.two_thread.specs.Listed.{listed, nth_obligation, made_fit, flagged};
+
+    /// All that is to be shown of a kernel, where the obligations that are flagged have an entry.
+    pub fn find(
+        alloc: Global,
+        core: &Core,
+        conditions: &Conditions,
+        entries: Vec<bool>,
+    ) -> Result<Obligations<D>, WalkError>
+        ensures listed { IfOk result (λ o. listed D.Domain o ≡ obligations D.Domain (core_seen core.now) (conditions_seen conditions.now) (flagged entries.items)) }
+        ensures fits { IfOk result (λ o. made_fit o ≡ false → forms_fit D.Domain (core_seen core.now) (conditions_seen conditions.now) (flagged entries.items) ≡ false) }
+        ensures unwalked { IfErr result (IsUnwalked D.Domain (core_seen core.now) (conditions_seen conditions.now) (flagged entries.items)) }
+    {
+        let launch = launch_facts(alloc, conditions)?;
+        let setting = setting_of::<D>(alloc, core, conditions, entries)?;
+        let first = path_of(alloc, core, &setting, Which::First)?;
+        let second = path_of(alloc, core, &setting, Which::Second)?;
+        let buffers = core.buffers.as_slice();
+        let pairs = all_pairs(alloc, core.sizes, conditions, buffers, &first, &second)?;
+        if first.claims.len() + pairs.len() > 65_536 {
+            return Err(WalkError::TooMany);
+        }
+        Ok(Obligations {
+            launch,
+            setting,
+            first,
+            second,
+            pairs,
+        })
+    }
+
+    /// How many there are.
+    pub fn len(&self) -> usize
+        ensures exact { result ≡ length (listed D.Domain self.now) }
+        ensures few { result ≤ 65536 }
+    {
+        self.first.claims.len() + self.pairs.len()
+    }
+
+    /// It is to be shown also where it has no entry.
+    pub fn is_needed(&self, number: usize) -> bool
+        requires first { 0 < number }
+        requires last { number ≤ length (listed D.Domain self.now) }
+        ensures { result ≡ (nth_obligation (listed D.Domain self.now) number).needed }
+    {
+        let i = number - 1;
+        if i < self.first.claims.len() {
+            let claim = &self.first.claims[i];
+            return claim.needed;
+        }
+        true
+    }
+
+    /// The domain alone shows it.
+    pub fn is_settled(&self, alloc: Global, number: usize) -> Result<bool, WalkError>
+        requires first { 0 < number }
+        requires last { number ≤ length (listed D.Domain self.now) }
+        ensures { MatchResult result (λ b. b ≡ (nth_obligation (listed D.Domain self.now) number).settled) (DoNotFit (made_fit self.now)) }
+    {
+        let i = number - 1;
+        let claims = self.first.claims.len();
+        if i < claims {
+            let claim = &self.first.claims[i];
+            return Ok(claim.settled);
+        }
+        let pair = self.pairs[i - claims];
+        is_apart(alloc, &self.setting.known, &self.first, &self.second, pair)
+    }
+
+    /// The facts that are to be impossible.
+    pub fn facts(&self, alloc: Global, number: usize) -> Result<Vec<Form>, WalkError>
+        requires first { 0 < number }
+        requires last { number ≤ length (listed D.Domain self.now) }
+        ensures { MatchResult result (λ v. forms v.items ≡ (nth_obligation (listed D.Domain self.now) number).facts) (DoNotFit (made_fit self.now)) }
+    {
+        let i = number - 1;
+        let claims = self.first.claims.len();
+        let launch = self.launch.as_slice();
+        if i < claims {
+            let claim = &self.first.claims[i];
+            return claim_facts(alloc, launch, &self.first, claim);
+        }
+        let pair = self.pairs[i - claims];
+        pair_facts(alloc, launch, &self.first, &self.second, pair)
+    }
+}

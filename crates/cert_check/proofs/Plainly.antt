@@ -30,17 +30,17 @@ module _ (k : Kernel) (ps : List Parameter) (c : Conditions) (cert : Certificate
       ((o, (i, e, l, q), r), λ b. plain-range k c h limits plain n o b (subst (λ j. o ≡ get_or (owing domain k c cert.entries) j o) m q) s a)
 
   pub tells_plain : (e : ShowError) → Shows k ps c cert e → TellsPlain k ps c cert e
-  tells_plain (shows.NotShown zero) (inl (inl p)) = absurd (some_items k.sizes.x k.sizes.y k.sizes.z limits.size_x.0 limits.size_y.0 limits.size_z.0 p)
-  tells_plain (shows.NotShown zero) (inl (inr (inl p))) = absurd (false≢true (sym p ∙ plain-straight k c h limits plain))
-  tells_plain (shows.NotShown zero) (inl (inr (inr p))) = inr p
-  tells_plain (shows.NotShown zero) (inr p) = inl p.1
-  tells_plain (shows.NotShown (suc n)) (inl s) = named n s
-  tells_plain (shows.NotShown (suc n)) (inr p) = absurd cc
-  tells_plain (shows.Walk walks.TooMany) (inl p) = p
-  tells_plain (shows.Walk walks.TooLarge) (inl p) = false≢true (sym p ∙ plain-fits k c h limits plain)
-  tells_plain (shows.Walk walks.Outside) (inl p) = false≢true (sym p ∙ plain-straight k c h limits plain)
-  tells_plain (shows.Walk walks.Memory) (inl p) = tt
-  tells_plain (shows.Walk w) (inr p) = absurd cc
-  tells_plain shows.OverBudget (inl p) = p
-  tells_plain shows.OverBudget (inr p) = absurd cc
+  tells_plain (shows.NotShown zero) (inl p) = inl p.1
+  tells_plain (shows.NotShown zero) (inr (o, inl p)) = absurd (some_items k.sizes.x k.sizes.y k.sizes.z limits.size_x.0 limits.size_y.0 limits.size_z.0 p)
+  tells_plain (shows.NotShown zero) (inr (o, inr (inl p))) = absurd (false≢true (sym p ∙ plain-straight k c h limits plain))
+  tells_plain (shows.NotShown zero) (inr (o, inr (inr p))) = inr p.2.1
+  tells_plain (shows.NotShown (suc n)) (inl p) = absurd cc
+  tells_plain (shows.NotShown (suc n)) (inr s) = named n s.1.2
+  tells_plain (shows.Walk w) (inl p) = absurd cc
+  tells_plain (shows.Walk walks.TooMany) (inr p) = p.1.1
+  tells_plain (shows.Walk walks.TooLarge) (inr p) = false≢true (sym p.1.1 ∙ plain-fits k c h limits plain)
+  tells_plain (shows.Walk walks.Outside) (inr p) = false≢true (sym p.1.1 ∙ plain-straight k c h limits plain)
+  tells_plain (shows.Walk walks.Memory) (inr p) = tt
+  tells_plain shows.OverBudget (inl p) = absurd cc
+  tells_plain shows.OverBudget (inr p) = p.1.2
   tells_plain shows.Memory s = tt

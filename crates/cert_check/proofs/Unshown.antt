@@ -9,7 +9,7 @@ use Rattle.cut_proof.specs.Derivations.{Forms}
 use Rattle.facts.specs.declared.error.WalkError.{WalkError}
 use Rattle.walk.specs.Trees.{Obligation}
 use Rattle.cert_check.specs.Entries.{entry_of, is_found, is_refuted, found_refutes, refutes_by}
-use Rattle.cert_check.specs.Lacking.{AllPass, IsNumbered, IsStopped, Passes, Names, Lacks, PassesOf, TellsOf}
+use Rattle.cert_check.specs.Lacking.{AllPass, AreFew, IsNumbered, IsStopped, Passes, Names, Lacks, PassesOf, Tells, TellsOf}
 use Rattle.two_thread.proofs.Listing.{at_place}
 use Rattle.cert_check.specs.declared.error.ShowError.{ShowError}
 use Rattle.cert_check.specs.declared.error.ShowError.TheVariants as errors
@@ -61,3 +61,7 @@ mapped (Err e) P Q f h = f e h
 pub gains : {T E : Type 0} (P Q : Type 0) (r : Result T E) → Q → IfOk r (λ _. P) → IfOk r (λ _. P × Q)
 gains P Q (Ok t) q p = (p, q)
 gains P Q (Err e) q p = tt
+
+-- what is shown of few obligations is told of them
+pub told_few : (es : List Entry) (os : List Obligation) (walk walk' : WalkError → Type 0) (e : ShowError) → length os ≤ 65536 → ((w : WalkError) → walk w → walk' w) → Names (Lacks es os) walk e → Tells es os walk' e
+told_few es os walk walk' e l f t = named (Lacks es os) (λ n. AreFew os × Lacks es os n) walk walk' e (λ n s. (l, s)) f t

@@ -48,14 +48,10 @@ Names stops walk (errors.Walk e) = walk e
 Names stops walk errors.OverBudget = ⊥
 Names stops walk errors.Memory = Unit {0}
 
--- 0, where an entry is past the last obligation, or the number of the first that stops the check
+-- 0, where all pass and an entry is past the last obligation, or the number of the first that stops the check
 abbrev pub Lacks : List Entry → List Obligation → (number : ℕ) → Type 0
-Lacks es os zero = is_past es (length os) ≡ true
+Lacks es os zero = AllPass es 0 os × (is_past es (length os) ≡ true)
 Lacks es os (suc n) = Stops es 0 os (suc n)
-
--- an error that comes of what is to be shown, or before it
-abbrev pub Tells : List Entry → List Obligation → (walk : WalkError → Type 0) → ShowError → Type 0
-Tells es os = Names (Lacks es os)
 
 -- nothing stops the check: each obligation passes, and no entry is past the last
 abbrev pub ArePassed : List Entry → List Obligation → Type 0
@@ -69,18 +65,30 @@ owing g k c es = obligations g k c (has_entry es)
 abbrev pub IsUnwalked : {E : Type 0} → Ghosts E → Kernel → Conditions → List Entry → WalkError → Type 0
 IsUnwalked g k c es = unfound.IsUnwalked g k c (has_entry es)
 
--- of a kernel: 0 also where a work-group has no work-items, or the kernel is not a straight-line one
-abbrev pub LacksOf : {E : Type 0} → Ghosts E → Kernel → Conditions → List Entry → (number : ℕ) → Type 0
-LacksOf g k c es zero = (product k.sizes ≡ 0) ⊎ ((is_straight k ≡ false) ⊎ (is_past es (length (owing g k c es)) ≡ true))
-LacksOf g k c es (suc n) = Stops es 0 (owing g k c es) (suc n)
+-- the kernel's obligations are told: a work-group has work-items, and the kernel is a straight-line one
+abbrev pub HasObligations : Kernel → Type 0
+HasObligations k = (0 < product k.sizes) × (is_straight k ≡ true)
 
--- or an item takes more steps than the budget
-abbrev pub TellsOf : {E : Type 0} → Ghosts E → Kernel → Conditions → List Entry → ShowError → Type 0
-TellsOf g k c es (errors.NotShown n) = LacksOf g k c es n
-TellsOf g k c es (errors.Walk e) = IsUnwalked g k c es e
-TellsOf g k c es errors.OverBudget = c.budget < steps k.body
-TellsOf g k c es errors.Memory = Unit {0}
+-- they are listed: there are 65,536 at most
+abbrev pub AreFew : List Obligation → Type 0
+AreFew os = length os ≤ 65536
+
+-- an error that comes of what is to be shown, once it is listed, or before that
+abbrev pub Tells : List Entry → List Obligation → (walk : WalkError → Type 0) → ShowError → Type 0
+Tells es os = Names (λ n. AreFew os × Lacks es os n)
 
 -- of a kernel: nothing stops the check, and there are 65,536 obligations at most
 abbrev pub PassesOf : {E : Type 0} → Ghosts E → Kernel → Conditions → List Entry → Type 0
-PassesOf g k c es = ArePassed es (owing g k c es) × (length (owing g k c es) ≤ 65536)
+PassesOf g k c es = ArePassed es (owing g k c es) × AreFew (owing g k c es)
+
+-- 0 also where a work-group has no work-items, or the kernel is not a straight-line one
+abbrev pub LacksOf : {E : Type 0} → Ghosts E → Kernel → Conditions → List Entry → (number : ℕ) → Type 0
+LacksOf g k c es zero = (product k.sizes ≡ 0) ⊎ ((is_straight k ≡ false) ⊎ (HasObligations k × AreFew (owing g k c es) × Lacks es (owing g k c es) zero))
+LacksOf g k c es (suc n) = HasObligations k × AreFew (owing g k c es) × Lacks es (owing g k c es) (suc n)
+
+-- what an error tells of a kernel. The budget comes last: an item takes more steps than it has, and nothing else stops the check
+abbrev pub TellsOf : {E : Type 0} → Ghosts E → Kernel → Conditions → List Entry → ShowError → Type 0
+TellsOf g k c es (errors.NotShown n) = LacksOf g k c es n
+TellsOf g k c es (errors.Walk e) = HasObligations k × IsUnwalked g k c es e
+TellsOf g k c es errors.OverBudget = HasObligations k × PassesOf g k c es × (c.budget < steps k.body)
+TellsOf g k c es errors.Memory = Unit {0}

@@ -5,3 +5,4 @@ pub mod Lacking
 pub mod Names
 pub mod Refusing
 pub mod Plainly
+pub mod Numbers

@@ -31,9 +31,10 @@ IsRead typed kernel = read kernel ≡ Ok (reading.kernel_seen typed)
 abbrev pub AreRead : Kernel × Core → Lined → (kernel conditions : List ℕ) → Type 0
 AreRead typed found kernel conditions = IsRead typed kernel × (conditions_of (tree_seen typed.0).parameters conditions ≡ Ok found)
 
--- what the error tells of a kernel with these parameters under conditions, with a certificate
+-- what the error tells of a kernel with these parameters under conditions, with a certificate: that it tells of what the kernel lacks, else
+-- what is not shown
 abbrev pub Shows : semantics.Kernel → List Parameter → Conditions → Certificate → ShowError → Type 0
-Shows k ps c cert e = TellsOf domain k c cert.entries e ⊎ ((e ≡ NotShown 0) × (is_for_others ps cert ≡ true))
+Shows k ps c cert e = ((e ≡ NotShown 0) × (is_for_others ps cert ≡ true)) ⊎ ((is_for_others ps cert ≡ false) × TellsOf domain k c cert.entries e)
 
 -- the certificate too, and the kernel under these conditions is not shown by it
 abbrev pub IsUnshown : ShowError → Kernel × Core → Lined → (certificate : List ℕ) → Type 0

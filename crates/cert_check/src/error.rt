@@ -1,6 +1,7 @@
 //! Why a kernel is refused.
 
 ghost use Rattle.std.specs.Prelude.{◌≡◌};
+ghost use Rattle.cert_check.specs.Numbers as numbers;
 
 use certificate::error::CertError;
 use facts::WalkError;
@@ -8,6 +9,13 @@ use launch_text::error::LaunchTextError;
 use reading::KernelError;
 use std::alloc::{AllocError, AllocFailed};
 use thiserror::Error;
+
+/// Where a refusal points: a place of the kernel's text; or a number, that of a line or of an obligation.
+#[derive(Clone, Copy, Debug, PartialEq, Eq)]
+pub enum Place {
+    At { line: u32, column: u32 },
+    Number(u64),
+}
 
 /// Why what is to be shown of a kernel is not shown, or want of memory.
 #[derive(Debug, Drop, Error)]
@@ -20,7 +28,7 @@ pub enum ShowError {
     Walk(WalkError),
     #[error("56")]
     OverBudget,
-    #[error("out of memory")]
+    #[error("90")]
     Memory,
 }
 
@@ -35,6 +43,104 @@ pub enum CheckError {
     Certificate(CertError),
     #[error("{0}")]
     Show(ShowError),
+}
+
+/// The number of a walk's refusal.
+fn walk_number(error: &WalkError) -> u8
+    ensures { result ≡ numbers.walk_number error.now }
+{
+    match error {
+        WalkError::TooMany => 53,
+        WalkError::TooLarge => 54,
+        WalkError::Outside => 52,
+        WalkError::Memory => 90,
+    }
+}
+
+/// Where a walk's refusal points.
+fn walk_place(error: &WalkError) -> Option<Place>
+    ensures { result ≡ numbers.walk_place error.now }
+{
+    match error {
+        WalkError::TooMany => Some(Place::At { line: 1, column: 1 }),
+        WalkError::Outside => Some(Place::Number(0)),
+        WalkError::TooLarge | WalkError::Memory => None,
+    }
+}
+
+/// Where a refusal points that points to a line and a column.
+fn at_place(place: Option<(u32, u32)>) -> Option<Place>
+    ensures { result ≡ numbers.at_place place }
+{
+    match place {
+        Some((line, column)) => Some(Place::At { line, column }),
+        None => None,
+    }
+}
+
+/// Where a refusal points that points to a line.
+fn at_line(line: Option<u64>) -> Option<Place>
+    ensures { result ≡ numbers.at_line line }
+{
+    match line {
+        Some(line) => Some(Place::Number(line)),
+        None => None,
+    }
+}
+
+impl ShowError {
+    ghost use Rattle.cert_check.specs.Numbers.{show_number, show_place};
+
+    /// The number that it is printed under.
+    pub fn number(&self) -> u8
+        ensures { result ≡ show_number self.now }
+    {
+        match self {
+            ShowError::NotShown(_) => 52,
+            ShowError::Walk(error) => walk_number(error),
+            ShowError::OverBudget => 56,
+            ShowError::Memory => 90,
+        }
+    }
+
+    /// Where it points.
+    pub fn place(&self) -> Option<Place>
+        ensures { result ≡ show_place self.now }
+    {
+        match self {
+            ShowError::NotShown(number) => Some(Place::Number(*number)),
+            ShowError::Walk(error) => walk_place(error),
+            ShowError::OverBudget | ShowError::Memory => None,
+        }
+    }
+}
+
+impl CheckError {
+    ghost use Rattle.cert_check.specs.Numbers.{error_number, error_place};
+
+    /// The number that it is printed under.
+    pub fn number(&self) -> u8
+        ensures { result ≡ error_number self.now }
+    {
+        match self {
+            CheckError::Kernel(error) => error.number(),
+            CheckError::Conditions(error) => error.number(),
+            CheckError::Certificate(error) => error.number(),
+            CheckError::Show(error) => error.number(),
+        }
+    }
+
+    /// Where it points.
+    pub fn place(&self) -> Option<Place>
+        ensures { result ≡ error_place self.now }
+    {
+        match self {
+            CheckError::Kernel(error) => at_place(error.place()),
+            CheckError::Conditions(error) => at_line(error.place().map(u64::from)),
+            CheckError::Certificate(error) => at_line(error.place().map(|line| line as u64)),
+            CheckError::Show(error) => error.place(),
+        }
+    }
 }
 
 impl From<WalkError> for ShowError {

@@ -2,3 +2,4 @@ pub mod Runs
 pub mod View
 pub mod Stores
 pub mod Results
+pub mod Numbers

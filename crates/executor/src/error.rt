@@ -14,8 +14,33 @@ pub enum RunError {
     /// There are 1 to 64 workers.
     #[error("70")]
     Workers,
-    #[error("out of memory")]
+    #[error("90")]
     Memory,
+}
+
+impl RunError {
+    ghost use Rattle.executor.specs.Numbers.{error_number, error_line};
+
+    /// The number that it is printed under.
+    pub fn number(&self) -> u8
+        ensures { result ≡ error_number self.now }
+    {
+        match self {
+            RunError::Condition(error) => error.number(),
+            RunError::Workers => 70,
+            RunError::Memory => 90,
+        }
+    }
+
+    /// The line of the conditions that it points to.
+    pub fn place(&self) -> Option<u32>
+        ensures { result ≡ error_line self.now }
+    {
+        match self {
+            RunError::Condition(error) => error.place(),
+            RunError::Workers | RunError::Memory => None,
+        }
+    }
 }
 
 impl From<ConditionError> for RunError {

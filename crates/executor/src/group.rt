@@ -2,11 +2,12 @@
 
 ghost use Rattle.std.specs.Prelude.{◌≡◌, ◌<◌, ◌%◌, ℕ, IfOk, None, true, length};
 ghost use Rattle.semantics.specs.Launch.{Fits, product};
+ghost use Rattle.semantics.specs.Conditions.{Meets};
 ghost use Rattle.semantics.specs.Setup as setup;
 ghost use Rattle.semantics.specs.Setup.{IsPlace, group_of, group_size, group_count};
 ghost use Rattle.semantics.specs.Rounds.{log_of, group_log};
 ghost use Rattle.core_code.specs.View.{kernel as core_seen};
-ghost use Rattle.launch.specs.View.{launch as launch_seen, counts as counts_seen};
+ghost use Rattle.launch.specs.View.{launch as launch_seen, conditions as conditions_seen, counts as counts_seen};
 ghost use Rattle.facts.specs.Launching.{are_sizes};
 ghost use Rattle.walk.specs.Straight.{is_straight_body};
 ghost use Rattle.cert_check.specs.View.{typed_of, kept};
@@ -101,7 +102,7 @@ fn run_items(
     Ok(log)
 }
 
-/// Runs a work-group, item by item: what it stores is the group's log of the result by rounds.
+/// Runs a work-group, item by item, of a launch that meets the conditions: what it stores is the group's log of the result by rounds.
 pub fn run_group(
     alloc: Global,
     accepted: &Accepted,
@@ -109,6 +110,7 @@ pub fn run_group(
     group: u64,
 ) -> Result<WriteLog, AllocError>
     requires fits { Fits (core_seen (typed_of accepted.now).1) (launch_seen launch.now) }
+    requires meets { Meets (conditions_seen (kept accepted.now)) (launch_seen launch.now) }
     requires group { group < group_count (at (core_seen (typed_of accepted.now).1) (launch_seen launch.now)) }
     ensures { IfOk result (λ log. (buffer index : ℕ) → written log buffer index ≡ group_log (at (core_seen (typed_of accepted.now).1) (launch_seen launch.now)) (kept accepted.now).budget group buffer index) }
 {

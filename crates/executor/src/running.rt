@@ -2,8 +2,9 @@
 
 ghost use Rattle.std.specs.Prelude.{◌≡◌, ◌≤◌, ℕ, IfOk, map, length};
 ghost use Rattle.semantics.specs.Launch.{Fits};
+ghost use Rattle.semantics.specs.Conditions.{Meets};
 ghost use Rattle.core_code.specs.View.{kernel as core_seen};
-ghost use Rattle.launch.specs.View.{launch as launch_seen};
+ghost use Rattle.launch.specs.View.{launch as launch_seen, conditions as conditions_seen};
 ghost use Rattle.cert_check.specs.View.{typed_of, kept};
 ghost use Rattle.cert_check.specs.Accepting.{at};
 ghost use Rattle.write_log.specs.Written.{words_of};
@@ -34,7 +35,8 @@ fn copy(alloc: Global, buffers: &Buffers) -> Result<Buffers, AllocError>
 
 /// Runs the groups one after another.
 fn run_groups(alloc: Global, accepted: &Accepted, launch: &Launch) -> Result<Buffers, AllocError>
-    requires { Fits (core_seen (typed_of accepted.now).1) (launch_seen launch.now) }
+    requires fits { Fits (core_seen (typed_of accepted.now).1) (launch_seen launch.now) }
+    requires meets { Meets (conditions_seen (kept accepted.now)) (launch_seen launch.now) }
     ensures { IfOk result (λ b. IsResultOf (at (core_seen (typed_of accepted.now).1) (launch_seen launch.now)) (kept accepted.now).budget b) }
 {
     let mut buffers = copy(alloc, &launch.buffers)?;

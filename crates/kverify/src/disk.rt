@@ -1,6 +1,6 @@
-//! The files of the system.
+//! The files of the system. No clause can say what they have: of what is read of them it is known that it was read of them, in order.
 
-ghost use Rattle.std.specs.Prelude.{None};
+ghost use Rattle.std.specs.Prelude.{◌≡◌, None};
 
 use program::files::{FileFault, Files};
 use std::io::{ErrorKind, Read};
@@ -37,6 +37,8 @@ fn fault_of(error: &io::Error) -> FileFault {
 
 impl Files for Disk<'_> {
     ghost contents = { λ _ _. None };
+
+    ghost gives = { λ before name limit bytes after. after ≡ before };
 
     fn read(&mut self, name: &str, limit: u64) -> Result<Vec<u8>, FileFault> {
         match self.bytes_of(name, limit.saturating_add(1)) {

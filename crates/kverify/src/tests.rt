@@ -178,6 +178,8 @@ struct Torn {
 impl Files for Torn {
     ghost contents = { λ _ _. None };
 
+    ghost gives = { λ before name limit bytes after. Unit {0} };
+
     fn read(&mut self, name: &str, limit: u64) -> Result<Vec<u8>, FileFault> {
         if name == self.fails.as_str() {
             return Err(FileFault::Memory);

@@ -1,1 +1,3 @@
+pub mod First
 pub mod Running
+pub mod Verdicts

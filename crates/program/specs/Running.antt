@@ -1,24 +1,57 @@
--- What stands behind a run of the program that succeeds.
-use Rattle.std.specs.Prelude.{◌≡◌, ◌+◌, ℕ, List, [], Option, IfSome, take, codes}
+-- What a run of the program reads and writes.
+use Rattle.std.specs.Prelude.{◌≡◌, ◌+◌, ◌⊎◌, ℕ, List, [], ◌∷◌, Option, IfSome, take, codes}
+use Rattle.std.specs.Io.KnownBytes.{Appends, Keeps}
 use Rattle.telling.specs.Telling.{IsAcceptedText, IsResultText}
+use Rattle.telling.specs.Refusals.{IsRefusalLine}
 use Rattle.command_line.specs.Words.{HasWord}
-use Rattle.telling.specs.declared.Verdict.{Verdict}
-use Rattle.telling.specs.declared.Verdict.TheVariants as verdicts
+use Rattle.program.specs.First.{first_kernel, first_conditions}
 
--- a text is what a file has, as far as that is known, up to one byte past the text's limit
-abbrev pub IsTextOf : (known : List ℕ → Option (List ℕ)) (name : List ℕ) (limit : ℕ) (text : List ℕ) → Type 0
-IsTextOf known name limit text = IfSome (known name) (λ b. text ≡ take (limit + 1) b)
+-- a read of a file: its name, the limit of its text, and the bytes that it gave
+pub record Read : Type 0 where
+  pub name : List ℕ
+  pub limit : ℕ
+  pub bytes : List ℕ
 
--- `accepted` of the texts in the program, where no word is given; of those of the files that the words of `check` name; or the buffers of
--- the launch in the file that the words of `run` name
-pub data Success (known : List ℕ → Option (List ℕ)) (ws : List (List ℕ)) (written : List ℕ) : Type 0 where
-  own : ws ≡ [] → (kernel conditions : List ℕ) → IsAcceptedText kernel conditions written → Success known ws written
-  checks : (k c : List ℕ) → HasWord ws 0 (codes "check") → HasWord ws 1 k → HasWord ws 2 c → (kernel conditions : List ℕ) →
-      IsTextOf known k 65536 kernel → IsTextOf known c 65536 conditions → IsAcceptedText kernel conditions written → Success known ws written
-  runs : (k c l : List ℕ) → HasWord ws 0 (codes "run") → HasWord ws 1 k → HasWord ws 2 c → HasWord ws 4 l → (kernel conditions launch : List ℕ) →
-      IsTextOf known k 65536 kernel → IsTextOf known c 65536 conditions → IsTextOf known l 4194304 launch → IsResultText kernel conditions launch written → Success known ws written
+-- the bytes are what the file has, as far as that is known, up to one byte past the limit
+abbrev pub IsOf : (known : List ℕ → Option (List ℕ)) → Read → Type 0
+IsOf known r = IfSome (known r.name) (λ b. r.bytes ≡ take (r.limit + 1) b)
 
-abbrev pub Succeeds : (known : List ℕ → Option (List ℕ)) (ws : List (List ℕ)) → Verdict → Type 0
-Succeeds known ws (verdicts.Done text) = Success known ws text.items
-Succeeds known ws (verdicts.Refused line) = Unit {0}
-Succeeds known ws verdicts.OutOfMemory = Unit {0}
+-- from these files to those, the reads were made one after another, and nothing else was done to the files
+abbrev pub Reads : {F : Type 0} → (contents : F → List ℕ → Option (List ℕ)) → (gives : F → List ℕ → ℕ → List ℕ → F → Type 0) → (before after : F) → List Read → Type 0
+Reads contents gives before after [] = after ≡ before
+Reads {F} contents gives before after (r ∷ rs) =
+    (next : F) × gives before r.name r.limit r.bytes next × IsOf (contents before) r × Reads contents gives next after rs
+
+abbrev pub kernel_read : (name bytes : List ℕ) → Read
+kernel_read name bytes = record { name = name; limit = 65536; bytes = bytes }
+
+abbrev pub conditions_read : (name bytes : List ℕ) → Read
+conditions_read name bytes = record { name = name; limit = 65536; bytes = bytes }
+
+abbrev pub certificate_read : (name bytes : List ℕ) → Read
+certificate_read name bytes = record { name = name; limit = 16777216; bytes = bytes }
+
+abbrev pub launch_read : (name bytes : List ℕ) → Read
+launch_read name bytes = record { name = name; limit = 4194304; bytes = bytes }
+
+-- what is told of the texts that the words ask about: those in the program where there is no word, else those of the files that the
+-- words name, which were read in this order; `given` says of reads that they were made
+pub data Answers (given : List Read → Type 0) (ws : List (List ℕ)) (checks : (kernel conditions : List ℕ) → Type 0) (runs : (kernel conditions launch : List ℕ) → Type 0) : Type 0 where
+  own : ws ≡ [] → given [] → checks first_kernel first_conditions → Answers given ws checks runs
+  checked : (k c p kernel conditions certificate : List ℕ) → HasWord ws 0 (codes "check") → HasWord ws 1 k → HasWord ws 2 c → HasWord ws 3 p →
+      given (kernel_read k kernel ∷ conditions_read c conditions ∷ certificate_read p certificate ∷ []) → checks kernel conditions → Answers given ws checks runs
+  ran : (k c p l kernel conditions certificate launch : List ℕ) → HasWord ws 0 (codes "run") → HasWord ws 1 k → HasWord ws 2 c → HasWord ws 3 p → HasWord ws 4 l →
+      given (kernel_read k kernel ∷ conditions_read c conditions ∷ certificate_read p certificate ∷ launch_read l launch ∷ []) → runs kernel conditions launch →
+      Answers given ws checks runs
+
+-- `accepted`, or the buffers of a launch
+abbrev pub Success : (given : List Read → Type 0) (ws : List (List ℕ)) (written : List ℕ) → Type 0
+Success given ws written = Answers given ws (λ kernel conditions. IsAcceptedText kernel conditions written) (λ kernel conditions launch. IsResultText kernel conditions launch written)
+
+-- what the standard output has gained, by the status: at 0 what succeeds, at 1 a line that refuses, at 2 and 4 nothing, at 3 nothing
+-- or, where the output failed, a front of one of these
+pub data Output (success : List ℕ → Type 0) (old new : Option (List ℕ)) (status : ℕ) : Type 0 where
+  done : status ≡ 0 → (text : List ℕ) → success text → Appends old new text → Output success old new status
+  refused : status ≡ 1 → (line : List ℕ) → IsRefusalLine line → Appends old new line → Output success old new status
+  silent : (status ≡ 2) ⊎ ((status ≡ 3) ⊎ (status ≡ 4)) → Keeps old new → Output success old new status
+  torn : status ≡ 3 → (text : List ℕ) (n : ℕ) → success text ⊎ IsRefusalLine text → Appends old new (take n text) → Output success old new status

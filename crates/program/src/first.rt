@@ -1,5 +1,8 @@
 //! The texts that the program checks where it is given no word: a fill of a buffer, one item an element.
 
+ghost use Rattle.std.specs.Prelude.{◌≡◌};
+ghost use Rattle.program.specs.First.{first_kernel, first_conditions, first_certificate};
+
 use telling::Texts;
 
 const KERNEL: &[u8] =
@@ -16,7 +19,11 @@ const CERTIFICATE: &[u8] = b"certificate 1\n\
     end\n";
 
 /// The texts.
-pub fn first_texts() -> Texts<'static> {
+pub fn first_texts() -> Texts<'static>
+    ensures kernel { result.kernel.now ≡ first_kernel }
+    ensures conditions { result.conditions.now ≡ first_conditions }
+    ensures certificate { result.certificate.now ≡ first_certificate }
+{
     Texts {
         kernel: KERNEL,
         conditions: CONDITIONS,

@@ -1,6 +1,6 @@
 //! Files in memory.
 
-ghost use Rattle.std.specs.Prelude.{◌≡◌, ℕ, List, None};
+ghost use Rattle.std.specs.Prelude.{◌≡◌, ◌≢◌, ◌≤◌, ◌+◌, ℕ, List, Option, Some, None, IfOk, IfSome, OnOk, OnErr, take};
 ghost use Rattle.std.specs.Option.{option_map};
 ghost use Rattle.std.specs.BTreeMap.{get_by_text};
 
@@ -26,8 +26,12 @@ impl Held {
         }
     }
 
-    /// A file's bytes as they would be held, or the fault.
-    fn put(&mut self, name: &str, bytes: &[u8]) -> Result<(), AllocError> {
+    /// Puts bytes into a file, or leaves all files as they are.
+    fn put(&mut self, name: &str, bytes: &[u8]) -> Result<(), AllocError>
+        ensures written { OnOk result (option_map (λ v. v.items) (get_by_text self.new.files name.now) ≡ Some bytes.now) }
+        ensures others { (n : List ℕ) → n ≢ name.now → get_by_text self.new.files n ≡ get_by_text self.old.files n }
+        ensures kept { OnErr result ((n : List ℕ) → get_by_text self.new.files n ≡ get_by_text self.old.files n) }
+    {
         let name = String::from_str(self.alloc, name)?;
         let bytes = Vec::from_slice(self.alloc, bytes)?;
         self.files.insert(name, bytes)?;
@@ -37,6 +41,8 @@ impl Held {
 
 impl Files for Held {
     ghost contents = { λ h name. option_map (λ v. v.items) (get_by_text h.files name) };
+
+    ghost gives = { λ before name limit bytes after. after ≡ before };
 
     fn read(&mut self, name: &str, limit: u64) -> Result<Vec<u8>, FileFault> {
         let Some(bytes) = self.files.get(name) else {
@@ -49,7 +55,11 @@ impl Files for Held {
         }
     }
 
-    fn write(&mut self, name: &str, bytes: &[u8]) -> Result<(), FileFault> {
+    fn write(&mut self, name: &str, bytes: &[u8]) -> Result<(), FileFault>
+        ensures written { OnOk result (option_map (λ v. v.items) (get_by_text self.new.files name.now) ≡ Some bytes.now) }
+        ensures others { (n : List ℕ) → n ≢ name.now → option_map (λ v. v.items) (get_by_text self.new.files n) ≡ option_map (λ v. v.items) (get_by_text self.old.files n) }
+        ensures kept { OnErr result ((n : List ℕ) → option_map (λ v. v.items) (get_by_text self.new.files n) ≡ option_map (λ v. v.items) (get_by_text self.old.files n)) }
+    {
         match self.put(name, bytes) {
             Ok(()) => Ok(()),
             Err(_) => Err(FileFault::Memory),

@@ -5,5 +5,6 @@ pub mod files;
 pub mod first;
 pub mod held;
 mod one_run;
+mod writing;
 
 pub use one_run::tool;

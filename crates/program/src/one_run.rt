@@ -1,13 +1,15 @@
 //! One run of the program over files and writers.
 
-ghost use Rattle.std.specs.Prelude.{◌≡◌, ◌≤◌, ℕ, List, [], Option, IfOk, codes};
-ghost use Rattle.std.specs.Io.KnownBytes.{Appends};
-ghost use Rattle.telling.specs.Telling.{IsAcceptedText};
+ghost use Rattle.std.specs.Prelude.{◌≡◌, ℕ, List, [], ◌∷◌, IfOk, codes};
+ghost use Rattle.telling.specs.Telling.{Checks};
 ghost use Rattle.command_line.specs.Words.{texts, HasWord, HasNames};
-ghost use Rattle.program.specs.Running.{IsTextOf, Success, Succeeds};
+ghost use Rattle.program.specs.First.{first_kernel, first_conditions};
+ghost use Rattle.program.specs.Running.{IsOf, Reads, kernel_read, conditions_read, certificate_read, Success, Output};
+ghost use Rattle.program.specs.Verdicts.{Tells, IsTold, IsWritten, IsStopped};
 
 use crate::files::{FileFault, Files};
 use crate::first::first_texts;
+use crate::writing::is_written;
 use command_line::{Line, Names, read_line};
 use std::alloc::Global;
 use std::io::Write;
@@ -49,7 +51,8 @@ impl Found {
 
 /// The bytes of a file, of at most so many and one more.
 fn text_of<'a, F: Files>(files: &mut F, name: &'a str, limit: u64) -> Result<Vec<u8>, Stop<'a>>
-    ensures text { IfOk result (λ v. IsTextOf (F.contents files.old) name.now limit v.items) }
+    ensures text { IfOk result (λ v. IsOf (F.contents files.old) (record { name = name.now; limit = limit; bytes = v.items })) }
+    ensures given { IfOk result (λ v. F.gives files.old name.now limit v.items files.new) }
     ensures same { (n : List ℕ) → F.contents files.new n ≡ F.contents files.old n }
 {
     match files.read(name, limit) {
@@ -61,8 +64,7 @@ fn text_of<'a, F: Files>(files: &mut F, name: &'a str, limit: u64) -> Result<Vec
 
 /// The three texts, in this order.
 fn texts_of<'a, F: Files>(files: &mut F, names: Names<'a>) -> Result<Found, Stop<'a>>
-    ensures kernel { IfOk result (λ t. IsTextOf (F.contents files.old) names.entry.kernel.now 65536 t.kernel.items) }
-    ensures conditions { IfOk result (λ t. IsTextOf (F.contents files.old) names.entry.conditions.now 65536 t.conditions.items) }
+    ensures reads { IfOk result (λ t. Reads F.contents F.gives files.old files.new (kernel_read names.entry.kernel.now t.kernel.items ∷ conditions_read names.entry.conditions.now t.conditions.items ∷ certificate_read names.entry.certificate.now t.certificate.items ∷ [])) }
     ensures same { (n : List ℕ) → F.contents files.new n ≡ F.contents files.old n }
 {
     let kernel = text_of(files, names.kernel, 65_536)?;
@@ -77,7 +79,7 @@ fn texts_of<'a, F: Files>(files: &mut F, names: Names<'a>) -> Result<Found, Stop
 
 /// The check of the texts that stand in the program.
 fn first_verdict(alloc: Global) -> Verdict
-    ensures { (known : List ℕ → Option (List ℕ)) → Succeeds known [] result }
+    ensures { Checks result first_kernel first_conditions }
 {
     check_texts(alloc, first_texts())
 }
@@ -88,7 +90,8 @@ fn checked<'a, F: Files>(
     names: Names<'a>,
     files: &mut F,
 ) -> Result<Verdict, Stop<'a>>
-    ensures { (ws : List (List ℕ)) → HasWord ws 0 (codes "check") → HasNames ws names.entry → IfOk result (λ v. Succeeds (F.contents files.old) ws v) }
+    ensures verdict { (ws : List (List ℕ)) → HasWord ws 0 (codes "check") → HasNames ws names.entry → IfOk result (λ v. Tells (Reads F.contents F.gives files.old files.new) ws v) }
+    ensures same { (n : List ℕ) → F.contents files.new n ≡ F.contents files.old n }
 {
     let found = texts_of(files, names)?;
     Ok(check_texts(alloc, found.texts()))
@@ -103,7 +106,8 @@ fn ran<'a, R: Threads + Wait + Sync, F: Files>(
     workers: u32,
     files: &mut F,
 ) -> Result<Verdict, Stop<'a>>
-    ensures { (ws : List (List ℕ)) → HasWord ws 0 (codes "run") → HasNames ws names.entry → HasWord ws 4 launch.now → IfOk result (λ v. Succeeds (F.contents files.old) ws v) }
+    ensures verdict { (ws : List (List ℕ)) → HasWord ws 0 (codes "run") → HasNames ws names.entry → HasWord ws 4 launch.now → IfOk result (λ v. Tells (Reads F.contents F.gives files.old files.new) ws v) }
+    ensures same { (n : List ℕ) → F.contents files.new n ≡ F.contents files.old n }
 {
     let found = texts_of(files, names)?;
     let launch = text_of(files, launch, 4_194_304)?;
@@ -117,7 +121,8 @@ fn verdict_of<'a, R: Threads + Wait + Sync, F: Files>(
     words: &'a [String],
     files: &mut F,
 ) -> Result<Verdict, Stop<'a>>
-    ensures { IfOk result (λ v. Succeeds (F.contents files.old) (texts words.now) v) }
+    ensures verdict { IfOk result (λ v. Tells (Reads F.contents F.gives files.old files.new) (texts words.now) v) }
+    ensures same { (n : List ℕ) → F.contents files.new n ≡ F.contents files.old n }
 {
     match read_line(alloc, words) {
         Ok(Line::First) => Ok(first_verdict(alloc)),
@@ -134,17 +139,11 @@ fn verdict_of<'a, R: Threads + Wait + Sync, F: Files>(
     }
 }
 
-/// Writes to the standard output: the status, or 3 where that fails.
+/// Writes a text to the standard output: the status, or 3 where that fails.
 fn written<O: Write>(status: u8, text: &[u8], out: &mut O) -> u8
-    requires { status ≤ 4 }
-    ensures status { result ≤ 4 }
-    ensures text { result ≡ 0 → Appends (O.contents out.old) (O.contents out.new) text.now }
-    ensures done { result ≡ 0 → status ≡ 0 }
+    ensures { IsWritten text.now (O.contents out.old) (O.contents out.new) status result }
 {
-    match out.write_all(text) {
-        Ok(()) => status,
-        Err(_) => 3,
-    }
+    if is_written(text, out) { status } else { 3 }
 }
 
 /// Writes to the standard error. Whether that fails changes nothing.
@@ -158,8 +157,7 @@ fn warned<E: Write>(status: u8, text: &[u8], err: &mut E) -> u8
 
 /// Tells why there is no verdict.
 fn stopped<E: Write>(stop: Stop, err: &mut E) -> u8
-    ensures low { 1 ≤ result }
-    ensures high { result ≤ 4 }
+    ensures { IsStopped result }
 {
     match stop {
         Stop::Usage => warned(2, USAGE, err),
@@ -172,8 +170,7 @@ fn stopped<E: Write>(stop: Stop, err: &mut E) -> u8
 
 /// Tells a verdict.
 fn told<O: Write, E: Write>(verdict: Verdict, out: &mut O, err: &mut E) -> u8
-    ensures status { result ≤ 4 }
-    ensures success { (known : List ℕ → Option (List ℕ)) (ws : List (List ℕ)) → Succeeds known ws verdict → result ≡ 0 → (text : List ℕ) × Success known ws text × Appends (O.contents out.old) (O.contents out.new) text }
+    ensures { IsTold verdict (O.contents out.old) (O.contents out.new) result }
 {
     match verdict {
         Verdict::Done(text) => written(0, &text, out),
@@ -192,8 +189,8 @@ pub fn tool<R: Threads + Wait + Sync, F: Files, O: Write, E: Write>(
     out: &mut O,
     err: &mut E,
 ) -> u8
-    ensures status { result ≤ 4 }
-    ensures success { result ≡ 0 → (text : List ℕ) × Success (F.contents files.old) (texts words.now) text × Appends (O.contents out.old) (O.contents out.new) text }
+    ensures output { Output (Success (Reads F.contents F.gives files.old files.new) (texts words.now)) (O.contents out.old) (O.contents out.new) result }
+    ensures files { (n : List ℕ) → F.contents files.new n ≡ F.contents files.old n }
 {
     match verdict_of(rt, alloc, words, files) {
         Ok(verdict) => told(verdict, out, err),

@@ -1,18 +1,19 @@
 //! What the program says of texts: it checks them, or runs an accepted kernel, and tells the answer or the refusal.
 #![tactic(auto)]
 
-ghost use Rattle.std.specs.Prelude.{ℕ, List};
-ghost use Rattle.telling.specs.Telling.{Checks, Runs};
+ghost use Rattle.std.specs.Prelude.{◌≡◌};
+ghost use Rattle.cert_check.specs.Numbers.{at_line};
+ghost use Rattle.telling.specs.Telling.{Checks, Runs, IsRefusal};
+
+mod refusal;
 
 use cert_check::check;
-use cert_check::error::{CheckError, ShowError};
-use certificate::error::CertError;
+use cert_check::error::{CheckError, Place};
 use executor::{RunError, run};
-use facts::WalkError;
 use launch_text::error::LaunchTextError;
 use launch_text::{read_launch, write_buffers};
-use std::alloc::{AllocError, Global};
-use std::fmt::Display;
+use refusal::Refusal;
+use std::alloc::Global;
 use std::sync::Wait;
 use std::thread::Threads;
 use words::Open;
@@ -33,62 +34,51 @@ pub struct Texts<'a> {
     pub certificate: &'a [u8],
 }
 
-/// Memory was refused.
-fn is_memory(error: &CheckError) -> bool {
-    match error {
-        CheckError::Kernel(error) => error.number() == 90,
-        CheckError::Conditions(LaunchTextError::Memory)
-        | CheckError::Certificate(CertError::Memory)
-        | CheckError::Show(ShowError::Walk(WalkError::Memory) | ShowError::Memory) => true,
-        _ => false,
-    }
-}
+/// The number of want of memory.
+const MEMORY: u8 = 90;
 
-/// The line of a refusal, or want of memory.
-fn line_of(line: Result<String, AllocError>) -> Verdict
-    ensures { (kernel conditions launch : List ℕ) → Checks result kernel conditions × Runs result kernel conditions launch }
+/// A refusal by a number and where it points, or want of memory.
+fn refused(alloc: Global, number: u8, place: Option<Place>) -> Verdict
+    ensures { IsRefusal result }
 {
-    match line {
+    if number == MEMORY {
+        return Verdict::OutOfMemory;
+    }
+    match (Refusal { number, place }).line(alloc) {
         Ok(line) => Verdict::Refused(line),
         Err(_) => Verdict::OutOfMemory,
     }
 }
 
-/// A refusal: its number, and its place where it has one.
-fn refused(alloc: Global, refusal: &impl Display) -> Verdict
-    ensures { (kernel conditions launch : List ℕ) → Checks result kernel conditions × Runs result kernel conditions launch }
+/// Where a refusal points that points to a line.
+fn line_of(line: Option<u32>) -> Option<Place>
+    ensures { result ≡ at_line line }
 {
-    line_of(format!(in alloc; "refused {refusal}\n"))
+    match line {
+        Some(line) => Some(Place::Number(line as u64)),
+        None => None,
+    }
 }
 
 /// What is said where a kernel is not accepted.
 fn unaccepted(alloc: Global, error: &CheckError) -> Verdict
-    ensures { (kernel conditions launch : List ℕ) → Checks result kernel conditions × Runs result kernel conditions launch }
+    ensures { IsRefusal result }
 {
-    if is_memory(error) {
-        return Verdict::OutOfMemory;
-    }
-    refused(alloc, error)
+    refused(alloc, error.number(), error.place())
 }
 
 /// What is said where a launch is not read.
 fn unread(alloc: Global, error: &LaunchTextError) -> Verdict
-    ensures { (kernel conditions launch : List ℕ) → Checks result kernel conditions × Runs result kernel conditions launch }
+    ensures { IsRefusal result }
 {
-    match error {
-        LaunchTextError::Memory => Verdict::OutOfMemory,
-        _ => refused(alloc, error),
-    }
+    refused(alloc, error.number(), line_of(error.place()))
 }
 
 /// What is said where a launch is not run.
 fn not_run(alloc: Global, error: &RunError) -> Verdict
-    ensures { (kernel conditions launch : List ℕ) → Checks result kernel conditions × Runs result kernel conditions launch }
+    ensures { IsRefusal result }
 {
-    match error {
-        RunError::Memory => Verdict::OutOfMemory,
-        _ => refused(alloc, error),
-    }
+    refused(alloc, error.number(), line_of(error.place()))
 }
 
 /// Whether a kernel is accepted: `accepted`, or why not.

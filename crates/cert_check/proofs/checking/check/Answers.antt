@@ -1,4 +1,4 @@
-use Rattle.std.proofs.Common.{rules, map, true, arith, ◌≡◌, ◌∙◌, inl, inr, refl, ap, sym}
+use Rattle.std.proofs.Common.{rules, map, true, false, arith, ◌≡◌, ◌∙◌, inl, inr, refl, ap, sym}
 use Rattle.certificate.specs.Certificates.{certificate}
 use Rattle.syntax.specs.declared.tree.Kernel.{Kernel}
 use Rattle.syntax.specs.View.{parameter, kernel as tree}
@@ -33,13 +33,15 @@ returns-then-is_for_others-clause-refused c =
     let cert = certificate c.in-Ok-read.certificate in
     let p : c.as_slice.result.now ≡ c.in-Ok.typed.0.parameters.items = c.as_slice.ensures.value ∙ ap (λ (t : Kernel). t.parameters.items) c.kernel.ensures.value in
     let o : is_for_others (map parameter c.in-Ok.typed.0.parameters.items) cert ≡ true = ap (λ ps. is_for_others (map parameter ps) cert) (sym p) ∙ sym c.is_for_others.ensures ∙ c.if-is_for_others.true in
-    (c.in-Ok.typed, lined c.in-Ok-read_conditions.conditions, (c.in-Ok.ensures, c.in-Ok-read_conditions.ensures.value), (cert, c.in-Ok-read.ensures, inr (refl, o)))
+    (c.in-Ok.typed, lined c.in-Ok-read_conditions.conditions, (c.in-Ok.ensures, c.in-Ok-read_conditions.ensures.value), (cert, c.in-Ok-read.ensures, inl (refl, o)))
 
 pub returns-in-Err-accept-clause-refused : goal.returns-in-Err-accept-clause-refused
 returns-in-Err-accept-clause-refused c =
     let t = c.in-Err-accept.ensures.lacks in
     let e : c.core.result.now ≡ c.in-Ok.typed.1 = c.core.ensures.value in
-    (c.in-Ok.typed, lined c.in-Ok-read_conditions.conditions, (c.in-Ok.ensures, c.in-Ok-read_conditions.ensures.value), (certificate c.in-Ok-read.certificate, c.in-Ok-read.ensures, inl (same_told domain _ _ _ _ _ _ c.in-Err-accept.error (ap kernel e) (sym (conditions_meant c.in-Ok-read_conditions.conditions)) c.entries-entries.ensures t)))
+    let p : c.as_slice.result.now ≡ c.in-Ok.typed.0.parameters.items = c.as_slice.ensures.value ∙ ap (λ (t : Kernel). t.parameters.items) c.kernel.ensures.value in
+    let o : is_for_others (map parameter c.in-Ok.typed.0.parameters.items) (certificate c.in-Ok-read.certificate) ≡ false = ap (λ ps. is_for_others (map parameter ps) (certificate c.in-Ok-read.certificate)) (sym p) ∙ sym c.is_for_others.ensures ∙ c.if-is_for_others.false in
+    (c.in-Ok.typed, lined c.in-Ok-read_conditions.conditions, (c.in-Ok.ensures, c.in-Ok-read_conditions.ensures.value), (certificate c.in-Ok-read.certificate, c.in-Ok-read.ensures, inr (o, same_told domain _ _ _ _ _ _ c.in-Err-accept.error (ap kernel e) (sym (conditions_meant c.in-Ok-read_conditions.conditions)) c.entries-entries.ensures t)))
 
 pub returns-then-is_for_others-clause-plain : goal.returns-then-is_for_others-clause-plain
 returns-then-is_for_others-clause-plain c =
@@ -55,10 +57,12 @@ returns-in-Err-accept-clause-plain c =
     let cert = certificate c.in-Ok-read.certificate in
     let e : c.core.result.now ≡ c.in-Ok.typed.1 = c.core.ensures.value in
     let t = same_told domain _ _ _ _ _ _ c.in-Err-accept.error (ap kernel e) (sym (conditions_meant cond)) c.entries-entries.ensures c.in-Err-accept.ensures.lacks in
+    let p : c.as_slice.result.now ≡ c.in-Ok.typed.0.parameters.items = c.as_slice.ensures.value ∙ ap (λ (t : Kernel). t.parameters.items) c.kernel.ensures.value in
+    let o : is_for_others (map parameter c.in-Ok.typed.0.parameters.items) (certificate c.in-Ok-read.certificate) ≡ false = ap (λ ps. is_for_others (map parameter ps) (certificate c.in-Ok-read.certificate)) (sym p) ∙ sym c.is_for_others.ensures ∙ c.if-is_for_others.false in
     let z = c.local_sizes_are_within_limits.ensures c.args.kernel.now (kernel_seen c.in-Ok.typed) c.in-Ok.ensures in
     let x = cond.groups.x in
     let limits : HasLimits k (meant (lined cond)) = record { size_x = z.0; size_y = z.1; size_z = z.2; groups_x = (omega (arith, ints, x.some, x.order), omega (arith, ints, x.most)) } in
-    (c.in-Ok.typed, lined cond, cert, (c.in-Ok.ensures, c.in-Ok-read_conditions.ensures.value), c.in-Ok-read.ensures, λ p. tells_plain k (tree c.in-Ok.typed.0).parameters (meant (lined cond)) cert limits p c.in-Err-accept.error (inl t))
+    (c.in-Ok.typed, lined cond, cert, (c.in-Ok.ensures, c.in-Ok-read_conditions.ensures.value), c.in-Ok-read.ensures, λ p. tells_plain k (tree c.in-Ok.typed.0).parameters (meant (lined cond)) cert limits p c.in-Err-accept.error (inr (o, t)))
 
 pub returns-clause-passed : goal.returns-clause-passed
 returns-clause-passed c =

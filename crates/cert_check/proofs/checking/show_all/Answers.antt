@@ -11,9 +11,9 @@ use Rattle.two_thread.specs.Unfound as unfound
 use Rattle.two_thread.proofs.Listing.{listed_length}
 use Rattle.two_thread.proofs.Walked.{unfit_unwalked}
 use Rattle.cert_check.specs.Entries.{has_entry}
-use Rattle.cert_check.specs.Lacking.{ArePassed, Lacks, IsUnwalked, Tells, owing}
+use Rattle.cert_check.specs.Lacking.{ArePassed, Lacks, IsUnwalked, Names, Tells, owing}
 use Rattle.cert_check.specs.declared.error.ShowError.TheVariants as errors
-use Rattle.cert_check.proofs.Unshown.{gains, mapped, named}
+use Rattle.cert_check.proofs.Unshown.{gains, mapped, told_few}
 use Rattle.cert_check.proofs.checking.show_all.Goals as goal
 
 pub returns-clause-shown : goal.returns-clause-shown
@@ -45,8 +45,9 @@ returns-clause-lacks g c =
     let f = c.in_ok-found.found in
     let h : flagged c.in_ok-flags.flags.items ≡ has_entry es = λ i n. c.in_ok-flags.ensures n i in
     let same : listed d f ≡ owing d k cs es = c.in_ok-found.ensures.listed ∙ (λ i. obligations d k cs (h i)) in
-    mapped c.show_found.result (Tells es (listed d f) (DoNotFit (made_fit f))) (Tells es (owing d k cs es) (IsUnwalked d k cs es))
-    (λ e t. subst (λ os. Tells es os (IsUnwalked d k cs es) e) same (named (Lacks es (listed d f)) (Lacks es (listed d f)) (DoNotFit (made_fit f)) (IsUnwalked d k cs es) e (λ n s. s) (λ w u. subst (λ x. unfound.IsUnwalked d k cs x w) h (unfit_unwalked d k cs (flagged c.in_ok-flags.flags.items) (made_fit f) c.in_ok-found.ensures.fits w u)) t)) c.show_found.ensures.lacks
+    let few : length (listed d f) ≤ 65536 = omega (arith, listed_length d f, f.few) in
+    mapped c.show_found.result (Names (Lacks es (listed d f)) (DoNotFit (made_fit f))) (Tells es (owing d k cs es) (IsUnwalked d k cs es))
+    (λ e t. subst (λ os. Tells es os (IsUnwalked d k cs es) e) same (told_few es (listed d f) (DoNotFit (made_fit f)) (IsUnwalked d k cs es) e few (λ w u. subst (λ x. unfound.IsUnwalked d k cs x w) h (unfit_unwalked d k cs (flagged c.in_ok-flags.flags.items) (made_fit f) c.in_ok-found.ensures.fits w u)) t)) c.show_found.ensures.lacks
 
 pub returns-clause-passed : goal.returns-clause-passed
 returns-clause-passed g c =

@@ -5,7 +5,7 @@ use Rattle.two_thread.specs.Refusals.{DoNotFit}
 use Rattle.two_thread.specs.Shown.{IsShown}
 use Rattle.facts.proofs.Unmade.{passed}
 use Rattle.cert_check.specs.Entries.{is_past}
-use Rattle.cert_check.specs.Lacking.{IsStopped, Lacks, Names, Passes, Tells}
+use Rattle.cert_check.specs.Lacking.{IsStopped, Lacks, Names, Passes}
 use Rattle.cert_check.proofs.OneByOne.{one_more, all_shown}
 use Rattle.cert_check.proofs.Unshown.{all_passed, first_lacks, named}
 use Rattle.cert_check.proofs.showing.show_found.Goals as goal
@@ -33,7 +33,11 @@ returns-clause-passed g c =
     (all_passed es os no_obligation c.loop-i.i h (λ k l. (c.loop-i.invariant k l).1), ap (is_past es) (sym c.len-count.ensures.exact) ∙ sym c.any_past.ensures ∙ c.if-any_past.false)
 
 pub returns-then-any_past-clause-lacks : goal.returns-then-any_past-clause-lacks
-returns-then-any_past-clause-lacks g c = ap (is_past (map entry c.args.entries.now)) (sym c.len-count.ensures.exact) ∙ sym c.if-any_past.ensures
+returns-then-any_past-clause-lacks g c =
+    let os = listed g.D.Domain c.args.found.now in
+    let es = map entry c.args.entries.now in
+    let h : length os ≤ c.loop-i.i = omega (arith, c.loop-i-test.false, c.len-count.ensures.exact) in
+    (all_passed es os no_obligation c.loop-i.i h (λ k l. (c.loop-i.invariant k l).1), ap (is_past es) (sym c.len-count.ensures.exact) ∙ sym c.if-any_past.ensures)
 
 pub returns-in_err-show_one-clause-lacks : goal.returns-in_err-show_one-clause-lacks
 returns-in_err-show_one-clause-lacks g c =
@@ -45,5 +49,5 @@ returns-in_err-show_one-clause-lacks g c =
     let h : i < length os = omega (arith, c.loop-i-test.true, c.len-count.ensures.exact) in
     let q : (i + 1) - 1 ≡ i = omega arith in
     let t : Names (IsStopped es (i + 1) (nth_obligation os (i + 1))) unfit e = search rules in
-    passed c.from_residual.result e (Tells es os unfit) c.from_residual.ensures.1
+    passed c.from_residual.result e (Names (Lacks es os) unfit) c.from_residual.ensures.1
     (named (IsStopped es (i + 1) (nth_obligation os (i + 1))) (Lacks es os) unfit unfit e (λ m s. first_lacks es os no_obligation i m h (λ k l. (c.loop-i.invariant k l).1) (subst (λ j. IsStopped es (i + 1) (get_or os j no_obligation) m) q s)) (λ w u. u) t)

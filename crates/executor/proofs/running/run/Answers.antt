@@ -20,6 +20,10 @@ meets-requires-clause-buffers g c =
     let b = c.args.launch.now.buffers.words in
     a.ok.0 ∙ ap (λ x. length x.lengths.items) c.conditions.ensures.value ∙ buffers-alike (kernel (typed_of c.args.accepted.now).1) (kept c.args.accepted.now).lengths.items b.items c.conditions.ensures.shape.buffers c.requires.buffers ∙ sym b.ok.0
 
+pub run_groups-requires-clause-meets : goal.run_groups-requires-clause-meets
+run_groups-requires-clause-meets g c =
+    subst (λ x. Meets (conditions x) (launch c.args.launch.now)) c.conditions.ensures.value (c.in_ok-meets.ensures.met.0 refl)
+
 pub returns-clause-every : goal.returns-clause-every
 returns-clause-every g c =
     let k = kernel (typed_of c.args.accepted.now).1 in

@@ -1,16 +1,20 @@
-use Rattle.std.proofs.Common.{subst}
+use Rattle.std.proofs.Common.{[], ◌∷◌, subst}
 use Rattle.telling.specs.Telling.{Runs}
-use Rattle.program.proofs.Verdicts.{still, of-run}
+use Rattle.program.specs.Running as running
+use Rattle.program.specs.Running.{kernel_read, conditions_read, certificate_read, launch_read}
+use Rattle.program.proofs.Verdicts.{reads-more}
 use Rattle.program.proofs.one_run.ran.Goals as goal
 
-pub returns : goal.returns
-returns g c = λ ws command names last.
+pub returns-clause-verdict : goal.returns-clause-verdict
+returns-clause-verdict g c = λ ws command names last.
     let found = c.in_ok-found.found in
-    let known = g.F.Files.contents c.args.files.now in
-    let launch = c.in_ok-launch.launch in
-    of-run known ws c.run_texts.result c.args.names.kernel.now c.args.names.conditions.now c.args.launch.now found.kernel.items found.conditions.items launch.items
-    command names.kernel names.conditions last c.in_ok-found.ensures.kernel c.in_ok-found.ensures.conditions
-    (still known (g.F.Files.contents c.texts_of.new.files) c.args.launch.now 4194304 launch.items (c.in_ok-found.ensures.same c.args.launch.now) c.in_ok-launch.ensures.text)
+    let launch = c.in_ok-launch.launch.items in
+    let k = c.args.names.kernel.now in
+    let o = c.args.names.conditions.now in
+    let p = c.args.names.certificate.now in
+    let three = kernel_read k found.kernel.items ∷ conditions_read o found.conditions.items ∷ certificate_read p found.certificate.items ∷ [] in
+    running.ran k o p c.args.launch.now found.kernel.items found.conditions.items found.certificate.items launch command names.kernel names.conditions names.certificate last
+    (reads-more g.F.Files.contents g.F.Files.gives c.args.files.now c.texts_of.new.files c.text_of.new.files three (launch_read c.args.launch.now launch) c.in_ok-found.ensures.reads c.in_ok-launch.ensures.given c.in_ok-launch.ensures.text)
     (subst (λ t. Runs c.run_texts.result found.kernel.items found.conditions.items t) c.deref.ensures.value
     (subst (λ t. Runs c.run_texts.result found.kernel.items t c.deref.result.now) c.texts.ensures.conditions
     (subst (λ t. Runs c.run_texts.result t c.texts.result.conditions.now c.deref.result.now) c.texts.ensures.kernel c.run_texts.ensures)))

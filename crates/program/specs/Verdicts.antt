@@ -1,0 +1,25 @@
+-- What a verdict tells, and what is written of it.
+use Rattle.std.specs.Prelude.{◌≡◌, ◌⊎◌, ℕ, List, Option, take}
+use Rattle.std.specs.String.{string_bytes}
+use Rattle.std.specs.Io.KnownBytes.{Appends, Keeps}
+use Rattle.telling.specs.Telling.{Checks, Runs}
+use Rattle.telling.specs.declared.Verdict.{Verdict}
+use Rattle.telling.specs.declared.Verdict.TheVariants as verdicts
+use Rattle.program.specs.Running.{Read, Answers}
+
+-- of the texts that were asked about
+abbrev pub Tells : (given : List Read → Type 0) (ws : List (List ℕ)) → Verdict → Type 0
+Tells given ws v = Answers given ws (λ kernel conditions. Checks v kernel conditions) (λ kernel conditions launch. Runs v kernel conditions launch)
+
+-- the text is written, or a front of it, which is status 3
+abbrev pub IsWritten : (text : List ℕ) (old new : Option (List ℕ)) (done status : ℕ) → Type 0
+IsWritten text old new done status = ((status ≡ done) × Appends old new text) ⊎ ((status ≡ 3) × ((n : ℕ) × Appends old new (take n text)))
+
+abbrev pub IsTold : Verdict → (old new : Option (List ℕ)) (status : ℕ) → Type 0
+IsTold (verdicts.Done text) old new status = IsWritten text.items old new 0 status
+IsTold (verdicts.Refused line) old new status = IsWritten (string_bytes line) old new 1 status
+IsTold verdicts.OutOfMemory old new status = (status ≡ 4) × Keeps old new
+
+-- there is no verdict: nothing is written
+abbrev pub IsStopped : (status : ℕ) → Type 0
+IsStopped status = (status ≡ 2) ⊎ ((status ≡ 3) ⊎ (status ≡ 4))

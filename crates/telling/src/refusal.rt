@@ -1,0 +1,38 @@
+//! What is told of a refusal.
+
+ghost use Rattle.std.specs.Prelude.{◌≡◌, IfOk};
+ghost use Rattle.std.specs.String.{string_bytes};
+ghost use Rattle.telling.specs.Refusals.{refusal_line, pointed, place_seen};
+
+use cert_check::error::Place;
+use std::alloc::{AllocError, Global};
+
+/// The number of a refusal, and where it points.
+#[derive(Clone, Copy)]
+pub struct Refusal {
+    pub number: u8,
+    pub place: Option<Place>,
+}
+
+/// The line of a refusal that points somewhere.
+fn line_at(alloc: Global, number: u8, place: Place) -> Result<String, AllocError>
+    ensures { IfOk result (λ line. string_bytes line ≡ refusal_line number (pointed place)) }
+{
+    match place {
+        Place::Number(place) => format!(in alloc; "refused {number} {place}\n"),
+        Place::At { line, column } => format!(in alloc; "refused {number} {line}:{column}\n"),
+    }
+}
+
+impl Refusal {
+    /// The line that tells it.
+    pub fn line(self, alloc: Global) -> Result<String, AllocError>
+        ensures { IfOk result (λ line. string_bytes line ≡ refusal_line self.number (place_seen self.place)) }
+    {
+        let number = self.number;
+        match self.place {
+            Some(place) => line_at(alloc, number, place),
+            None => format!(in alloc; "refused {number}\n"),
+        }
+    }
+}

@@ -13,3 +13,7 @@ pub mod LeastFits
 pub mod Forth
 pub mod LinesForth
 pub mod LaunchForth
+pub mod Taken
+pub mod SumsTaken
+pub mod LinesTaken
+pub mod ConditionsTaken

@@ -1,7 +1,9 @@
 //! Laws of the two texts.
 
-ghost use Rattle.std.specs.Prelude.{◌≡◌, ◌≤◌, List, length, Ok, Some};
+ghost use Rattle.std.specs.Prelude.{◌≡◌, ◌≤◌, ℕ, List, length, Ok, Some};
 ghost use Rattle.texts.specs.Surface.{Parameter};
+ghost use Rattle.texts.specs.ConditionsReading.{Lined, meant, conditions_limit, conditions_of};
+ghost use Rattle.texts.specs.ConditionsText.{IsConditionsText};
 ghost use Rattle.texts.specs.LaunchReading.{Given, launch_limit, launch_of};
 ghost use Rattle.texts.specs.LaunchText.{launch_text};
 ghost use Rattle.launch_text.specs.Parameters.{IsGiven};
@@ -19,4 +21,9 @@ pub fn a_least_launch_fits()
 /// A launch is read of its text.
 pub fn a_launch_is_read_back()
     ensures { (ps : List Parameter) (l : Given) → IsGiven ps l → length (launch_text ps l) ≤ launch_limit → launch_of ps (launch_text ps l) ≡ Ok l }
+{}
+
+/// What is read of a conditions text is what its text says, case by case.
+pub fn what_is_read_of_conditions_is_their_text()
+    ensures { (ps : List Parameter) (text : List ℕ) (l : Lined) → conditions_of ps text ≡ Ok l → IsConditionsText ps text (meant l) × (length text ≤ conditions_limit) }
 {}

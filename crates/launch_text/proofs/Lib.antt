@@ -17,3 +17,6 @@ pub mod Taken
 pub mod SumsTaken
 pub mod LinesTaken
 pub mod ConditionsTaken
+pub mod SumsForth
+pub mod RangesForth
+pub mod ConditionsForth

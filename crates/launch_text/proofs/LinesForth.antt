@@ -19,11 +19,11 @@ use Rattle.launch_text.specs.Parameters.{value_kind, buffer_kind, kinds, AreName
 use Rattle.launch_text.proofs.Lists.{words-push}
 use Rattle.launch_text.proofs.Forth.{natural_forth, word_forth, parameter_forth}
 
-blank_forth : (rest : List ℕ) (n : ℕ) → expect (codes " ") (cursor n (32 ∷ rest)) ≡ Ok (cursor n rest)
+pub blank_forth : (rest : List ℕ) (n : ℕ) → expect (codes " ") (cursor n (32 ∷ rest)) ≡ Ok (cursor n rest)
 unfolding expect
 blank_forth rest n = refl
 
-end_forth : (rest : List ℕ) (n : ℕ) → end_line (cursor n (10 ∷ rest)) ≡ Ok (cursor (n + 1) rest)
+pub end_forth : (rest : List ℕ) (n : ℕ) → end_line (cursor n (10 ∷ rest)) ≡ Ok (cursor (n + 1) rest)
 unfolding end_line
 end_forth rest n = refl
 
@@ -116,20 +116,20 @@ argument_shape name digits others rest = simp append_assoc
 buffer_shape : (name list others rest : List ℕ) → ((codes "buffer " ++ (name ++ (codes " list" ++ (list ++ 10 ∷ [])))) ++ others) ++ rest ≡ codes "buffer " ++ (name ++ (codes " list" ++ (list ++ (10 ∷ (others ++ rest)))))
 buffer_shape name list others rest = simp append_assoc
 
-each_goes : {A : Type 0} (line : List A → Parameter → Option (Cursor → Step (A × Cursor))) (done : List A) (p : Parameter) (ps : List Parameter) (c d : Cursor) (own : Cursor → Step (A × Cursor)) (a : A) → line done p ≡ Some own → own c ≡ Ok (a, d) → each line done (p ∷ ps) c ≡ each line (done ++ a ∷ []) ps d
+pub each_goes : {A : Type 0} (line : List A → Parameter → Option (Cursor → Step (A × Cursor))) (done : List A) (p : Parameter) (ps : List Parameter) (c d : Cursor) (own : Cursor → Step (A × Cursor)) (a : A) → line done p ≡ Some own → own c ≡ Ok (a, d) → each line done (p ∷ ps) c ≡ each line (done ++ a ∷ []) ps d
 unfolding each
 each_goes line done p ps c d own a s e =
     ap (λ o. go_on o done c (λ more d. each line more ps d)) s ∙ ap (λ r. then r (λ t. each line (done ++ t.0 ∷ []) ps t.1)) e
 
-each_ends : {A : Type 0} (line : List A → Parameter → Option (Cursor → Step (A × Cursor))) (done : List A) (c : Cursor) → each line done [] c ≡ Ok (done ++ [], c)
+pub each_ends : {A : Type 0} (line : List A → Parameter → Option (Cursor → Step (A × Cursor))) (done : List A) (c : Cursor) → each line done [] c ≡ Ok (done ++ [], c)
 unfolding each
 each_ends {A} line done c = ap (λ xs. let r : Step (List A × Cursor) = Ok (xs, c) in r) (sym (append-nil done))
 
-each_skips : {A : Type 0} (line : List A → Parameter → Option (Cursor → Step (A × Cursor))) (done : List A) (p : Parameter) (ps : List Parameter) (c : Cursor) → line done p ≡ None → each line done (p ∷ ps) c ≡ each line done ps c
+pub each_skips : {A : Type 0} (line : List A → Parameter → Option (Cursor → Step (A × Cursor))) (done : List A) (p : Parameter) (ps : List Parameter) (c : Cursor) → line done p ≡ None → each line done (p ∷ ps) c ≡ each line done ps c
 unfolding each
 each_skips line done p ps c s = ap (λ o. go_on o done c (λ more d. each line more ps d)) s
 
-appended : {A : Type 0} (done : List A) (a : A) (others : List A) (c : Cursor) → (let r : Step (List A × Cursor) = Ok ((done ++ a ∷ []) ++ others, c) in r) ≡ Ok (done ++ (a ∷ others), c)
+pub appended : {A : Type 0} (done : List A) (a : A) (others : List A) (c : Cursor) → (let r : Step (List A × Cursor) = Ok ((done ++ a ∷ []) ++ others, c) in r) ≡ Ok (done ++ (a ∷ others), c)
 appended {A} done a others c = ap (λ xs. let r : Step (List A × Cursor) = Ok (xs, c) in r) (append_assoc done (a ∷ []) others)
 
 pub arguments_forth : (ps : List Parameter) (done : List Word) (qs : List Parameter) (ws : List Word) (rest : List ℕ) (n : ℕ) → AreNamed qs → AllZip IsArgument (kinds value_kind qs) ws → (m : ℕ) × (each (argument_due ps) done qs (cursor n (text.arguments_text qs ws ++ rest)) ≡ Ok (done ++ ws, cursor m rest))

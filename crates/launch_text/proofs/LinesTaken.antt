@@ -79,7 +79,7 @@ pub record TookGroups (c : Cursor) (t : Three CountRange × Cursor) : Type 0 whe
   pub counts : AreGroups (groups_meant t.0)
   pub few : ((groups_meant t.0).x.high *ℤ (groups_meant t.0).y.high *ℤ (groups_meant t.0).z.high) ≤ℤ pos 1048576
 
-groups_shape : (x y z rest : List ℕ) → codes "groups" ++ (32 ∷ ((x ++ (codes " " ++ (y ++ (codes " " ++ z)))) ++ (10 ∷ rest))) ≡ (codes "groups " ++ (x ++ (codes " " ++ (y ++ (codes " " ++ (z ++ 10 ∷ [])))))) ++ rest
+pub groups_shape : (x y z rest : List ℕ) → codes "groups" ++ (32 ∷ ((x ++ (codes " " ++ (y ++ (codes " " ++ z)))) ++ (10 ∷ rest))) ≡ (codes "groups " ++ (x ++ (codes " " ++ (y ++ (codes " " ++ (z ++ 10 ∷ [])))))) ++ rest
 groups_shape x y z rest = simp append_assoc
 
 groups_whole : (g : Three Range) (rest whole a b : List ℕ) → whole ≡ codes "groups" ++ (32 ∷ a) → a ≡ three_text g ++ b → b ≡ 10 ∷ rest → whole ≡ groups_text g ++ rest
@@ -125,7 +125,7 @@ range_took k c t e =
 abbrev TookArgument : Kind → (name : List ℕ) → Cursor → ArgumentRange × Cursor → Type 0
 TookArgument k name c t = (c.rest ≡ argument_text name (argument_meant t.0) ++ t.1.rest) × AreOfKind k (argument_meant t.0)
 
-argument_shape : (name range rest : List ℕ) → codes "arg" ++ (32 ∷ (name ++ (32 ∷ (range ++ (10 ∷ rest))))) ≡ (codes "arg " ++ (name ++ (codes " " ++ (range ++ 10 ∷ [])))) ++ rest
+pub argument_shape : (name range rest : List ℕ) → codes "arg" ++ (32 ∷ (name ++ (32 ∷ (range ++ (10 ∷ rest))))) ≡ (codes "arg " ++ (name ++ (codes " " ++ (range ++ 10 ∷ [])))) ++ rest
 argument_shape name range rest = simp append_assoc
 
 argument_whole : (name : List ℕ) (range : Range) (rest whole a b : List ℕ) → whole ≡ codes "arg" ++ (32 ∷ (name ++ (32 ∷ a))) → a ≡ range_text range ++ b → b ≡ 10 ∷ rest → whole ≡ argument_text name range ++ rest
@@ -181,7 +181,7 @@ arguments_took all done (Value k site name ∷ ps) c t e =
 abbrev TookLength : List Parameter → (name : List ℕ) → Cursor → Length × Cursor → Type 0
 TookLength ps name c t = (sum : List ℕ) × IsShortSum ps sum (length_meant t.0) × (c.rest ≡ length_text name sum ++ t.1.rest)
 
-length_shape : (name sum rest : List ℕ) → codes "length" ++ (32 ∷ (name ++ (32 ∷ (codes ">= " ++ (sum ++ (10 ∷ rest)))))) ≡ (codes "length " ++ (name ++ (codes " >= " ++ (sum ++ 10 ∷ [])))) ++ rest
+pub length_shape : (name sum rest : List ℕ) → codes "length" ++ (32 ∷ (name ++ (32 ∷ (codes ">= " ++ (sum ++ (10 ∷ rest)))))) ≡ (codes "length " ++ (name ++ (codes " >= " ++ (sum ++ 10 ∷ [])))) ++ rest
 length_shape name sum rest = simp append_assoc
 
 length_whole : (name sum rest whole a b d : List ℕ) → whole ≡ codes "length" ++ (32 ∷ (name ++ (32 ∷ a))) → a ≡ codes ">= " ++ b → b ≡ sum ++ d → d ≡ 10 ∷ rest → whole ≡ length_text name sum ++ rest
@@ -222,7 +222,7 @@ pub record TookRequirement (ps : List Parameter) (c : Cursor) (t : Requirement �
   pub right_sum : IsShortSum ps right (requirement_meant t.0).right
   pub rest : c.rest ≡ requirement_text left right ++ t.1.rest
 
-requirement_shape : (left right rest : List ℕ) → codes "require" ++ (32 ∷ (left ++ (codes " >= " ++ (right ++ (10 ∷ rest))))) ≡ (codes "require " ++ (left ++ (codes " >= " ++ (right ++ 10 ∷ [])))) ++ rest
+pub requirement_shape : (left right rest : List ℕ) → codes "require" ++ (32 ∷ (left ++ (codes " >= " ++ (right ++ (10 ∷ rest))))) ≡ (codes "require " ++ (left ++ (codes " >= " ++ (right ++ 10 ∷ [])))) ++ rest
 requirement_shape left right rest = simp append_assoc
 
 requirement_whole : (left right rest whole a b d f : List ℕ) → whole ≡ codes "require" ++ (32 ∷ a) → a ≡ left ++ b → b ≡ codes " >= " ++ d → d ≡ right ++ f → f ≡ 10 ∷ rest → whole ≡ requirement_text left right ++ rest

@@ -8,7 +8,7 @@ use Rattle.texts.specs.Surface.{Parameter}
 use Rattle.texts.specs.LaunchFaults.{Cursor, Step, refused, Expected, UnknownName, sees, past}
 use Rattle.texts.specs.LaunchWords.{number_at, factor_within, factor_at, name_at, is_known}
 use Rattle.texts.specs.LaunchSums.{value_number, argument_found, argument_at, symbol_at, begins_number, term_at, sum_at}
-use Rattle.texts.specs.ConditionsText.{IsFactor, IsSymbol, groups_x, groups_y, groups_z, argument, IsTerm, alone, constant, product, IsSum, last, more, IsShortSum}
+use Rattle.texts.specs.ConditionsText.{IsFactor, IsSymbol, groups_x, groups_y, groups_z, argument, IsTerm, alone, number, product, IsSum, last, more, IsShortSum}
 use Rattle.texts.proofs.Fits.{begins}
 use Rattle.launch_text.proofs.Back.{then_back, same_back, found_back}
 use Rattle.launch_text.proofs.Taken.{number_took, factor_is, name_took, found_rest}
@@ -68,7 +68,7 @@ term_took ps c t =
     cond_both (sees (codes "*") f.0.1) (symbol_at ps f.0.0 (past 1 f.0.1)) (Ok (Constant f.0.0, f.0.1)) P
     (λ h d. let s = symbol_took ps f.0.0 (past 1 f.0.1) t d in
     (signed_decimal f.0.0 ++ (codes "*" ++ s.0), product f.0.0 z.1 s.1, joined (codes "*") (signed_decimal f.0.0) s.0 t.1.rest c.rest f.0.1.rest (past 1 f.0.1).rest z.0 (begins f.0.1.rest (codes "*") h) s.2))
-    (λ _ d. subst (λ t. TookTerm ps c t) (same_back (Constant f.0.0, f.0.1) t d) (signed_decimal f.0.0, constant f.0.0 z.1, z.0)) f.2)
+    (λ _ d. subst (λ t. TookTerm ps c t) (same_back (Constant f.0.0, f.0.1) t d) (signed_decimal f.0.0, number f.0.0 z.1, z.0)) f.2)
     (λ _ e. let s = symbol_took ps (pos 1) c t e in (s.0, alone s.1, s.2))
 
 -- what a sum's reader adds to the terms before it

@@ -6,7 +6,8 @@ ghost use Rattle.texts.specs.ConditionsReading.{Lined, meant, conditions_limit, 
 ghost use Rattle.texts.specs.ConditionsText.{IsConditionsText};
 ghost use Rattle.texts.specs.LaunchReading.{Given, launch_limit, launch_of};
 ghost use Rattle.texts.specs.LaunchText.{launch_text};
-ghost use Rattle.launch_text.specs.Parameters.{IsGiven};
+ghost use Rattle.launch_text.specs.Parameters.{AreNamed, IsGiven};
+ghost use Rattle.semantics.specs.Conditions as meaning;
 ghost use Rattle.semantics.specs.Launch.{Kernel, Launch, Fits};
 ghost use Rattle.launch.specs.Least.{probe};
 ghost use Rattle.launch.specs.declared.conditions.Conditions.{Conditions};
@@ -26,4 +27,9 @@ pub fn a_launch_is_read_back()
 /// What is read of a conditions text is what its text says, case by case.
 pub fn what_is_read_of_conditions_is_their_text()
     ensures { (ps : List Parameter) (text : List ℕ) (l : Lined) → conditions_of ps text ≡ Ok l → IsConditionsText ps text (meant l) × (length text ≤ conditions_limit) }
+{}
+
+/// What a conditions text says, case by case, is read of it.
+pub fn conditions_are_read_of_their_text()
+    ensures { (ps : List Parameter) (text : List ℕ) (c : meaning.Conditions) → AreNamed ps → IsConditionsText ps text c → length text ≤ conditions_limit → (l : Lined) × (conditions_of ps text ≡ Ok l) × (meant l ≡ c) }
 {}

@@ -26,7 +26,7 @@ pub data IsTerm (ps : List Parameter) : List ℕ → Summand → Type 0 where
   -- `NAME`, once
   alone : {bytes : List ℕ} {s : Summand} → IsSymbol ps (pos 1) bytes s → IsTerm ps bytes s
   -- `C`
-  constant : (z : ℤ) → IsFactor z → IsTerm ps (signed_decimal z) (Constant z)
+  number : (z : ℤ) → IsFactor z → IsTerm ps (signed_decimal z) (Constant z)
   -- `C*NAME`
   product : {bytes : List ℕ} {s : Summand} (z : ℤ) → IsFactor z → IsSymbol ps z bytes s → IsTerm ps (signed_decimal z ++ (codes "*" ++ bytes)) s
 

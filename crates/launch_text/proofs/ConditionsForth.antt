@@ -18,6 +18,7 @@ use Rattle.texts.specs.ConditionsText.{IsShortSum, groups_text, length_text, req
 use Rattle.launch_text.specs.Parameters.{AreNamed}
 use Rattle.launch_text.proofs.Forth.{natural_forth, parameter_forth}
 use Rattle.launch_text.proofs.LinesForth.{blank_forth, end_forth, each_goes, each_skips, each_ends, appended, end_text_forth}
+use Rattle.launch_text.proofs.LaunchForth.{not_above}
 use Rattle.launch_text.proofs.LinesTaken.{length_shape, requirement_shape}
 use Rattle.launch_text.proofs.SumsForth.{blank_stops, end_stops, short_sum_forth}
 use Rattle.launch_text.proofs.RangesForth.{ReadsLines, groups_forth, arguments_forth}
@@ -155,9 +156,6 @@ lines_forth ps text c i t =
       ) refl,
       made c _ _ _ _ groups.is_meant arguments.is_meant lengths.is_meant requires.is_meant,
     )
-
-not_above : (a b : ℕ) → b ≤ a → nat_lt a b ≡ false
-not_above a b h = grind (arith, nat_tests)
 
 pub conditions_forth : (ps : List Parameter) (text : List ℕ) (c : meaning.Conditions) → AreNamed ps → IsConditionsText ps text c → length text ≤ conditions_limit → (l : Lined) × (conditions_of ps text ≡ Ok l) × (meant l ≡ c)
 conditions_forth ps text c i t h =

@@ -10,7 +10,7 @@ use Rattle.texts.specs.ConditionsReading.{Lined, meant, argument_meant, length_m
 use Rattle.texts.specs.ConditionsText.{groups_text, budget_text, AreArgumentLines, AreLengthLines, IsConditionsText}
 use Rattle.launch_text.proofs.Back.{then_back, same_back, unless_back}
 use Rattle.launch_text.proofs.Taken.{head_took, end_text_took}
-use Rattle.launch_text.proofs.LinesTaken.{groups_meant, groups_took, arguments_took, lengths_took, requirements_took, budget_took, AreFewRequirements}
+use Rattle.launch_text.proofs.LinesTaken.{groups_meant, groups_took, arguments_took, lengths_took, requirements_took, budget_took, AreFewRequirements, not_above}
 
 whole : (all groups arguments lengths requires budget r1 r2 r3 r4 r5 r6 : List ℕ) → all ≡ codes "conditions" ++ (32 ∷ 49 ∷ 10 ∷ r1) → r1 ≡ groups ++ r2 → r2 ≡ arguments ++ r3 → r3 ≡ lengths ++ r4 → r4 ≡ requires ++ r5 → r5 ≡ budget ++ r6 → r6 ≡ []
     → all ≡ codes "conditions 1" ++ (10 ∷ (groups ++ (arguments ++ (lengths ++ (requires ++ budget)))))
@@ -49,9 +49,6 @@ lines_took ps c x e =
       few_requires = few.1;
       budget = b.1;
     })
-
-not_above : (a b : ℕ) → nat_lt a b ≡ false → b ≤ a
-not_above a b h = grind (arith, nat_tests)
 
 pub conditions_took : (ps : List Parameter) (text : List ℕ) (x : Lined) → conditions_of ps text ≡ Ok x → IsConditionsText ps text (meant x) × (length text ≤ conditions_limit)
 conditions_took ps text x e =

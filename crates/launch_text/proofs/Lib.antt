@@ -20,3 +20,5 @@ pub mod ConditionsTaken
 pub mod SumsForth
 pub mod RangesForth
 pub mod ConditionsForth
+pub mod LaunchTaken
+pub mod SpellingsForth

@@ -31,7 +31,7 @@ arg_due : (rest : List ℕ) (n : ℕ) → due_blank Launch (codes "arg") (cursor
 unfolding due_blank due expect
 arg_due rest n = refl
 
-buffer_word_due : (rest : List ℕ) (n : ℕ) → due_blank Launch (codes "buffer") (cursor n (codes "buffer " ++ rest)) ≡ Ok (cursor n rest)
+pub buffer_word_due : (rest : List ℕ) (n : ℕ) → due_blank Launch (codes "buffer") (cursor n (codes "buffer " ++ rest)) ≡ Ok (cursor n rest)
 unfolding due_blank due expect
 buffer_word_due rest n = refl
 
@@ -69,7 +69,7 @@ unfolding fill_line
 fill_forth m rest n h =
     rw (fill_due (decimal m ++ (10 ∷ rest)) n, natural_forth 0 2147483647 m (10 ∷ rest) n (omega arith) (omega arith) (omega arith) refl, end_forth rest n) refl
 
-argument_forth : (ps : List Parameter) (k : Kind) (name : List ℕ) (w : Word) (rest : List ℕ) (n : ℕ) → is_identifier name ≡ true → IsArgument k w → argument_line ps k name (cursor n (codes "arg " ++ (name ++ (32 ∷ (signed_decimal w.value ++ (10 ∷ rest)))))) ≡ Ok (w, cursor (n + 1) rest)
+pub argument_forth : (ps : List Parameter) (k : Kind) (name : List ℕ) (w : Word) (rest : List ℕ) (n : ℕ) → is_identifier name ≡ true → IsArgument k w → argument_line ps k name (cursor n (codes "arg " ++ (name ++ (32 ∷ (signed_decimal w.value ++ (10 ∷ rest)))))) ≡ Ok (w, cursor (n + 1) rest)
 unfolding argument_line due_parameter
 argument_forth ps k name w rest n i h =
     rw (

@@ -152,10 +152,10 @@ pub record TookLines {A B : Type 0} (Are : List ℕ → List B → Type 0) (view
   pub are : Are lines (map view read)
   pub rest : c.rest ≡ lines ++ t.1.rest
 
-no_line : {A B : Type 0} (Are : List ℕ → List B → Type 0) (view : A → B) (done : List A) (c : Cursor) (t : List A × Cursor) → Are [] [] → (let s : Step (List A × Cursor) = Ok (done, c) in s ≡ Ok t) → TookLines Are view done c t
+pub no_line : {A B : Type 0} (Are : List ℕ → List B → Type 0) (view : A → B) (done : List A) (c : Cursor) (t : List A × Cursor) → Are [] [] → (let s : Step (List A × Cursor) = Ok (done, c) in s ≡ Ok t) → TookLines Are view done c t
 no_line Are view done c t a e = subst (λ t. TookLines Are view done c t) (same_back (done, c) t e) (record { read = []; all = sym (append-nil done); lines = []; are = a; rest = refl })
 
-one_line : {A B : Type 0} (Are More : List ℕ → List B → Type 0) (view : A → B) (done : List A) (a : A) (line : List ℕ) (c d : Cursor) (t : List A × Cursor) → c.rest ≡ line ++ d.rest → ((lines : List ℕ) (bs : List B) → Are lines bs → More (line ++ lines) (view a ∷ bs)) → TookLines Are view (done ++ a ∷ []) d t → TookLines More view done c t
+pub one_line : {A B : Type 0} (Are More : List ℕ → List B → Type 0) (view : A → B) (done : List A) (a : A) (line : List ℕ) (c d : Cursor) (t : List A × Cursor) → c.rest ≡ line ++ d.rest → ((lines : List ℕ) (bs : List B) → Are lines bs → More (line ++ lines) (view a ∷ bs)) → TookLines Are view (done ++ a ∷ []) d t → TookLines More view done c t
 one_line {A} Are More view done a line c d t q go others = record {
   read = a ∷ others.read;
   all = others.all ∙ append_assoc done (a ∷ []) others.read;
@@ -283,3 +283,6 @@ budget_took c t e =
       budget_whole n.0.0 d.0.rest c.rest a.0.rest n.0.1.rest (due_blank_took Conditions (codes "budget") c a.0 a.1) (natural_took 1 1000000000000 a.0 n.0 n.1) (end_took n.0.1 d.0 d.1),
       natural_back 1 1000000000000 a.0 n.0 n.1,
     )
+
+pub not_above : (a b : ℕ) → nat_lt a b ≡ false → b ≤ a
+not_above a b h = grind (arith, nat_tests)

@@ -4,7 +4,9 @@ ghost use Rattle.std.specs.Prelude.{◌≡◌, ◌≤◌, ℕ, List, length, Ok,
 ghost use Rattle.texts.specs.Surface.{Parameter};
 ghost use Rattle.texts.specs.ConditionsReading.{Lined, meant, conditions_limit, conditions_of};
 ghost use Rattle.texts.specs.ConditionsText.{IsConditionsText};
+ghost use Rattle.texts.specs.LaunchReading as launches;
 ghost use Rattle.texts.specs.LaunchReading.{Given, launch_limit, launch_of};
+ghost use Rattle.texts.specs.LaunchSpelling.{IsLaunchText};
 ghost use Rattle.texts.specs.LaunchText.{launch_text};
 ghost use Rattle.launch_text.specs.Parameters.{AreNamed, IsGiven};
 ghost use Rattle.semantics.specs.Conditions as meaning;
@@ -32,4 +34,14 @@ pub fn what_is_read_of_conditions_is_their_text()
 /// What a conditions text says, case by case, is read of it.
 pub fn conditions_are_read_of_their_text()
     ensures { (ps : List Parameter) (text : List ℕ) (c : meaning.Conditions) → AreNamed ps → IsConditionsText ps text c → length text ≤ conditions_limit → (l : Lined) × (conditions_of ps text ≡ Ok l) × (meant l ≡ c) }
+{}
+
+/// What is read of a launch text is what its text says, case by case.
+pub fn what_is_read_of_a_launch_is_its_text()
+    ensures { (ps : List Parameter) (text : List ℕ) (l : Given) → launch_of ps text ≡ Ok l → IsLaunchText ps text (launches.meant l) × (length text ≤ launch_limit) }
+{}
+
+/// What a launch text says, case by case, is read of it.
+pub fn a_launch_is_read_of_its_text()
+    ensures { (ps : List Parameter) (text : List ℕ) (l : Launch) → AreNamed ps → IsLaunchText ps text l → length text ≤ launch_limit → (x : Given) × (launch_of ps text ≡ Ok x) × (launches.meant x ≡ l) }
 {}

@@ -44,11 +44,11 @@ IsShortSum ps bytes ss = IsSum ps bytes ss × (length ss ≤ 8)
 abbrev pub range_text : Range → List ℕ
 range_text r = signed_decimal r.low ++ (codes ".." ++ signed_decimal r.high)
 
--- group counts: 1 to 65,536, and not none
+-- a range of group counts, 1 to 65,536, that is not empty
 abbrev pub AreCounts : Range → Type 0
 AreCounts r = (pos 1 ≤ℤ r.low) × (r.low ≤ℤ r.high) × (r.high ≤ℤ pos 65536)
 
--- numbers of a kind, and not none
+-- a range of numbers of a kind that is not empty
 abbrev pub AreOfKind : Kind → Range → Type 0
 AreOfKind k r = (in_kind k r.low ≡ true) × (in_kind k r.high ≡ true) × (r.low ≤ℤ r.high)
 

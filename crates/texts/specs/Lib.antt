@@ -31,4 +31,5 @@ pub mod ConditionsReading
 pub mod ConditionsText
 pub mod LaunchReading
 pub mod LaunchText
+pub mod LaunchSpelling
 pub mod Spelling

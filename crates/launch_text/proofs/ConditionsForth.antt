@@ -3,7 +3,6 @@ use Rattle.std.proofs.Common.{◌≡◌, ℕ, zero, suc, ◌+◌, ◌≤◌, tru
 use Rattle.std.specs.Prelude.{codes, bytes_eq}
 use Rattle.std.specs.Fmt.{decimal}
 use Rattle.std.proofs.lemmas.Bool.{cond-false}
-use Rattle.std.proofs.lemmas.Bool.Decides.{nat_tests}
 use Rattle.std.proofs.lemmas.List.{append-nil}
 use Rattle.semantics.specs.Word.{Kind}
 use Rattle.semantics.specs.Launch.{Three}
@@ -11,11 +10,13 @@ use Rattle.semantics.specs.Conditions as meaning
 use Rattle.semantics.specs.Conditions.{Range, Summand}
 use Rattle.texts.specs.CertificateForms.{is_identifier}
 use Rattle.texts.specs.Surface.{Parameter, Buffer, Value}
+use Rattle.texts.specs.Spelling.{SpellsParameters}
 use Rattle.texts.specs.LaunchFaults.{Cursor, cursor, then, expect, end_line}
 use Rattle.texts.specs.LaunchWords.{Conditions, due, due_blank, due_parameter, head_line, first_word, each}
 use Rattle.texts.specs.ConditionsReading.{Length, Requirement, Lined, length_meant, requirement_meant, meant, length_of, length_line, length_due, requirement_of, requirement_line, requirement_lines, budget_line, lined, conditions_at, conditions_limit, conditions_of}
 use Rattle.texts.specs.ConditionsText.{IsShortSum, groups_text, length_text, requirement_text, budget_text, AreLengthLines, no_length, past_value, a_length, AreRequirementLines, no_requirement, a_requirement, IsConditionsText}
 use Rattle.launch_text.specs.Parameters.{AreNamed}
+use Rattle.launch_text.proofs.Back.{same_back}
 use Rattle.launch_text.proofs.Forth.{natural_forth, parameter_forth}
 use Rattle.launch_text.proofs.LinesForth.{blank_forth, end_forth, each_goes, each_skips, each_ends, appended, end_text_forth}
 use Rattle.launch_text.proofs.LaunchForth.{not_above}
@@ -157,7 +158,19 @@ lines_forth ps text c i t =
       made c _ _ _ _ groups.is_meant arguments.is_meant lengths.is_meant requires.is_meant,
     )
 
-pub conditions_forth : (ps : List Parameter) (text : List ℕ) (c : meaning.Conditions) → AreNamed ps → IsConditionsText ps text c → length text ≤ conditions_limit → (l : Lined) × (conditions_of ps text ≡ Ok l) × (meant l ≡ c)
+-- the names of a kernel's text are names of parameters
+pub spelt_names : (ps : List Parameter) → SpellsParameters ps → AreNamed ps
+spelt_names [] h = tt
+spelt_names (Buffer constant k site name ∷ ps) h = (h.0, spelt_names ps h.1)
+spelt_names (Value k site name ∷ ps) h = (h.0, spelt_names ps h.1)
+
+pub conditions_forth : (ps : List Parameter) (text : List ℕ) (c : meaning.Conditions) → SpellsParameters ps → IsConditionsText ps text c → length text ≤ conditions_limit → (l : Lined) × (conditions_of ps text ≡ Ok l) × (meant l ≡ c)
 conditions_forth ps text c i t h =
-    let l = lines_forth ps text c i t in
+    let l = lines_forth ps text c (spelt_names ps i) t in
     (l.0, cond-false (nat_lt conditions_limit (length text)) _ _ (not_above conditions_limit (length text) h) ∙ l.1, l.2)
+
+pub one_meaning : (ps : List Parameter) (text : List ℕ) (c d : meaning.Conditions) → SpellsParameters ps → length text ≤ conditions_limit → IsConditionsText ps text c → IsConditionsText ps text d → c ≡ d
+one_meaning ps text c d i h t u =
+    let l = conditions_forth ps text c i t h in
+    let m = conditions_forth ps text d i u h in
+    sym l.2 ∙ ap meant (same_back l.0 m.0 (sym l.1 ∙ m.1)) ∙ m.2

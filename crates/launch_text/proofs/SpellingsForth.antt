@@ -12,12 +12,14 @@ use Rattle.semantics.specs.Launch.{Three}
 use Rattle.texts.specs.Numbers.{is_decimal_digit}
 use Rattle.texts.specs.CertificateForms.{is_identifier}
 use Rattle.texts.specs.Surface.{Parameter, Buffer, Value}
+use Rattle.texts.specs.Spelling.{SpellsParameters}
 use Rattle.texts.specs.LaunchFaults.{Cursor, Step, cursor, then, expect}
 use Rattle.texts.specs.LaunchWords.{word_at, due_parameter, each}
 use Rattle.texts.specs.LaunchReading.{Given, number, meant, groups_line, argument_line, argument_due, list_at, fill_at, words_at, most_words, words_of, buffer_line, buffer_due, given, launch_at, launch_limit, launch_of}
 use Rattle.texts.specs.LaunchText.{argument_text, fill_text}
 use Rattle.texts.specs.LaunchSpelling.{AreListed, no_word, a_word, AreContents, listed, filled, contents_text, counts_text, AreWordLines, no_argument, past_buffer, an_argument, AreBufferLines, no_buffer, past_value, a_buffer, IsLaunchText}
 use Rattle.launch_text.specs.Parameters.{AreNamed}
+use Rattle.launch_text.proofs.Back.{same_back}
 use Rattle.launch_text.proofs.Lists.{map-filled, words-push}
 use Rattle.launch_text.proofs.Forth.{natural_forth, word_forth, parameter_forth}
 use Rattle.launch_text.proofs.LinesForth.{blank_forth, end_forth, buffer_word_due, head_forth, end_text_forth, groups_forth, fill_forth, argument_forth, each_goes, each_skips, each_ends, appended}
@@ -25,6 +27,7 @@ use Rattle.launch_text.proofs.LaunchForth.{not_above}
 use Rattle.launch_text.proofs.LinesTaken.{argument_shape}
 use Rattle.launch_text.proofs.LaunchTaken.{counts_shape, buffer_shape}
 use Rattle.launch_text.proofs.RangesForth.{ReadsLines}
+use Rattle.launch_text.proofs.ConditionsForth.{spelt_names}
 
 counts_forth : (g : Three ℕ) (rest : List ℕ) (n : ℕ) → (1 ≤ g.x) × (g.x ≤ 65536) → (1 ≤ g.y) × (g.y ≤ 65536) → (1 ≤ g.z) × (g.z ≤ 65536) → groups_line (cursor n (counts_text g ++ rest)) ≡ Ok (g, cursor (n + 1) rest)
 counts_forth g rest n a b d = ap (λ bytes. groups_line (cursor n bytes)) (sym (counts_shape (decimal g.x) (decimal g.y) (decimal g.z) rest)) ∙ groups_forth g.x g.y g.z rest n a b d
@@ -166,7 +169,13 @@ lines_forth ps text l i t =
       made l _ buffers.is_meant,
     )
 
-pub spelling_forth : (ps : List Parameter) (text : List ℕ) (l : meaning.Launch) → AreNamed ps → IsLaunchText ps text l → length text ≤ launch_limit → (x : Given) × (launch_of ps text ≡ Ok x) × (meant x ≡ l)
+pub spelling_forth : (ps : List Parameter) (text : List ℕ) (l : meaning.Launch) → SpellsParameters ps → IsLaunchText ps text l → length text ≤ launch_limit → (x : Given) × (launch_of ps text ≡ Ok x) × (meant x ≡ l)
 spelling_forth ps text l i t h =
-    let x = lines_forth ps text l i t in
+    let x = lines_forth ps text l (spelt_names ps i) t in
     (x.0, cond-false (nat_lt launch_limit (length text)) _ _ (not_above launch_limit (length text) h) ∙ x.1, x.2)
+
+pub one_launch : (ps : List Parameter) (text : List ℕ) (l m : meaning.Launch) → SpellsParameters ps → length text ≤ launch_limit → IsLaunchText ps text l → IsLaunchText ps text m → l ≡ m
+one_launch ps text l m i h t u =
+    let x = spelling_forth ps text l i t h in
+    let y = spelling_forth ps text m i u h in
+    sym x.2 ∙ ap meant (same_back x.0 y.0 (sym x.1 ∙ y.1)) ∙ y.2

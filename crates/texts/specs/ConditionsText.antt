@@ -28,13 +28,15 @@ pub data IsTerm (ps : List Parameter) : List ℕ → Summand → Type 0 where
   -- `C`
   number : (z : ℤ) → IsFactor z → IsTerm ps (signed_decimal z) (Constant z)
   -- `C*NAME`
-  product : {bytes : List ℕ} {s : Summand} (z : ℤ) → IsFactor z → IsSymbol ps z bytes s → IsTerm ps (signed_decimal z ++ (codes "*" ++ bytes)) s
+  product : {bytes : List ℕ} {s : Summand} (z : ℤ) → IsFactor z → IsSymbol ps z bytes s →
+      IsTerm ps (signed_decimal z ++ (codes "*" ++ bytes)) s
 
 pub data IsSum (ps : List Parameter) : List ℕ → List Summand → Type 0 where
   -- `TERM`
   last : {bytes : List ℕ} {s : Summand} → IsTerm ps bytes s → IsSum ps bytes (s ∷ [])
   -- `TERM + SUM`
-  more : {bytes others : List ℕ} {s : Summand} {ss : List Summand} → IsTerm ps bytes s → IsSum ps others ss → IsSum ps (bytes ++ (codes " + " ++ others)) (s ∷ ss)
+  more : {bytes others : List ℕ} {s : Summand} {ss : List Summand} →
+      IsTerm ps bytes s → IsSum ps others ss → IsSum ps (bytes ++ (codes " + " ++ others)) (s ∷ ss)
 
 -- a sum of at most 8 terms
 abbrev pub IsShortSum : List Parameter → List ℕ → List Summand → Type 0
@@ -85,20 +87,23 @@ pub data AreLengthLines (all : List Parameter) : List Parameter → List ℕ →
   no_length : AreLengthLines all [] [] []
   past_value : {ps : List Parameter} {lines : List ℕ} {sums : List (List Summand)} (k : Kind) (site : Site) (name : List ℕ) →
       AreLengthLines all ps lines sums → AreLengthLines all (Value k site name ∷ ps) lines sums
-  a_length : {ps : List Parameter} {lines sum : List ℕ} {ss : List Summand} {sums : List (List Summand)} (constant : Bool) (k : Kind) (site : Site) (name : List ℕ) →
-      IsShortSum all sum ss → AreLengthLines all ps lines sums → AreLengthLines all (Buffer constant k site name ∷ ps) (length_text name sum ++ lines) (ss ∷ sums)
+  a_length : {ps : List Parameter} {lines sum : List ℕ} {ss : List Summand} {sums : List (List Summand)}
+      (constant : Bool) (k : Kind) (site : Site) (name : List ℕ) → IsShortSum all sum ss → AreLengthLines all ps lines sums →
+      AreLengthLines all (Buffer constant k site name ∷ ps) (length_text name sum ++ lines) (ss ∷ sums)
 
 pub data AreRequirementLines (ps : List Parameter) : List ℕ → List Requirement → Type 0 where
   no_requirement : AreRequirementLines ps [] []
   a_requirement : {left right lines : List ℕ} {rs : List Requirement} (r : Requirement) →
-      IsShortSum ps left r.left → IsShortSum ps right r.right → AreRequirementLines ps lines rs → AreRequirementLines ps (requirement_text left right ++ lines) (r ∷ rs)
+      IsShortSum ps left r.left → IsShortSum ps right r.right → AreRequirementLines ps lines rs →
+      AreRequirementLines ps (requirement_text left right ++ lines) (r ∷ rs)
 
 -- these lines, one after another, and nothing else
 pub record IsConditionsText (ps : List Parameter) (text : List ℕ) (c : Conditions) : Type 0 where
   pub argument_lines : List ℕ
   pub length_lines : List ℕ
   pub requirement_lines : List ℕ
-  pub is_text : text ≡ codes "conditions 1" ++ (line_feed ∷ (groups_text c.groups ++ (argument_lines ++ (length_lines ++ (requirement_lines ++ budget_text c.budget)))))
+  pub is_text : text ≡ codes "conditions 1" ++ (line_feed ∷
+      (groups_text c.groups ++ (argument_lines ++ (length_lines ++ (requirement_lines ++ budget_text c.budget)))))
   pub counts_x : AreCounts c.groups.x
   pub counts_y : AreCounts c.groups.y
   pub counts_z : AreCounts c.groups.z

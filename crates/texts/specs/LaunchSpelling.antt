@@ -11,13 +11,15 @@ use Rattle.texts.specs.LaunchText.{argument_text, fill_text}
 -- ` W` for each word
 pub data AreListed (k : Kind) : List ℕ → List ℤ → Type 0 where
   no_word : AreListed k [] []
-  a_word : {bytes : List ℕ} {zs : List ℤ} (z : ℤ) → in_kind k z ≡ true → AreListed k bytes zs → AreListed k (codes " " ++ (signed_decimal z ++ bytes)) (z ∷ zs)
+  a_word : {bytes : List ℕ} {zs : List ℤ} (z : ℤ) → in_kind k z ≡ true → AreListed k bytes zs →
+      AreListed k (codes " " ++ (signed_decimal z ++ bytes)) (z ∷ zs)
 
 pub data AreContents (k : Kind) : List ℕ → List ℤ → Type 0 where
   -- `list W W ..`
   listed : {bytes : List ℕ} {zs : List ℤ} → AreListed k bytes zs → AreContents k (codes "list" ++ bytes) zs
   -- `fill LENGTH W`
-  filled : (n : ℕ) (z : ℤ) → in_kind k z ≡ true → AreContents k (codes "fill " ++ (decimal n ++ (codes " " ++ signed_decimal z))) (replicate n z)
+  filled : (n : ℕ) (z : ℤ) → in_kind k z ≡ true →
+      AreContents k (codes "fill " ++ (decimal n ++ (codes " " ++ signed_decimal z))) (replicate n z)
 
 -- `buffer NAME CONTENTS`
 abbrev pub contents_text : (name contents : List ℕ) → List ℕ
@@ -40,8 +42,9 @@ pub data AreBufferLines : List Parameter → List ℕ → List (List ℤ) → Ty
   no_buffer : AreBufferLines [] [] []
   past_value : {ps : List Parameter} {lines : List ℕ} {buffers : List (List ℤ)} (k : Kind) (site : Site) (name : List ℕ) →
       AreBufferLines ps lines buffers → AreBufferLines (Value k site name ∷ ps) lines buffers
-  a_buffer : {ps : List Parameter} {lines contents : List ℕ} {zs : List ℤ} {buffers : List (List ℤ)} (constant : Bool) (k : Kind) (site : Site) (name : List ℕ) →
-      AreContents k contents zs → AreBufferLines ps lines buffers → AreBufferLines (Buffer constant k site name ∷ ps) (contents_text name contents ++ lines) (zs ∷ buffers)
+  a_buffer : {ps : List Parameter} {lines contents : List ℕ} {zs : List ℤ} {buffers : List (List ℤ)}
+      (constant : Bool) (k : Kind) (site : Site) (name : List ℕ) → AreContents k contents zs → AreBufferLines ps lines buffers →
+      AreBufferLines (Buffer constant k site name ∷ ps) (contents_text name contents ++ lines) (zs ∷ buffers)
 
 -- these lines, one after another, and nothing else
 pub record IsLaunchText (ps : List Parameter) (text : List ℕ) (l : Launch) : Type 0 where

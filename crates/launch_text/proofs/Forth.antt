@@ -75,13 +75,13 @@ unfolding word_at
 word_forth k w rest n h s =
     rw (number_forth w.value rest n (int_fits k w.value h.1) s, h.1, sym h.0) refl
 
-word_prefix : (name rest : List ℕ) → all_word_bytes name ≡ true → prefix_len is_word_byte rest ≡ 0 → prefix_len is_word_byte (name ++ rest) ≡ length name
+pub word_prefix : (name rest : List ℕ) → all_word_bytes name ≡ true → prefix_len is_word_byte rest ≡ 0 → prefix_len is_word_byte (name ++ rest) ≡ length name
 word_prefix [] rest h s = s
 word_prefix (b ∷ name) rest h s =
     let p = both (is_word_byte b) (all_word_bytes name) h in
     rw (p.0, word_prefix name rest p.1 s) (omega arith)
 
-letter_in_word : (b : ℕ) → is_letter b ≡ true → is_word_byte b ≡ true
+pub letter_in_word : (b : ℕ) → is_letter b ≡ true → is_word_byte b ≡ true
 letter_in_word b h = rw h refl
 
 pub name_forth : (name rest : List ℕ) (n : ℕ) → is_identifier name ≡ true → prefix_len is_word_byte rest ≡ 0 → name_at (cursor n (name ++ rest)) ≡ Ok (name, cursor n rest)

@@ -32,7 +32,7 @@ lines_forth ps l g =
       end_text_forth (buffers.0 + 1),
     ) refl
 
-not_above : (a b : ℕ) → b ≤ a → nat_lt a b ≡ false
+pub not_above : (a b : ℕ) → b ≤ a → nat_lt a b ≡ false
 not_above a b h = grind (arith, nat_tests)
 
 pub launch_forth : (ps : List Parameter) (l : Given) → IsGiven ps l → length (text.launch_text ps l) ≤ launch_limit → launch_of ps (text.launch_text ps l) ≡ Ok l

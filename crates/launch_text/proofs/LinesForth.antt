@@ -19,11 +19,11 @@ use Rattle.launch_text.specs.Parameters.{value_kind, buffer_kind, kinds, AreName
 use Rattle.launch_text.proofs.Lists.{words-push}
 use Rattle.launch_text.proofs.Forth.{natural_forth, word_forth, parameter_forth}
 
-blank_forth : (rest : List ℕ) (n : ℕ) → expect (codes " ") (cursor n (32 ∷ rest)) ≡ Ok (cursor n rest)
+pub blank_forth : (rest : List ℕ) (n : ℕ) → expect (codes " ") (cursor n (32 ∷ rest)) ≡ Ok (cursor n rest)
 unfolding expect
 blank_forth rest n = refl
 
-end_forth : (rest : List ℕ) (n : ℕ) → end_line (cursor n (10 ∷ rest)) ≡ Ok (cursor (n + 1) rest)
+pub end_forth : (rest : List ℕ) (n : ℕ) → end_line (cursor n (10 ∷ rest)) ≡ Ok (cursor (n + 1) rest)
 unfolding end_line
 end_forth rest n = refl
 
@@ -31,7 +31,7 @@ arg_due : (rest : List ℕ) (n : ℕ) → due_blank Launch (codes "arg") (cursor
 unfolding due_blank due expect
 arg_due rest n = refl
 
-buffer_word_due : (rest : List ℕ) (n : ℕ) → due_blank Launch (codes "buffer") (cursor n (codes "buffer " ++ rest)) ≡ Ok (cursor n rest)
+pub buffer_word_due : (rest : List ℕ) (n : ℕ) → due_blank Launch (codes "buffer") (cursor n (codes "buffer " ++ rest)) ≡ Ok (cursor n rest)
 unfolding due_blank due expect
 buffer_word_due rest n = refl
 
@@ -69,7 +69,7 @@ unfolding fill_line
 fill_forth m rest n h =
     rw (fill_due (decimal m ++ (10 ∷ rest)) n, natural_forth 0 2147483647 m (10 ∷ rest) n (omega arith) (omega arith) (omega arith) refl, end_forth rest n) refl
 
-argument_forth : (ps : List Parameter) (k : Kind) (name : List ℕ) (w : Word) (rest : List ℕ) (n : ℕ) → is_identifier name ≡ true → IsArgument k w → argument_line ps k name (cursor n (codes "arg " ++ (name ++ (32 ∷ (signed_decimal w.value ++ (10 ∷ rest)))))) ≡ Ok (w, cursor (n + 1) rest)
+pub argument_forth : (ps : List Parameter) (k : Kind) (name : List ℕ) (w : Word) (rest : List ℕ) (n : ℕ) → is_identifier name ≡ true → IsArgument k w → argument_line ps k name (cursor n (codes "arg " ++ (name ++ (32 ∷ (signed_decimal w.value ++ (10 ∷ rest)))))) ≡ Ok (w, cursor (n + 1) rest)
 unfolding argument_line due_parameter
 argument_forth ps k name w rest n i h =
     rw (
@@ -116,20 +116,20 @@ argument_shape name digits others rest = simp append_assoc
 buffer_shape : (name list others rest : List ℕ) → ((codes "buffer " ++ (name ++ (codes " list" ++ (list ++ 10 ∷ [])))) ++ others) ++ rest ≡ codes "buffer " ++ (name ++ (codes " list" ++ (list ++ (10 ∷ (others ++ rest)))))
 buffer_shape name list others rest = simp append_assoc
 
-each_goes : {A : Type 0} (line : List A → Parameter → Option (Cursor → Step (A × Cursor))) (done : List A) (p : Parameter) (ps : List Parameter) (c d : Cursor) (own : Cursor → Step (A × Cursor)) (a : A) → line done p ≡ Some own → own c ≡ Ok (a, d) → each line done (p ∷ ps) c ≡ each line (done ++ a ∷ []) ps d
+pub each_goes : {A : Type 0} (line : List A → Parameter → Option (Cursor → Step (A × Cursor))) (done : List A) (p : Parameter) (ps : List Parameter) (c d : Cursor) (own : Cursor → Step (A × Cursor)) (a : A) → line done p ≡ Some own → own c ≡ Ok (a, d) → each line done (p ∷ ps) c ≡ each line (done ++ a ∷ []) ps d
 unfolding each
 each_goes line done p ps c d own a s e =
     ap (λ o. go_on o done c (λ more d. each line more ps d)) s ∙ ap (λ r. then r (λ t. each line (done ++ t.0 ∷ []) ps t.1)) e
 
-each_ends : {A : Type 0} (line : List A → Parameter → Option (Cursor → Step (A × Cursor))) (done : List A) (c : Cursor) → each line done [] c ≡ Ok (done ++ [], c)
+pub each_ends : {A : Type 0} (line : List A → Parameter → Option (Cursor → Step (A × Cursor))) (done : List A) (c : Cursor) → each line done [] c ≡ Ok (done ++ [], c)
 unfolding each
 each_ends {A} line done c = ap (λ xs. let r : Step (List A × Cursor) = Ok (xs, c) in r) (sym (append-nil done))
 
-each_skips : {A : Type 0} (line : List A → Parameter → Option (Cursor → Step (A × Cursor))) (done : List A) (p : Parameter) (ps : List Parameter) (c : Cursor) → line done p ≡ None → each line done (p ∷ ps) c ≡ each line done ps c
+pub each_skips : {A : Type 0} (line : List A → Parameter → Option (Cursor → Step (A × Cursor))) (done : List A) (p : Parameter) (ps : List Parameter) (c : Cursor) → line done p ≡ None → each line done (p ∷ ps) c ≡ each line done ps c
 unfolding each
 each_skips line done p ps c s = ap (λ o. go_on o done c (λ more d. each line more ps d)) s
 
-appended : {A : Type 0} (done : List A) (a : A) (others : List A) (c : Cursor) → (let r : Step (List A × Cursor) = Ok ((done ++ a ∷ []) ++ others, c) in r) ≡ Ok (done ++ (a ∷ others), c)
+pub appended : {A : Type 0} (done : List A) (a : A) (others : List A) (c : Cursor) → (let r : Step (List A × Cursor) = Ok ((done ++ a ∷ []) ++ others, c) in r) ≡ Ok (done ++ (a ∷ others), c)
 appended {A} done a others c = ap (λ xs. let r : Step (List A × Cursor) = Ok (xs, c) in r) (append_assoc done (a ∷ []) others)
 
 pub arguments_forth : (ps : List Parameter) (done : List Word) (qs : List Parameter) (ws : List Word) (rest : List ℕ) (n : ℕ) → AreNamed qs → AllZip IsArgument (kinds value_kind qs) ws → (m : ℕ) × (each (argument_due ps) done qs (cursor n (text.arguments_text qs ws ++ rest)) ≡ Ok (done ++ ws, cursor m rest))

@@ -28,6 +28,8 @@ pub mod LaunchFaults
 pub mod LaunchWords
 pub mod LaunchSums
 pub mod ConditionsReading
+pub mod ConditionsText
 pub mod LaunchReading
 pub mod LaunchText
+pub mod LaunchSpelling
 pub mod Spelling

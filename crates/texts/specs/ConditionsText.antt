@@ -1,0 +1,115 @@
+-- Which conditions a text says of a kernel with these parameters, by cases.
+use Rattle.std.specs.Prelude.{◌≡◌, ◌≤◌, ℕ, ℤ, pos, negsuc, ◌≤ℤ◌, ◌*ℤ◌, List, [], ◌∷◌, ◌++◌, length, Bool, true, Some, codes}
+use Rattle.std.specs.Fmt.{decimal, signed_decimal}
+use Rattle.semantics.specs.Core.{Site}
+use Rattle.semantics.specs.Word.{Kind, in_kind}
+use Rattle.semantics.specs.Launch.{Three}
+use Rattle.semantics.specs.Conditions.{Range, Summand, Constant, Argument, Groups, Requirement, Conditions}
+use Rattle.texts.specs.Lines.{line_feed}
+use Rattle.texts.specs.Surface.{Parameter, Buffer, Value}
+use Rattle.texts.specs.LaunchSums.{value_number}
+
+-- a number of a sum: at most 4,294,967,295 in size
+abbrev pub IsFactor : ℤ → Type 0
+IsFactor z = (negsuc 4294967294 ≤ℤ z) × (z ≤ℤ pos 4294967295)
+
+-- a name, which stands for this summand where it has this factor
+pub data IsSymbol (ps : List Parameter) (factor : ℤ) : List ℕ → Summand → Type 0 where
+  -- a group count
+  groups_x : IsSymbol ps factor (codes "groups.0") (Groups factor 0)
+  groups_y : IsSymbol ps factor (codes "groups.1") (Groups factor 1)
+  groups_z : IsSymbol ps factor (codes "groups.2") (Groups factor 2)
+  -- the n-th of the value parameters has this name
+  argument : (name : List ℕ) (n : ℕ) → value_number 0 ps name ≡ Some n → IsSymbol ps factor name (Argument factor n)
+
+pub data IsTerm (ps : List Parameter) : List ℕ → Summand → Type 0 where
+  -- `NAME`, once
+  alone : {bytes : List ℕ} {s : Summand} → IsSymbol ps (pos 1) bytes s → IsTerm ps bytes s
+  -- `C`
+  number : (z : ℤ) → IsFactor z → IsTerm ps (signed_decimal z) (Constant z)
+  -- `C*NAME`
+  product : {bytes : List ℕ} {s : Summand} (z : ℤ) → IsFactor z → IsSymbol ps z bytes s →
+      IsTerm ps (signed_decimal z ++ (codes "*" ++ bytes)) s
+
+pub data IsSum (ps : List Parameter) : List ℕ → List Summand → Type 0 where
+  -- `TERM`
+  last : {bytes : List ℕ} {s : Summand} → IsTerm ps bytes s → IsSum ps bytes (s ∷ [])
+  -- `TERM + SUM`
+  more : {bytes others : List ℕ} {s : Summand} {ss : List Summand} →
+      IsTerm ps bytes s → IsSum ps others ss → IsSum ps (bytes ++ (codes " + " ++ others)) (s ∷ ss)
+
+-- a sum of at most 8 terms
+abbrev pub IsShortSum : List Parameter → List ℕ → List Summand → Type 0
+IsShortSum ps bytes ss = IsSum ps bytes ss × (length ss ≤ 8)
+
+-- `L..H`
+abbrev pub range_text : Range → List ℕ
+range_text r = signed_decimal r.low ++ (codes ".." ++ signed_decimal r.high)
+
+-- a range of group counts, 1 to 65,536, that is not empty
+abbrev pub AreCounts : Range → Type 0
+AreCounts r = (pos 1 ≤ℤ r.low) × (r.low ≤ℤ r.high) × (r.high ≤ℤ pos 65536)
+
+-- a range of numbers of a kind that is not empty
+abbrev pub AreOfKind : Kind → Range → Type 0
+AreOfKind k r = (in_kind k r.low ≡ true) × (in_kind k r.high ≡ true) × (r.low ≤ℤ r.high)
+
+-- `groups L..H L..H L..H`
+abbrev pub groups_text : Three Range → List ℕ
+groups_text g = codes "groups " ++ (range_text g.x ++ (codes " " ++ (range_text g.y ++ (codes " " ++ (range_text g.z ++ line_feed ∷ [])))))
+
+-- `arg NAME L..H`
+abbrev pub argument_text : (name : List ℕ) → Range → List ℕ
+argument_text name r = codes "arg " ++ (name ++ (codes " " ++ (range_text r ++ line_feed ∷ [])))
+
+-- `length NAME >= SUM`
+abbrev pub length_text : (name sum : List ℕ) → List ℕ
+length_text name sum = codes "length " ++ (name ++ (codes " >= " ++ (sum ++ line_feed ∷ [])))
+
+-- `require SUM >= SUM`
+abbrev pub requirement_text : (left right : List ℕ) → List ℕ
+requirement_text left right = codes "require " ++ (left ++ (codes " >= " ++ (right ++ line_feed ∷ [])))
+
+-- `budget N`
+abbrev pub budget_text : ℕ → List ℕ
+budget_text n = codes "budget " ++ (decimal n ++ line_feed ∷ [])
+
+-- one line a value parameter, in order
+pub data AreArgumentLines : List Parameter → List ℕ → List Range → Type 0 where
+  no_argument : AreArgumentLines [] [] []
+  past_buffer : {ps : List Parameter} {lines : List ℕ} {rs : List Range} (constant : Bool) (k : Kind) (site : Site) (name : List ℕ) →
+      AreArgumentLines ps lines rs → AreArgumentLines (Buffer constant k site name ∷ ps) lines rs
+  an_argument : {ps : List Parameter} {lines : List ℕ} {rs : List Range} (k : Kind) (site : Site) (name : List ℕ) (r : Range) →
+      AreOfKind k r → AreArgumentLines ps lines rs → AreArgumentLines (Value k site name ∷ ps) (argument_text name r ++ lines) (r ∷ rs)
+
+-- one line a buffer parameter, in order; sums are of all parameters
+pub data AreLengthLines (all : List Parameter) : List Parameter → List ℕ → List (List Summand) → Type 0 where
+  no_length : AreLengthLines all [] [] []
+  past_value : {ps : List Parameter} {lines : List ℕ} {sums : List (List Summand)} (k : Kind) (site : Site) (name : List ℕ) →
+      AreLengthLines all ps lines sums → AreLengthLines all (Value k site name ∷ ps) lines sums
+  a_length : {ps : List Parameter} {lines sum : List ℕ} {ss : List Summand} {sums : List (List Summand)}
+      (constant : Bool) (k : Kind) (site : Site) (name : List ℕ) → IsShortSum all sum ss → AreLengthLines all ps lines sums →
+      AreLengthLines all (Buffer constant k site name ∷ ps) (length_text name sum ++ lines) (ss ∷ sums)
+
+pub data AreRequirementLines (ps : List Parameter) : List ℕ → List Requirement → Type 0 where
+  no_requirement : AreRequirementLines ps [] []
+  a_requirement : {left right lines : List ℕ} {rs : List Requirement} (r : Requirement) →
+      IsShortSum ps left r.left → IsShortSum ps right r.right → AreRequirementLines ps lines rs →
+      AreRequirementLines ps (requirement_text left right ++ lines) (r ∷ rs)
+
+-- these lines, one after another, and nothing else
+pub record IsConditionsText (ps : List Parameter) (text : List ℕ) (c : Conditions) : Type 0 where
+  pub argument_lines : List ℕ
+  pub length_lines : List ℕ
+  pub requirement_lines : List ℕ
+  pub is_text : text ≡ codes "conditions 1" ++ (line_feed ∷
+      (groups_text c.groups ++ (argument_lines ++ (length_lines ++ (requirement_lines ++ budget_text c.budget)))))
+  pub counts_x : AreCounts c.groups.x
+  pub counts_y : AreCounts c.groups.y
+  pub counts_z : AreCounts c.groups.z
+  pub few_groups : (c.groups.x.high *ℤ c.groups.y.high *ℤ c.groups.z.high) ≤ℤ pos 1048576
+  pub arguments : AreArgumentLines ps argument_lines c.arguments
+  pub lengths : AreLengthLines ps ps length_lines c.lengths
+  pub requires : AreRequirementLines ps requirement_lines c.requires
+  pub few_requires : length c.requires ≤ 16
+  pub budget : (1 ≤ c.budget) × (c.budget ≤ 1000000000000)

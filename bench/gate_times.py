@@ -1,0 +1,88 @@
+#!/usr/bin/env python3
+"""Runs the gate, `rt ci`, and prints as a Markdown table what each crate cost it: processor seconds of its proof, its tests and its edits.
+
+usage: bench/gate_times.py > TABLE, at the top of the repository. The gate's own words go to standard error; its status is passed on.
+
+Each process of the prover is started through this very script, which notes what it took. The proof of a program has in it both of its
+builds; running the tests and the programs, and linking, are in the last row alone.
+"""
+import collections
+import contextlib
+import importlib.machinery
+import importlib.util
+import os
+import resource
+import shutil
+import sys
+import tempfile
+import time
+
+NOTES, PROVER = "GATE_TIMES_NOTES", "GATE_TIMES_PROVER"
+KINDS = ("proof", "tests", "edits")
+
+
+def run_prover(words):
+    """Runs the prover in this script's place, notes its crate, its kind and its processor seconds, and ends as it ended."""
+    child = os.fork()
+    if child == 0:
+        os.execv(os.environ[PROVER], [os.environ[PROVER], *words])
+    _, status, used = os.wait4(child, 0)
+    if "--crate-name" in words:
+        crate = words[words.index("--crate-name") + 1]
+        is_edit = os.path.basename(os.getcwd()).startswith("rt-edit-")
+        kind = "edits" if is_edit else "tests" if "--test" in words else "proof"
+        with open(os.environ[NOTES], "ab", buffering=0) as notes:
+            notes.write(f"{crate} {kind} {used.ru_utime + used.ru_stime:.2f}\n".encode())
+    if os.WIFSIGNALED(status):
+        os.kill(os.getpid(), os.WTERMSIG(status))
+    sys.exit(os.WEXITSTATUS(status))
+
+
+def parts_of_rt():
+    """The script `rt` as a module."""
+    file = os.path.realpath(shutil.which("rt") or sys.exit("rt, the command of the kit, is not on the PATH"))
+    loader = importlib.machinery.SourceFileLoader("rt", file)
+    module = importlib.util.module_from_spec(importlib.util.spec_from_loader("rt", loader))
+    loader.exec_module(module)
+    return module
+
+
+def table(notes, edits):
+    """The rows of the table, the dearest crate first, and their sum."""
+    spent = collections.defaultdict(lambda: dict.fromkeys(KINDS, 0.0))
+    for line in notes:
+        crate, kind, seconds = line.split()
+        spent[crate][kind] += float(seconds)
+    rows = sorted(spent.items(), key=lambda it: -sum(it[1].values()))
+    rows.append(("**all crates**", {kind: sum(it[kind] for it in spent.values()) for kind in KINDS}))
+    edits["**all crates**"] = sum(edits.values())
+    yield "| Crate | Proof | Tests | Edits | Number of edits | Together |"
+    yield "|---|---|---|---|---|---|"
+    for crate, cost in rows:
+        seconds = [f"{cost[it]:.0f}" if cost[it] else "" for it in KINDS]
+        yield f"| {crate} | {' | '.join(seconds)} | {edits[crate] or ''} | {sum(cost.values()):.0f} |"
+
+
+def main():
+    rt, edits, started = parts_of_rt(), collections.Counter(), time.monotonic()
+    for crate in os.listdir("crates"):
+        folder = f"crates/{crate}/must-fail"
+        edits[crate] = sum(it.endswith(".edit") for it in os.listdir(folder)) if os.path.isdir(folder) else 0
+    with tempfile.TemporaryDirectory() as room:
+        notes = f"{room}/notes"
+        os.environ.update({NOTES: notes, PROVER: rt.rtlib.RATTLE})
+        rt.rtlib.RATTLE = os.path.abspath(__file__)
+        open(notes, "wb").close()
+        with contextlib.redirect_stdout(sys.stderr):
+            status = rt.main(["ci"])
+        with open(notes, encoding="utf-8") as lines:
+            print(*table(lines, edits), sep="\n")
+    wall = time.monotonic() - started
+    used = [resource.getrusage(it) for it in (resource.RUSAGE_SELF, resource.RUSAGE_CHILDREN)]
+    whole = sum(it.ru_utime + it.ru_stime for it in used)
+    print(f"| **the whole run** | | | | | {whole:.0f} |\n\nProcessor seconds. The run took {wall / 60:.1f} minutes and ended with status {status}.")
+    return status
+
+
+if __name__ == "__main__":
+    sys.exit(run_prover(sys.argv[1:]) if PROVER in os.environ else main())

@@ -80,7 +80,8 @@ def main():
     wall = time.monotonic() - started
     used = [resource.getrusage(it) for it in (resource.RUSAGE_SELF, resource.RUSAGE_CHILDREN)]
     whole = sum(it.ru_utime + it.ru_stime for it in used)
-    print(f"| **the whole run** | | | | | {whole:.0f} |\n\nProcessor seconds. The run took {wall / 60:.1f} minutes and ended with status {status}.")
+    print(f"| **the whole run** | | | | | {whole:.0f} |\n")
+    print(f"Processor seconds. The run took {wall / 60:.1f} minutes and ended with status {status}.")
     return status
 
 

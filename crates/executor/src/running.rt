@@ -7,15 +7,17 @@ ghost use Rattle.core_code.specs.View.{kernel as core_seen};
 ghost use Rattle.launch.specs.View.{launch as launch_seen, conditions as conditions_seen};
 ghost use Rattle.cert_check.specs.View.{typed_of, kept};
 ghost use Rattle.cert_check.specs.Accepting.{at};
+ghost use Rattle.semantics.specs.Rounds.{IsDefined};
 ghost use Rattle.write_log.specs.Written.{words_of};
-ghost use Rattle.executor.specs.Results.{Answers, IsResultOf, EndsEvery};
+ghost use Rattle.executor.specs.Ends.{IsResultOf, EndsEvery};
+ghost use Rattle.executor.specs.Results.{Answers};
 
 use crate::error::RunError;
 use crate::group::{product_of, run_group};
 use cert_check::Accepted;
 use launch::launches::{Buffers, Launch};
 use launch::meets::meets;
-use reduction::headline;
+use reduction::{headline, result_is_defined};
 use std::alloc::{AllocError, Global};
 use std::sync::Wait;
 use std::thread::Threads;
@@ -37,7 +39,7 @@ fn copy(alloc: Global, buffers: &Buffers) -> Result<Buffers, AllocError>
 fn run_groups(alloc: Global, accepted: &Accepted, launch: &Launch) -> Result<Buffers, AllocError>
     requires fits { Fits (core_seen (typed_of accepted.now).1) (launch_seen launch.now) }
     requires meets { Meets (conditions_seen (kept accepted.now)) (launch_seen launch.now) }
-    ensures { IfOk result (λ b. IsResultOf (at (core_seen (typed_of accepted.now).1) (launch_seen launch.now)) (kept accepted.now).budget b) }
+    ensures { IfOk result (λ b. IsResultOf (at (core_seen (typed_of accepted.now).1) (launch_seen launch.now)) (kept accepted.now).budget (words_of b)) }
 {
     let mut buffers = copy(alloc, &launch.buffers)?;
     for group in 0..product_of(launch.groups) {
@@ -60,8 +62,10 @@ pub fn run<R: Threads + Wait + Sync, G: Gate>(
 ) -> Result<Buffers, RunError>
     requires { Fits (core_seen (typed_of accepted.now).1) (launch_seen launch.now) }
     ensures answers { Answers (kept accepted.now) (launch_seen launch.now) workers result }
-    ensures value { IfOk result (λ b. IsResultOf (at (core_seen (typed_of accepted.now).1) (launch_seen launch.now)) (kept accepted.now).budget b) }
-    ensures every { IfOk result (λ b. EndsEvery (at (core_seen (typed_of accepted.now).1) (launch_seen launch.now)) b) }
+    ensures value { IfOk result (λ b. IsResultOf (at (core_seen (typed_of accepted.now).1) (launch_seen launch.now)) (kept accepted.now).budget (words_of b)) }
+    ensures every { IfOk result (λ b. EndsEvery (at (core_seen (typed_of accepted.now).1) (launch_seen launch.now)) (words_of b)) }
+    ensures meets { IfOk result (λ _. Meets (conditions_seen (kept accepted.now)) (launch_seen launch.now)) }
+    ensures defined { IfOk result (λ _. IsDefined (at (core_seen (typed_of accepted.now).1) (launch_seen launch.now)) (kept accepted.now).budget) }
 {
     meets(accepted.conditions(), launch)?;
     if workers < 1 || workers > 64 {
@@ -69,5 +73,6 @@ pub fn run<R: Threads + Wait + Sync, G: Gate>(
     }
     let buffers = run_groups(alloc, accepted, launch)?;
     headline();
+    result_is_defined();
     Ok(buffers)
 }

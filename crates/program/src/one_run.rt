@@ -1,7 +1,7 @@
 //! One run of the program over files and writers.
 
 ghost use Rattle.std.specs.Prelude.{◌≡◌, ℕ, List, [], ◌∷◌, IfOk, codes};
-ghost use Rattle.telling.specs.Telling.{Checks};
+ghost use Rattle.telling.specs.Verdicts.{Checks};
 ghost use Rattle.command_line.specs.Words.{texts, HasWord, HasNames};
 ghost use Rattle.program.specs.First.{first_kernel, first_conditions};
 ghost use Rattle.program.specs.Running.{IsOf, Reads, kernel_read, conditions_read, certificate_read, Success, Output};

@@ -1,6 +1,6 @@
 -- What a refusal is of texts.
 use Rattle.std.specs.Prelude.{ℕ, List}
-use Rattle.telling.specs.Telling.{IsRefusal, Checks, Runs}
+use Rattle.telling.specs.Verdicts.{IsRefusal, Checks, Runs}
 use Rattle.telling.specs.declared.Verdict.{Verdict}
 use Rattle.telling.specs.declared.Verdict.TheVariants as verdicts
 

@@ -3,7 +3,7 @@
 
 ghost use Rattle.std.specs.Prelude.{◌≡◌};
 ghost use Rattle.cert_check.specs.Numbers.{at_line};
-ghost use Rattle.telling.specs.Telling.{Checks, Runs, IsRefusal};
+ghost use Rattle.telling.specs.Verdicts.{Checks, Runs, IsRefusal};
 
 mod refusal;
 
@@ -12,6 +12,7 @@ use cert_check::error::{CheckError, Place};
 use executor::{RunError, run};
 use launch_text::error::LaunchTextError;
 use launch_text::{read_launch, write_buffers};
+use reading::laws::bytes_are_the_text_of_what_is_read;
 use refusal::Refusal;
 use std::alloc::Global;
 use std::sync::Wait;
@@ -87,6 +88,7 @@ pub fn check_texts(alloc: Global, texts: Texts) -> Verdict
 {
     match check(alloc, texts.kernel, texts.conditions, texts.certificate) {
         Ok(accepted) => {
+            bytes_are_the_text_of_what_is_read();
             drop(accepted);
             match Vec::from_slice(alloc, b"accepted\n") {
                 Ok(text) => Verdict::Done(text),
@@ -119,6 +121,7 @@ pub fn run_texts<R: Threads + Wait + Sync>(
         Ok(buffers) => buffers,
         Err(error) => return not_run(alloc, &error),
     };
+    bytes_are_the_text_of_what_is_read();
     match write_buffers(alloc, accepted.typed(), &buffers) {
         Ok(text) => Verdict::Done(text),
         Err(_) => Verdict::OutOfMemory,

@@ -1,10 +1,19 @@
+use Rattle.reading.specs.Answers.{kernel_seen}
+use Rattle.launch_text.specs.View.{lined}
 use Rattle.cert_check.specs.View.{typed_of, kept}
+use Rattle.telling.proofs.Meanings.{is_safe}
 use Rattle.telling.proofs.Refusing.{of_check}
 use Rattle.telling.proofs.check_texts.Goals as goal
 
 pub returns-in-Ok-from_slice : goal.returns-in-Ok-from_slice
 returns-in-Ok-from_slice c =
-    (typed_of c.in-Ok.accepted, kept c.in-Ok.accepted, record { kernel_read = c.in-Ok.ensures.kernel; conditions_read = c.in-Ok.ensures.conditions; headline = c.in-Ok.ensures.headline }, c.in-Ok-from_slice.ensures.items)
+    let t = typed_of c.in-Ok.accepted in
+    let k = c.args.texts.kernel.now in (
+      kernel_seen t,
+      lined (kept c.in-Ok.accepted),
+      is_safe k c.args.texts.conditions.now t (kept c.in-Ok.accepted) (c.bytes_are_the_text_of_what_is_read.ensures k (kernel_seen t) c.in-Ok.ensures.kernel) c.in-Ok.ensures.conditions c.in-Ok.ensures.headline,
+      c.in-Ok-from_slice.ensures.items,
+    )
 
 pub returns-in-Err : goal.returns-in-Err
 returns-in-Err c = of_check c.unaccepted.result c.args.texts.kernel.now c.args.texts.conditions.now c.unaccepted.ensures

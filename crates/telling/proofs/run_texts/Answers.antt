@@ -1,26 +1,36 @@
 use Rattle.std.proofs.Common.{◌≡◌, subst}
 use Rattle.std.specs.Prelude.{Ok}
+use Rattle.semantics.specs.Launch.{Fits}
 use Rattle.texts.specs.LaunchReading.{launch_of}
 use Rattle.texts.specs.LaunchText.{buffers_text}
 use Rattle.syntax.specs.View.{kernel}
+use Rattle.core_code.specs.View.{kernel as core}
+use Rattle.launch.specs.View.{launch}
 use Rattle.launch_text.specs.View as reading
+use Rattle.launch_text.specs.View.{lined}
+use Rattle.reading.specs.Answers.{kernel_seen}
 use Rattle.cert_check.specs.View.{typed_of, kept}
+use Rattle.telling.proofs.Meanings.{is_safe, is_run}
 use Rattle.telling.proofs.run_texts.Goals as goal
 
 pub returns-in-Ok-write_buffers : goal.returns-in-Ok-write_buffers
 returns-in-Ok-write_buffers g c =
     let a = c.in-Ok.accepted in
+    let t = typed_of a in
     let l = c.in-Ok-read_launch.launch in
-    let b = c.in-Ok-run.buffers in (
-      typed_of a,
-      kept a,
-      l,
-      b,
-      record { kernel_read = c.in-Ok.ensures.kernel; conditions_read = c.in-Ok.ensures.conditions; headline = c.in-Ok.ensures.headline },
-      record {
-        launch_read = subst (λ t. launch_of (kernel t.0).parameters c.args.launch.now ≡ Ok (reading.launch l)) c.typed.ensures.value c.in-Ok-read_launch.ensures.value;
-        result = c.in-Ok-run.ensures.value;
-        every = c.in-Ok-run.ensures.every;
-        text = subst (λ t. c.in-Ok-write_buffers.text.items ≡ buffers_text (kernel t.0).parameters (reading.buffers b.words)) c.typed-2.ensures.value c.in-Ok-write_buffers.ensures;
-      },
+    let b = c.in-Ok-run.buffers in
+    let k = c.args.texts.kernel.now in (
+      kernel_seen t,
+      lined (kept a),
+      reading.launch l,
+      reading.buffers b.words,
+      is_safe k c.args.texts.conditions.now t (kept a) (c.bytes_are_the_text_of_what_is_read.ensures k (kernel_seen t) c.in-Ok.ensures.kernel) c.in-Ok.ensures.conditions c.in-Ok.ensures.headline,
+      is_run t (kept a) c.args.launch.now c.in-Ok-write_buffers.text.items l b
+          (subst (λ t. launch_of (kernel t.0).parameters c.args.launch.now ≡ Ok (reading.launch l)) c.typed.ensures.value c.in-Ok-read_launch.ensures.value)
+          (subst (λ t. Fits (core t.1) (launch l)) c.typed.ensures.value c.in-Ok-read_launch.ensures.fit)
+          c.in-Ok-run.ensures.meets
+          c.in-Ok-run.ensures.defined
+          c.in-Ok-run.ensures.value
+          c.in-Ok-run.ensures.every
+          (subst (λ t. c.in-Ok-write_buffers.text.items ≡ buffers_text (kernel t.0).parameters (reading.buffers b.words)) c.typed-2.ensures.value c.in-Ok-write_buffers.ensures),
     )

@@ -3,6 +3,7 @@ use Rattle.core_code.specs.View.{kernel}
 use Rattle.launch.specs.View.{launch, conditions}
 use Rattle.cert_check.specs.Accepting.{at}
 use Rattle.cert_check.specs.View.{typed_of, kept}
+use Rattle.write_log.specs.Written.{words_of}
 use Rattle.executor.proofs.Buffered.{group-more, all-groups, count-of}
 use Rattle.executor.proofs.running.run_groups.Goals as goal
 
@@ -20,4 +21,4 @@ returns c =
     let below = c.loop-group.auto.group-end in
     let past = c.loop-group-test.false in
     let e : c.loop-group.group ≡ c.product_of-group-end.result = omega (arith, below, past) in
-    all-groups s (conditions (kept c.args.accepted.now)).budget c.loop-group.group c.loop-group.buffers (e ∙ c.product_of-group-end.ensures ∙ count-of (kernel (typed_of c.args.accepted.now).1) (launch c.args.launch.now)) c.loop-group.invariant
+    all-groups s (conditions (kept c.args.accepted.now)).budget c.loop-group.group (words_of c.loop-group.buffers) (e ∙ c.product_of-group-end.ensures ∙ count-of (kernel (typed_of c.args.accepted.now).1) (launch c.args.launch.now)) c.loop-group.invariant

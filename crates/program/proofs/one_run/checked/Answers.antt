@@ -1,5 +1,5 @@
 use Rattle.std.proofs.Common.{subst}
-use Rattle.telling.specs.Telling.{Checks}
+use Rattle.telling.specs.Verdicts.{Checks}
 use Rattle.program.specs.Running as running
 use Rattle.program.proofs.one_run.checked.Goals as goal
 

@@ -1,5 +1,5 @@
 use Rattle.std.proofs.Common.{[], ◌∷◌, subst}
-use Rattle.telling.specs.Telling.{Runs}
+use Rattle.telling.specs.Verdicts.{Runs}
 use Rattle.program.specs.Running as running
 use Rattle.program.specs.Running.{kernel_read, conditions_read, certificate_read, launch_read}
 use Rattle.program.proofs.Verdicts.{reads-more}

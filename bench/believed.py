@@ -1,0 +1,142 @@
+#!/usr/bin/env python3
+"""What a reader has to believe: the definitions that a promise of the program rests on, with their lines.
+
+Begins at the names of a file of specs/ and follows each name that a definition uses to the definition behind it, through the `use` lines, as far
+as the repository goes; what stands in the library is not followed. Lines are those of definitions, without comments, blank lines and `use` lines.
+
+    bench/believed.py [CRATE/specs/FILE.antt [NAME ..]]
+"""
+import pathlib
+import re
+import sys
+
+CRATES = pathlib.Path(__file__).resolve().parent.parent / "crates"
+NAME = re.compile(r"[^\s(){}\[\],;.|]+(?:\.[^\s(){}\[\],;.|]+)*")
+
+
+class Module:
+    """The definitions of a file and the names that it brings in."""
+
+    def __init__(self, path):
+        self.definitions = {}  # name -> lines
+        self.names = {}  # name -> (module, name)
+        self.modules = {}  # alias -> module
+        self.read(path.read_text().splitlines())
+
+    def read(self, lines):
+        current = None
+        for line in lines:
+            text = line.split(" -- ")[0].rstrip()
+            if not text.strip() or text.lstrip().startswith("--"):
+                continue
+            if text.startswith(("use ", "pub use ")):
+                self.bring(text.removeprefix("pub ").removeprefix("use "))
+                continue
+            if text.startswith(("infix", "pub mod", "mod ", "unfolding ")):
+                continue
+            if not text.startswith(" "):
+                current = self.begun(text)
+            if current is not None:
+                self.definitions.setdefault(current, []).append(text.strip())
+                if text.startswith(" "):
+                    self.alias(text, current)
+
+    def begun(self, text):
+        """The name of a definition, or one for a block of several."""
+        if re.match(r"^(?:abbrev |unfoldable )?(?:mutual|module)\b", text):
+            return f"block {len(self.definitions)}"
+        return self.named(text)
+
+    def named(self, text):
+        words = text.split()
+        while words and words[0] in ("abbrev", "unfoldable", "pub", "data", "record"):
+            words.pop(0)
+        return words[0] if words else None
+
+    def alias(self, text, current):
+        """A constructor, a field or a member of a block is found under its own name."""
+        words = text.split()
+        if words[0] in ("pub", "data", "record", "abbrev", "unfoldable") or (len(words) > 1 and words[1] == ":"):
+            self.names.setdefault(self.named(text), (None, current))
+
+    def bring(self, text):
+        match = re.match(r"^(\S+?)\.\{(.*)\}$", text)
+        if match:
+            for item in match.group(2).split(","):
+                parts = item.strip().split(" as ")
+                self.names[parts[-1].strip()] = (match.group(1), parts[0].strip())
+            return
+        parts = text.split(" as ")
+        self.modules[parts[-1].strip().split(".")[-1]] = parts[0].strip()
+
+
+def path_of(module):
+    """The file of a module of this repository, or none."""
+    match = re.match(r"^Rattle\.(\w+)\.specs\.(.+)$", module)
+    if not match:
+        return None
+    path = CRATES / match.group(1) / "specs" / (match.group(2).replace(".", "/") + ".antt")
+    return path if path.is_file() else None
+
+
+LOADED = {}
+
+
+def load(path):
+    if path not in LOADED:
+        LOADED[path] = Module(path)
+    return LOADED[path]
+
+
+def walk(start, names):
+    """The definitions reached, as a set of (file, name); and names of the code's own types."""
+    seen, code = set(), set()
+    todo = [(start, name) for name in names]
+    while todo:
+        path, name = todo.pop()
+        if (path, name) in seen or name not in load(path).definitions:
+            continue
+        seen.add((path, name))
+        module = load(path)
+        for line in module.definitions[name]:
+            for word in NAME.findall(line):
+                first, _, rest = word.partition(".")
+                if first in module.modules and rest:
+                    target, used = module.modules[first], rest.split(".")[0]
+                elif first in module.names:
+                    target, used = module.names[first]
+                elif first in module.definitions:
+                    target, used = None, first
+                else:
+                    continue
+                if target is None:
+                    todo.append((path, used))
+                    continue
+                if ".specs.declared." in target:
+                    code.add(target.split(".specs.declared.")[0].removeprefix("Rattle.") + ": " + target.split(".")[-1] + " " + used)
+                    continue
+                file = path_of(target)
+                if file is not None:
+                    found = load(file)
+                    inside = found.names.get(used, (0, used))
+                    todo.append((file, used if used in found.definitions else inside[1]))
+    return seen, code
+
+
+def main():
+    arguments = sys.argv[1:] or ["program/specs/Running.antt"]
+    start = CRATES / arguments[0]
+    names = arguments[1:] or list(load(start).definitions)
+    seen, code = walk(start, names)
+    lines = {}
+    for path, name in seen:
+        where = str(path.relative_to(CRATES))
+        lines[where] = lines.get(where, 0) + len(load(path).definitions[name])
+    for where in sorted(lines):
+        print(f"{lines[where]:6} {where}")
+    print(f"{sum(lines.values()):6} lines of {len(seen)} definitions in {len(lines)} files")
+    if code:
+        print("types of the code: " + ", ".join(sorted(code)))
+
+
+main()

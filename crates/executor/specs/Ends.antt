@@ -1,0 +1,27 @@
+-- The buffers of a launch, as lists of numbers, with which its runs end.
+use Rattle.std.specs.Prelude.{◌≡◌, ◌<◌, ℕ, ℤ, pos, List, [], length, map, slice_index_or, Some}
+use Rattle.semantics.specs.Setup.{Setup}
+use Rattle.semantics.specs.Memory.{Memory, Cell}
+use Rattle.semantics.specs.World.{World, Event, opening_world, run}
+use Rattle.semantics.specs.Headline.{IsOver}
+use Rattle.semantics.specs.Rounds.{result_by_rounds}
+
+-- an element of a buffer, which belongs to no group
+abbrev pub at : (buffer index : ℕ) → Cell
+at buffer index = record { owner = 0; array = buffer; index = index }
+
+abbrev pub element : List (List ℤ) → (buffer index : ℕ) → ℤ
+element b buffer index = slice_index_or (slice_index_or b buffer []) index (pos 0)
+
+-- buffers as long as the launch's, with the numbers that a memory has
+pub record HasBuffers (s : Setup) (m : Memory) (b : List (List ℤ)) : Type 0 where
+  pub lengths : map length b ≡ map length s.launch.buffers
+  pub elements : (buffer index : ℕ) → index < length (slice_index_or s.launch.buffers buffer []) → element b buffer index ≡ m (at buffer index)
+
+-- the result by rounds
+abbrev pub IsResultOf : Setup → ℕ → List (List ℤ) → Type 0
+IsResultOf s bound b = HasBuffers s (result_by_rounds s bound) b
+
+-- what each run of the launch that is over ends with
+abbrev pub EndsEvery : Setup → List (List ℤ) → Type 0
+EndsEvery s b = (es : List Event) (w : World) → run s es (opening_world s) ≡ Some w → IsOver s w → HasBuffers s w.memory b

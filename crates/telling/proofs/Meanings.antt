@@ -1,0 +1,60 @@
+-- What the code's kernel, conditions, launch and buffers are in the promise.
+use Rattle.std.proofs.Common.{◌≡◌, ℕ, List, [], ◌∷◌, map, refl, ap, sym, ◌∙◌, subst}
+use Rattle.std.specs.Prelude.{Ok, Vec}
+use Rattle.std.specs.declared.alloc.Global.{Global}
+use Rattle.semantics.specs.Launch as meaning
+use Rattle.semantics.specs.Launch.{Fits}
+use Rattle.semantics.specs.Conditions.{Meets}
+use Rattle.semantics.specs.Rounds.{IsDefined}
+use Rattle.texts.specs.ConditionsReading.{conditions_of}
+use Rattle.texts.specs.LaunchReading as given
+use Rattle.texts.specs.LaunchReading.{number, launch_of}
+use Rattle.texts.specs.LaunchText.{buffers_text}
+use Rattle.words.specs.View.{word, value_of}
+use Rattle.words.specs.declared.word.Word.{Word}
+use Rattle.syntax.specs.View.{kernel as tree_seen}
+use Rattle.syntax.specs.declared.tree.Kernel.{Kernel}
+use Rattle.core_code.specs.View.{kernel as core_seen}
+use Rattle.core_code.specs.declared.tree.Core.{Core}
+use Rattle.launch.specs.View.{conditions as conditions_seen, launch as launch_seen, buffer}
+use Rattle.launch.specs.declared.conditions.Conditions.{Conditions}
+use Rattle.launch.specs.declared.launches.Launch.{Launch}
+use Rattle.launch.specs.declared.launches.Buffers.{Buffers}
+use Rattle.launch_text.specs.View as view
+use Rattle.launch_text.specs.View.{lined}
+use Rattle.launch_text.proofs.LeastFits.{conditions_meant, launch_meant}
+use Rattle.reading.specs.Answers.{kernel_seen}
+use Rattle.reading.specs.Texts.{IsTextOf}
+use Rattle.cert_check.specs.Accepting.{at, HasHeadline}
+use Rattle.write_log.specs.Written.{words_of}
+use Rattle.executor.specs.Ends.{IsResultOf, EndsEvery}
+use Rattle.telling.specs.Telling.{IsSafe, IsRun}
+
+row_seen : (ws : List Word) → map number (map word ws) ≡ map value_of ws
+row_seen [] = refl
+row_seen (w ∷ ws) = ap (λ xs. value_of w ∷ xs) (row_seen ws)
+
+rows_seen : (bs : List (Vec Word Global)) → map (map number) (map view.words bs) ≡ map buffer bs
+rows_seen [] = refl
+rows_seen (b ∷ bs) = ap (λ x. x ∷ map (map number) (map view.words bs)) (row_seen b.items) ∙ ap (λ xs. buffer b ∷ xs) (rows_seen bs)
+
+pub is_safe : (kernel conditions : List ℕ) (t : Kernel × Core) (c : Conditions) → IsTextOf kernel (kernel_seen t) → conditions_of (tree_seen t.0).parameters conditions ≡ Ok (lined c) → HasHeadline (core_seen t.1) (conditions_seen c)
+    → IsSafe kernel conditions (kernel_seen t) (lined c)
+is_safe kernel conditions t c text read h = record { kernel_text = text; conditions_text = read; headline = subst (HasHeadline (core_seen t.1)) (sym (conditions_meant c)) h }
+
+pub is_run : (t : Kernel × Core) (c : Conditions) (launch written : List ℕ) (l : Launch) (b : Buffers) → launch_of (tree_seen t.0).parameters launch ≡ Ok (view.launch l) → Fits (core_seen t.1) (launch_seen l)
+    → Meets (conditions_seen c) (launch_seen l) → IsDefined (at (core_seen t.1) (launch_seen l)) c.budget → IsResultOf (at (core_seen t.1) (launch_seen l)) c.budget (words_of b)
+    → EndsEvery (at (core_seen t.1) (launch_seen l)) (words_of b) → written ≡ buffers_text (tree_seen t.0).parameters (view.buffers b.words) → IsRun (kernel_seen t) (lined c) launch written (view.launch l) (view.buffers b.words)
+is_run t c launch written l b read fits meets defined result every text =
+    let k = core_seen t.1 in
+    let m = sym (launch_meant l) in
+    let n = sym (rows_seen b.words.items) in
+    record {
+      launch_text = read;
+      fits = subst (Fits k) m fits;
+      meets = subst (λ x. Meets x (given.meant (view.launch l))) (sym (conditions_meant c)) (subst (Meets (conditions_seen c)) m meets);
+      defined = subst (λ (x : meaning.Launch). IsDefined (at k x) c.budget) m defined;
+      result = subst (λ (x : meaning.Launch). IsResultOf (at k x) c.budget (map (map number) (view.buffers b.words))) m (subst (IsResultOf (at k (launch_seen l)) c.budget) n result);
+      every = subst (λ (x : meaning.Launch). EndsEvery (at k x) (map (map number) (view.buffers b.words))) m (subst (EndsEvery (at k (launch_seen l))) n every);
+      text = text;
+    }

@@ -64,11 +64,11 @@ fn differs(sizes: [u32; 3], conditions: &Conditions, scope: Scope, dimension: u3
 }
 
 /// An access is of this buffer.
-fn is_of<D: Copy>(buffer: u32, path: &Path<D>, i: usize) -> bool
+fn is_of<D: Copy>(buffer: usize, path: &Path<D>, i: usize) -> bool
     requires { i < length path.now.accesses.items }
     ensures { result ≡ nat_eq (nth_access (seen_accesses path.now) i).buffer buffer }
 {
-    path.accesses[i].buffer == buffer
+    path.accesses[i].buffer as usize == buffer
 }
 
 /// An access is a store.
@@ -80,7 +80,7 @@ fn is_store<D: Copy>(path: &Path<D>, i: usize) -> bool
 }
 
 /// Both accesses are of this buffer, and one of them at least is a store.
-fn conflict<D: Copy>(buffer: u32, first: &Path<D>, second: &Path<D>, i: usize, j: usize) -> bool
+fn conflict<D: Copy>(buffer: usize, first: &Path<D>, second: &Path<D>, i: usize, j: usize) -> bool
     requires first { i < length first.now.accesses.items }
     requires second { j < length second.now.accesses.items }
     ensures { result ≡ specs.conflict buffer (nth_access (seen_accesses first.now) i) (nth_access (seen_accesses second.now) j) }
@@ -171,7 +171,7 @@ fn with_one<D: Copy>(
     first: &Path<D>,
     second: &Path<D>,
     scope: Scope,
-    buffer: u32,
+    buffer: usize,
     i: usize,
     j: usize,
 ) -> Result<(), WalkError>
@@ -194,7 +194,7 @@ fn with_each<D: Copy>(
     first: &Path<D>,
     second: &Path<D>,
     scope: Scope,
-    buffer: u32,
+    buffer: usize,
     i: usize,
 ) -> Result<(), WalkError>
     requires { i < length first.now.accesses.items }
@@ -215,7 +215,7 @@ fn pairs_in<D: Copy>(
     first: &Path<D>,
     second: &Path<D>,
     scope: Scope,
-    buffer: u32,
+    buffer: usize,
 ) -> Result<(), WalkError>
     ensures exact { MatchResult result (λ _. Adds (seen_accesses first.now) (seen_accesses second.now) found.old.items found.new.items (specs.pairs_in (three sizes) (conditions_seen conditions.now) buffer (seen_accesses first.now) (seen_accesses second.now) (scope_seen scope))) IsMemory }
     ensures inside { IfOk result (λ _. All (IsInside (length first.now.accesses.items) (length second.now.accesses.items)) found.old.items → All (IsInside (length first.now.accesses.items) (length second.now.accesses.items)) found.new.items) }
@@ -234,7 +234,7 @@ fn pairs_of<D: Copy>(
     conditions: &Conditions,
     first: &Path<D>,
     second: &Path<D>,
-    buffer: u32,
+    buffer: usize,
 ) -> Result<(), WalkError>
     ensures exact { MatchResult result (λ _. Adds (seen_accesses first.now) (seen_accesses second.now) found.old.items found.new.items (specs.pairs_of (three sizes) (conditions_seen conditions.now) buffer (seen_accesses first.now) (seen_accesses second.now))) IsMemory }
     ensures inside { IfOk result (λ _. All (IsInside (length first.now.accesses.items) (length second.now.accesses.items)) found.old.items → All (IsInside (length first.now.accesses.items) (length second.now.accesses.items)) found.new.items) }
@@ -260,8 +260,7 @@ fn pairs_of<D: Copy>(
     Ok(())
 }
 
-/// The pairs of all buffers, by the number of the buffer: in each those of one group, then those of two. A list of buffers that is
-/// longer than 32 bits count stands in no memory.
+/// The pairs of all buffers, by the number of the buffer: in each those of one group, then those of two.
 pub fn all_pairs<D: Copy>(
     alloc: Global,
     sizes: [u32; 3],
@@ -274,13 +273,10 @@ pub fn all_pairs<D: Copy>(
     ensures inside { IfOk result (λ v. All (IsInside (length first.now.accesses.items) (length second.now.accesses.items)) v.items) }
 {
     let mut found = Vec::new(alloc);
-    let mut buffer = 0u32;
+    let mut buffer = 0usize;
     for _kind in buffers {
         pairs_of(&mut found, sizes, conditions, first, second, buffer)?;
-        let Some(next) = buffer.checked_add(1) else {
-            return Err(WalkError::Memory);
-        };
-        buffer = next;
+        buffer += 1;
     }
     Ok(found)
 }

@@ -65,10 +65,10 @@ pub fn invent<D: Domain>(
     ensures { MatchResult result (λ f. Leads (met path.old) (met path.new) (walks.invent (seen D.Domain setting.now item) element) (form_seen f)) (λ e. Halts ⊥ (met path.old) e (walks.invent (seen D.Domain setting.now item) element)) }
 {
     let index = path.elements.len();
-    if index > 4_294_967_295 {
+    if index >= 1 << 59 {
         return Err(WalkError::Memory);
     }
-    let newest = once_new(alloc, item, index as u32)?;
+    let newest = once_new(alloc, item, index)?;
     let bounds = element.bounds();
     know_low(alloc, path, &newest, bounds.low)?;
     know_high(alloc, path, &newest, bounds.high)?;

@@ -200,7 +200,7 @@ pub fn walk_term<D: Domain>(
         }),
         Term::Variable { slot } => Ok(Value {
             kind: argument_kind(setting, item, *slot),
-            form: once_given(alloc, *slot)?,
+            form: once_given(alloc, *slot as usize)?,
         }),
         Term::Id {
             function,

@@ -30,7 +30,7 @@ fn in_buffer<D: Domain>(
 ) -> Result<(), WalkError>
     ensures { MatchResult result (λ _. Steps (met path.old) (met path.new) (walks.in_buffer (seen D.Domain setting.now item) buffer (form_seen index.now))) (λ e. Stops ⊥ (met path.old) e (walks.in_buffer (seen D.Domain setting.now item) buffer (form_seen index.now))) }
 {
-    let last = less_number(alloc, &once_length(alloc, buffer)?, 1)?;
+    let last = less_number(alloc, &once_length(alloc, buffer as usize)?, 1)?;
     let room = last.sub(alloc, index)?;
     let from_zero = index.copy(alloc)?;
     claim(setting, item, path, true, from_zero)?;

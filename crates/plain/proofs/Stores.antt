@@ -4,7 +4,7 @@ use Rattle.std.specs.Prelude.{ℤ, pos, negsuc, unsigned_abs, ◌+ℤ◌, ◌-�
 use Rattle.std.proofs.lemmas.Int.{ints}
 use Rattle.std.proofs.lemmas.Bool.Decides.{nat_tests}
 use Rattle.semantics.specs.Word.{Kind, Int, Uint, in_kind, Add, Multiply}
-use Rattle.semantics.specs.Core.{Site, Term, GlobalId, Statements, none, one}
+use Rattle.semantics.specs.Core.{Site, Global, Term, GlobalId, Statements, none, one}
 use Rattle.semantics.specs.Launch.{Kernel}
 use Rattle.semantics.specs.Conditions.{Conditions}
 use Rattle.linear.specs.Exact.{Terms, put, multiple}
@@ -13,7 +13,7 @@ use Rattle.linear.proofs.Sizes.{size_difference}
 use Rattle.facts.specs.Symbols.{Which, Length, Given, Fact, constant, once, minus}
 use Rattle.facts.specs.Elements.{between}
 use Rattle.walk.specs.Trees.{Tree, Leaf, Touch}
-use Rattle.walk.specs.Walks.{Setting, State, Value, value, newest, with_new, Onward, setting, settles, claimed, ranged, kept_or_new, brought_from, id_form, walk, walk_all, in_buffer, joined, exact}
+use Rattle.walk.specs.Walks.{Setting, State, Value, value, newest, with_new, Onward, setting, settles, claimed, ranged, kept_or_new, brought_from, id_form, walk, walk_all, in_buffer, store_of, joined, exact}
 use Rattle.plain.specs.Domains.{domain}
 use Rattle.plain.specs.Claims.{brings, ranges, claims}
 use Rattle.plain.specs.Kernels.{plain_index, is_int, is_signed, has_signed, IsPlainValue, Number, BroughtNumber, Parameter, BroughtParameter, Plain, ArePlain, last_index}
@@ -113,13 +113,13 @@ module _ (k : Kernel) (c : Conditions) (h : ℕ → Bool) (w : Which) (m n : ℕ
 
   pub body-tame : (body : Statements) → ArePlain k.arguments k.sizes.x c.groups.x.high body → (has_signed k.arguments body ≡ true → signed) → (st : State Both) → IsTame h signed (claims k.arguments body) st.claims (walk_all s body st (λ st. Leaf))
   body-tame none p g st = refl
-  body-tame (one i others) (Plain _ buffer site a p kf kc f z v hf hz last pv, q) g st =
+  body-tame (one i others) (Plain num buffer site a p kf kc f z v hf hz last pv, q) g st =
       let lf = below kf f hf in
       let b = last_below f z k.sizes.x m n c.groups.x.high em en last in
       let form = id_multiple w (suc m) (pos f) (pos z) in
       let l : size form ≤ 4402341478400 = small f z lf b in
       let rs : List Bool = claims k.arguments others in
-      let on : State Both → Tree Both = λ st2. in_buffer s buffer form st2 (λ st3. Touch true buffer form st3.elements (walk_all s others st3 (λ st4. Leaf))) in
+      let on : State Both → Tree Both = λ st2. in_buffer s buffer form st2 (λ st3. Touch (store_of num (record { space = Global; number = buffer }) site) form st3.elements (walk_all s others st3 (λ st4. Leaf))) in
       let before = minus (once (Length buffer)) (constant (pos 1)) in
       let room : size (minus before form) ≤ most = less before form most (omega (arith, l, less (once (Length buffer)) (constant (pos 1)) 2 (omega arith))) in
       index-tame a p kf kc f z lf b (ranges k.arguments v (false ∷ false ∷ rs)) st _ (λ st1.

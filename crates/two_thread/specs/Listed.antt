@@ -4,7 +4,7 @@ use Rattle.domain.specs.declared.Domain.{Ghosts}
 use Rattle.linear.specs.Forms.{forms}
 use Rattle.facts.specs.Symbols.{Fact, constant, denial}
 use Rattle.facts.specs.View.{known_seen}
-use Rattle.walk.specs.Trees.{Obligation}
+use Rattle.walk.specs.Trees.{OfIndex, Obligation}
 use Rattle.walk.specs.Collected.{Claimed}
 use Rattle.walk.specs.Refusals.{are_fit}
 use Rattle.walk.specs.View.{met}
@@ -23,20 +23,20 @@ abbrev pub flagged : (entries : List Bool) → ℕ → Bool
 flagged entries n = slice_index_or entries n false
 
 abbrev pub owed : (launch : List Fact) → Claimed → Obligation
-owed launch c = record { needed = c.needed; settled = c.settled; facts = launch ++ (c.facts ++ denial c.claim ∷ []) }
+owed launch c = record { sort = c.sort; needed = c.needed; settled = c.settled; facts = launch ++ (c.facts ++ denial c.claim ∷ []) }
 
 abbrev pub seen_claims : {E : Type 0} → Path E → List Claimed
 seen_claims p = (met p).found.claims
 
 -- past the end
 abbrev pub no_claim : Claimed
-no_claim = record { needed = false; settled = false; claim = constant (pos 0); facts = [] }
+no_claim = record { sort = OfIndex; needed = false; settled = false; claim = constant (pos 0); facts = [] }
 
 abbrev pub no_pair : Pair
 no_pair = record { first = 0; second = 0; scope = Within; dimension = 0; order = Below }
 
 abbrev pub no_obligation : Obligation
-no_obligation = record { needed = false; settled = false; facts = [] }
+no_obligation = record { sort = OfIndex; needed = false; settled = false; facts = [] }
 
 abbrev pub found_pairs : {E : Type 0} → (first second : Path E) → List Pair → List (specs.Pair E)
 found_pairs first second ps = map (pair (seen_accesses first) (seen_accesses second)) ps

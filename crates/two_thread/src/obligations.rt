@@ -26,7 +26,7 @@ use facts::{WalkError, Which, item_facts, known, launch_facts};
 use launch::conditions::Conditions;
 use linear::Form;
 use std::alloc::Global;
-use walk::{Path, Setting, walk};
+use walk::{Path, Setting, Sort, walk};
 
 /// The obligations of a kernel, numbered from 1: the claims of one item, then the pairs of accesses of two items that may clash. There
 /// are at most 65,536.
@@ -81,6 +81,7 @@ impl<D: Domain> Obligations<D> {
     ghost use Rattle.core_code.specs.View.{kernel as core_seen};
     ghost use Rattle.linear.specs.Forms.{forms};
     ghost use Rattle.launch.specs.View.{conditions as conditions_seen};
+    ghost use Rattle.walk.specs.View.{sort as sort_seen};
     ghost use Rattle.two_thread.specs.Fitting.{forms_fit};
     ghost use Rattle.two_thread.specs.Refusals.{DoNotFit};
     ghost use Rattle.two_thread.specs.Shown.{obligations};
@@ -122,6 +123,20 @@ impl<D: Domain> Obligations<D> {
         ensures few { result ≤ 65536 }
     {
         self.first.claims.len() + self.pairs.len()
+    }
+
+    /// What is to be shown, by which an entry fits or does not.
+    pub fn sort(&self, number: usize) -> Sort
+        requires first { 0 < number }
+        requires last { number ≤ length (listed D.Domain self.now) }
+        ensures { sort_seen result ≡ (nth_obligation (listed D.Domain self.now) number).sort }
+    {
+        let i = number - 1;
+        if i < self.first.claims.len() {
+            let claim = &self.first.claims[i];
+            return claim.sort;
+        }
+        Sort::OfPair
     }
 
     /// It is to be shown also where it has no entry.

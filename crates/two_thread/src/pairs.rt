@@ -5,15 +5,17 @@ ghost use Rattle.std.specs.List.{All};
 ghost use Rattle.launch.specs.View.{conditions as conditions_seen};
 ghost use Rattle.facts.specs.Launching.{count_range};
 ghost use Rattle.facts.specs.View.{three};
+ghost use Rattle.walk.specs.View.{target as target_seen};
 ghost use Rattle.two_thread.specs.Pairs as specs;
 ghost use Rattle.facts.specs.Refusals.{IsMemory};
 ghost use Rattle.two_thread.specs.Refusals.{IsInside};
 ghost use Rattle.two_thread.specs.View.{scope as scope_seen, order as order_seen, pair as pair_seen, nth_access, seen_accesses, Adds};
 
+use core_code::tree::Space;
 use facts::WalkError;
 use launch::conditions::Conditions;
 use std::alloc::Global;
-use walk::Path;
+use walk::{Path, Target};
 use words::Kind;
 
 /// Items of one group, which differ in a local id, or of two groups, which differ in a group id.
@@ -63,20 +65,27 @@ fn differs(sizes: [u32; 3], conditions: &Conditions, scope: Scope, dimension: u3
     }
 }
 
+/// A target is this buffer.
+fn is_buffer(target: Target, buffer: usize) -> bool
+    ensures { result ≡ specs.is_buffer (target_seen target) buffer }
+{
+    target.array.space == Space::Global && target.array.number as usize == buffer
+}
+
 /// An access is of this buffer.
 fn is_of<D: Copy>(buffer: usize, path: &Path<D>, i: usize) -> bool
     requires { i < length path.now.accesses.items }
-    ensures { result ≡ nat_eq (nth_access (seen_accesses path.now) i).buffer buffer }
+    ensures { result ≡ specs.is_buffer (nth_access (seen_accesses path.now) i).target buffer }
 {
-    path.accesses[i].buffer as usize == buffer
+    is_buffer(path.accesses[i].target, buffer)
 }
 
 /// An access is a store.
 fn is_store<D: Copy>(path: &Path<D>, i: usize) -> bool
     requires { i < length path.now.accesses.items }
-    ensures { result ≡ (nth_access (seen_accesses path.now) i).is_store }
+    ensures { result ≡ (nth_access (seen_accesses path.now) i).target.is_store }
 {
-    path.accesses[i].is_store
+    path.accesses[i].target.is_store
 }
 
 /// Both accesses are of this buffer, and one of them at least is a store.

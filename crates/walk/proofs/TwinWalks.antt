@@ -135,7 +135,7 @@ module _ {E : Type 0} (g : Ghosts E) (k : Kernel) (c : Conditions) (has_entry : 
   walk_all-same : (ss : Statements) (st : State E) (go to : State E → Tree E) → ((st : State E) → Same (go st) (to st)) → Same (walk_all s1 ss st go) (walk_all s2 ss st to)
   walk_all-same none st go to n = n st
   walk_all-same (one (Store m a site index e) rest) st go to n =
-      walk-same index st _ _ (λ qi fi hi pi st1. walk-same e st1 _ _ (λ qe fe he pe st2. (refl, refl, pi, refl, walk_all-same rest (claimed (claimed st2)) go to n)))
+      walk-same index st _ _ (λ qi fi hi pi st1. walk-same e st1 _ _ (λ qe fe he pe st2. (refl, pi, refl, walk_all-same rest (claimed (claimed st2)) go to n)))
   walk_all-same (one (Set m x e) rest) st go to n = tt
   walk_all-same (one (If m t a b) rest) st go to n = tt
   walk_all-same (one (Loop m t a b) rest) st go to n = tt

@@ -2,7 +2,7 @@
 -- choices can be told in the same way.
 use Rattle.std.specs.Prelude.{ℕ, suc, ◌+◌, ℤ, pos, negsuc, List, [], ◌∷◌, ◌++◌, length, Bool, true, false, ◌&&◌, ◌||◌, cond, nat_lt, slice_index_or, Option, Some, None}
 use Rattle.semantics.specs.Word.{Kind, Int, Uint, Operator, Multiply}
-use Rattle.semantics.specs.Core.{Function, GlobalId, LocalId, GroupId, GlobalSize, LocalSize, NumGroups, Term, Literal, Variable, Id, Binary, Convert, Statement, Store, Statements, none, one}
+use Rattle.semantics.specs.Core.{Array, Site, Function, GlobalId, LocalId, GroupId, GlobalSize, LocalSize, NumGroups, Term, Literal, Variable, Id, Binary, Convert, Statement, Store, Statements, none, one}
 use Rattle.semantics.specs.Launch.{Three, Kernel}
 use Rattle.semantics.specs.Setup.{along}
 use Rattle.semantics.specs.Linear.{Weighted}
@@ -14,7 +14,7 @@ use Rattle.facts.specs.Symbols as symbols
 use Rattle.facts.specs.Symbols.{Which, First, Second, Symbol, Given, Length, New, Fact, constant, once, minus}
 use Rattle.facts.specs.Elements.{Known, Elements, elements_of, between, element_of, is_settled}
 use Rattle.facts.specs.Launching.{known}
-use Rattle.walk.specs.Trees.{Tree, Leaf, Claim, Know, Touch}
+use Rattle.walk.specs.Trees.{Sort, OfRange, OfIndex, Target, Tree, Leaf, Claim, Know, Touch}
 
 -- what a walk is of: a domain with what it knows, the local sizes, the kinds of the value parameters, the item, and the numbers
 -- of the obligations that have an entry
@@ -52,8 +52,8 @@ abbrev pub claimed : {E : Type 0} → State E → State E
 claimed st = record { claims = suc st.claims; elements = st.elements }
 
 -- one claim, which is numbered
-abbrev pub claim : {E : Type 0} → Setting E → Bool → Fact → State E → (State E → Tree E) → Tree E
-claim s needed f st go = Claim needed (settles s st f) f (go (claimed st))
+abbrev pub claim : {E : Type 0} → Setting E → Sort → Bool → Fact → State E → (State E → Tree E) → Tree E
+claim s o needed f st go = Claim o needed (settles s st f) f (go (claimed st))
 
 abbrev pub lower_fact : Fact → Option ℤ → (rest : List Fact) → List Fact
 lower_fact f None rest = rest
@@ -96,7 +96,7 @@ high_end k f = minus (constant (greatest k)) f
 
 -- the two ends of a kind's range
 abbrev pub in_range : {E : Type 0} → Setting E → Bool → Kind → Fact → State E → (State E → Tree E) → Tree E
-in_range s needed k f st go = claim s needed (low_end k f) st (λ st'. claim s needed (high_end k f) st' go)
+in_range s needed k f st go = claim s (OfRange k) needed (low_end k f) st (λ st'. claim s (OfRange k) needed (high_end k f) st' go)
 
 -- both claims are settled or have an entry
 abbrev pub is_kept : {E : Type 0} → Setting E → Fact → State E → Bool
@@ -172,16 +172,19 @@ walk s t st go = Leaf
 
 -- an index is at least 0, and below its buffer's length
 abbrev pub in_buffer : {E : Type 0} → Setting E → ℕ → Fact → State E → (State E → Tree E) → Tree E
-in_buffer s b i st go = claim s true i st (λ st'. claim s true (minus (minus (once (Length b)) (constant (pos 1))) i) st' go)
+in_buffer s b i st go = claim s OfIndex true i st (λ st'. claim s OfIndex true (minus (minus (once (Length b)) (constant (pos 1))) i) st' go)
+
+abbrev pub store_of : (statement : ℕ) → Array → Site → Target
+store_of n a site = record { is_store = true; array = a; statement = n; site = site }
 
 -- the index, the value, then the access
-abbrev pub walk_store : {E : Type 0} → Setting E → (buffer : ℕ) → (index value : Term) → State E → (State E → Tree E) → Tree E
-walk_store s b index e st go =
+abbrev pub walk_store : {E : Type 0} → Setting E → Target → (index value : Term) → State E → (State E → Tree E) → Tree E
+walk_store s t index e st go =
     walk s index st (λ i st1. walk s e st1 (λ v st2.
-    in_buffer s b i.form st2 (λ st3. Touch true b i.form st3.elements (go st3))))
+    in_buffer s t.array.number i.form st2 (λ st3. Touch t i.form st3.elements (go st3))))
 
 abbrev pub walk_one : {E : Type 0} → Setting E → Statement → State E → (State E → Tree E) → Tree E
-walk_one s (Store n a site index e) st go = walk_store s a.number index e st go
+walk_one s (Store n a site index e) st go = walk_store s (store_of n a site) index e st go
 walk_one s t st go = Leaf
 
 abbrev pub walk_all : {E : Type 0} → Setting E → Statements → State E → (State E → Tree E) → Tree E

@@ -5,9 +5,9 @@ ghost use Rattle.linear.specs.Forms.{form as form_seen, forms};
 ghost use Rattle.walk.specs.Collected.{opening, with_claim, with_fact, with_element, with_access};
 ghost use Rattle.facts.specs.Refusals.{IsMemory};
 ghost use Rattle.walk.specs.Refusals.{Refused};
-ghost use Rattle.walk.specs.View.{met};
+ghost use Rattle.walk.specs.View.{met, sort as sort_seen, target as target_seen};
 
-use crate::path::{Access, Claim, Path};
+use crate::path::{Access, Claim, Path, Sort, Target};
 use facts::WalkError;
 use linear::Form;
 use std::alloc::Global;
@@ -27,14 +27,21 @@ impl<D: Copy> Path<D> {
     }
 
     /// One claim more; at most 65,536 are made.
-    pub fn claim(&mut self, needed: bool, settled: bool, form: Form) -> Result<(), WalkError>
-        ensures { MatchResult result (λ _. met self.new ≡ with_claim (met self.old) needed settled (form_seen form)) (λ e. Refused ⊥ e (with_claim (met self.old) needed settled (form_seen form)).found) }
+    pub fn claim(
+        &mut self,
+        sort: Sort,
+        needed: bool,
+        settled: bool,
+        form: Form,
+    ) -> Result<(), WalkError>
+        ensures { MatchResult result (λ _. met self.new ≡ with_claim (met self.old) (sort_seen sort) needed settled (form_seen form)) (λ e. Refused ⊥ e (with_claim (met self.old) (sort_seen sort) needed settled (form_seen form)).found) }
     {
         if self.claims.len() >= 65_536 {
             return Err(WalkError::TooMany);
         }
         let facts = self.facts.len();
         self.claims.push(Claim {
+            sort,
             needed,
             settled,
             form,
@@ -60,14 +67,13 @@ impl<D: Copy> Path<D> {
     }
 
     /// One access more.
-    pub fn touch(&mut self, is_store: bool, buffer: u32, index: Form) -> Result<(), WalkError>
-        ensures { MatchResult result (λ _. met self.new ≡ with_access (met self.old) is_store buffer (form_seen index) (met self.old).elements) IsMemory }
+    pub fn touch(&mut self, target: Target, index: Form) -> Result<(), WalkError>
+        ensures { MatchResult result (λ _. met self.new ≡ with_access (met self.old) (target_seen target) (form_seen index) (met self.old).elements) IsMemory }
     {
         let facts = self.facts.len();
         let elements = self.elements.len();
         self.accesses.push(Access {
-            is_store,
-            buffer,
+            target,
             index,
             facts,
             elements,

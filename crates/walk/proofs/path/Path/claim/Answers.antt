@@ -1,6 +1,6 @@
 use Rattle.std.proofs.Common.{rules, ◌≡◌, ◌≤◌, length}
 use Rattle.linear.specs.Forms.{form}
-use Rattle.walk.specs.View.{met}
+use Rattle.walk.specs.View.{met, sort}
 use Rattle.walk.proofs.Refusing.{full}
 use Rattle.walk.proofs.Paths.{claims_more}
 use Rattle.walk.proofs.path.Path.claim.Goals as goal
@@ -15,4 +15,4 @@ returns g c =
 pub returns-then-len-ge65536 : goal.returns-then-len-ge65536
 returns-then-len-ge65536 g c =
     let h : 65536 ≤ length c.args.self.now.claims.items = search rules in
-    full c.args.self.now c.args.needed c.args.settled (form c.args.form) h
+    full c.args.self.now (sort c.args.sort) c.args.needed c.args.settled (form c.args.form) h

@@ -9,7 +9,7 @@ use Rattle.semantics.specs.Launch.{Kernel}
 use Rattle.semantics.specs.Conditions.{Conditions}
 use Rattle.linear.specs.Exact.{Terms, put, multiple}
 use Rattle.linear.specs.Sizes.{terms_size, size}
-use Rattle.linear.proofs.Sizes.{size_difference}
+use Rattle.linear.proofs.Sizes.{size-put, size_difference}
 use Rattle.facts.specs.Symbols.{Which, Length, Given, Fact, constant, once, minus}
 use Rattle.facts.specs.Elements.{between}
 use Rattle.walk.specs.Trees.{Tree, Leaf, Touch}
@@ -20,11 +20,6 @@ use Rattle.plain.specs.Kernels.{plain_index, is_int, is_signed, has_signed, IsPl
 use Rattle.plain.proofs.Terms.{Both}
 use Rattle.plain.proofs.Indexes.{local, group, id_multiple, settles_up, settles_down, low-multiple, minus-multiple, id-form, multiple-id, sum-multiple, number-multiple}
 use Rattle.plain.proofs.Trees.{most, IsTame, range-tame, range-asked}
-
-size-put : (z : ℤ) (s : ℕ) (ts : Terms) → terms_size (put z s ts) ≡ unsigned_abs z + terms_size ts
-size-put (pos zero) s ts = omega arith
-size-put (pos (suc n)) s ts = refl
-size-put (negsuc n) s ts = refl
 
 -- how large a multiple of the id is
 multiple-size : (w : Which) (size' f z : ℕ) → size (id_multiple w size' (pos f) (pos z)) ≡ z + (f * 1 + (f * size' + 0))

@@ -7,7 +7,7 @@ use Rattle.std.proofs.Math.Seq.{take-length}
 use Rattle.linear.specs.Forms.{form, forms}
 use Rattle.linear.specs.declared.form.Form.{Form}
 use Rattle.facts.specs.Symbols.{Fact}
-use Rattle.facts.proofs.Facts.{length-forms, forms_more}
+use Rattle.linear.proofs.FormLists.{length-forms, forms_more}
 use Rattle.walk.specs.Before.{HasFacts, HasAll}
 use Rattle.walk.specs.View.{sort, target, claim_seen, access_seen}
 use Rattle.walk.specs.declared.path.Claim.{Claim}

@@ -1,5 +1,5 @@
 use Rattle.walk.specs.View.{met}
-use Rattle.facts.proofs.Facts.{forms_more}
+use Rattle.linear.proofs.FormLists.{forms_more}
 use Rattle.walk.proofs.Paths.{claims_kept, accesses_kept}
 use Rattle.walk.proofs.path.Path.know.Goals as goal
 

@@ -5,7 +5,7 @@ use Rattle.std.proofs.lemmas.Bool.{and_parts}
 use Rattle.semantics.specs.Word.{Uint}
 use Rattle.facts.specs.Symbols.{Fact}
 use Rattle.walk.specs.Trees.{OfRange, Tree, Leaf, Claim, Know, Touch}
-use Rattle.walk.specs.Walks.{Setting, State, value, Onward, settles, claimed, ranged, kept_or_new, in_range, is_kept, low_end, high_end}
+use Rattle.walk.specs.Walks.{demand, Setting, State, value, Onward, settles, claimed, ranged, kept_or_new, in_range, is_kept, low_end, high_end}
 use Rattle.linear.specs.Sizes.{size}
 
 -- forms that are small: no sum of a few of them leaves i64
@@ -46,10 +46,10 @@ module _ {E : Type 0} (s : Setting E) where
 
   -- both ends are settled
   pub range-settled : (f : Fact) (st : State E) (go : Onward E) → settles s st (low_end Uint f) ≡ true → settles s st (high_end Uint f) ≡ true →
-      ranged s Uint f st go ≡ Claim (OfRange Uint) true true (low_end Uint f) (Claim (OfRange Uint) true true (high_end Uint f) (go (value Uint f) (claimed (claimed st))))
+      ranged s Uint f st go ≡ Claim (demand (OfRange Uint) st) true true (low_end Uint f) (Claim (demand (OfRange Uint) st) true true (high_end Uint f) (go (value Uint f) (claimed (claimed st))))
   range-settled f st go p q =
       ap (λ b. in_range s b Uint f st (λ st'. kept_or_new s b f st' go)) (kept f st p q)
-      ∙ (λ i. Claim (OfRange Uint) true (p i) (low_end Uint f) (Claim (OfRange Uint) true (q i) (high_end Uint f) (go (value Uint f) (claimed (claimed st)))))
+      ∙ (λ i. Claim (demand (OfRange Uint) st) true (p i) (low_end Uint f) (Claim (demand (OfRange Uint) st) true (q i) (high_end Uint f) (go (value Uint f) (claimed (claimed st)))))
 
   pub range-tame : (h : ℕ → Bool) (signed : Type 0) (rs : List Bool) (f : Fact) (st : State E) (go : Onward E) → settles s st (low_end Uint f) ≡ true → settles s st (high_end Uint f) ≡ true →
       IsSmall (low_end Uint f) → IsSmall (high_end Uint f) → IsTame h signed rs (suc (suc st.claims)) (go (value Uint f) (claimed (claimed st))) → IsTame h signed (true ∷ true ∷ rs) st.claims (ranged s Uint f st go)

@@ -25,8 +25,8 @@ unfolding collect
 claims-collected launch m Leaf = sym (append-nil (map (owed launch) m.claims))
 claims-collected launch m (Claim o needed settled f t) =
     claims-collected launch (add_claim m o needed settled f) t
-    ∙ ap (λ l. l ++ claims launch m.facts t) (map-append (owed launch) m.claims (record { sort = o; needed = needed; settled = settled; claim = f; facts = m.facts } ∷ []))
-    ∙ append_assoc (map (owed launch) m.claims) (map (owed launch) (record { sort = o; needed = needed; settled = settled; claim = f; facts = m.facts } ∷ [])) (claims launch m.facts t)
+    ∙ ap (λ l. l ++ claims launch m.facts t) (map-append (owed launch) m.claims (record { demand = o; needed = needed; settled = settled; claim = f; facts = m.facts } ∷ []))
+    ∙ append_assoc (map (owed launch) m.claims) (map (owed launch) (record { demand = o; needed = needed; settled = settled; claim = f; facts = m.facts } ∷ [])) (claims launch m.facts t)
 claims-collected launch m (Know f t) = claims-collected launch (add_fact m f) t
 claims-collected launch m (Touch a i es t) = claims-collected launch (add_access m a i es) t
 

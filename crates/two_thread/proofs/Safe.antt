@@ -1,10 +1,9 @@
 -- Where all is shown, a straight-line kernel is pair-safe.
-use Rattle.std.proofs.Common.{◌≡◌, ◌≢◌, ℕ, suc, ◌+◌, ◌<◌, ◌≤◌, Bool, true, List, [], ◌∷◌, map, length, arith, refl, sym, ap, subst, inl, inr}
-use Rattle.std.specs.Prelude.{ℤ, ◌⊎◌}
+use Rattle.std.proofs.Common.{◌≡◌, ◌≢◌, ℕ, ◌+◌, ◌<◌, ◌≤◌, Bool, true, List, map, length, arith, sym, subst, inl, inr}
+use Rattle.std.specs.Prelude.{◌⊎◌}
 use Rattle.std.specs.List.{All, AllZip}
 use Rattle.std.proofs.lemmas.Bool.{and_parts, cases_eq}
-use Rattle.semantics.specs.Word.{Kind}
-use Rattle.semantics.specs.Launch.{Kernel, Launch, Fits, IsBuffer}
+use Rattle.semantics.specs.Launch.{Kernel, Launch, Fits}
 use Rattle.semantics.specs.Conditions.{Conditions, Meets}
 use Rattle.semantics.specs.Setup.{Setup, group_of, item_count}
 use Rattle.semantics.specs.Solo.{after}

@@ -1,5 +1,5 @@
 -- What is to be shown of two items: that no two of their accesses, one of them a store, are of one element.
-use Rattle.std.specs.Prelude.{ℕ, suc, pos, List, [], ◌∷◌, ◌++◌, Bool, true, false, ◌&&◌, ◌||◌, nat_eq, nat_lt, int_lt}
+use Rattle.std.specs.Prelude.{ℕ, suc, pos, List, [], ◌∷◌, ◌++◌, Bool, true, false, ◌&&◌, ◌||◌, nat_eq, nat_lt, int_lt, Some}
 use Rattle.semantics.specs.Launch.{Three}
 use Rattle.semantics.specs.Setup.{along}
 use Rattle.semantics.specs.Conditions.{Conditions}
@@ -55,7 +55,7 @@ abbrev pub is_apart : {E : Type 0} → Ghosts E → Known E → Pair E → Bool
 is_apart g k p = lacks_zero g (element_of g (record { known = k; first = p.first.elements; second = p.second.elements }) (minus p.first.index p.second.index))
 
 abbrev pub pair_obligation : {E : Type 0} → Ghosts E → Known E → (launch : List Fact) → Pair E → Obligation
-pair_obligation g k launch p = record { sort = OfPair; needed = true; settled = is_apart g k p; facts = pair_facts launch p }
+pair_obligation g k launch p = record { sort = OfPair; spot = p.first.target.spot; other = Some p.second.target.spot; needed = true; settled = is_apart g k p; facts = pair_facts launch p }
 
 -- dimensions in which two items can differ
 abbrev pub differs : Three ℕ → Conditions → Scope → ℕ → Bool

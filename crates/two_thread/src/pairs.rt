@@ -5,7 +5,7 @@ ghost use Rattle.std.specs.List.{All};
 ghost use Rattle.launch.specs.View.{conditions as conditions_seen};
 ghost use Rattle.facts.specs.Launching.{count_range};
 ghost use Rattle.facts.specs.View.{three};
-ghost use Rattle.walk.specs.View.{target as target_seen};
+ghost use Rattle.walk.specs.View.{spot as spot_seen, target as target_seen};
 ghost use Rattle.two_thread.specs.Pairs as specs;
 ghost use Rattle.facts.specs.Refusals.{IsMemory};
 ghost use Rattle.two_thread.specs.Refusals.{IsInside};
@@ -15,7 +15,7 @@ use core_code::tree::Space;
 use facts::WalkError;
 use launch::conditions::Conditions;
 use std::alloc::Global;
-use walk::{Path, Target};
+use walk::{Path, Spot, Target};
 use words::Kind;
 
 /// Items of one group, which differ in a local id, or of two groups, which differ in a group id.
@@ -86,6 +86,14 @@ fn is_store<D: Copy>(path: &Path<D>, i: usize) -> bool
     ensures { result ≡ (nth_access (seen_accesses path.now) i).target.is_store }
 {
     path.accesses[i].target.is_store
+}
+
+/// Where an access is.
+pub fn spot_of<D: Copy>(path: &Path<D>, i: usize) -> Spot
+    requires { i < length path.now.accesses.items }
+    ensures { spot_seen result ≡ (nth_access (seen_accesses path.now) i).target.spot }
+{
+    path.accesses[i].target.spot
 }
 
 /// Both accesses are of this buffer, and one of them at least is a store.

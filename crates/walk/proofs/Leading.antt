@@ -9,7 +9,7 @@ use Rattle.facts.specs.Elements.{between}
 use Rattle.walk.specs.Trees.{Sort, OfRange, OfIndex, Target, Tree, Know, Touch}
 use Rattle.walk.specs.Walks as walks
 use Rattle.walk.specs.Walks.{Setting, State, Value, Onward, settles, newest, claimed, know_all, bound_facts, lower_fact, upper_fact, low_end, high_end}
-use Rattle.walk.specs.Collected.{Met, collect, state_of, add_claim, with_claim, with_fact, with_element, with_access}
+use Rattle.walk.specs.Collected.{Met, collect, state_of, add_claim, with_claim, with_fact, with_element, with_access, with_spot}
 use Rattle.walk.specs.Leads.{Steps, Leads}
 
 pub one_more : {A : Type 0} (xs : List A) (x : A) → length (xs ++ x ∷ []) ≡ suc (length xs)
@@ -18,8 +18,8 @@ one_more xs x = length-append xs (x ∷ []) ∙ add-one (length xs)
 pub claim_steps : {E : Type 0} (s : Setting E) (o : Sort) (needed settled : Bool) (f : Fact) (m n : Met E) → settled ≡ settles s (state_of m) f → n ≡ with_claim m o needed settled f → Steps m n (walks.claim s o needed f)
 unfolding collect
 claim_steps s o needed settled f m n e d go =
-    ap (λ b. collect (add_claim m.found o needed b f) (go (claimed (state_of m)))) (sym e)
-    ∙ ap (λ k. collect (add_claim m.found o needed settled f) (go (record { claims = k; elements = m.elements }))) (sym (one_more m.found.claims _))
+    ap (λ b. collect (add_claim m.found (record { sort = o; spot = m.at }) needed b f) (go (claimed (state_of m)))) (sym e)
+    ∙ ap (λ k. collect (add_claim m.found (record { sort = o; spot = m.at }) needed settled f) (go (record { claims = k; elements = m.elements; at = m.at }))) (sym (one_more m.found.claims _))
     ∙ ap (λ (p : Met _). collect p.found (go (state_of p))) (sym d)
 
 -- a fact in front of what is known
@@ -68,10 +68,14 @@ buffer_steps s b i low last room l m n d e f a c go =
     (λ j. collect l.found (walks.claim s OfIndex true (sym d j) (state_of l) (λ st'. walks.claim s OfIndex true (sym (f ∙ ap (λ x. minus x i) e) j) st' go)))
     ∙ a (λ st'. walks.claim s OfIndex true room st' go) ∙ c go
 
-pub store_steps : {E : Type 0} (s : Setting E) (a : Target) (index e : Term) (x y : Value) (k l m n o : Met E) → Leads k l (walks.walk s index) x → Leads l m (walks.walk s e) y → Steps m n (walks.in_buffer s a.array.number x.form) → o ≡ with_access n a x.form n.elements → Steps k o (walks.walk_store s a index e)
+pub store_steps : {E : Type 0} (s : Setting E) (a : Target) (index e : Term) (x y : Value) (h k l m n o z : Met E) → k ≡ with_spot h a.spot → Leads k l (walks.walk s index) x → Leads l m (walks.walk s e) y → n ≡ with_spot m a.spot → Steps n o (walks.in_buffer s a.array.number x.form) → z ≡ with_access o a x.form o.elements → Steps h z (walks.walk_store s a index e)
 unfolding collect
-store_steps s a index e x y k l m n o p q r t go =
-    p (λ i st1. walks.walk s e st1 (λ v st2. walks.in_buffer s a.array.number i.form st2 (λ st3. Touch a i.form st3.elements (go st3))))
-    ∙ q (λ v st2. walks.in_buffer s a.array.number x.form st2 (λ st3. Touch a x.form st3.elements (go st3)))
+store_steps s a index e x y h k l m n o z b p q d r t go =
+    let last : Value → State _ → Tree _ = λ i st2. walks.in_buffer s a.array.number i.form (walks.stand a.spot st2) (λ st3. Touch a i.form st3.elements (go st3)) in
+    let onto : Value → State _ → Tree _ = λ i st1. walks.walk s e st1 (λ v st2. last i st2) in
+    ap (λ (u : Met _). collect u.found (walks.walk s index (state_of u) onto)) (sym b)
+    ∙ p onto
+    ∙ q (λ v st2. last x st2)
+    ∙ ap (λ (u : Met _). collect u.found (walks.in_buffer s a.array.number x.form (state_of u) (λ st3. Touch a x.form st3.elements (go st3)))) (sym d)
     ∙ r (λ st3. Touch a x.form st3.elements (go st3))
-    ∙ ap (λ (z : Met _). collect z.found (go (state_of z))) (sym t)
+    ∙ ap (λ (u : Met _). collect u.found (go (state_of u))) (sym t)

@@ -9,17 +9,17 @@ use Rattle.linear.specs.declared.form.Form.{Form}
 use Rattle.facts.specs.Symbols.{Fact}
 use Rattle.linear.proofs.FormLists.{length-forms, forms_more}
 use Rattle.walk.specs.Before.{HasFacts, HasAll}
-use Rattle.walk.specs.View.{sort, target, claim_seen, access_seen}
+use Rattle.walk.specs.View.{sort, spot, target, claim_seen, access_seen}
 use Rattle.walk.specs.declared.path.Claim.{Claim}
 use Rattle.walk.specs.declared.path.Access.{Access}
 
 whole : (fs : List Form) (n : ℕ) → n ≡ length fs → take n (forms fs) ≡ forms fs
 whole fs n e = ap (λ k. take k (forms fs)) (e ∙ sym (length-forms fs)) ∙ take-length (forms fs)
 
-pub claims_more : (fs : List Form) (cs ds : List Claim) (c : Claim) → ds ≡ cs ++ c ∷ [] → c.facts ≡ length fs → map (claim_seen (forms fs)) ds ≡ map (claim_seen (forms fs)) cs ++ record { sort = sort c.sort; needed = c.needed; settled = c.settled; claim = form c.form; facts = forms fs } ∷ []
+pub claims_more : (fs : List Form) (cs ds : List Claim) (c : Claim) → ds ≡ cs ++ c ∷ [] → c.facts ≡ length fs → map (claim_seen (forms fs)) ds ≡ map (claim_seen (forms fs)) cs ++ record { demand = record { sort = sort c.sort; spot = spot c.spot }; needed = c.needed; settled = c.settled; claim = form c.form; facts = forms fs } ∷ []
 claims_more fs cs ds c e n =
     ap (map (claim_seen (forms fs))) e ∙ map-append (claim_seen (forms fs)) cs (c ∷ [])
-    ∙ ap (λ l. map (claim_seen (forms fs)) cs ++ record { sort = sort c.sort; needed = c.needed; settled = c.settled; claim = form c.form; facts = l } ∷ []) (whole fs c.facts n)
+    ∙ ap (λ l. map (claim_seen (forms fs)) cs ++ record { demand = record { sort = sort c.sort; spot = spot c.spot }; needed = c.needed; settled = c.settled; claim = form c.form; facts = l } ∷ []) (whole fs c.facts n)
 
 pub accesses_more : {E : Type 0} (fs : List Form) (es : List E) (cs ds : List Access) (c : Access) → ds ≡ cs ++ c ∷ [] → c.facts ≡ length fs → c.elements ≡ length es → map (access_seen (forms fs) es) ds ≡ map (access_seen (forms fs) es) cs ++ record { target = target c.target; index = form c.index; elements = es; facts = forms fs } ∷ []
 accesses_more fs es cs ds c e n m =
@@ -28,7 +28,7 @@ accesses_more fs es cs ds c e n m =
 
 same_claims : (F G : List Fact) (n : ℕ) (cs : List Claim) → n ≡ length F → All (HasFacts n) cs → map (claim_seen (F ++ G)) cs ≡ map (claim_seen F) cs
 same_claims F G n [] e h = refl
-same_claims F G n (c ∷ cs) e h = λ i. record { sort = sort c.sort; needed = c.needed; settled = c.settled; claim = form c.form; facts = take-append-le c.facts F G (subst (λ k. c.facts ≤ k) e (All-head (HasFacts n) c cs h)) i } ∷ same_claims F G n cs e (All-tail (HasFacts n) c cs h) i
+same_claims F G n (c ∷ cs) e h = λ i. record { demand = record { sort = sort c.sort; spot = spot c.spot }; needed = c.needed; settled = c.settled; claim = form c.form; facts = take-append-le c.facts F G (subst (λ k. c.facts ≤ k) e (All-head (HasFacts n) c cs h)) i } ∷ same_claims F G n cs e (All-tail (HasFacts n) c cs h) i
 
 pub claims_kept : (fs gs : List Form) (f : Form) (cs : List Claim) → gs ≡ fs ++ f ∷ [] → All (HasFacts (length fs)) cs → map (claim_seen (forms gs)) cs ≡ map (claim_seen (forms fs)) cs
 claims_kept fs gs f cs e h = ap (λ F. map (claim_seen F) cs) (forms_more fs gs f e) ∙ same_claims (forms fs) (form f ∷ []) (length fs) cs (sym (length-forms fs)) h

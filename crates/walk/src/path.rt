@@ -17,13 +17,19 @@ pub enum Sort {
     OfPair,
 }
 
-/// Which access it is: a store or a load, of an array, by the statement of a number, which names the array at a site.
+/// A place in the source: the number of a statement, and a site in it.
+#[derive(Clone, Copy)]
+pub struct Spot {
+    pub statement: u32,
+    pub site: Site,
+}
+
+/// Which access it is: a store or a load, of an array, and where the array is named.
 #[derive(Clone, Copy)]
 pub struct Target {
     pub is_store: bool,
     pub array: Array,
-    pub statement: u32,
-    pub site: Site,
+    pub spot: Spot,
 }
 
 /// What is to be shown: that a form is at least 0, with the number of the item's facts before it. An obligation that is not needed
@@ -31,6 +37,7 @@ pub struct Target {
 #[derive(Drop)]
 pub struct Claim {
     pub sort: Sort,
+    pub spot: Spot,
     pub needed: bool,
     pub settled: bool,
     pub form: Form,
@@ -46,13 +53,14 @@ pub struct Access {
     pub elements: usize,
 }
 
-/// Facts, elements of new symbols, claims and accesses of one item, each in their order.
+/// Facts, elements of new symbols, claims and accesses of one item, each in their order, and where the walk stands.
 #[derive(Drop)]
 pub struct Path<D> {
     pub facts: Vec<Form>,
     pub elements: Vec<D>,
     pub claims: Vec<Claim>,
     pub accesses: Vec<Access>,
+    pub at: Spot,
     pub ghost claims_in: { All (HasFacts (length facts.items)) claims.items },
     pub ghost accesses_in: { All (HasAll (length facts.items) (length elements.items)) accesses.items },
 }

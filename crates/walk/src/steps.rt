@@ -2,12 +2,15 @@
 
 ghost use Rattle.std.specs.Prelude.{◌≡◌, MatchResult};
 ghost use Rattle.linear.specs.Forms.{form as form_seen, forms};
-ghost use Rattle.walk.specs.Collected.{opening, with_claim, with_fact, with_element, with_access};
+ghost use Rattle.walk.specs.Collected.{opening, state_of, with_claim, with_fact, with_element, with_access, with_spot};
+ghost use Rattle.walk.specs.Walks.{spot_at};
+ghost use Rattle.core_code.specs.View.{site as site_seen};
 ghost use Rattle.facts.specs.Refusals.{IsMemory};
 ghost use Rattle.walk.specs.Refusals.{Refused};
-ghost use Rattle.walk.specs.View.{met, sort as sort_seen, target as target_seen};
+ghost use Rattle.walk.specs.View.{met, sort as sort_seen, spot as spot_seen, target as target_seen};
 
-use crate::path::{Access, Claim, Path, Sort, Target};
+use crate::path::{Access, Claim, Path, Sort, Spot, Target};
+use core_code::tree::Site;
 use facts::WalkError;
 use linear::Form;
 use std::alloc::Global;
@@ -23,6 +26,29 @@ impl<D: Copy> Path<D> {
             elements: Vec::new(alloc),
             claims: Vec::new(alloc),
             accesses: Vec::new(alloc),
+            at: Spot {
+                statement: 0,
+                site: Site { line: 0, column: 0 },
+            },
+        }
+    }
+
+    #[tactic(auto, unfolding(crate::specs::View::met))]
+    /// The walk stands there.
+    pub fn stand(&mut self, spot: Spot)
+        ensures { met self.new ≡ with_spot (met self.old) (spot_seen spot) }
+    {
+        self.at = spot;
+    }
+
+    #[tactic(auto, unfolding(crate::specs::View::met))]
+    /// At this site of its statement.
+    pub fn spot_at(&self, site: Site) -> Spot
+        ensures { spot_seen result ≡ spot_at (site_seen site) (state_of (met self.now)) }
+    {
+        Spot {
+            statement: self.at.statement,
+            site,
         }
     }
 
@@ -40,8 +66,10 @@ impl<D: Copy> Path<D> {
             return Err(WalkError::TooMany);
         }
         let facts = self.facts.len();
+        let spot = self.at;
         self.claims.push(Claim {
             sort,
+            spot,
             needed,
             settled,
             form,

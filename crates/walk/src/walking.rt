@@ -9,7 +9,7 @@ ghost use Rattle.walk.specs.Leads.{Steps};
 ghost use Rattle.walk.specs.Refusals.{AreNoStraightTerms, IsNoStraightStatement, IsNoStraightBody, Refused, Stops};
 ghost use Rattle.walk.specs.View.{met, setting as seen, target as target_seen};
 
-use crate::path::{Path, Sort, Target};
+use crate::path::{Path, Sort, Spot, Target};
 use crate::ranges::claim;
 use crate::setting::Setting;
 use crate::terms::walk_term;
@@ -50,8 +50,10 @@ fn walk_store<D: Domain>(
 ) -> Result<(), WalkError>
     ensures { MatchResult result (λ _. Steps (met path.old) (met path.new) (walks.walk_store (seen D.Domain setting.now item) (target_seen target) (term_seen index.now) (term_seen value.now))) (λ e. Stops (AreNoStraightTerms (term_seen index.now) (term_seen value.now)) (met path.old) e (walks.walk_store (seen D.Domain setting.now item) (target_seen target) (term_seen index.now) (term_seen value.now))) }
 {
+    path.stand(target.spot);
     let place = walk_term(alloc, setting, item, path, index)?;
     walk_term(alloc, setting, item, path, value)?;
+    path.stand(target.spot);
     in_buffer(alloc, setting, item, path, target.array.number, &place.form)?;
     path.touch(target, place.form)?;
     Ok(())
@@ -78,8 +80,10 @@ fn walk_statement<D: Domain>(
             let target = Target {
                 is_store: true,
                 array: *array,
-                statement: *number,
-                site: *site,
+                spot: Spot {
+                    statement: *number,
+                    site: *site,
+                },
             };
             walk_store(alloc, setting, item, path, target, index, value)
         }

@@ -10,7 +10,7 @@ unfolding met
 returns g c =
     let n_facts : c.len-facts.result ≡ length c.args.self.now.facts.items = search rules in
     let p = met c.args.self.now in
-    λ i. record { found = record { facts = p.found.facts; claims = claims_more c.args.self.now.facts.items c.args.self.now.claims.items c.push.new.self.items _ c.in_ok-push.ensures.items n_facts i; accesses = p.found.accesses }; elements = p.elements }
+    λ i. record { found = record { facts = p.found.facts; claims = claims_more c.args.self.now.facts.items c.args.self.now.claims.items c.push.new.self.items _ c.in_ok-push.ensures.items n_facts i; accesses = p.found.accesses }; elements = p.elements; at = p.at }
 
 pub returns-then-len-ge65536 : goal.returns-then-len-ge65536
 returns-then-len-ge65536 g c =

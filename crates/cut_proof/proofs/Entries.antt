@@ -8,13 +8,10 @@ use Rattle.linear.specs.declared.form.Form.{Form}
 use Rattle.linear.specs.declared.term.Term.{Term}
 use Rattle.linear.specs.Terms.{terms}
 use Rattle.linear.specs.Forms.{form, forms}
+use Rattle.linear.proofs.FormLists.{forms-append}
 use Rattle.cut_proof.specs.Derivations.{Forms, entry, is_none, is_contradiction, if_made, line_form, refutes_from, refutes_of}
 use Rattle.cut_proof.specs.View.{line}
 use Rattle.cut_proof.specs.declared.Line.{Line}
-
-pub forms-append : (a b : List Form) → forms (a ++ b) ≡ forms a ++ forms b
-forms-append [] b = refl
-forms-append (f ∷ a) b = ap (λ fs. form f ∷ fs) (forms-append a b)
 
 pub entry_none : (fs : List Form) (n : ℕ) → length fs < n → entry (forms fs) n ≡ None
 entry_none fs zero h = absurd (omega arith)

@@ -17,6 +17,7 @@ use Rattle.launch.specs.declared.conditions.Length.{Length}
 use Rattle.words.specs.declared.word.Word as code
 use Rattle.walk.specs.Straight.{is_straight, is_straight_body, steps}
 use Rattle.facts.specs.Launching.{are_sizes}
+use Rattle.facts.proofs.Launched.{buffers-length}
 use Rattle.cert_check.specs.Accepting.{at}
 use Rattle.executor.specs.Runs.{stores_by}
 use Rattle.executor.proofs.OneRound.{one-round}
@@ -53,12 +54,6 @@ log-of-group k l bound g c h n some = ap (λ xs. log_of xs c None) (sym (one-rou
 -- as many as the kernel has parameters
 pub arguments-alike : (k : Kernel) (rs : List ArgumentRange) (ws : List code.Word) → length (map argument_range rs) ≡ length k.arguments → AllZip IsArgument k.arguments (map word ws) → length rs ≡ length ws
 arguments-alike k rs ws h a = sym (length-map rs argument_range) ∙ h ∙ sym (arguments-length k.arguments (map word ws) a) ∙ length-map ws word
-
-buffers-length : (ks : List Kind) (bs : List (List ℤ)) → AllZip IsBuffer ks bs → length bs ≡ length ks
-buffers-length [] [] h = refl
-buffers-length [] (b ∷ bs) h = elim h [ ]
-buffers-length (k ∷ ks) [] h = elim h [ ]
-buffers-length (k ∷ ks) (b ∷ bs) h = ap suc (buffers-length ks bs h.1)
 
 pub buffers-alike : (k : Kernel) (ls : List Length) (bs : List (Vec code.Word Global)) → length (map length_sum ls) ≡ length k.buffers → AllZip IsBuffer k.buffers (map buffer bs) → length ls ≡ length bs
 buffers-alike k ls bs h a = sym (length-map ls length_sum) ∙ h ∙ sym (buffers-length k.buffers (map buffer bs) a) ∙ length-map bs buffer

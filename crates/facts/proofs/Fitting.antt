@@ -11,7 +11,7 @@ use Rattle.semantics.specs.Conditions.{Range, Summand, Conditions, IsIn, IsLongE
 use Rattle.domain.specs.declared.Domain.{Ghosts}
 use Rattle.domain.specs.Members.{is_above, is_below}
 use Rattle.facts.specs.Symbols as symbols
-use Rattle.facts.specs.Symbols.{First, Second, Symbol, Given, Length, Local, Group, New}
+use Rattle.facts.specs.Symbols.{First, Second, Symbol, Given, Length, Local, Group, New, Variable, AtAnchor, Turns}
 use Rattle.facts.specs.Elements.{nth, between, element_of}
 use Rattle.facts.specs.Launching.{sum_form, of_range, known_so_far, from_least, at_least_some, below, known}
 use Rattle.facts.proofs.Integers.{le_test}
@@ -104,6 +104,9 @@ module _ {E : Type 0} (g : Ghosts E) (laws : Lawful g) where
   so_far-has s c m (Group Second d) = laws.top _
   so_far-has s c m (New First k) = laws.top _
   so_far-has s c m (New Second k) = laws.top _
+  so_far-has s c m (Variable w x) = laws.top _
+  so_far-has s c m (AtAnchor w x) = laws.top _
+  so_far-has s c m (Turns w k) = laws.top _
 
   sums-has : (s : Setup) (c : Conditions) → Meets c s.launch → (xs : List Summand) → g.has (element_of g (known_so_far g c) (sum_form xs)) (sum_value s.launch xs) ≡ true
   sums-has s c m xs =
@@ -122,3 +125,6 @@ members c i j hi hj es fs news more p q (Group First d) = groups-has c.domain c.
 members c i j hi hj es fs news more p q (Group Second d) = groups-has c.domain c.lawful (setup_of c) c.conditions c.meets j hj d
 members c i j hi hj es fs news more p q (New First k) = fit-nth c.domain c.lawful es news p k
 members c i j hi hj es fs news more p q (New Second k) = fit-nth c.domain c.lawful fs more q k
+members c i j hi hj es fs news more p q (Variable w x) = c.lawful.top _
+members c i j hi hj es fs news more p q (AtAnchor w x) = c.lawful.top _
+members c i j hi hj es fs news more p q (Turns w k) = c.lawful.top _

@@ -1,5 +1,5 @@
 -- The facts of a launch that meets the conditions, and of an item, hold.
-use Rattle.std.proofs.Common.{◌≡◌, ℕ, zero, suc, ◌+◌, ◌<◌, ◌%◌, List, [], ◌∷◌, ◌++◌, map, length, slice_index_or, arith, ap, ◌∙◌}
+use Rattle.std.proofs.Common.{◌≡◌, ℕ, zero, suc, ◌+◌, ◌<◌, ◌%◌, List, [], ◌∷◌, ◌++◌, map, length, slice_index_or, arith, refl, ap, ◌∙◌}
 use Rattle.std.specs.Prelude.{ℤ, pos, ◌+ℤ◌, ◌-ℤ◌, ◌*ℤ◌}
 use Rattle.std.specs.List.{All, AllZip}
 use Rattle.std.proofs.lemmas.Int.{ints}
@@ -113,3 +113,10 @@ item_known c news v a = each_dimension-all (IsMet v) (id_facts c.kernel.sizes Fi
     let last : Fact = minus (minus groups group) (constant (pos 1)) in
     All-cons (IsMet v) own (most ∷ group ∷ last ∷ []) (omega (arith, ints, l)) (All-cons (IsMet v) most (group ∷ last ∷ []) (omega (arith, ints, l, lb, value-minus v (constant n) own, value-constant v n))
     (All-cons (IsMet v) group (last ∷ []) (omega (arith, ints, g)) (All-cons (IsMet v) last [] (omega (arith, ints, g, t, gb, value-minus v (minus groups group) (constant (pos 1)), value-minus v groups group, value-constant v (pos 1))) (All-nil (IsMet v))))))
+
+-- a launch has as many buffers as its kernel
+pub buffers-length : (ks : List Kind) (bs : List (List ℤ)) → AllZip IsBuffer ks bs → length bs ≡ length ks
+buffers-length [] [] h = refl
+buffers-length [] (b ∷ bs) h = elim h [ ]
+buffers-length (k ∷ ks) [] h = elim h [ ]
+buffers-length (k ∷ ks) (b ∷ bs) h = ap suc (buffers-length ks bs h.1)

@@ -1,6 +1,6 @@
 -- A symbol has its number.
 use Rattle.std.proofs.Common.{◌≡◌, ℕ, ◌+◌, ◌*◌, ◌/◌, ◌%◌, ◌<◌, arith, ap, ◌∙◌}
-use Rattle.facts.specs.Symbols.{First, Second, Symbol, Groups, Given, Length, Local, Group, New, number, of_family, symbol_of}
+use Rattle.facts.specs.Symbols.{First, Second, Symbol, Groups, Given, Length, Local, Group, New, Variable, AtAnchor, Turns, number, of_family, symbol_of}
 
 family : (f i : ℕ) → f < 16 → symbol_of (f + 16 * i) ≡ of_family f i
 unfolding symbol_of
@@ -16,6 +16,12 @@ symbol_of-number (Length b) = family 2 b (omega arith)
 symbol_of-number (Local First d) = family 3 d (omega arith)
 symbol_of-number (Group First d) = family 4 d (omega arith)
 symbol_of-number (New First k) = family 5 k (omega arith)
-symbol_of-number (Local Second d) = family 6 d (omega arith)
-symbol_of-number (Group Second d) = family 7 d (omega arith)
-symbol_of-number (New Second k) = family 8 k (omega arith)
+symbol_of-number (Variable First x) = family 6 x (omega arith)
+symbol_of-number (AtAnchor First x) = family 7 x (omega arith)
+symbol_of-number (Turns First k) = family 8 k (omega arith)
+symbol_of-number (Local Second d) = family 9 d (omega arith)
+symbol_of-number (Group Second d) = family 10 d (omega arith)
+symbol_of-number (New Second k) = family 11 k (omega arith)
+symbol_of-number (Variable Second x) = family 12 x (omega arith)
+symbol_of-number (AtAnchor Second x) = family 13 x (omega arith)
+symbol_of-number (Turns Second k) = family 14 k (omega arith)

@@ -13,21 +13,24 @@ module _ {E : Type 0} (g : Ghosts E) (k : Known E) (es : List E) where
   abbrev two : Elements E
   two = elements_of k Second es
 
-  family-twin : (r i : ℕ) → r < 6 → element g one (of_family r i) ≡ element g two (of_family (r + 3 * (r / 3)) i)
+  family-twin : (r i : ℕ) → r < 9 → element g one (of_family r i) ≡ element g two (of_family (r + 6 * ((r + 13) / 16)) i)
   family-twin zero i h = refl
   family-twin (suc zero) i h = refl
   family-twin (suc (suc zero)) i h = refl
   family-twin (suc (suc (suc zero))) i h = refl
   family-twin (suc (suc (suc (suc zero)))) i h = refl
   family-twin (suc (suc (suc (suc (suc zero))))) i h = refl
-  family-twin (suc (suc (suc (suc (suc (suc r)))))) i h = absurd (omega arith)
+  family-twin (suc (suc (suc (suc (suc (suc zero)))))) i h = refl
+  family-twin (suc (suc (suc (suc (suc (suc (suc zero))))))) i h = refl
+  family-twin (suc (suc (suc (suc (suc (suc (suc (suc zero)))))))) i h = refl
+  family-twin (suc (suc (suc (suc (suc (suc (suc (suc (suc r))))))))) i h = absurd (omega arith)
 
   symbol-twin : (x y : ℕ) → Twins x y → element g one (symbol_of x) ≡ element g two (symbol_of y)
   unfolding symbol_of
   symbol-twin x y p =
       let o = p.own in
       let s = p.same in
-      let r : y % 16 ≡ x % 16 + 3 * (x % 16 / 3) = omega (arith, o, s) in
+      let r : y % 16 ≡ x % 16 + 6 * ((x % 16 + 13) / 16) = omega (arith, o, s) in
       let q : y / 16 ≡ x / 16 = omega (arith, o, s) in
       family-twin (x % 16) (x / 16) o ∙ ap (λ f. element g two (of_family f (x / 16))) (sym r) ∙ ap (λ i. element g two (of_family (y % 16) i)) (sym q)
 

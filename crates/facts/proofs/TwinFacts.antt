@@ -4,9 +4,9 @@ use Rattle.std.specs.Prelude.{ℤ, pos, ◌-ℤ◌}
 use Rattle.semantics.specs.Launch.{Three}
 use Rattle.semantics.specs.Setup.{along}
 use Rattle.facts.specs.Symbols as symbols
-use Rattle.facts.specs.Symbols.{First, Second, Given, Length, Local, Group, New, number, Fact, constant, once, minus}
+use Rattle.facts.specs.Symbols.{First, Second, Given, Length, Local, Group, New, Variable, AtAnchor, Turns, number, Fact, constant, once, minus}
 use Rattle.facts.specs.Launching.{id_facts, item_facts}
-use Rattle.facts.proofs.Twins.{Twins, Alike, constant-alike, once-alike, minus-alike, AreAlike, alike-append}
+use Rattle.facts.proofs.Twins.{Twins, constant-alike, once-alike, minus-alike, AreAlike, alike-append}
 
 -- numbers of a launch's symbols and of an item's
 pub groups-twin : (d : ℕ) → Twins (number (symbols.Groups d)) (number (symbols.Groups d))
@@ -23,6 +23,15 @@ local-twin d = record { own = omega arith; same = omega arith }
 
 pub group-twin : (d : ℕ) → Twins (number (Group First d)) (number (Group Second d))
 group-twin d = record { own = omega arith; same = omega arith }
+
+pub variable-twin : (x : ℕ) → Twins (number (Variable First x)) (number (Variable Second x))
+variable-twin x = record { own = omega arith; same = omega arith }
+
+pub anchor-twin : (x : ℕ) → Twins (number (AtAnchor First x)) (number (AtAnchor Second x))
+anchor-twin x = record { own = omega arith; same = omega arith }
+
+pub turns-twin : (k : ℕ) → Twins (number (Turns First k)) (number (Turns Second k))
+turns-twin k = record { own = omega arith; same = omega arith }
 
 pub new-twin : (k : ℕ) → Twins (number (New First k)) (number (New Second k))
 new-twin k = record { own = omega arith; same = omega arith }

@@ -9,11 +9,11 @@ use Rattle.facts.specs.Symbols.{Symbol, number, Fact, constant, once, minus}
 
 -- the number of the second item's symbol; of the launch's, their own
 abbrev pub twin : ℕ → ℕ
-twin x = x + 3 * (x % 16 / 3)
+twin x = x + 6 * ((x % 16 + 13) / 16)
 
 -- a symbol of the launch or of the first item, and its like
 pub record Twins (x y : ℕ) : Type 0 where
-  pub own : x % 16 < 6
+  pub own : x % 16 < 9
   pub same : y ≡ twin x
 
 abbrev pub AreTwins : Terms → Terms → Type 0
@@ -26,10 +26,10 @@ pub record Alike (f g : Fact) : Type 0 where
   pub terms : AreTwins f.terms g.terms
   pub constant : g.constant ≡ f.constant
 
-rises : (x y : ℕ) → x % 16 < 6 → y % 16 < 6 → x < y → twin x < twin y
+rises : (x y : ℕ) → x % 16 < 9 → y % 16 < 9 → x < y → twin x < twin y
 rises x y p q h = omega arith
 
-stays : (x y : ℕ) → x % 16 < 6 → y % 16 < 6 → y ≤ x → twin y ≤ twin x
+stays : (x y : ℕ) → x % 16 < 9 → y % 16 < 9 → y ≤ x → twin y ≤ twin x
 stays x y p q h = omega arith
 
 pub order-same : (x y a b : ℕ) → Twins x a → Twins y b → nat_lt a b ≡ nat_lt x y

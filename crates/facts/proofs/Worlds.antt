@@ -11,7 +11,7 @@ use Rattle.semantics.specs.Conditions.{Conditions, Meets}
 use Rattle.semantics.specs.Linear.{value_of, IsMet}
 use Rattle.domain.specs.declared.Domain.{Ghosts}
 use Rattle.facts.specs.Symbols as symbols
-use Rattle.facts.specs.Symbols.{Which, First, Second, Symbol, Given, Length, Local, Group, New, number, Fact}
+use Rattle.facts.specs.Symbols.{Which, First, Second, Symbol, Given, Length, Local, Group, New, Variable, AtAnchor, Turns, number, Fact}
 use Rattle.facts.specs.Launching.{are_sizes}
 use Rattle.facts.proofs.Naming.{symbol_of-number}
 use Rattle.facts.proofs.Members.{Lawful, by_number}
@@ -54,7 +54,7 @@ length_at l b = pos (length (slice_index_or l.buffers b []))
 abbrev pub new_at : List ℤ → ℕ → ℤ
 new_at news k = slice_index_or news k (pos 0)
 
--- those of two items
+-- those of two items; variables and turns stand for no number as yet
 abbrev pub meaning : Setup → (i j : ℕ) → (news more : List ℤ) → Symbol → ℤ
 meaning s i j news more (symbols.Groups d) = groups_at s.launch d
 meaning s i j news more (Given n) = given_at s.launch n
@@ -65,6 +65,9 @@ meaning s i j news more (New First k) = new_at news k
 meaning s i j news more (Local Second d) = pos (local_id s j d)
 meaning s i j news more (Group Second d) = pos (group_id s j d)
 meaning s i j news more (New Second k) = new_at more k
+meaning s i j news more (Variable w x) = pos 0
+meaning s i j news more (AtAnchor w x) = pos 0
+meaning s i j news more (Turns w k) = pos 0
 
 pub record Agrees {E : Type 0} (c : View E) (news : List ℤ) (v : ℕ → ℤ) : Type 0 where
   pub groups : (d : ℕ) → v (number (symbols.Groups d)) ≡ groups_at c.launch d

@@ -3,7 +3,7 @@ use Rattle.std.specs.Prelude.{ℕ, ℤ, pos, List, [], ◌∷◌, Bool, false, �
 use Rattle.semantics.specs.Linear.{Weighted}
 use Rattle.domain.specs.declared.Domain.{Ghosts}
 use Rattle.domain.specs.Members.{leaves}
-use Rattle.facts.specs.Symbols.{Which, First, Second, Symbol, Groups, Given, Length, Local, Group, New, symbol_of, Fact}
+use Rattle.facts.specs.Symbols.{Which, First, Second, Symbol, Groups, Given, Length, Local, Group, New, Variable, AtAnchor, Turns, symbol_of, Fact}
 
 -- the elements of a launch's symbols, and of the ids of its items
 pub record Known (E : Type 0) : Type 0 where
@@ -31,6 +31,7 @@ between g low high = g.at_most_of (g.at_least_of g.top_of low) high
 abbrev pub nth : {E : Type 0} → Ghosts E → List E → ℕ → E
 nth g es n = slice_index_or es n g.top_of
 
+-- of variables and turns nothing is known beforehand
 abbrev pub element : {E : Type 0} → Ghosts E → Elements E → Symbol → E
 element g e (Groups d) = nth g e.known.counts d
 element g e (Given n) = nth g e.known.arguments n
@@ -39,6 +40,9 @@ element g e (Local w d) = nth g e.known.locals d
 element g e (Group w d) = nth g e.known.groups d
 element g e (New First k) = nth g e.first k
 element g e (New Second k) = nth g e.second k
+element g e (Variable w x) = g.top_of
+element g e (AtAnchor w x) = g.top_of
+element g e (Turns w k) = g.top_of
 
 -- the constant, then the terms in their order
 abbrev pub with_terms : {E : Type 0} → Ghosts E → Elements E → E → List (Weighted ℕ) → E

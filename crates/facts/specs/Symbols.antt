@@ -8,8 +8,9 @@ pub data Which : Type 0 where
   First : Which
   Second : Which
 
--- of the launch: a group count, an argument by its parameter, a buffer's length; of an item: its local and its group id, and
--- the new symbols along its path, from 0
+-- of the launch: a group count, an argument by its parameter, a buffer's length; of an item: its local and its group id, the new
+-- symbols along its path, from 0, a private variable by its slot, where a path begins and at the anchor before it, and how often the
+-- test of a loop was true
 pub data Symbol : Type 0 where
   Groups : (dimension : ℕ) → Symbol
   Given : (parameter : ℕ) → Symbol
@@ -17,6 +18,9 @@ pub data Symbol : Type 0 where
   Local : (item : Which) (dimension : ℕ) → Symbol
   Group : (item : Which) (dimension : ℕ) → Symbol
   New : (item : Which) (index : ℕ) → Symbol
+  Variable : (item : Which) (slot : ℕ) → Symbol
+  AtAnchor : (item : Which) (slot : ℕ) → Symbol
+  Turns : (item : Which) (loop : ℕ) → Symbol
 
 -- sixteen families, whose numbers alternate
 abbrev pub number : Symbol → ℕ
@@ -26,11 +30,17 @@ number (Length b) = 2 + 16 * b
 number (Local First d) = 3 + 16 * d
 number (Group First d) = 4 + 16 * d
 number (New First k) = 5 + 16 * k
-number (Local Second d) = 6 + 16 * d
-number (Group Second d) = 7 + 16 * d
-number (New Second k) = 8 + 16 * k
+number (Variable First x) = 6 + 16 * x
+number (AtAnchor First x) = 7 + 16 * x
+number (Turns First k) = 8 + 16 * k
+number (Local Second d) = 9 + 16 * d
+number (Group Second d) = 10 + 16 * d
+number (New Second k) = 11 + 16 * k
+number (Variable Second x) = 12 + 16 * x
+number (AtAnchor Second x) = 13 + 16 * x
+number (Turns Second k) = 14 + 16 * k
 
--- a family's symbol; there is none past the ninth family
+-- a family's symbol; there is none past the fifteenth family
 abbrev pub of_family : (family index : ℕ) → Symbol
 of_family zero i = Groups i
 of_family (suc zero) i = Given i
@@ -38,9 +48,15 @@ of_family (suc (suc zero)) i = Length i
 of_family (suc (suc (suc zero))) i = Local First i
 of_family (suc (suc (suc (suc zero)))) i = Group First i
 of_family (suc (suc (suc (suc (suc zero))))) i = New First i
-of_family (suc (suc (suc (suc (suc (suc zero)))))) i = Local Second i
-of_family (suc (suc (suc (suc (suc (suc (suc zero))))))) i = Group Second i
-of_family (suc (suc (suc (suc (suc (suc (suc (suc f)))))))) i = New Second i
+of_family (suc (suc (suc (suc (suc (suc zero)))))) i = Variable First i
+of_family (suc (suc (suc (suc (suc (suc (suc zero))))))) i = AtAnchor First i
+of_family (suc (suc (suc (suc (suc (suc (suc (suc zero)))))))) i = Turns First i
+of_family (suc (suc (suc (suc (suc (suc (suc (suc (suc zero))))))))) i = Local Second i
+of_family (suc (suc (suc (suc (suc (suc (suc (suc (suc (suc zero)))))))))) i = Group Second i
+of_family (suc (suc (suc (suc (suc (suc (suc (suc (suc (suc (suc zero))))))))))) i = New Second i
+of_family (suc (suc (suc (suc (suc (suc (suc (suc (suc (suc (suc (suc zero)))))))))))) i = Variable Second i
+of_family (suc (suc (suc (suc (suc (suc (suc (suc (suc (suc (suc (suc (suc zero))))))))))))) i = AtAnchor Second i
+of_family (suc (suc (suc (suc (suc (suc (suc (suc (suc (suc (suc (suc (suc (suc f)))))))))))))) i = Turns Second i
 
 unfoldable pub symbol_of : ℕ → Symbol
 symbol_of n = of_family (n % 16) (n / 16)

@@ -21,7 +21,7 @@ pub struct Known<D> {
 }
 
 /// The element at an index, and past the end all numbers.
-fn nth<D: Domain>(of: &[D], index: u32) -> D
+fn nth<D: Domain>(of: &[D], index: u64) -> D
     ensures { result ≡ elements.nth D.Domain of.now index }
 {
     match of.get(index as usize) {
@@ -37,16 +37,18 @@ fn element<D: Domain>(known: &Known<D>, first: &[D], second: &[D], symbol: Symbo
 {
     let index = symbol.number / 16;
     let family = symbol.number % 16;
-    if family >= 8 {
-        return nth(second, index);
+    if family >= 12 {
+        return D::top();
     }
     match family {
         0 => nth(known.counts.as_slice(), index),
         1 => nth(known.arguments.as_slice(), index),
         2 => nth(known.lengths.as_slice(), index),
-        3 | 6 => nth(known.locals.as_slice(), index),
-        4 | 7 => nth(known.groups.as_slice(), index),
-        _ => nth(first, index),
+        3 | 9 => nth(known.locals.as_slice(), index),
+        4 | 10 => nth(known.groups.as_slice(), index),
+        5 => nth(first, index),
+        6 | 7 | 8 => D::top(),
+        _ => nth(second, index),
     }
 }
 

@@ -1,6 +1,6 @@
 //! Forms of one symbol, and of differences.
 
-ghost use Rattle.std.specs.Prelude.{◌≡◌, ◌+◌, ◌*◌, pos, negsuc, [], ◌∷◌, MatchResult};
+ghost use Rattle.std.specs.Prelude.{◌≡◌, ◌<◌, ◌+◌, ◌*◌, ◌^◌, pos, negsuc, [], ◌∷◌, MatchResult};
 ghost use Rattle.linear.specs.Forms.{form};
 ghost use Rattle.linear.specs.Exact as linear_exact;
 ghost use Rattle.facts.specs.Symbols as symbols;
@@ -18,16 +18,13 @@ pub enum Which {
     Second,
 }
 
-/// A symbol of a family, once. Where its number is not of 32 bits, what it stands for is in a list that no memory holds.
-fn of_family(alloc: Global, family: u32, index: u32) -> Result<Form, WalkError>
+/// A symbol of a family, once.
+fn of_family(alloc: Global, family: u64, index: usize) -> Result<Form, WalkError>
+    requires family { family < 16 }
+    requires index { index < 2 ^ 59 }
     ensures { MatchResult result (λ f. form f ≡ record { terms = record { coefficient = pos 1; symbol = family + 16 * index } ∷ []; constant = pos 0 }) IsMemory }
 {
-    let Some(begin) = index.checked_mul(16) else {
-        return Err(WalkError::Memory);
-    };
-    let Some(number) = family.checked_add(begin) else {
-        return Err(WalkError::Memory);
-    };
+    let number = family + 16 * index as u64;
     let form = Form::symbol(alloc, Symbol { number })?;
     Ok(form)
 }
@@ -36,18 +33,20 @@ fn of_family(alloc: Global, family: u32, index: u32) -> Result<Form, WalkError>
 pub fn once_groups(alloc: Global, dimension: u32) -> Result<Form, WalkError>
     ensures { MatchResult result (λ f. form f ≡ symbols.once (symbols.Groups dimension)) IsMemory }
 {
-    of_family(alloc, 0, dimension)
+    of_family(alloc, 0, dimension as usize)
 }
 
 /// A value parameter's argument.
-pub fn once_given(alloc: Global, parameter: u32) -> Result<Form, WalkError>
+pub fn once_given(alloc: Global, parameter: usize) -> Result<Form, WalkError>
+    requires { parameter < 2 ^ 59 }
     ensures { MatchResult result (λ f. form f ≡ symbols.once (symbols.Given parameter)) IsMemory }
 {
     of_family(alloc, 1, parameter)
 }
 
 /// A buffer's length.
-pub fn once_length(alloc: Global, buffer: u32) -> Result<Form, WalkError>
+pub fn once_length(alloc: Global, buffer: usize) -> Result<Form, WalkError>
+    requires { buffer < 2 ^ 59 }
     ensures { MatchResult result (λ f. form f ≡ symbols.once (symbols.Length buffer)) IsMemory }
 {
     of_family(alloc, 2, buffer)
@@ -58,8 +57,8 @@ pub fn once_local(alloc: Global, item: Which, dimension: u32) -> Result<Form, Wa
     ensures { MatchResult result (λ f. form f ≡ symbols.once (symbols.Local (which item) dimension)) IsMemory }
 {
     match item {
-        Which::First => of_family(alloc, 3, dimension),
-        Which::Second => of_family(alloc, 6, dimension),
+        Which::First => of_family(alloc, 3, dimension as usize),
+        Which::Second => of_family(alloc, 9, dimension as usize),
     }
 }
 
@@ -68,18 +67,19 @@ pub fn once_group(alloc: Global, item: Which, dimension: u32) -> Result<Form, Wa
     ensures { MatchResult result (λ f. form f ≡ symbols.once (symbols.Group (which item) dimension)) IsMemory }
 {
     match item {
-        Which::First => of_family(alloc, 4, dimension),
-        Which::Second => of_family(alloc, 7, dimension),
+        Which::First => of_family(alloc, 4, dimension as usize),
+        Which::Second => of_family(alloc, 10, dimension as usize),
     }
 }
 
 /// An item's new symbol.
-pub fn once_new(alloc: Global, item: Which, index: u32) -> Result<Form, WalkError>
+pub fn once_new(alloc: Global, item: Which, index: usize) -> Result<Form, WalkError>
+    requires { index < 2 ^ 59 }
     ensures { MatchResult result (λ f. form f ≡ symbols.once (symbols.New (which item) index)) IsMemory }
 {
     match item {
         Which::First => of_family(alloc, 5, index),
-        Which::Second => of_family(alloc, 8, index),
+        Which::Second => of_family(alloc, 11, index),
     }
 }
 

@@ -1,6 +1,6 @@
 //! What conditions say of each launch that meets them, and of its items.
 
-ghost use Rattle.std.specs.Prelude.{◌≡◌, ◌<◌, ◌++◌, ◌∷◌, [], ℕ, pos, ◌*◌, ◌≤◌, ◌-ℤ◌, IfOk, MatchResult, map};
+ghost use Rattle.std.specs.Prelude.{◌≡◌, ◌<◌, ◌++◌, ◌∷◌, [], ℕ, pos, ◌*◌, ◌^◌, ◌≤◌, ◌-ℤ◌, IfOk, MatchResult, map};
 ghost use Rattle.linear.specs.Forms.{form as form_seen, forms};
 ghost use Rattle.linear.specs.Sizes.{size};
 ghost use Rattle.words.specs.View.{value_of};
@@ -54,7 +54,7 @@ fn summand_form(alloc: Global, summand: Summand) -> Result<Form, WalkError>
     match summand {
         Summand::Constant(number) => Ok(Form::constant(alloc, signed(number))),
         Summand::Argument { factor, parameter } => {
-            let form = once_given(alloc, parameter)?.times(alloc, signed(factor))?;
+            let form = once_given(alloc, parameter as usize)?.times(alloc, signed(factor))?;
             Ok(form)
         }
         Summand::Groups { factor, dimension } => {
@@ -116,9 +116,10 @@ fn count_facts(
 fn argument_fact(
     alloc: Global,
     facts: &mut Vec<Form>,
-    parameter: u32,
+    parameter: usize,
     range: ArgumentRange,
 ) -> Result<(), WalkError>
+    requires { parameter < 2 ^ 59 }
     ensures { MatchResult result (λ _. forms facts.new.items ≡ forms facts.old.items ++ launching.ends (argument_range_seen range) (symbols.once (symbols.Given parameter))) IsMemory }
 {
     let argument = once_given(alloc, parameter)?;
@@ -127,7 +128,7 @@ fn argument_fact(
     push_two(facts, low, high)
 }
 
-/// The arguments are in their ranges; a list longer than 32 bits count stands in no memory.
+/// The arguments are in their ranges.
 fn argument_facts(
     alloc: Global,
     facts: &mut Vec<Form>,
@@ -135,13 +136,10 @@ fn argument_facts(
 ) -> Result<(), WalkError>
     ensures { MatchResult result (λ _. forms facts.new.items ≡ forms facts.old.items ++ launching.argument_facts 0 (map argument_range_seen ranges.now)) IsMemory }
 {
-    let mut parameter = 0u32;
+    let mut parameter = 0usize;
     for range in ranges {
         argument_fact(alloc, facts, parameter, *range)?;
-        let Some(next) = parameter.checked_add(1) else {
-            return Err(WalkError::Memory);
-        };
-        parameter = next;
+        parameter += 1;
     }
     Ok(())
 }
@@ -150,9 +148,10 @@ fn argument_facts(
 fn length_fact(
     alloc: Global,
     facts: &mut Vec<Form>,
-    buffer: u32,
+    buffer: usize,
     length: &Length,
 ) -> Result<(), WalkError>
+    requires { buffer < 2 ^ 59 }
     ensures { MatchResult result (λ _. forms facts.new.items ≡ forms facts.old.items ++ launching.length_ends buffer (length_sum length.now)) IsMemory }
 {
     let elements = once_length(alloc, buffer)?;
@@ -161,17 +160,14 @@ fn length_fact(
     push_two(facts, low, high)
 }
 
-/// The buffers are as long as their sums; a list longer than 32 bits count stands in no memory.
+/// The buffers are as long as their sums.
 fn length_facts(alloc: Global, facts: &mut Vec<Form>, lengths: &[Length]) -> Result<(), WalkError>
     ensures { MatchResult result (λ _. forms facts.new.items ≡ forms facts.old.items ++ launching.length_facts 0 (map length_sum lengths.now)) IsMemory }
 {
-    let mut buffer = 0u32;
+    let mut buffer = 0usize;
     for length in lengths {
         length_fact(alloc, facts, buffer, length)?;
-        let Some(next) = buffer.checked_add(1) else {
-            return Err(WalkError::Memory);
-        };
-        buffer = next;
+        buffer += 1;
     }
     Ok(())
 }

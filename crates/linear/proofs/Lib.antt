@@ -4,3 +4,4 @@ pub mod Lists
 pub mod Results
 pub mod Widths
 pub mod Sizes
+pub mod FormLists

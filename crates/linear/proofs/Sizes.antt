@@ -10,7 +10,7 @@ use Rattle.linear.specs.Sizes.{terms_size, size}
 size-plus : (a b : ℤ) → unsigned_abs (a +ℤ b) ≤ unsigned_abs a + unsigned_abs b
 size-plus a b = omega (arith, ints)
 
-size-put : (z : ℤ) (s : ℕ) (ts : Terms) → terms_size (put z s ts) ≡ unsigned_abs z + terms_size ts
+pub size-put : (z : ℤ) (s : ℕ) (ts : Terms) → terms_size (put z s ts) ≡ unsigned_abs z + terms_size ts
 size-put (pos zero) s ts = omega arith
 size-put (pos (suc n)) s ts = refl
 size-put (negsuc n) s ts = refl

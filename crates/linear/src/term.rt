@@ -11,7 +11,7 @@ use std::alloc::AllocError;
 /// What a number stands for, by its number in a table of the caller's.
 #[derive(Clone, Copy, Debug, Default, PartialEq, Eq, PartialOrd, Ord)]
 pub struct Symbol {
-    pub number: u32,
+    pub number: u64,
 }
 
 /// A symbol with its coefficient.

@@ -44,18 +44,18 @@ with-one P (y ∷ xs) x h p = (h.0, with-one P xs x h.1 p)
 pub small-collected : {E : Type 0} (h : ℕ → Bool) (signed : Type 0) (rs : List Bool) (n : ℕ) (t : Tree E) (m : Found E) → IsTame h signed rs n t → AreSmall m → AreSmall (collect m t)
 unfolding collect
 small-collected h signed rs n Leaf m t s = s
-small-collected h signed [] n (Claim needed settled f rest) m t s = absurd t
-small-collected h signed (r ∷ rs) n (Claim needed settled f rest) m t s = small-collected h signed rs (suc n) rest (add_claim m needed settled f) t.2 (record { facts = s.facts; claims = with-one IsSmallClaim m.claims _ s.claims t.0; accesses = s.accesses })
+small-collected h signed [] n (Claim o needed settled f rest) m t s = absurd t
+small-collected h signed (r ∷ rs) n (Claim o needed settled f rest) m t s = small-collected h signed rs (suc n) rest (add_claim m o needed settled f) t.2 (record { facts = s.facts; claims = with-one IsSmallClaim m.claims _ s.claims t.0; accesses = s.accesses })
 small-collected h signed rs n (Know f rest) m t s = small-collected h signed rs n rest (add_fact m f) t.1 (record { facts = with-one IsSmall m.facts f s.facts t.0; claims = s.claims; accesses = s.accesses })
-small-collected h signed rs n (Touch b i j es rest) m t s = small-collected h signed rs n rest (add_access m b i j es) t.1 (record { facts = s.facts; claims = s.claims; accesses = with-one IsSmallAccess m.accesses _ s.accesses t.0 })
+small-collected h signed rs n (Touch b j es rest) m t s = small-collected h signed rs n rest (add_access m b j es) t.1 (record { facts = s.facts; claims = s.claims; accesses = with-one IsSmallAccess m.accesses _ s.accesses t.0 })
 
 -- its accesses alone
 pub small-accesses : {E : Type 0} (h : ℕ → Bool) (signed : Type 0) (rs : List Bool) (n : ℕ) (facts : List Fact) (t : Tree E) → IsTame h signed rs n t → Each IsSmallAccess (trees.accesses facts t)
 small-accesses h signed rs n facts Leaf t = tt
-small-accesses h signed [] n facts (Claim needed settled f rest) t = absurd t
-small-accesses h signed (r ∷ rs) n facts (Claim needed settled f rest) t = small-accesses h signed rs (suc n) facts rest t.2
+small-accesses h signed [] n facts (Claim o needed settled f rest) t = absurd t
+small-accesses h signed (r ∷ rs) n facts (Claim o needed settled f rest) t = small-accesses h signed rs (suc n) facts rest t.2
 small-accesses h signed rs n facts (Know f rest) t = small-accesses h signed rs n _ rest t.1
-small-accesses h signed rs n facts (Touch b i j es rest) t = (t.0, small-accesses h signed rs n facts rest t.1)
+small-accesses h signed rs n facts (Touch b j es rest) t = (t.0, small-accesses h signed rs n facts rest t.1)
 
 -- obligations one by one with their marks, those past the marks aside
 abbrev pub AreRight : (h : ℕ → Bool) (signed : Type 0) (ranges : List Bool) (n : ℕ) → List Obligation → Type 0
@@ -65,10 +65,10 @@ AreRight h signed (r ∷ rs) n (o ∷ os) = IsRight h signed r (suc n) o.needed 
 
 pub claims-right : {E : Type 0} (h : ℕ → Bool) (signed : Type 0) (rs : List Bool) (n : ℕ) (launch facts : List Fact) (t : Tree E) (more : List Obligation) → IsTame h signed rs n t → AreRight h signed rs n (trees.claims launch facts t ++ more)
 claims-right h signed rs n launch facts Leaf more t = subst (λ l. AreRight h signed l n more) (sym t) tt
-claims-right h signed [] n launch facts (Claim needed settled f rest) more t = absurd t
-claims-right h signed (r ∷ rs) n launch facts (Claim needed settled f rest) more t = (t.1, claims-right h signed rs (suc n) launch facts rest more t.2)
+claims-right h signed [] n launch facts (Claim o needed settled f rest) more t = absurd t
+claims-right h signed (r ∷ rs) n launch facts (Claim o needed settled f rest) more t = (t.1, claims-right h signed rs (suc n) launch facts rest more t.2)
 claims-right h signed rs n launch facts (Know f rest) more t = claims-right h signed rs n launch _ rest more t.1
-claims-right h signed rs n launch facts (Touch b i j es rest) more t = claims-right h signed rs n launch facts rest more t.1
+claims-right h signed rs n launch facts (Touch b j es rest) more t = claims-right h signed rs n launch facts rest more t.1
 
 -- what is known of an item at first is small, where no local size is over 1,024
 pub small-items : (sizes : Three ℕ) (w : Which) → sizes.x ≤ 1024 → sizes.y ≤ 1024 → sizes.z ≤ 1024 → Each IsSmall (item_facts sizes w)

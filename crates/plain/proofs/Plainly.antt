@@ -10,7 +10,7 @@ use Rattle.facts.specs.Symbols.{Which, First, Second, Fact}
 use Rattle.walk.specs.Straight.{is_straight}
 use Rattle.walk.specs.Trees.{Access, Obligation}
 use Rattle.facts.specs.Launching.{launch_facts, item_facts, known}
-use Rattle.walk.specs.Walks.{setting, tree}
+use Rattle.walk.specs.Walks.{setting, tree, opening_state}
 use Rattle.walk.specs.Collected.{Claimed, Found, opening}
 use Rattle.walk.specs.Refusals.{are_fit, all_fit}
 use Rattle.two_thread.specs.Pairs.{Pair, pair_obligation}
@@ -86,7 +86,7 @@ module _ (k : Kernel) (c : Conditions) (h : ℕ → Bool) (limits : HasLimits k 
   tree-tame w =
       let x = before k.sizes.x limits.size_x.0 in
       let g = before_z c.groups.x.high limits.groups_x.0 limits.groups_x.1 in
-      body-tame k c h w x.0 g.0 x.1 g.1 (omega (arith, x.1, limits.size_x.1)) g.2 signed k.body plain (λ e. e) (record { claims = 0; elements = [] })
+      body-tame k c h w x.0 g.0 x.1 g.1 (omega (arith, x.1, limits.size_x.1)) g.2 signed k.body plain (λ e. e) opening_state
 
   found-small : (w : Which) → AreSmall (found domain k c h w)
   found-small w =

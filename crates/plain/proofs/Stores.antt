@@ -1,30 +1,25 @@
 -- The tree of a plain kernel: its forms are small, and the claims of ranges in its indexes are settled.
-use Rattle.std.proofs.Common.{◌≡◌, ℕ, zero, suc, ◌+◌, ◌*◌, ◌≤◌, Bool, true, false, List, [], ◌∷◌, slice_index_or, arith, refl, sym, ap, subst, ◌∙◌, mul-le-mul, mul-suc, mul-add, mul_assoc}
-use Rattle.std.specs.Prelude.{ℤ, pos, negsuc, unsigned_abs, ◌+ℤ◌, ◌-ℤ◌, ◌*ℤ◌, ◌≤ℤ◌, ◌||◌}
+use Rattle.std.proofs.Common.{◌≡◌, ℕ, suc, ◌+◌, ◌*◌, ◌≤◌, Bool, true, false, List, [], ◌∷◌, slice_index_or, arith, refl, sym, ap, subst, ◌∙◌, mul-le-mul, mul-suc, mul-add, mul_assoc}
+use Rattle.std.specs.Prelude.{ℤ, pos, ◌+ℤ◌, ◌-ℤ◌, ◌*ℤ◌, ◌≤ℤ◌, ◌||◌}
 use Rattle.std.proofs.lemmas.Int.{ints}
 use Rattle.std.proofs.lemmas.Bool.Decides.{nat_tests}
 use Rattle.semantics.specs.Word.{Kind, Int, Uint, in_kind, Add, Multiply}
-use Rattle.semantics.specs.Core.{Site, Term, GlobalId, Statements, none, one}
+use Rattle.semantics.specs.Core.{Site, Global, Term, GlobalId, Statements, none, one}
 use Rattle.semantics.specs.Launch.{Kernel}
 use Rattle.semantics.specs.Conditions.{Conditions}
-use Rattle.linear.specs.Exact.{Terms, put, multiple, sum}
-use Rattle.linear.specs.Sizes.{terms_size, size}
-use Rattle.linear.proofs.Sizes.{size_difference}
+use Rattle.linear.specs.Exact.{put, multiple, sum}
+use Rattle.linear.specs.Sizes.{size}
+use Rattle.linear.proofs.Sizes.{size-put, size_difference}
 use Rattle.facts.specs.Symbols.{Which, Length, Given, Fact, constant, once, minus}
 use Rattle.facts.specs.Elements.{between}
 use Rattle.walk.specs.Trees.{Tree, Leaf, Touch}
-use Rattle.walk.specs.Walks.{Setting, State, Value, value, newest, with_new, Onward, setting, settles, claimed, ranged, kept_or_new, brought_from, id_form, walk, walk_all, in_buffer, joined, exact}
+use Rattle.walk.specs.Walks.{Setting, State, stand, spot_at, Value, value, newest, with_new, Onward, setting, settles, claimed, ranged, kept_or_new, brought_from, id_form, walk, walk_all, in_buffer, store_of, joined, exact}
 use Rattle.plain.specs.Domains.{domain}
 use Rattle.plain.specs.Claims.{brings, ranges, claims}
 use Rattle.plain.specs.Kernels.{is_int, is_signed, has_signed, IsPlainValue, Number, BroughtNumber, Parameter, BroughtParameter, IsPlainIndex, Alone, Times, Plus, TimesPlus, Plain, ArePlain, last_index}
 use Rattle.plain.proofs.Terms.{Both}
 use Rattle.plain.proofs.Indexes.{local, group, id_multiple, settles_up, settles_down, low-multiple, minus-multiple, id-form, id-alone, multiple-id, sum-multiple, number-multiple}
 use Rattle.plain.proofs.Trees.{most, IsTame, range-tame, range-asked}
-
-size-put : (z : ℤ) (s : ℕ) (ts : Terms) → terms_size (put z s ts) ≡ unsigned_abs z + terms_size ts
-size-put (pos zero) s ts = omega arith
-size-put (pos (suc n)) s ts = refl
-size-put (negsuc n) s ts = refl
 
 -- how large a multiple of the id is
 multiple-size : (w : Which) (size' f z : ℕ) → size (id_multiple w size' (pos f) (pos z)) ≡ z + (f * 1 + (f * size' + 0))
@@ -89,12 +84,12 @@ module _ (k : Kernel) (c : Conditions) (h : ℕ → Bool) (w : Which) (m n : ℕ
       ((st' : State Both) → IsTame h signed rs st'.claims (go (value Uint (id_multiple w (suc m) (pos f) (pos z))) st')) → IsTame h signed (ranges k.arguments e rs) st.claims (walk s e st go)
   index-tame _ _ _ Alone b rs st go t = subst (λ x. IsTame h signed rs st.claims (go (value Uint x) st)) (sym (id-alone s w m refl em)) (t st)
   index-tame _ _ _ (Times p kf f hf) b rs st go t =
-      number-tame kf f (below kf f hf) (true ∷ true ∷ rs) st (λ y st1. exact s Multiply (id_form s GlobalId 0) y.form st1 (λ g st2. ranged s Uint g st2 go)) (λ st1.
+      number-tame kf f (below kf f hf) (true ∷ true ∷ rs) (stand (spot_at p st) st) (λ y st1. exact s Multiply (id_form s GlobalId 0) y.form st1 (λ g st2. ranged s Uint g st2 go)) (λ st1.
       subst (λ x. IsTame h signed (true ∷ true ∷ rs) st1.claims (ranged s Uint x st1 go)) (sym (ap (multiple (pos f)) (id-form s w m refl em) ∙ multiple-id w m f))
       (multiple-tame f 0 (below kf f hf) b rs st1 go t))
   index-tame _ _ _ (Plus a kc z hz) b rs st go t =
       let z0 : pos 0 +ℤ pos z ≡ pos z = omega (arith, ints) in
-      number-tame kc z (below kc z hz) (true ∷ true ∷ rs) st (λ y st1. exact s Add (id_form s GlobalId 0) y.form st1 (λ g st2. ranged s Uint g st2 go)) (λ st1.
+      number-tame kc z (below kc z hz) (true ∷ true ∷ rs) (stand (spot_at a st) st) (λ y st1. exact s Add (id_form s GlobalId 0) y.form st1 (λ g st2. ranged s Uint g st2 go)) (λ st1.
       subst (λ x. IsTame h signed (true ∷ true ∷ rs) st1.claims (ranged s Uint x st1 go))
       (sym (ap (λ g. sum g (constant (pos z))) (id-alone s w m refl em) ∙ sum-multiple w (suc m) (pos 1) (pos 0) (pos z) ∙ ap (id_multiple w (suc m) (pos 1)) z0))
       (multiple-tame 1 z (omega arith) b rs st1 go t))
@@ -102,12 +97,12 @@ module _ (k : Kernel) (c : Conditions) (h : ℕ → Bool) (w : Which) (m n : ℕ
       let lf = below kf f hf in
       let first = id_multiple w (suc m) (pos f) (pos 0) in
       let rs2 : List Bool = brings Uint kc (true ∷ true ∷ rs) in
-      let on1 : Onward Both = λ x st2. joined s Add Uint x (value kc (constant (pos z))) st2 go in
+      let on1 : Onward Both = λ x st2. joined s Add Uint x (value kc (constant (pos z))) (stand (spot_at a st2) st2) go in
       let z0 : pos 0 +ℤ pos z ≡ pos z = omega (arith, ints) in
-      number-tame kf f lf (true ∷ true ∷ rs2) st (λ y st1. exact s Multiply (id_form s GlobalId 0) y.form st1 (λ g st2. ranged s Uint g st2 on1)) (λ st1.
+      number-tame kf f lf (true ∷ true ∷ rs2) (stand (spot_at p st) st) (λ y st1. exact s Multiply (id_form s GlobalId 0) y.form st1 (λ g st2. ranged s Uint g st2 on1)) (λ st1.
       subst (λ x. IsTame h signed (true ∷ true ∷ rs2) st1.claims (ranged s Uint x st1 on1)) (sym (ap (multiple (pos f)) (id-form s w m refl em) ∙ multiple-id w m f))
       (multiple-tame f 0 lf (omega (arith, b)) rs2 st1 on1 (λ st2.
-      number-tame kc z (omega (arith, b)) (true ∷ true ∷ rs) st2 (λ y st3. exact s Add first y.form st3 (λ g st4. ranged s Uint g st4 go)) (λ st3.
+      number-tame kc z (omega (arith, b)) (true ∷ true ∷ rs) (stand (spot_at a st2) st2) (λ y st3. exact s Add first y.form st3 (λ g st4. ranged s Uint g st4 go)) (λ st3.
       subst (λ x. IsTame h signed (true ∷ true ∷ rs) st3.claims (ranged s Uint x st3 go)) (sym (sum-multiple w (suc m) (pos f) (pos 0) (pos z) ∙ ap (id_multiple w (suc m) (pos f)) z0))
       (multiple-tame f z lf b rs st3 go t)))))
 
@@ -125,21 +120,22 @@ module _ (k : Kernel) (c : Conditions) (h : ℕ → Bool) (w : Which) (m n : ℕ
 
   value-tame : (v : Term) → IsPlainValue k.arguments v → (is_signed k.arguments v ≡ true → signed) → (rs : List Bool) (st : State Both) (go : Onward Both) → ((x : Value) (st' : State Both) → IsTame h signed rs st'.claims (go x st')) → IsTame h signed (ranges k.arguments v rs) st.claims (walk s v st go)
   value-tame v (Number z l) g rs st go t = t (value Uint (constant (pos z))) st
-  value-tame v (BroughtNumber site z l) g rs st go t = number-tame Int z (int_below z l) rs st go (λ st'. t (value Uint (constant (pos z))) st')
+  value-tame v (BroughtNumber site z l) g rs st go t = number-tame Int z (int_below z l) rs (stand (spot_at site st) st) go (λ st'. t (value Uint (constant (pos z))) st')
   value-tame v (Parameter x l) g rs st go t = t (value (slice_index_or k.arguments x Int) (once (Given x))) st
-  value-tame v (BroughtParameter site x l) g rs st go t = given-tame (slice_index_or k.arguments x Int) x g rs st go t
+  value-tame v (BroughtParameter site x l) g rs st go t = given-tame (slice_index_or k.arguments x Int) x g rs (stand (spot_at site st) st) go t
 
   pub body-tame : (body : Statements) → ArePlain k.arguments k.sizes.x c.groups.x.high body → (has_signed k.arguments body ≡ true → signed) → (st : State Both) → IsTame h signed (claims k.arguments body) st.claims (walk_all s body st (λ st. Leaf))
   body-tame none p g st = refl
-  body-tame (one i others) (Plain _ buffer site e f z v pi last pv, q) g st =
+  body-tame (one i others) (Plain num buffer site e f z v pi last pv, q) g st =
       let lf = factor-below e f z pi in
       let b = last_below f z k.sizes.x m n c.groups.x.high em en last in
       let form = id_multiple w (suc m) (pos f) (pos z) in
       let l : size form ≤ 4402341478400 = small f z lf b in
       let rs : List Bool = claims k.arguments others in
-      let on : State Both → Tree Both = λ st2. in_buffer s buffer form st2 (λ st3. Touch true buffer form st3.elements (walk_all s others st3 (λ st4. Leaf))) in
+      let spot = (store_of num (record { space = Global; number = buffer }) site).spot in
+      let on : State Both → Tree Both = λ st2. in_buffer s buffer form (stand spot st2) (λ st3. Touch (store_of num (record { space = Global; number = buffer }) site) form st3.elements (walk_all s others st3 (λ st4. Leaf))) in
       let before = minus (once (Length buffer)) (constant (pos 1)) in
       let room : size (minus before form) ≤ most = less before form most (omega (arith, l, less (once (Length buffer)) (constant (pos 1)) 2 (omega arith))) in
-      index-tame e f z pi b (ranges k.arguments v (false ∷ false ∷ rs)) st _ (λ st1.
+      index-tame e f z pi b (ranges k.arguments v (false ∷ false ∷ rs)) (stand spot st) _ (λ st1.
       value-tame v pv (λ e. g (left (is_signed k.arguments v) (has_signed k.arguments others) e)) (false ∷ false ∷ rs) st1 (λ x st2. on st2) (λ x st2.
-      (omega (arith, l), tt, (room, tt, (omega (arith, l), body-tame others q (λ e. g (right (is_signed k.arguments v) (has_signed k.arguments others) e)) (claimed (claimed st2)))))))
+      (omega (arith, l), tt, (room, tt, (omega (arith, l), body-tame others q (λ e. g (right (is_signed k.arguments v) (has_signed k.arguments others) e)) (claimed (claimed (stand spot st2))))))))

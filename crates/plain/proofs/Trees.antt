@@ -4,8 +4,8 @@ use Rattle.std.specs.Prelude.{◌&&◌, ◌||◌}
 use Rattle.std.proofs.lemmas.Bool.{and_parts}
 use Rattle.semantics.specs.Word.{Uint}
 use Rattle.facts.specs.Symbols.{Fact}
-use Rattle.walk.specs.Trees.{Tree, Leaf, Claim, Know, Touch}
-use Rattle.walk.specs.Walks.{Setting, State, value, Onward, settles, claimed, ranged, kept_or_new, in_range, is_kept, low_end, high_end}
+use Rattle.walk.specs.Trees.{OfRange, Tree, Leaf, Claim, Know, Touch}
+use Rattle.walk.specs.Walks.{demand, Setting, State, value, Onward, settles, claimed, ranged, kept_or_new, in_range, is_kept, low_end, high_end}
 use Rattle.linear.specs.Sizes.{size}
 
 -- forms that are small: no sum of a few of them leaves i64
@@ -23,10 +23,10 @@ IsRight h signed true n needed settled = (settled ≡ true) ⊎ ((needed ≡ tru
 -- claims from the number after n on, marked where they are of ranges
 abbrev pub IsTame : {E : Type 0} (has_entry : ℕ → Bool) (signed : Type 0) (ranges : List Bool) (n : ℕ) → Tree E → Type 0
 IsTame h signed rs n Leaf = rs ≡ []
-IsTame h signed [] n (Claim needed settled f rest) = ⊥
-IsTame h signed (r ∷ rs) n (Claim needed settled f rest) = IsSmall f × IsRight h signed r (suc n) needed settled × IsTame h signed rs (suc n) rest
+IsTame h signed [] n (Claim o needed settled f rest) = ⊥
+IsTame h signed (r ∷ rs) n (Claim o needed settled f rest) = IsSmall f × IsRight h signed r (suc n) needed settled × IsTame h signed rs (suc n) rest
 IsTame h signed rs n (Know f rest) = IsSmall f × IsTame h signed rs n rest
-IsTame h signed rs n (Touch s b i es rest) = IsSmall i × IsTame h signed rs n rest
+IsTame h signed rs n (Touch a i es rest) = IsSmall i × IsTame h signed rs n rest
 
 asked_low : (p q x y : Bool) → (p ≡ true) ⊎ (((p || x) && (q || y)) ≡ true → x ≡ true)
 asked_low true q x y = inl refl
@@ -46,10 +46,10 @@ module _ {E : Type 0} (s : Setting E) where
 
   -- both ends are settled
   pub range-settled : (f : Fact) (st : State E) (go : Onward E) → settles s st (low_end Uint f) ≡ true → settles s st (high_end Uint f) ≡ true →
-      ranged s Uint f st go ≡ Claim true true (low_end Uint f) (Claim true true (high_end Uint f) (go (value Uint f) (claimed (claimed st))))
+      ranged s Uint f st go ≡ Claim (demand (OfRange Uint) st) true true (low_end Uint f) (Claim (demand (OfRange Uint) st) true true (high_end Uint f) (go (value Uint f) (claimed (claimed st))))
   range-settled f st go p q =
       ap (λ b. in_range s b Uint f st (λ st'. kept_or_new s b f st' go)) (kept f st p q)
-      ∙ (λ i. Claim true (p i) (low_end Uint f) (Claim true (q i) (high_end Uint f) (go (value Uint f) (claimed (claimed st)))))
+      ∙ (λ i. Claim (demand (OfRange Uint) st) true (p i) (low_end Uint f) (Claim (demand (OfRange Uint) st) true (q i) (high_end Uint f) (go (value Uint f) (claimed (claimed st)))))
 
   pub range-tame : (h : ℕ → Bool) (signed : Type 0) (rs : List Bool) (f : Fact) (st : State E) (go : Onward E) → settles s st (low_end Uint f) ≡ true → settles s st (high_end Uint f) ≡ true →
       IsSmall (low_end Uint f) → IsSmall (high_end Uint f) → IsTame h signed rs (suc (suc st.claims)) (go (value Uint f) (claimed (claimed st))) → IsTame h signed (true ∷ true ∷ rs) st.claims (ranged s Uint f st go)

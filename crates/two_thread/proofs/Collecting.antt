@@ -23,20 +23,20 @@ use Rattle.two_thread.specs.Listed.{owed}
 pub claims-collected : {E : Type 0} (launch : List Fact) (m : Found E) (t : Tree E) → map (owed launch) (collect m t).claims ≡ map (owed launch) m.claims ++ claims launch m.facts t
 unfolding collect
 claims-collected launch m Leaf = sym (append-nil (map (owed launch) m.claims))
-claims-collected launch m (Claim needed settled f t) =
-    claims-collected launch (add_claim m needed settled f) t
-    ∙ ap (λ l. l ++ claims launch m.facts t) (map-append (owed launch) m.claims (record { needed = needed; settled = settled; claim = f; facts = m.facts } ∷ []))
-    ∙ append_assoc (map (owed launch) m.claims) (map (owed launch) (record { needed = needed; settled = settled; claim = f; facts = m.facts } ∷ [])) (claims launch m.facts t)
+claims-collected launch m (Claim o needed settled f t) =
+    claims-collected launch (add_claim m o needed settled f) t
+    ∙ ap (λ l. l ++ claims launch m.facts t) (map-append (owed launch) m.claims (record { demand = o; needed = needed; settled = settled; claim = f; facts = m.facts } ∷ []))
+    ∙ append_assoc (map (owed launch) m.claims) (map (owed launch) (record { demand = o; needed = needed; settled = settled; claim = f; facts = m.facts } ∷ [])) (claims launch m.facts t)
 claims-collected launch m (Know f t) = claims-collected launch (add_fact m f) t
-claims-collected launch m (Touch s b i es t) = claims-collected launch (add_access m s b i es) t
+claims-collected launch m (Touch a i es t) = claims-collected launch (add_access m a i es) t
 
 accesses-collected : {E : Type 0} (m : Found E) (t : Tree E) → (collect m t).accesses ≡ m.accesses ++ accesses m.facts t
 unfolding collect
 accesses-collected m Leaf = sym (append-nil m.accesses)
-accesses-collected m (Claim needed settled f t) = accesses-collected (add_claim m needed settled f) t
+accesses-collected m (Claim o needed settled f t) = accesses-collected (add_claim m o needed settled f) t
 accesses-collected m (Know f t) = accesses-collected (add_fact m f) t
-accesses-collected m (Touch s b i es t) =
-    accesses-collected (add_access m s b i es) t ∙ append_assoc m.accesses (record { is_store = s; buffer = b; index = i; elements = es; facts = m.facts } ∷ []) (accesses m.facts t)
+accesses-collected m (Touch a i es t) =
+    accesses-collected (add_access m a i es) t ∙ append_assoc m.accesses (record { target = a; index = i; elements = es; facts = m.facts } ∷ []) (accesses m.facts t)
 
 -- only how many buffers there are is asked
 pub pairs_from-map : {E A B : Type 0} (sizes : Three ℕ) (c : Conditions) (b : ℕ) (f : A → B) (ks : List A) (us vs : List (Access E)) → pairs_from sizes c b ks us vs ≡ pairs_from sizes c b (map f ks) us vs

@@ -1,11 +1,12 @@
 -- Obligations by their numbers.
-use Rattle.std.proofs.Common.{◌≡◌, ℕ, zero, suc, refl, ◌+◌, ◌-◌, ◌<◌, ◌≤◌, List, [], ◌∷◌, length, get_or, sym, ap, subst, ◌∙◌, arith}
+use Rattle.std.proofs.Common.{◌≡◌, ℕ, zero, suc, refl, ◌+◌, ◌-◌, ◌<◌, ◌≤◌, List, [], ◌∷◌, length, get_or, sym, ap, subst, ◌∙◌, arith, None}
 use Rattle.std.specs.List.{All}
 use Rattle.std.proofs.lemmas.List.{get_or-map, length-map, length-append, get_or_append_left, get_or-append-add}
 use Rattle.std.proofs.lemmas.List.Elements.{All-get_or}
 use Rattle.domain.specs.declared.Domain.{Ghosts}
 use Rattle.linear.specs.Forms.{forms}
 use Rattle.facts.specs.View.{known_seen}
+use Rattle.walk.specs.Trees.{Obligation}
 use Rattle.walk.specs.Before.{HasFacts}
 use Rattle.walk.specs.View.{met, claim_seen}
 use Rattle.walk.specs.declared.path.Path.{Path}
@@ -53,6 +54,14 @@ nth_is_claim g o n i c e h q =
     ∙ get_or_append_left (claims_listed o) (pairs_listed g o) no_obligation i k
     ∙ get_or-map (owed (forms o.launch.items)) cs i no_claim no_obligation l
     ∙ ap (owed (forms o.launch.items)) (claim_is o.first i c h q)
+
+pub other_none : {E : Type 0} (g : Ghosts E) (o : Obligations E) (n i : ℕ) → i ≡ n - 1 → i < length o.first.claims.items → (nth_obligation (listed g o) n).other ≡ None
+other_none g o n i e h =
+    let cs = seen_claims o.first in
+    let l : i < length cs = subst (λ m. i < m) (sym (length_claims o.first)) h in
+    let k : i < length (claims_listed o) = subst (λ m. i < m) (sym (claims_length o)) h in
+    ap (λ (x : Obligation). x.other)
+    (ap (λ j. get_or (listed g o) j no_obligation) (sym e) ∙ get_or_append_left (claims_listed o) (pairs_listed g o) no_obligation i k ∙ get_or-map (owed (forms o.launch.items)) cs i no_claim no_obligation l)
 
 -- then come those of the pairs
 pub nth_is_pair : {E : Type 0} (g : Ghosts E) (o : Obligations E) (n i j : ℕ) (p : Pair) → i ≡ n - 1 → i ≡ length o.first.claims.items + j → j < length o.pairs.items → p ≡ get_or o.pairs.items j p → nth_obligation (listed g o) n ≡ pair_obligation g (known_seen o.setting.known) (forms o.launch.items) (pair (seen_accesses o.first) (seen_accesses o.second) p)

@@ -11,7 +11,8 @@ use Rattle.facts.specs.Symbols as symbols
 use Rattle.facts.specs.Symbols.{Which, First, Second, Symbol, Given, Length, Local, Group, New, number, symbol_of, Fact, constant, once, minus, equals}
 use Rattle.facts.specs.Elements.{Elements, element_of}
 use Rattle.facts.specs.Launching.{launch_facts, known, count_range}
-use Rattle.walk.specs.Trees.{Access}
+use Rattle.walk.specs.Straight.{is_global}
+use Rattle.walk.specs.Trees.{Target, Access}
 use Rattle.facts.proofs.Integers.{lt_true}
 use Rattle.facts.proofs.Naming.{symbol_of-number}
 use Rattle.facts.proofs.Values.{value-minus, value-once, met_equals}
@@ -23,7 +24,7 @@ use Rattle.walk.proofs.Stores.{Noted}
 use Rattle.facts.proofs.Twins.{twin, Twins, value_of-alike}
 use Rattle.walk.proofs.TwinTrees.{Twin}
 use Rattle.facts.proofs.TwinFacts.{groups-twin, given-twin, length-twin, local-twin, group-twin, new-twin}
-use Rattle.two_thread.specs.Pairs.{Scope, Within, Across, Order, Below, Above, Pair, id, order_fact, same_group, scope_facts, pair_facts, is_apart, pair_obligation, differs, two_orders, all_orders, conflict, where_so}
+use Rattle.two_thread.specs.Pairs.{Scope, Within, Across, Order, Below, Above, Pair, id, order_fact, same_group, scope_facts, pair_facts, is_apart, pair_obligation, differs, two_orders, all_orders, is_buffer, conflict, where_so}
 use Rattle.two_thread.specs.Shown.{IsShown}
 use Rattle.two_thread.proofs.PairLists.{Each, each-dimension}
 use Rattle.two_thread.proofs.PairFacts.{facts-alike, less-met, where-so}
@@ -115,9 +116,10 @@ module _ {E : Type 0} (w : Walked E) (i j : ℕ) (hi : i < item_count (setup_of 
 
   conflicts : conflict b p.node other ≡ true
   conflicts =
-      let e = eq-eqb p.node.buffer b p.buffer in
-      let f = eq-eqb other.buffer b (like.buffer ∙ q.buffer) in
-      and_from (nat_eq p.node.buffer b) (nat_eq other.buffer b && (p.node.is_store || other.is_store)) e (and_from (nat_eq other.buffer b) (p.node.is_store || other.is_store) f (ap (λ t. t || other.is_store) p.store))
+      let here = λ (t : Target). and_from (is_global t.array.space) (nat_eq t.array.number b) in
+      let e : is_buffer p.node.target b ≡ true = here p.node.target (ap is_global p.space) (eq-eqb p.node.target.array.number b p.buffer) in
+      let f : is_buffer other.target b ≡ true = ap (λ t. is_buffer t b) like.target ∙ here q.node.target (ap is_global q.space) (eq-eqb q.node.target.array.number b q.buffer) in
+      and_from (is_buffer p.node.target b) (is_buffer other.target b && (p.node.target.is_store || other.target.is_store)) e (and_from (is_buffer other.target b) (p.node.target.is_store || other.target.is_store) f (ap (λ t. t || other.target.is_store) p.store))
 
   orders-fail : (sc : Scope) (d : ℕ) → d < 3 → differs w.kernel.sizes w.conditions sc d ≡ true → Each IsPairShown (where_so (conflict b p.node other) (all_orders w.kernel.sizes w.conditions sc p.node other)) → All (IsMet v) (scope_facts sc) → v (number (id sc First d)) ≢ v (number (id sc Second d)) → ⊥
   orders-fail sc d l t h hs n =

@@ -1,10 +1,9 @@
 -- Where all is shown, a straight-line kernel is pair-safe.
-use Rattle.std.proofs.Common.{◌≡◌, ◌≢◌, ℕ, suc, ◌+◌, ◌<◌, ◌≤◌, Bool, true, List, [], ◌∷◌, map, length, arith, refl, sym, ap, subst, inl, inr}
-use Rattle.std.specs.Prelude.{ℤ, ◌⊎◌}
+use Rattle.std.proofs.Common.{◌≡◌, ◌≢◌, ℕ, ◌+◌, ◌<◌, ◌≤◌, Bool, true, List, map, length, arith, sym, subst, inl, inr}
+use Rattle.std.specs.Prelude.{◌⊎◌}
 use Rattle.std.specs.List.{All, AllZip}
 use Rattle.std.proofs.lemmas.Bool.{and_parts, cases_eq}
-use Rattle.semantics.specs.Word.{Kind}
-use Rattle.semantics.specs.Launch.{Kernel, Launch, Fits, IsBuffer}
+use Rattle.semantics.specs.Launch.{Kernel, Launch, Fits}
 use Rattle.semantics.specs.Conditions.{Conditions, Meets}
 use Rattle.semantics.specs.Setup.{Setup, group_of, item_count}
 use Rattle.semantics.specs.Solo.{after}
@@ -16,6 +15,7 @@ use Rattle.facts.specs.Launching.{launch_facts, known, are_sizes}
 use Rattle.walk.specs.Trees.{Access}
 use Rattle.walk.specs.Straight.{is_straight, is_straight_body, steps}
 use Rattle.facts.proofs.Members.{Lawful}
+use Rattle.facts.proofs.Launched.{buffers-length}
 use Rattle.facts.proofs.Worlds.{Walked, View, setup_of}
 use Rattle.walk.proofs.Journeys.{Shown}
 use Rattle.walk.proofs.Stores.{Noted}
@@ -28,12 +28,6 @@ use Rattle.two_thread.proofs.Alone.{Seen, standing-quiet, standing-short, seen, 
 use Rattle.two_thread.proofs.Places.{locals-differ, groups-differ}
 use Rattle.two_thread.proofs.PairLists.{Each, each-all, all-each, each-left, each-right, each-map, Found, pairs_in-has, pairs_from-has}
 use Rattle.two_thread.proofs.Meetings.{not-within, not-across}
-
-buffers-length : (ks : List Kind) (bs : List (List ℤ)) → AllZip IsBuffer ks bs → length bs ≡ length ks
-buffers-length [] [] h = refl
-buffers-length [] (b ∷ bs) h = elim h [ ]
-buffers-length (k ∷ ks) [] h = elim h [ ]
-buffers-length (k ∷ ks) (b ∷ bs) h = ap suc (buffers-length ks bs h.1)
 
 module _ {E : Type 0} (w : Walked E) (straight : is_straight_body (length w.kernel.arguments) w.kernel.body ≡ true) (shown : All IsShown (obligations w.domain w.kernel w.conditions w.has_entry)) where
   abbrev s : Setup

@@ -73,21 +73,21 @@ unfit_right a b walks.Memory u = u
 -- both items have as many claims
 same_count : {E : Type 0} (t u : Tree E) (l l' fs gs : List Fact) → Same t u → length (claims l fs t) ≡ length (claims l' gs u)
 same_count Leaf Leaf l l' fs gs s = refl
-same_count Leaf (Claim m r g u) l l' fs gs s = elim s [ ]
+same_count Leaf (Claim o m r g u) l l' fs gs s = elim s [ ]
 same_count Leaf (Know g u) l l' fs gs s = elim s [ ]
-same_count Leaf (Touch r d j es u) l l' fs gs s = elim s [ ]
-same_count (Claim n q f t) Leaf l l' fs gs s = elim s [ ]
-same_count (Claim n q f t) (Claim m r g u) l l' fs gs s = ap suc (same_count t u l l' fs gs s)
-same_count (Claim n q f t) (Know g u) l l' fs gs s = elim s [ ]
-same_count (Claim n q f t) (Touch r d j es u) l l' fs gs s = elim s [ ]
+same_count Leaf (Touch d j es u) l l' fs gs s = elim s [ ]
+same_count (Claim x n q f t) Leaf l l' fs gs s = elim s [ ]
+same_count (Claim x n q f t) (Claim o m r g u) l l' fs gs s = ap suc (same_count t u l l' fs gs s)
+same_count (Claim x n q f t) (Know g u) l l' fs gs s = elim s [ ]
+same_count (Claim x n q f t) (Touch d j es u) l l' fs gs s = elim s [ ]
 same_count (Know f t) Leaf l l' fs gs s = elim s [ ]
-same_count (Know f t) (Claim m r g u) l l' fs gs s = elim s [ ]
+same_count (Know f t) (Claim o m r g u) l l' fs gs s = elim s [ ]
 same_count (Know f t) (Know g u) l l' fs gs s = same_count t u l l' _ _ s.1
-same_count (Know f t) (Touch r d j es u) l l' fs gs s = elim s [ ]
-same_count (Touch q b i es t) Leaf l l' fs gs s = elim s [ ]
-same_count (Touch q b i es t) (Claim m r g u) l l' fs gs s = elim s [ ]
-same_count (Touch q b i es t) (Know g u) l l' fs gs s = elim s [ ]
-same_count (Touch q b i es t) (Touch r d j hs u) l l' fs gs s = same_count t u l l' fs gs s.4
+same_count (Know f t) (Touch d j es u) l l' fs gs s = elim s [ ]
+same_count (Touch b i es t) Leaf l l' fs gs s = elim s [ ]
+same_count (Touch b i es t) (Claim o m r g u) l l' fs gs s = elim s [ ]
+same_count (Touch b i es t) (Know g u) l l' fs gs s = elim s [ ]
+same_count (Touch b i es t) (Touch d j hs u) l l' fs gs s = same_count t u l l' fs gs s.3
 
 module _ {E : Type 0} (g : Ghosts E) (k : Kernel) (c : Conditions) (h : ℕ → Bool) where
   count_first : length (found g k c h First).claims ≡ length (item_claims g k c h)

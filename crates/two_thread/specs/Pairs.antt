@@ -1,5 +1,5 @@
 -- What is to be shown of two items: that no two of their accesses, one of them a store, are of one element.
-use Rattle.std.specs.Prelude.{ℕ, suc, pos, List, [], ◌∷◌, ◌++◌, Bool, true, false, ◌&&◌, ◌||◌, nat_eq, nat_lt, int_lt}
+use Rattle.std.specs.Prelude.{ℕ, suc, pos, List, [], ◌∷◌, ◌++◌, Bool, true, false, ◌&&◌, ◌||◌, nat_eq, nat_lt, int_lt, Some}
 use Rattle.semantics.specs.Launch.{Three}
 use Rattle.semantics.specs.Setup.{along}
 use Rattle.semantics.specs.Conditions.{Conditions}
@@ -7,7 +7,8 @@ use Rattle.domain.specs.declared.Domain.{Ghosts}
 use Rattle.facts.specs.Symbols.{Which, First, Second, Symbol, Local, Group, Fact, constant, once, minus, equals}
 use Rattle.facts.specs.Elements.{Known, element_of, lacks_zero}
 use Rattle.facts.specs.Launching.{each_dimension, count_range}
-use Rattle.walk.specs.Trees.{Access, Obligation}
+use Rattle.walk.specs.Straight.{is_global}
+use Rattle.walk.specs.Trees.{Target, OfPair, Access, Obligation}
 
 -- items of one group, which differ in a local id, or of two groups, which differ in a group id
 pub data Scope : Type 0 where
@@ -54,7 +55,7 @@ abbrev pub is_apart : {E : Type 0} → Ghosts E → Known E → Pair E → Bool
 is_apart g k p = lacks_zero g (element_of g (record { known = k; first = p.first.elements; second = p.second.elements }) (minus p.first.index p.second.index))
 
 abbrev pub pair_obligation : {E : Type 0} → Ghosts E → Known E → (launch : List Fact) → Pair E → Obligation
-pair_obligation g k launch p = record { needed = true; settled = is_apart g k p; facts = pair_facts launch p }
+pair_obligation g k launch p = record { sort = OfPair; spot = p.first.target.spot; other = Some p.second.target.spot; needed = true; settled = is_apart g k p; facts = pair_facts launch p }
 
 -- dimensions in which two items can differ
 abbrev pub differs : Three ℕ → Conditions → Scope → ℕ → Bool
@@ -68,9 +69,13 @@ two_orders false u v s d = []
 abbrev pub all_orders : {E : Type 0} → Three ℕ → Conditions → Scope → Access E → Access E → List (Pair E)
 all_orders sizes c s u v = each_dimension (λ d. two_orders (differs sizes c s d) u v s d)
 
+-- this buffer
+abbrev pub is_buffer : Target → ℕ → Bool
+is_buffer t b = is_global t.array.space && nat_eq t.array.number b
+
 -- both of this buffer, and at least one a store
 abbrev pub conflict : {E : Type 0} → ℕ → Access E → Access E → Bool
-conflict b u v = nat_eq u.buffer b && (nat_eq v.buffer b && (u.is_store || v.is_store))
+conflict b u v = is_buffer u.target b && (is_buffer v.target b && (u.target.is_store || v.target.is_store))
 
 abbrev pub where_so : {A : Type 0} → Bool → List A → List A
 where_so true xs = xs

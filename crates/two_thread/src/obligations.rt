@@ -19,14 +19,14 @@ ghost use Rattle.two_thread.specs.Shown.{obligations};
 ghost use Rattle.two_thread.specs.Unfound.{IsUnwalked};
 
 use crate::clashing::{claim_facts, is_apart, pair_facts};
-use crate::pairs::{Pair, all_pairs};
+use crate::pairs::{Pair, all_pairs, spot_of};
 use core_code::tree::Core;
 use domain::Domain;
 use facts::{WalkError, Which, item_facts, known, launch_facts};
 use launch::conditions::Conditions;
 use linear::Form;
 use std::alloc::Global;
-use walk::{Path, Setting, walk};
+use walk::{Path, Setting, Sort, Spot, walk};
 
 /// The obligations of a kernel, numbered from 1: the claims of one item, then the pairs of accesses of two items that may clash. There
 /// are at most 65,536.
@@ -81,11 +81,12 @@ impl<D: Domain> Obligations<D> {
     ghost use Rattle.core_code.specs.View.{kernel as core_seen};
     ghost use Rattle.linear.specs.Forms.{forms};
     ghost use Rattle.launch.specs.View.{conditions as conditions_seen};
+    ghost use Rattle.walk.specs.View.{sort as sort_seen, spot as spot_seen};
     ghost use Rattle.two_thread.specs.Fitting.{forms_fit};
     ghost use Rattle.two_thread.specs.Refusals.{DoNotFit};
     ghost use Rattle.two_thread.specs.Shown.{obligations};
     ghost use Rattle.two_thread.specs.Unfound.{IsUnwalked};
-    ghost use Rattle.two_thread.specs.Listed.{listed, nth_obligation, made_fit, flagged};
+    ghost use Rattle.two_thread.specs.Listed.{listed, nth_obligation, made_fit, flagged, maybe_spot};
 
     /// All that is to be shown of a kernel, where the obligations that are flagged have an entry.
     pub fn find(
@@ -122,6 +123,51 @@ impl<D: Domain> Obligations<D> {
         ensures few { result ≤ 65536 }
     {
         self.first.claims.len() + self.pairs.len()
+    }
+
+    /// What is to be shown, by which an entry fits or does not.
+    pub fn sort(&self, number: usize) -> Sort
+        requires first { 0 < number }
+        requires last { number ≤ length (listed D.Domain self.now) }
+        ensures { sort_seen result ≡ (nth_obligation (listed D.Domain self.now) number).sort }
+    {
+        let i = number - 1;
+        if i < self.first.claims.len() {
+            let claim = &self.first.claims[i];
+            return claim.sort;
+        }
+        Sort::OfPair
+    }
+
+    /// Where the kernel asks for it; of a pair, where the first item's access is.
+    pub fn spot(&self, number: usize) -> Spot
+        requires first { 0 < number }
+        requires last { number ≤ length (listed D.Domain self.now) }
+        ensures { spot_seen result ≡ (nth_obligation (listed D.Domain self.now) number).spot }
+    {
+        let i = number - 1;
+        let claims = self.first.claims.len();
+        if i < claims {
+            let claim = &self.first.claims[i];
+            return claim.spot;
+        }
+        let pair = self.pairs[i - claims];
+        spot_of(&self.first, pair.first)
+    }
+
+    /// Of a pair, where the second item's access is.
+    pub fn other_spot(&self, number: usize) -> Option<Spot>
+        requires first { 0 < number }
+        requires last { number ≤ length (listed D.Domain self.now) }
+        ensures { maybe_spot result ≡ (nth_obligation (listed D.Domain self.now) number).other }
+    {
+        let i = number - 1;
+        let claims = self.first.claims.len();
+        if i < claims {
+            return None;
+        }
+        let pair = self.pairs[i - claims];
+        Some(spot_of(&self.second, pair.second))
     }
 
     /// It is to be shown also where it has no entry.

@@ -5,15 +5,17 @@ ghost use Rattle.std.specs.List.{All};
 ghost use Rattle.launch.specs.View.{conditions as conditions_seen};
 ghost use Rattle.facts.specs.Launching.{count_range};
 ghost use Rattle.facts.specs.View.{three};
+ghost use Rattle.walk.specs.View.{spot as spot_seen, target as target_seen};
 ghost use Rattle.two_thread.specs.Pairs as specs;
 ghost use Rattle.facts.specs.Refusals.{IsMemory};
 ghost use Rattle.two_thread.specs.Refusals.{IsInside};
 ghost use Rattle.two_thread.specs.View.{scope as scope_seen, order as order_seen, pair as pair_seen, nth_access, seen_accesses, Adds};
 
+use core_code::tree::Space;
 use facts::WalkError;
 use launch::conditions::Conditions;
 use std::alloc::Global;
-use walk::Path;
+use walk::{Path, Spot, Target};
 use words::Kind;
 
 /// Items of one group, which differ in a local id, or of two groups, which differ in a group id.
@@ -63,24 +65,39 @@ fn differs(sizes: [u32; 3], conditions: &Conditions, scope: Scope, dimension: u3
     }
 }
 
-/// An access is of this buffer.
-fn is_of<D: Copy>(buffer: u32, path: &Path<D>, i: usize) -> bool
-    requires { i < length path.now.accesses.items }
-    ensures { result ≡ nat_eq (nth_access (seen_accesses path.now) i).buffer buffer }
+/// A target is this buffer.
+fn is_buffer(target: Target, buffer: usize) -> bool
+    ensures { result ≡ specs.is_buffer (target_seen target) buffer }
 {
-    path.accesses[i].buffer == buffer
+    target.array.space == Space::Global && target.array.number as usize == buffer
+}
+
+/// An access is of this buffer.
+fn is_of<D: Copy>(buffer: usize, path: &Path<D>, i: usize) -> bool
+    requires { i < length path.now.accesses.items }
+    ensures { result ≡ specs.is_buffer (nth_access (seen_accesses path.now) i).target buffer }
+{
+    is_buffer(path.accesses[i].target, buffer)
 }
 
 /// An access is a store.
 fn is_store<D: Copy>(path: &Path<D>, i: usize) -> bool
     requires { i < length path.now.accesses.items }
-    ensures { result ≡ (nth_access (seen_accesses path.now) i).is_store }
+    ensures { result ≡ (nth_access (seen_accesses path.now) i).target.is_store }
 {
-    path.accesses[i].is_store
+    path.accesses[i].target.is_store
+}
+
+/// Where an access is.
+pub fn spot_of<D: Copy>(path: &Path<D>, i: usize) -> Spot
+    requires { i < length path.now.accesses.items }
+    ensures { spot_seen result ≡ (nth_access (seen_accesses path.now) i).target.spot }
+{
+    path.accesses[i].target.spot
 }
 
 /// Both accesses are of this buffer, and one of them at least is a store.
-fn conflict<D: Copy>(buffer: u32, first: &Path<D>, second: &Path<D>, i: usize, j: usize) -> bool
+fn conflict<D: Copy>(buffer: usize, first: &Path<D>, second: &Path<D>, i: usize, j: usize) -> bool
     requires first { i < length first.now.accesses.items }
     requires second { j < length second.now.accesses.items }
     ensures { result ≡ specs.conflict buffer (nth_access (seen_accesses first.now) i) (nth_access (seen_accesses second.now) j) }
@@ -171,7 +188,7 @@ fn with_one<D: Copy>(
     first: &Path<D>,
     second: &Path<D>,
     scope: Scope,
-    buffer: u32,
+    buffer: usize,
     i: usize,
     j: usize,
 ) -> Result<(), WalkError>
@@ -194,7 +211,7 @@ fn with_each<D: Copy>(
     first: &Path<D>,
     second: &Path<D>,
     scope: Scope,
-    buffer: u32,
+    buffer: usize,
     i: usize,
 ) -> Result<(), WalkError>
     requires { i < length first.now.accesses.items }
@@ -215,7 +232,7 @@ fn pairs_in<D: Copy>(
     first: &Path<D>,
     second: &Path<D>,
     scope: Scope,
-    buffer: u32,
+    buffer: usize,
 ) -> Result<(), WalkError>
     ensures exact { MatchResult result (λ _. Adds (seen_accesses first.now) (seen_accesses second.now) found.old.items found.new.items (specs.pairs_in (three sizes) (conditions_seen conditions.now) buffer (seen_accesses first.now) (seen_accesses second.now) (scope_seen scope))) IsMemory }
     ensures inside { IfOk result (λ _. All (IsInside (length first.now.accesses.items) (length second.now.accesses.items)) found.old.items → All (IsInside (length first.now.accesses.items) (length second.now.accesses.items)) found.new.items) }
@@ -234,7 +251,7 @@ fn pairs_of<D: Copy>(
     conditions: &Conditions,
     first: &Path<D>,
     second: &Path<D>,
-    buffer: u32,
+    buffer: usize,
 ) -> Result<(), WalkError>
     ensures exact { MatchResult result (λ _. Adds (seen_accesses first.now) (seen_accesses second.now) found.old.items found.new.items (specs.pairs_of (three sizes) (conditions_seen conditions.now) buffer (seen_accesses first.now) (seen_accesses second.now))) IsMemory }
     ensures inside { IfOk result (λ _. All (IsInside (length first.now.accesses.items) (length second.now.accesses.items)) found.old.items → All (IsInside (length first.now.accesses.items) (length second.now.accesses.items)) found.new.items) }
@@ -260,8 +277,7 @@ fn pairs_of<D: Copy>(
     Ok(())
 }
 
-/// The pairs of all buffers, by the number of the buffer: in each those of one group, then those of two. A list of buffers that is
-/// longer than 32 bits count stands in no memory.
+/// The pairs of all buffers, by the number of the buffer: in each those of one group, then those of two.
 pub fn all_pairs<D: Copy>(
     alloc: Global,
     sizes: [u32; 3],
@@ -274,13 +290,10 @@ pub fn all_pairs<D: Copy>(
     ensures inside { IfOk result (λ v. All (IsInside (length first.now.accesses.items) (length second.now.accesses.items)) v.items) }
 {
     let mut found = Vec::new(alloc);
-    let mut buffer = 0u32;
+    let mut buffer = 0usize;
     for _kind in buffers {
         pairs_of(&mut found, sizes, conditions, first, second, buffer)?;
-        let Some(next) = buffer.checked_add(1) else {
-            return Err(WalkError::Memory);
-        };
-        buffer = next;
+        buffer += 1;
     }
     Ok(found)
 }

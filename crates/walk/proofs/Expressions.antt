@@ -9,7 +9,7 @@ use Rattle.semantics.specs.Evaluation.{Gives, evaluate, settled, operate, and_th
 use Rattle.semantics.proofs.Words.{as_kind-in_kind}
 use Rattle.facts.specs.Symbols.{Given, Fact, constant, once}
 use Rattle.walk.specs.Straight.{is_straight_term, is_exact}
-use Rattle.walk.specs.Walks.{State, Onward, value, walk, brought, exact, ranged, id_form}
+use Rattle.walk.specs.Walks.{State, stand, spot_at, Onward, value, walk, brought, exact, ranged, id_form}
 use Rattle.facts.proofs.Values.{value-once}
 use Rattle.facts.proofs.Worlds.{View, setup}
 use Rattle.walk.proofs.FirstWalk.{walks}
@@ -42,19 +42,19 @@ term_sound (Binary op k site a b) {E} c launch facts st go news vars answers h g
     let p = and_parts (is_exact op) (is_straight_term n a && is_straight_term n b) h in
     let q = and_parts (is_straight_term n a) (is_straight_term n b) p.1 in
     let w = walks c in
-    let last : Fact → Kind → Onward E = λ f k1 y st2. brought w k (value k1 f) st2 (λ x' st3. brought w k y st3 (λ y' st4. exact w op x'.form y'.form st4 (λ e st5. ranged w k e st5 go))) in
+    let last : Fact → Kind → Onward E = λ f k1 y st2. brought w k (value k1 f) (stand (spot_at site st2) st2) (λ x' st3. brought w k y st3 (λ y' st4. exact w op x'.form y'.form st4 (λ e st5. ranged w k e st5 go))) in
     let mid : Onward E = λ x st1. walk w b st1 (last x.form x.kind) in
     goes_then c launch facts (walk w a st mid) mid go news (evaluate (setup c) c.item a vars answers) (λ x r. and_then (evaluate (setup c) c.item b vars r) (λ y r'. settled (operate op k x y) site r'))
     (term_sound a c launch facts st mid news vars answers q.0 g s) (λ x r ix u.
     goes_then c launch u.path (walk w b u.state (last u.form x.kind)) (last u.form x.kind) go u.more (evaluate (setup c) c.item b vars r) (λ y r'. settled (operate op k x y) site r')
     (term_sound b c launch u.path u.state (last u.form x.kind) u.more vars r q.1 g u.stands) (λ y r' iy e.
-    operate_sound c launch e.path op k site x y u.form e.form e.state go e.more r' p.0 ix iy (λ v j. u.means v (e.kept v j)) e.means e.stands))
+    operate_sound c launch e.path op k site x y u.form e.form (stand (spot_at site e.state) e.state) go e.more r' p.0 ix iy (λ v j. u.means v (e.kept v j)) e.means e.stands))
 term_sound (Convert k site a) {E} c launch facts st go news vars answers h g s =
     let w = walks c in
-    let mid : Onward E = λ x st1. brought w k x st1 go in
+    let mid : Onward E = λ x st1. brought w k x (stand (spot_at site st1) st1) go in
     goes_then c launch facts (walk w a st mid) mid go news (evaluate (setup c) c.item a vars answers) (λ x r. settled (convert k x.value) site r)
     (term_sound a c launch facts st mid news vars answers h g s) (λ x r ix u.
-    let t = brought_sound k x.kind c launch u.path u.form u.state go u.more x.value ix u.stands u.means in
+    let t = brought_sound k x.kind c launch u.path u.form (stand (spot_at site u.state) u.state) go u.more x.value ix u.stands u.means in
     gives (word k (as_kind k x.value)) r (ap (λ y. settled y site r) t.settles) (as_kind-in_kind k x.value) t.comes)
 term_sound (Load a site e) c launch facts st go news vars answers h g s = cc
 term_sound (Unary op k site e) c launch facts st go news vars answers h g s = cc

@@ -1,14 +1,14 @@
 -- From a place in a tree to a later one, along what an item does.
 use Rattle.std.proofs.Common.{◌≡◌, ℕ, Bool, true, List, [], ◌∷◌, ◌++◌, refl, sym, subst, inl, inr}
-use Rattle.std.specs.Prelude.{ℤ, pos, ◌≤ℤ◌, ◌⊎◌}
+use Rattle.std.specs.Prelude.{ℤ, pos, ◌≤ℤ◌, ◌⊎◌, None}
 use Rattle.std.specs.List.{All}
 use Rattle.std.proofs.lemmas.List.Elements.{All-append, All-cons, All-nil, All-head, All-tail}
 use Rattle.semantics.specs.Word.{Word, Kind, in_kind}
 use Rattle.semantics.specs.Evaluation.{Outcome, Gives, and_then}
 use Rattle.semantics.specs.Linear.{value_of, IsMet, IsImpossible}
 use Rattle.facts.specs.Symbols.{Fact, denial}
-use Rattle.walk.specs.Trees.{Tree, Claim, Obligation, Access, claims, accesses}
-use Rattle.walk.specs.Walks.{State, value, Onward, elements_at, settles, claimed, claim, know_all}
+use Rattle.walk.specs.Trees.{Sort, Demand, Tree, Claim, Obligation, Access, claims, accesses}
+use Rattle.walk.specs.Walks.{State, demand, value, Onward, elements_at, settles, claimed, claim, know_all}
 use Rattle.facts.proofs.Values.{claimed as denied}
 use Rattle.facts.proofs.Members.{settled_holds, by_number}
 use Rattle.facts.proofs.Worlds.{View, Agrees, Means, Knows, own, agrees_itself, agrees_before}
@@ -54,8 +54,8 @@ pub at_once : {E : Type 0} (c : View E) (launch facts : List Fact) (go : Fact �
 at_once c launch facts go news z f st s m = record { more = news; form = f; path = facts; state = st; kept = λ v g. g; means = m; stands = s; touched = λ t h. h }
 
 -- in front of what stands behind a claim, behind facts, and with one more new number
-pub stands_behind : {E : Type 0} (c : View E) (launch facts : List Fact) (needed settled : Bool) (f : Fact) (tree : Tree E) (news : List ℤ) (es : List E) → Stands c launch facts (Claim needed settled f tree) news es → Stands c launch facts tree news es
-stands_behind c launch facts needed settled f tree news es s = record { fit = s.fit; launched = s.launched; known = s.known; shown = All-tail Shown (record { needed = needed; settled = settled; facts = launch ++ (facts ++ denial f ∷ []) }) (claims launch facts tree) s.shown }
+pub stands_behind : {E : Type 0} (c : View E) (launch facts : List Fact) (o : Demand) (needed settled : Bool) (f : Fact) (tree : Tree E) (news : List ℤ) (es : List E) → Stands c launch facts (Claim o needed settled f tree) news es → Stands c launch facts tree news es
+stands_behind c launch facts o needed settled f tree news es s = record { fit = s.fit; launched = s.launched; known = s.known; shown = All-tail Shown (record { sort = o.sort; spot = o.spot; other = None; needed = needed; settled = settled; facts = launch ++ (facts ++ denial f ∷ []) }) (claims launch facts tree) s.shown }
 
 pub gathered : List Fact → List Fact → List Fact
 gathered facts [] = facts
@@ -80,8 +80,8 @@ stands_anew c launch facts tree news es z e h s = record {
 }
 
 -- the same of a way that begins there
-pub from_claim : {E : Type 0} (c : View E) (launch facts : List Fact) (needed settled : Bool) (f : Fact) (tree : Tree E) (go : Fact → State E → Tree E) (news : List ℤ) (z : ℤ) → Comes c launch facts tree go news z → Comes c launch facts (Claim needed settled f tree) go news z
-from_claim c launch facts needed settled f tree go news z w = record { more = w.more; form = w.form; path = w.path; state = w.state; kept = w.kept; means = w.means; stands = w.stands; touched = w.touched }
+pub from_claim : {E : Type 0} (c : View E) (launch facts : List Fact) (o : Demand) (needed settled : Bool) (f : Fact) (tree : Tree E) (go : Fact → State E → Tree E) (news : List ℤ) (z : ℤ) → Comes c launch facts tree go news z → Comes c launch facts (Claim o needed settled f tree) go news z
+from_claim c launch facts o needed settled f tree go news z w = record { more = w.more; form = w.form; path = w.path; state = w.state; kept = w.kept; means = w.means; stands = w.stands; touched = w.touched }
 
 pub from_facts : {E : Type 0} (c : View E) (launch facts : List Fact) (fs : List Fact) (tree : Tree E) (go : Fact → State E → Tree E) (news : List ℤ) (z : ℤ) → Comes c launch (gathered facts fs) tree go news z → Comes c launch facts (know_all fs tree) go news z
 unfolding gathered
@@ -94,10 +94,10 @@ pub from_new : {E : Type 0} (c : View E) (launch facts : List Fact) (tree : Tree
 from_new c launch facts tree go news x z w = record { more = w.more; form = w.form; path = w.path; state = w.state; kept = λ v a. agrees_before c news x v (w.kept v a); means = w.means; stands = w.stands; touched = w.touched }
 
 -- what a needed claim tells of a form whose value is settled
-pub told : {E : Type 0} (c : View E) (launch facts : List Fact) (f : Fact) (st : State E) (settled : Bool) (tree : Tree E) (news : List ℤ) (z : ℤ) → (settled ≡ true → pos 0 ≤ℤ value_of (by_number (own c news)) f) → Stands c launch facts (Claim true settled f tree) news st.elements → Means c news f z → pos 0 ≤ℤ z
-told c launch facts f st settled tree news z d s m =
+pub told : {E : Type 0} (c : View E) (launch facts : List Fact) (o : Demand) (f : Fact) (st : State E) (settled : Bool) (tree : Tree E) (news : List ℤ) (z : ℤ) → (settled ≡ true → pos 0 ≤ℤ value_of (by_number (own c news)) f) → Stands c launch facts (Claim o true settled f tree) news st.elements → Means c news f z → pos 0 ≤ℤ z
+told c launch facts o f st settled tree news z d s m =
     let a = agrees_itself c news in
-    let h : (settled ≡ true) ⊎ IsImpossible (launch ++ (facts ++ denial f ∷ [])) = All-head Shown (record { needed = true; settled = settled; facts = launch ++ (facts ++ denial f ∷ []) }) (claims launch facts tree) s.shown refl in
+    let h : (settled ≡ true) ⊎ IsImpossible (launch ++ (facts ++ denial f ∷ [])) = All-head Shown (record { sort = o.sort; spot = o.spot; other = None; needed = true; settled = settled; facts = launch ++ (facts ++ denial f ∷ []) }) (claims launch facts tree) s.shown refl in
     subst (λ y. pos 0 ≤ℤ y) (m _ a) (elim h [ inl e ↦ d e | inr i ↦ denied (by_number (own c news)) launch facts f i (s.launched _ a) (s.known _ a) ])
 
 -- an outcome is a value of its kind, with which the item comes to what goes on; it is no fault
@@ -118,5 +118,5 @@ goes_then c launch facts tree go onto news o f (gives w rest is right p) later =
 pub settles_holds : {E : Type 0} (c : View E) (launch facts : List Fact) (tree : Tree E) (news : List ℤ) (st : State E) (f : Fact) → Stands c launch facts tree news st.elements → settles (walks c) st f ≡ true → pos 0 ≤ℤ value_of (by_number (own c news)) f
 settles_holds c launch facts tree news st f s h = settled_holds c.domain c.lawful (elements_at (walks c) st) (own c news) (members c.walked c.item c.item c.place c.place st.elements [] news [] s.fit tt) f h
 
-pub told_by : {E : Type 0} (c : View E) (launch facts : List Fact) (f : Fact) (st : State E) (go : State E → Tree E) (news : List ℤ) (z : ℤ) → Stands c launch facts (claim (walks c) true f st go) news st.elements → Means c news f z → pos 0 ≤ℤ z
-told_by c launch facts f st go news z s m = told c launch facts f st (settles (walks c) st f) (go (claimed st)) news z (settles_holds c launch facts (claim (walks c) true f st go) news st f s) s m
+pub told_by : {E : Type 0} (c : View E) (launch facts : List Fact) (o : Sort) (f : Fact) (st : State E) (go : State E → Tree E) (news : List ℤ) (z : ℤ) → Stands c launch facts (claim (walks c) o true f st go) news st.elements → Means c news f z → pos 0 ≤ℤ z
+told_by c launch facts o f st go news z s m = told c launch facts (demand o st) f st (settles (walks c) st f) (go (claimed st)) news z (settles_holds c launch facts (claim (walks c) o true f st go) news st f s) s m

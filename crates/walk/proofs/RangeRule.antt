@@ -12,7 +12,7 @@ use Rattle.domain.specs.declared.Bounds.{Bounds}
 use Rattle.domain.specs.Members.{is_above, is_below, is_within}
 use Rattle.facts.specs.Symbols.{First, New, number, Fact, constant, once, minus}
 use Rattle.facts.specs.Elements.{between}
-use Rattle.walk.specs.Trees.{Tree}
+use Rattle.walk.specs.Trees.{OfRange, Tree}
 use Rattle.walk.specs.Walks.{State, Onward, value, claimed, claim, know_all, lower_fact, upper_fact, bound_facts, newest, with_new, invent, least, greatest, low_end, high_end, in_range, is_kept, kept_or_new, ranged, brought_from}
 use Rattle.facts.proofs.Integers.{le_test}
 use Rattle.walk.proofs.KindEnds.{in_kind-between, in_kind-ends, settle-same}
@@ -35,16 +35,16 @@ means_new c news n z e = λ v a. value-once v (New First n) ∙ ap (λ k. v (num
 -- both ends of a range are shown
 bounded : {E : Type 0} (c : View E) (launch facts : List Fact) (k : Kind) (f : Fact) (st : State E) (go : State E → Tree E) (news : List ℤ) (y : ℤ) → Stands c launch facts (in_range (walks c) true k f st go) news st.elements → Means c news f y → in_kind k y ≡ true
 bounded c launch facts k f st go news y s m =
-    let low : pos 0 ≤ℤ (y -ℤ least k) = told_by c launch facts (low_end k f) st (λ st'. claim (walks c) true (high_end k f) st' go) news _ s (means-minus c news f (constant (least k)) y (least k) _ m (means_constant c news (least k)) (omega (arith, ints))) in
-    let s' = stands_behind c launch facts true _ (low_end k f) _ news st.elements s in
-    let high : pos 0 ≤ℤ (greatest k -ℤ y) = told_by c launch facts (high_end k f) (claimed st) go news _ s' (means-minus c news (constant (greatest k)) f (greatest k) y _ (means_constant c news (greatest k)) m (omega (arith, ints))) in
+    let low : pos 0 ≤ℤ (y -ℤ least k) = told_by c launch facts (OfRange k) (low_end k f) st (λ st'. claim (walks c) (OfRange k) true (high_end k f) st' go) news _ s (means-minus c news f (constant (least k)) y (least k) _ m (means_constant c news (least k)) (omega (arith, ints))) in
+    let s' = stands_behind c launch facts _ true _ (low_end k f) _ news st.elements s in
+    let high : pos 0 ≤ℤ (greatest k -ℤ y) = told_by c launch facts (OfRange k) (high_end k f) (claimed st) go news _ s' (means-minus c news (constant (greatest k)) f (greatest k) y _ (means_constant c news (greatest k)) m (omega (arith, ints))) in
     in_kind-between k y (omega (arith, ints)) (omega (arith, ints))
 
 stands_within : {E : Type 0} (c : View E) (launch facts : List Fact) (needed : Bool) (k : Kind) (f : Fact) (st : State E) (go : State E → Tree E) (news : List ℤ) → Stands c launch facts (in_range (walks c) needed k f st go) news st.elements → Stands c launch facts (go (claimed (claimed st))) news st.elements
-stands_within c launch facts needed k f st go news s = stands_behind c launch facts needed _ (high_end k f) _ news st.elements (stands_behind c launch facts needed _ (low_end k f) _ news st.elements s)
+stands_within c launch facts needed k f st go news s = stands_behind c launch facts _ needed _ (high_end k f) _ news st.elements (stands_behind c launch facts _ needed _ (low_end k f) _ news st.elements s)
 
 from_range : {E : Type 0} (c : View E) (launch facts : List Fact) (needed : Bool) (k : Kind) (f : Fact) (st : State E) (go : State E → Tree E) (onto : Fact → State E → Tree E) (news : List ℤ) (z : ℤ) → Comes c launch facts (go (claimed (claimed st))) onto news z → Comes c launch facts (in_range (walks c) needed k f st go) onto news z
-from_range c launch facts needed k f st go onto news z w = from_claim c launch facts needed _ (low_end k f) _ onto news z (from_claim c launch facts needed _ (high_end k f) _ onto news z w)
+from_range c launch facts needed k f st go onto news z w = from_claim c launch facts _ needed _ (low_end k f) _ onto news z (from_claim c launch facts _ needed _ (high_end k f) _ onto news z w)
 
 -- a new symbol, whose number is a member of its element
 lower_holds : (v : ℕ → ℤ) (f : Fact) (o : Option ℤ) (rest : List Fact) (z : ℤ) → value_of v f ≡ z → is_above o z ≡ true → All (IsMet v) rest → All (IsMet v) (lower_fact f o rest)

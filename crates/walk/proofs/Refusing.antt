@@ -5,21 +5,21 @@ use Rattle.std.proofs.lemmas.Int.{ints}
 use Rattle.std.proofs.lemmas.Bool.Decides.{nat_tests}
 use Rattle.std.proofs.lemmas.List.{map-append, length-map}
 use Rattle.semantics.specs.Word.{Kind, Int, Uint, Operator, Add}
-use Rattle.semantics.specs.Core.{Term}
+use Rattle.semantics.specs.Core.{Site, Term}
 use Rattle.semantics.specs.Linear.{Weighted}
 use Rattle.domain.specs.declared.Bounds.{Bounds}
 use Rattle.linear.specs.Exact.{fits_i64, fits_terms, fits, sum, multiple}
 use Rattle.linear.proofs.Lists.{merge-none}
 use Rattle.linear.specs.Forms.{form, forms}
 use Rattle.linear.specs.declared.form.Form.{Form}
-use Rattle.walk.specs.View.{met, claim_seen, is_none}
+use Rattle.walk.specs.View.{met, spot, claim_seen, is_none}
 use Rattle.walk.specs.declared.path.Path.{Path}
 use Rattle.facts.specs.Symbols.{Length, Fact, constant, once, minus}
 use Rattle.facts.specs.Elements.{between, element_of}
-use Rattle.walk.specs.Trees.{Tree, Leaf, Claim, Know, Touch, Access}
+use Rattle.walk.specs.Trees.{Sort, OfRange, OfIndex, Spot, Demand, Target, Tree, Leaf, Claim, Know, Touch, Access}
 use Rattle.walk.specs.Walks as walks
 use Rattle.walk.specs.Walks.{Setting, State, Onward, settles, elements_at, newest, claimed, know_all, bound_facts, lower_fact, upper_fact, low_end, high_end, least, greatest}
-use Rattle.walk.specs.Collected.{Claimed, Found, Met, collect, state_of, add_claim, add_fact, add_access, with_claim}
+use Rattle.walk.specs.Collected.{Claimed, Found, Met, collect, state_of, add_claim, add_fact, add_access, with_claim, with_spot}
 use Rattle.walk.specs.Leads.{Steps, Leads}
 use Rattle.facts.specs.Refusals.{IsUnfit}
 use Rattle.walk.specs.Refusals.{are_fit, all_fit, Refused, Stops, Halts, HaltsAtForm}
@@ -54,9 +54,9 @@ grown o errors.TooLarge m n g h = g.unfit h
 grown o errors.Outside m n g h = h
 grown o errors.Memory m n g h = tt
 
-grows_claim : {E : Type 0} (m : Found E) (needed settled : Bool) (f : Fact) → Grows m (add_claim m needed settled f)
-grows_claim {E} m needed settled f =
-    let c : Claimed = record { needed = needed; settled = settled; claim = f; facts = m.facts } in
+grows_claim : {E : Type 0} (m : Found E) (o : Demand) (needed settled : Bool) (f : Fact) → Grows m (add_claim m o needed settled f)
+grows_claim {E} m o needed settled f =
+    let c : Claimed = record { demand = o; needed = needed; settled = settled; claim = f; facts = m.facts } in
     record {
       claims = omega (arith, one_more m.claims c);
       unfit = and_more (are_fit m.facts) _ (are_fit m.facts) _ (λ k. k) (and_more _ (are_fit (map (λ (a : Access E). a.index) m.accesses)) _ (are_fit (map (λ (a : Access E). a.index) m.accesses)) (are_fit_map (λ (d : Claimed). d.claim) m.claims c) (λ k. k));
@@ -65,9 +65,9 @@ grows_claim {E} m needed settled f =
 grows_fact : {E : Type 0} (m : Found E) (f : Fact) → Grows m (add_fact m f)
 grows_fact m f = record { claims = omega arith; unfit = and_more (are_fit m.facts) _ (are_fit (m.facts ++ f ∷ [])) _ (are_fit_more m.facts (f ∷ [])) (λ k. k) }
 
-grows_access : {E : Type 0} (m : Found E) (s : Bool) (b : ℕ) (i : Fact) (es : List E) → Grows m (add_access m s b i es)
-grows_access {E} m s b i es =
-    let a : Access E = record { is_store = s; buffer = b; index = i; elements = es; facts = m.facts } in
+grows_access : {E : Type 0} (m : Found E) (t : Target) (i : Fact) (es : List E) → Grows m (add_access m t i es)
+grows_access {E} m t i es =
+    let a : Access E = record { target = t; index = i; elements = es; facts = m.facts } in
     record {
       claims = omega arith;
       unfit = and_more (are_fit m.facts) _ (are_fit m.facts) _ (λ k. k) (and_more (are_fit (map (λ (c : Claimed). c.claim) m.claims)) _ (are_fit (map (λ (c : Claimed). c.claim) m.claims)) _ (λ k. k) (are_fit_map (λ (x : Access E). x.index) m.accesses a));
@@ -77,9 +77,9 @@ grows_access {E} m s b i es =
 pub refused_stays : {E : Type 0} (o : Type 0) (e : WalkError) (m : Found E) (t : Tree E) → Refused o e m → Refused o e (collect m t)
 unfolding collect
 refused_stays o e m Leaf h = h
-refused_stays o e m (Claim needed settled f rest) h = refused_stays o e (add_claim m needed settled f) rest (grown o e m _ (grows_claim m needed settled f) h)
+refused_stays o e m (Claim a needed settled f rest) h = refused_stays o e (add_claim m a needed settled f) rest (grown o e m _ (grows_claim m a needed settled f) h)
 refused_stays o e m (Know f rest) h = refused_stays o e (add_fact m f) rest (grown o e m _ (grows_fact m f) h)
-refused_stays o e m (Touch s b i es rest) h = refused_stays o e (add_access m s b i es) rest (grown o e m _ (grows_access m s b i es) h)
+refused_stays o e m (Touch t i es rest) h = refused_stays o e (add_access m t i es) rest (grown o e m _ (grows_access m t i es) h)
 
 pub loosened : {E : Type 0} (o p : Type 0) (e : WalkError) (m : Found E) → (o → p) → Refused o e m → Refused p e m
 loosened o p errors.TooMany m f h = h
@@ -87,13 +87,13 @@ loosened o p errors.TooLarge m f h = h
 loosened o p errors.Outside m f h = f h
 loosened o p errors.Memory m f h = h
 
-unfit_claims : {E : Type 0} (e : WalkError) (m : Found E) (needed settled : Bool) (f : Fact) → IsUnfit e f → Refused ⊥ e (add_claim m needed settled f)
-unfit_claims errors.TooMany m needed settled f h = absurd h
-unfit_claims errors.TooLarge m needed settled f h =
-    let c : Claimed = record { needed = needed; settled = settled; claim = f; facts = m.facts } in
+unfit_claims : {E : Type 0} (e : WalkError) (m : Found E) (o : Demand) (needed settled : Bool) (f : Fact) → IsUnfit e f → Refused ⊥ e (add_claim m o needed settled f)
+unfit_claims errors.TooMany m o needed settled f h = absurd h
+unfit_claims errors.TooLarge m o needed settled f h =
+    let c : Claimed = record { demand = o; needed = needed; settled = settled; claim = f; facts = m.facts } in
     and_right (are_fit m.facts) _ (and_left _ _ (ap are_fit (map-append (λ (d : Claimed). d.claim) m.claims (c ∷ [])) ∙ are_fit_end (map (λ (d : Claimed). d.claim) m.claims) f h))
-unfit_claims errors.Outside m needed settled f h = h
-unfit_claims errors.Memory m needed settled f h = tt
+unfit_claims errors.Outside m o needed settled f h = h
+unfit_claims errors.Memory m o needed settled f h = tt
 
 unfit_facts : {E : Type 0} (e : WalkError) (m : Found E) (f : Fact) → IsUnfit e f → Refused ⊥ e (add_fact m f)
 unfit_facts errors.TooMany m f h = absurd h
@@ -102,13 +102,13 @@ unfit_facts errors.Outside m f h = h
 unfit_facts errors.Memory m f h = tt
 
 -- a claim whose form was not made
-unfit_claim : {E : Type 0} (e : WalkError) (m : Found E) (needed settled : Bool) (f : Fact) (rest : Tree E) → IsUnfit e f → Refused ⊥ e (collect m (Claim needed settled f rest))
+unfit_claim : {E : Type 0} (e : WalkError) (m : Found E) (o : Demand) (needed settled : Bool) (f : Fact) (rest : Tree E) → IsUnfit e f → Refused ⊥ e (collect m (Claim o needed settled f rest))
 unfolding collect
-unfit_claim e m needed settled f rest h = refused_stays ⊥ e (add_claim m needed settled f) rest (unfit_claims e m needed settled f h)
+unfit_claim e m o needed settled f rest h = refused_stays ⊥ e (add_claim m o needed settled f) rest (unfit_claims e m o needed settled f h)
 
-second_claim : {E : Type 0} (e : WalkError) (m : Found E) (n s n' s' : Bool) (f g : Fact) (rest : Tree E) → IsUnfit e g → Refused ⊥ e (collect m (Claim n s f (Claim n' s' g rest)))
+second_claim : {E : Type 0} (e : WalkError) (m : Found E) (o : Demand) (n s n' s' : Bool) (f g : Fact) (rest : Tree E) → IsUnfit e g → Refused ⊥ e (collect m (Claim o n s f (Claim o n' s' g rest)))
 unfolding collect
-second_claim e m n s n' s' f g rest h = unfit_claim e (add_claim m n s f) n' s' g rest h
+second_claim e m o n s n' s' f g rest h = unfit_claim e (add_claim m o n s f) o n' s' g rest h
 
 -- a fact that was not made
 unfit_fact : {E : Type 0} (e : WalkError) (m : Found E) (f : Fact) (rest : Tree E) → IsUnfit e f → Refused ⊥ e (collect m (Know f rest))
@@ -119,23 +119,23 @@ unfit_fact e m f rest h = refused_stays ⊥ e (add_fact m f) rest (unfit_facts e
 pub refused_from : {E : Type 0} (o : Type 0) (e : WalkError) (m n : Found E) → m ≡ n → Refused o e n → Refused o e m
 refused_from o e m n d h = subst (Refused o e) (sym d) h
 
-pub claim_stops : {E : Type 0} (s : Setting E) (needed settled : Bool) (f : Fact) (m : Met E) (e : WalkError) → settled ≡ settles s (state_of m) f → Refused ⊥ e (with_claim m needed settled f).found → Stops ⊥ m e (walks.claim s needed f)
+pub claim_stops : {E : Type 0} (s : Setting E) (o : Sort) (needed settled : Bool) (f : Fact) (m : Met E) (e : WalkError) → settled ≡ settles s (state_of m) f → Refused ⊥ e (with_claim m o needed settled f).found → Stops ⊥ m e (walks.claim s o needed f)
 unfolding collect
-claim_stops s needed settled f m e d h go = refused_stays ⊥ e (add_claim m.found needed (settles s (state_of m) f) f) (go (claimed (state_of m))) (subst (λ b. Refused ⊥ e (add_claim m.found needed b f)) d h)
+claim_stops s o needed settled f m e d h go = refused_stays ⊥ e (add_claim m.found (record { sort = o; spot = m.at }) needed (settles s (state_of m) f) f) (go (claimed (state_of m))) (subst (λ b. Refused ⊥ e (add_claim m.found (record { sort = o; spot = m.at }) needed b f)) d h)
 
 pub low_stops : {E : Type 0} (s : Setting E) (needed : Bool) (k : Kind) (f : Fact) (m : Met E) (e : WalkError) → IsUnfit e (low_end k f) → Stops ⊥ m e (walks.in_range s needed k f)
-low_stops s needed k f m e h go = unfit_claim e m.found needed _ (low_end k f) _ h
+low_stops s needed k f m e h go = unfit_claim e m.found _ needed _ (low_end k f) _ h
 
 pub high_stops : {E : Type 0} (s : Setting E) (needed : Bool) (k : Kind) (f : Fact) (m : Met E) (e : WalkError) → IsUnfit e (high_end k f) → Stops ⊥ m e (walks.in_range s needed k f)
-high_stops s needed k f m e h go = second_claim e m.found needed _ needed _ (low_end k f) (high_end k f) _ h
+high_stops s needed k f m e h go = second_claim e m.found _ needed _ needed _ (low_end k f) (high_end k f) _ h
 
-pub first_stops : {E : Type 0} (s : Setting E) (needed : Bool) (k : Kind) (f low : Fact) (m : Met E) (e : WalkError) → low ≡ low_end k f → Stops ⊥ m e (walks.claim s needed low) → Stops ⊥ m e (walks.in_range s needed k f)
-first_stops s needed k f low m e d h go = subst (λ x. Refused ⊥ e (collect m.found (walks.claim s needed x (state_of m) (λ st. walks.claim s needed (high_end k f) st go)))) d (h (λ st. walks.claim s needed (high_end k f) st go))
+pub first_stops : {E : Type 0} (s : Setting E) (needed : Bool) (k : Kind) (f low : Fact) (m : Met E) (e : WalkError) → low ≡ low_end k f → Stops ⊥ m e (walks.claim s (OfRange k) needed low) → Stops ⊥ m e (walks.in_range s needed k f)
+first_stops s needed k f low m e d h go = subst (λ x. Refused ⊥ e (collect m.found (walks.claim s (OfRange k) needed x (state_of m) (λ st. walks.claim s (OfRange k) needed (high_end k f) st go)))) d (h (λ st. walks.claim s (OfRange k) needed (high_end k f) st go))
 
-pub second_stops : {E : Type 0} (s : Setting E) (needed : Bool) (k : Kind) (f low high : Fact) (l m : Met E) (e : WalkError) → low ≡ low_end k f → high ≡ high_end k f → Steps l m (walks.claim s needed low) → Stops ⊥ m e (walks.claim s needed high) → Stops ⊥ l e (walks.in_range s needed k f)
+pub second_stops : {E : Type 0} (s : Setting E) (needed : Bool) (k : Kind) (f low high : Fact) (l m : Met E) (e : WalkError) → low ≡ low_end k f → high ≡ high_end k f → Steps l m (walks.claim s (OfRange k) needed low) → Stops ⊥ m e (walks.claim s (OfRange k) needed high) → Stops ⊥ l e (walks.in_range s needed k f)
 second_stops s needed k f low high l m e d p a h go =
-    refused_from ⊥ e _ (collect m.found (walks.claim s needed high (state_of m) go))
-    ((λ i. collect l.found (walks.claim s needed (sym d i) (state_of l) (λ st. walks.claim s needed (sym p i) st go))) ∙ a (λ st. walks.claim s needed high st go))
+    refused_from ⊥ e _ (collect m.found (walks.claim s (OfRange k) needed high (state_of m) go))
+    ((λ i. collect l.found (walks.claim s (OfRange k) needed (sym d i) (state_of l) (λ st. walks.claim s (OfRange k) needed (sym p i) st go))) ∙ a (λ st. walks.claim s (OfRange k) needed high st go))
     (h go)
 
 pub kept_halts : {E : Type 0} (s : Setting E) (f : Fact) (m : Met E) (e : WalkError) → IsUnfit e (low_end Uint f) ⊎ IsUnfit e (high_end Uint f) → Halts ⊥ m e (walks.ranged s Uint f)
@@ -220,24 +220,24 @@ form_halts o s f m errors.Outside h k go = absurd h
 form_halts o s f m errors.Memory h k go = tt
 
 pub room_stops : {E : Type 0} (s : Setting E) (b : ℕ) (i last : Fact) (m : Met E) (e : WalkError) → last ≡ minus (once (Length b)) (constant (pos 1)) → IsUnfit e (minus last i) → Stops ⊥ m e (walks.in_buffer s b i)
-room_stops s b i last m e d h go = second_claim e m.found true _ true _ i (minus (minus (once (Length b)) (constant (pos 1))) i) _ (subst (λ l. IsUnfit e (minus l i)) d h)
+room_stops s b i last m e d h go = second_claim e m.found _ true _ true _ i (minus (minus (once (Length b)) (constant (pos 1))) i) _ (subst (λ l. IsUnfit e (minus l i)) d h)
 
-pub index_stops : {E : Type 0} (s : Setting E) (b : ℕ) (i low : Fact) (m : Met E) (e : WalkError) → low ≡ i → Stops ⊥ m e (walks.claim s true low) → Stops ⊥ m e (walks.in_buffer s b i)
+pub index_stops : {E : Type 0} (s : Setting E) (b : ℕ) (i low : Fact) (m : Met E) (e : WalkError) → low ≡ i → Stops ⊥ m e (walks.claim s OfIndex true low) → Stops ⊥ m e (walks.in_buffer s b i)
 index_stops s b i low m e d h go =
-    let more : State _ → Tree _ = λ st. walks.claim s true (minus (minus (once (Length b)) (constant (pos 1))) i) st go in
-    subst (λ x. Refused ⊥ e (collect m.found (walks.claim s true x (state_of m) more))) d (h more)
+    let more : State _ → Tree _ = λ st. walks.claim s OfIndex true (minus (minus (once (Length b)) (constant (pos 1))) i) st go in
+    subst (λ x. Refused ⊥ e (collect m.found (walks.claim s OfIndex true x (state_of m) more))) d (h more)
 
-pub end_stops : {E : Type 0} (s : Setting E) (b : ℕ) (i low last room : Fact) (l m : Met E) (e : WalkError) → low ≡ i → last ≡ minus (once (Length b)) (constant (pos 1)) → room ≡ minus last i → Steps l m (walks.claim s true low) → Stops ⊥ m e (walks.claim s true room) → Stops ⊥ l e (walks.in_buffer s b i)
+pub end_stops : {E : Type 0} (s : Setting E) (b : ℕ) (i low last room : Fact) (l m : Met E) (e : WalkError) → low ≡ i → last ≡ minus (once (Length b)) (constant (pos 1)) → room ≡ minus last i → Steps l m (walks.claim s OfIndex true low) → Stops ⊥ m e (walks.claim s OfIndex true room) → Stops ⊥ l e (walks.in_buffer s b i)
 end_stops s b i low last room l m e d p q a h go =
     refused_from ⊥ e _ _
-    ((λ j. collect l.found (walks.claim s true (sym d j) (state_of l) (λ st'. walks.claim s true (sym (q ∙ ap (λ x. minus x i) p) j) st' go))) ∙ a (λ st'. walks.claim s true room st' go))
+    ((λ j. collect l.found (walks.claim s OfIndex true (sym d j) (state_of l) (λ st'. walks.claim s OfIndex true (sym (q ∙ ap (λ x. minus x i) p) j) st' go))) ∙ a (λ st'. walks.claim s OfIndex true room st' go))
     (h go)
 
 -- a path with as many claims as are made
-pub full : {E : Type 0} (p : Path E) (needed settled : Bool) (f : Fact) → 65536 ≤ length p.claims.items → 65536 < length (with_claim (met p) needed settled f).found.claims
+pub full : {E : Type 0} (p : Path E) (o : Sort) (needed settled : Bool) (f : Fact) → 65536 ≤ length p.claims.items → 65536 < length (with_claim (met p) o needed settled f).found.claims
 unfolding met
-full p needed settled f h =
-    let c : Claimed = record { needed = needed; settled = settled; claim = f; facts = forms p.facts.items } in
+full p o needed settled f h =
+    let c : Claimed = record { demand = record { sort = o; spot = spot p.at }; needed = needed; settled = settled; claim = f; facts = forms p.facts.items } in
     omega (arith, h, one_more (map (claim_seen (forms p.facts.items)) p.claims.items) c, length-map p.claims.items (claim_seen (forms p.facts.items)))
 
 -- a product by a number whose form was not made, and one that is a new symbol
@@ -261,10 +261,33 @@ new_product s (t ∷ ts) (u ∷ us) f g m n x (Err e) p q d h = λ k go. subst (
 pub sum_halts : {E : Type 0} (o : Type 0) (s : Setting E) (op : Operator) (f g : Fact) (m : Met E) (e : WalkError) → op ≡ Add → IsUnfit e (sum f g) → HaltsAtForm o s m e (walks.exact s op f g)
 sum_halts o s op f g m e d h = subst (λ p. HaltsAtForm o s m e (walks.exact s p f g)) (sym d) (form_halts o s (sum f g) m e h)
 
-pub store_halts : {E : Type 0} (o : Type 0) (s : Setting E) (b : ℕ) (index value : Term) (x y : walks.Value) (k l m : Met E) (e : WalkError) → Leads k l (walks.walk s index) x → Leads l m (walks.walk s value) y → Stops ⊥ m e (walks.in_buffer s b x.form) → Stops o k e (walks.walk_store s b index value)
-store_halts o s b index value x y k l m e p q h go =
-    let end : walks.Value → State _ → Tree _ = λ i st3. Touch true b i.form st3.elements (go st3) in
+pub store_halts : {E : Type 0} (o : Type 0) (s : Setting E) (t : Target) (index value : Term) (x y : walks.Value) (h k l m n : Met E) (e : WalkError) → k ≡ with_spot h t.spot → Leads k l (walks.walk s index) x → Leads l m (walks.walk s value) y → n ≡ with_spot m t.spot → Stops ⊥ n e (walks.in_buffer s t.array.number x.form) → Stops o h e (walks.walk_store s t index value)
+store_halts o s t index value x y h k l m n e a p q b r go =
+    let end : walks.Value → State _ → Tree _ = λ i st3. Touch t i.form st3.elements (go st3) in
+    let last : walks.Value → State _ → Tree _ = λ i st2. walks.in_buffer s t.array.number i.form (walks.stand t.spot st2) (end i) in
+    let onto : walks.Value → State _ → Tree _ = λ i st1. walks.walk s value st1 (λ v st2. last i st2) in
     refused_from o e _ _
-    (p (λ i st1. walks.walk s value st1 (λ v st2. walks.in_buffer s b i.form st2 (end i)))
-    ∙ q (λ v st2. walks.in_buffer s b x.form st2 (end x)))
-    (loosened ⊥ o e _ absurd (h (end x)))
+    (ap (λ (z : Met _). collect z.found (walks.walk s index (state_of z) onto)) (sym a)
+    ∙ p onto
+    ∙ q (λ v st2. last x st2)
+    ∙ ap (λ (z : Met _). collect z.found (walks.in_buffer s t.array.number x.form (state_of z) (end x))) (sym b))
+    (loosened ⊥ o e _ absurd (r (end x)))
+
+-- refusals of a store's index and of its value
+pub index_halts : {E : Type 0} (o p : Type 0) (s : Setting E) (t : Target) (index value : Term) (h k : Met E) (e : WalkError) → k ≡ with_spot h t.spot → (o → p) → Halts o k e (walks.walk s index) → Stops p h e (walks.walk_store s t index value)
+index_halts o p s t index value h k e a f r go =
+    let onto : walks.Value → State _ → Tree _ = λ i st1. walks.walk s value st1 (λ v st2. walks.in_buffer s t.array.number i.form (walks.stand t.spot st2) (λ st3. Touch t i.form st3.elements (go st3))) in
+    refused_from p e _ _ (ap (λ (z : Met _). collect z.found (walks.walk s index (state_of z) onto)) (sym a)) (loosened o p e _ f (r onto))
+
+pub value_halts : {E : Type 0} (o p : Type 0) (s : Setting E) (t : Target) (index value : Term) (x : walks.Value) (h k l : Met E) (e : WalkError) → k ≡ with_spot h t.spot → (o → p) → Leads k l (walks.walk s index) x → Halts o l e (walks.walk s value) → Stops p h e (walks.walk_store s t index value)
+value_halts o p s t index value x h k l e a f q r go =
+    let last : walks.Value → State _ → Tree _ = λ i st2. walks.in_buffer s t.array.number i.form (walks.stand t.spot st2) (λ st3. Touch t i.form st3.elements (go st3)) in
+    let onto : walks.Value → State _ → Tree _ = λ i st1. walks.walk s value st1 (λ v st2. last i st2) in
+    refused_from p e _ _ (ap (λ (z : Met _). collect z.found (walks.walk s index (state_of z) onto)) (sym a) ∙ q onto) (loosened o p e _ f (r (λ v st2. last x st2)))
+
+-- a step that is taken at a site
+pub at_site : {E A T : Type 0} (o : Type 0) (walk : State E → (A → State E → Tree E) → Tree E) (site : Site) (p : Spot) (m n l : Met E) (view : T → A) (r : Result T WalkError) → p ≡ walks.spot_at site (state_of m) → n ≡ with_spot m p →
+    MatchResult r (λ v. Leads n l walk (view v)) (λ e. Halts o n e walk) →
+    MatchResult r (λ v. Leads m l (λ st go. walk (walks.stand (walks.spot_at site st) st) go) (view v)) (λ e. Halts o m e (λ st go. walk (walks.stand (walks.spot_at site st) st) go))
+at_site o walk site p m n l view (Ok v) e d h = λ go. ap (λ (u : Met _). collect u.found (walk (state_of u) go)) (sym (d ∙ ap (with_spot m) e)) ∙ h go
+at_site o walk site p m n l view (Err x) e d h = λ go. subst (λ (u : Met _). Refused o x (collect u.found (walk (state_of u) go))) (d ∙ ap (with_spot m) e) (h go)

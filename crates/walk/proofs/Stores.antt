@@ -12,8 +12,8 @@ use Rattle.semantics.specs.Item.{Item, Entry, finished}
 use Rattle.semantics.specs.Ask.{Ask, Stores, on_value, stores, act}
 use Rattle.facts.specs.Symbols.{Length, Fact, constant, once, minus}
 use Rattle.walk.specs.Straight.{is_straight_term, is_straight_statement, is_straight_body, is_global}
-use Rattle.walk.specs.Trees.{Tree, Leaf, Touch, Access, accesses}
-use Rattle.walk.specs.Walks.{State, Onward, claimed, claim, walk, in_buffer, walk_all}
+use Rattle.walk.specs.Trees.{OfIndex, Spot, Tree, Leaf, Touch, Access, accesses}
+use Rattle.walk.specs.Walks.{State, Onward, stand, claimed, claim, walk, in_buffer, store_of, walk_all}
 use Rattle.facts.proofs.Values.{value-once}
 use Rattle.facts.proofs.Worlds.{View, setup, Means, Knows, length_at}
 use Rattle.walk.proofs.FirstWalk.{walks}
@@ -29,8 +29,9 @@ pub record Noted {E : Type 0} (c : View E) (all : List (Access E)) (stored : Boo
   pub fit : Fit c.domain node.elements news
   pub known : Knows c news node.facts
   pub index : Means c news node.index (pos x)
-  pub store : node.is_store ≡ stored
-  pub buffer : node.buffer ≡ b
+  pub store : node.target.is_store ≡ stored
+  pub space : node.target.array.space ≡ Global
+  pub buffer : node.target.array.number ≡ b
   pub inside : b < length c.launch.buffers
   pub here : Has node all
 
@@ -62,11 +63,11 @@ inside c launch facts b f st go news x s m =
     let long : Fact = minus (once (Length b)) (constant (pos 1)) in
     let high : Fact = minus long f in
     let room = length_at c.launch b in
-    let s1 = stands_behind c launch facts true _ f (claim (walks c) true high (claimed st) go) news st.elements s in
-    let s2 = stands_behind c launch facts true _ high (go (claimed (claimed st))) news st.elements s1 in
-    let low : pos 0 ≤ℤ x = told_by c launch facts f st (λ st'. claim (walks c) true high st' go) news x s m in
+    let s1 = stands_behind c launch facts _ true _ f (claim (walks c) OfIndex true high (claimed st) go) news st.elements s in
+    let s2 = stands_behind c launch facts _ true _ high (go (claimed (claimed st))) news st.elements s1 in
+    let low : pos 0 ≤ℤ x = told_by c launch facts OfIndex f st (λ st'. claim (walks c) OfIndex true high st' go) news x s m in
     let is : Means c news long (room -ℤ pos 1) = means-minus c news (once (Length b)) (constant (pos 1)) room (pos 1) _ (λ v a. value-once v (Length b) ∙ a.lengths b) (means_constant c news (pos 1)) (omega (arith, ints)) in
-    let left : pos 0 ≤ℤ ((room -ℤ pos 1) -ℤ x) = told_by c launch facts high (claimed st) go news _ s1 (means-minus c news long f (room -ℤ pos 1) x _ is m (omega (arith, ints))) in
+    let left : pos 0 ≤ℤ ((room -ℤ pos 1) -ℤ x) = told_by c launch facts OfIndex high (claimed st) go news _ s1 (means-minus c news long f (room -ℤ pos 1) x _ is m (omega (arith, ints))) in
     by x low left s2
   where
     by : (x : ℤ) → pos 0 ≤ℤ x → pos 0 ≤ℤ ((length_at c.launch b -ℤ pos 1) -ℤ x) → Stands c launch facts (go (claimed (claimed st))) news st.elements → Inside c launch facts (go (claimed (claimed st))) news st.elements b x
@@ -106,26 +107,28 @@ store_sound {E} c launch all it n a site index e rest turns left given p =
     let body = and_parts (is_straight_statement m (Store n a site index e)) (is_straight_body m rest) p.straight in
     let h = and_parts (is_global a.space) (is_straight_term m index && is_straight_term m e) body.0 in
     let terms = and_parts (is_straight_term m index) (is_straight_term m e) h.1 in
-    let touch : Fact → State E → Tree E = λ f st3. Touch true a.number f st3.elements (walk_all w rest st3 end) in
-    let last : Fact → Onward E = λ f y st2. in_buffer w a.number f st2 (touch f) in
+    let spot : Spot = (store_of n a site).spot in
+    let touch : Fact → State E → Tree E = λ f st3. Touch (store_of n a site) f st3.elements (walk_all w rest st3 end) in
+    let last : Fact → Onward E = λ f y st2. in_buffer w a.number f (stand spot st2) (touch f) in
     let mid : Onward E = λ x st1. walk w e st1 (last x.form) in
     let f : Word → List Word → Ask = λ k later. on_value (setup c) c.item it (evaluate (setup c) c.item e it.variables later) (λ v _. stores (setup c) c.item it a site (within (extent (setup c) a) k.value) v.value left) in
-    on_goes c launch p.facts (walk w index p.state mid) mid p.news it (evaluate (setup c) c.item index it.variables it.answers) f (Stored c launch all it a site rest left)
-    (term_sound index c launch p.facts p.state mid p.news it.variables it.answers terms.0 given p.stands) (λ x later u.
+    on_goes c launch p.facts (walk w index (stand spot p.state) mid) mid p.news it (evaluate (setup c) c.item index it.variables it.answers) f (Stored c launch all it a site rest left)
+    (term_sound index c launch p.facts (stand spot p.state) mid p.news it.variables it.answers terms.0 given p.stands) (λ x later u.
     on_goes c launch u.path (walk w e u.state (last u.form)) (last u.form) u.more it (evaluate (setup c) c.item e it.variables later) (λ v _. stores (setup c) c.item it a site (within (extent (setup c) a) x.value) v.value left) (Stored c launch all it a site rest left)
     (term_sound e c launch u.path u.state (last u.form) u.more it.variables later terms.1 given u.stands) (λ y _ d.
-    let i = inside c launch d.path a.number u.form d.state (touch u.form) d.more x.value d.stands (λ v g. u.means v (d.kept v g)) in
+    let i = inside c launch d.path a.number u.form (stand spot d.state) (touch u.form) d.more x.value d.stands (λ v g. u.means v (d.kept v g)) in
     record {
       index = i.index;
       number = as_kind (kind_at (setup c) (record { owner = 0; array = a.number; index = i.index })) y.value;
       stores = stored (setup c) c.item it a site x.value y.value left i.index (is-global a.space h.0) i.same i.below;
       noted = record {
-        node = record { is_store = true; buffer = a.number; index = u.form; elements = d.state.elements; facts = d.path };
+        node = record { target = store_of n a site; index = u.form; elements = d.state.elements; facts = d.path };
         news = d.more;
         fit = i.stands.fit;
         known = i.stands.known;
         index = λ v g. u.means v (d.kept v g) ∙ i.same;
         store = refl;
+        space = is-global a.space h.0;
         buffer = refl;
         inside = buffer-below c.launch.buffers a.number i.index i.below;
         here = p.touched _ (u.touched _ (d.touched _ (inl refl)));
@@ -133,7 +136,7 @@ store_sound {E} c launch all it n a site index e rest turns left given p =
       next = record {
         facts = d.path;
         news = d.more;
-        state = claimed (claimed d.state);
+        state = claimed (claimed (stand spot d.state));
         stands = record { fit = i.stands.fit; launched = i.stands.launched; known = i.stands.known; shown = i.stands.shown };
         touched = λ b g. p.touched b (u.touched b (d.touched b (inr g)));
         straight = body.1;

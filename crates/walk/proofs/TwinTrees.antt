@@ -10,14 +10,13 @@ use Rattle.facts.proofs.Twins.{Alike, AreAlike, alike-append, constant-alike, mi
 -- claims may differ, facts and accesses may not
 abbrev pub Same : {E : Type 0} → Tree E → Tree E → Type 0
 Same Leaf Leaf = Unit {0}
-Same (Claim n s f t) (Claim m r g u) = Same t u
+Same (Claim o n s f t) (Claim p m r g u) = Same t u
 Same (Know f t) (Know g u) = Alike f g × Same t u
-Same (Touch s b i es t) (Touch r d j fs u) = (r ≡ s) × (d ≡ b) × Alike i j × (fs ≡ es) × Same t u
+Same (Touch a i es t) (Touch b j fs u) = (b ≡ a) × Alike i j × (fs ≡ es) × Same t u
 Same t u = ⊥
 
 pub record Twin {E : Type 0} (a b : Access E) : Type 0 where
-  pub store : b.is_store ≡ a.is_store
-  pub buffer : b.buffer ≡ a.buffer
+  pub target : b.target ≡ a.target
   pub index : Alike a.index b.index
   pub elements : b.elements ≡ a.elements
   pub facts : AreAlike a.facts b.facts
@@ -38,18 +37,18 @@ know_all-same (f ∷ fs) (g ∷ gs) t u p s = (p.0, know_all-same fs gs t u p.1 
 
 pub accesses-twins : {E : Type 0} (t u : Tree E) (fs gs : List Fact) → AreAlike fs gs → Same t u → AllZip Twin (accesses fs t) (accesses gs u)
 accesses-twins Leaf Leaf fs gs p s = tt
-accesses-twins Leaf (Claim m r g u) fs gs p s = elim s [ ]
+accesses-twins Leaf (Claim o m r g u) fs gs p s = elim s [ ]
 accesses-twins Leaf (Know g u) fs gs p s = elim s [ ]
-accesses-twins Leaf (Touch r d j es u) fs gs p s = elim s [ ]
-accesses-twins (Claim n q f t) Leaf fs gs p s = elim s [ ]
-accesses-twins (Claim n q f t) (Claim m r g u) fs gs p s = accesses-twins t u fs gs p s
-accesses-twins (Claim n q f t) (Know g u) fs gs p s = elim s [ ]
-accesses-twins (Claim n q f t) (Touch r d j es u) fs gs p s = elim s [ ]
+accesses-twins Leaf (Touch d j es u) fs gs p s = elim s [ ]
+accesses-twins (Claim x n q f t) Leaf fs gs p s = elim s [ ]
+accesses-twins (Claim x n q f t) (Claim o m r g u) fs gs p s = accesses-twins t u fs gs p s
+accesses-twins (Claim x n q f t) (Know g u) fs gs p s = elim s [ ]
+accesses-twins (Claim x n q f t) (Touch d j es u) fs gs p s = elim s [ ]
 accesses-twins (Know f t) Leaf fs gs p s = elim s [ ]
-accesses-twins (Know f t) (Claim m r g u) fs gs p s = elim s [ ]
+accesses-twins (Know f t) (Claim o m r g u) fs gs p s = elim s [ ]
 accesses-twins (Know f t) (Know g u) fs gs p s = accesses-twins t u (fs ++ f ∷ []) (gs ++ g ∷ []) (alike-append fs gs (f ∷ []) (g ∷ []) p (s.0, tt)) s.1
-accesses-twins (Know f t) (Touch r d j es u) fs gs p s = elim s [ ]
-accesses-twins (Touch q b i es t) Leaf fs gs p s = elim s [ ]
-accesses-twins (Touch q b i es t) (Claim m r g u) fs gs p s = elim s [ ]
-accesses-twins (Touch q b i es t) (Know g u) fs gs p s = elim s [ ]
-accesses-twins (Touch q b i es t) (Touch r d j hs u) fs gs p s = (record { store = s.0; buffer = s.1; index = s.2; elements = s.3; facts = p }, accesses-twins t u fs gs p s.4)
+accesses-twins (Know f t) (Touch d j es u) fs gs p s = elim s [ ]
+accesses-twins (Touch b i es t) Leaf fs gs p s = elim s [ ]
+accesses-twins (Touch b i es t) (Claim o m r g u) fs gs p s = elim s [ ]
+accesses-twins (Touch b i es t) (Know g u) fs gs p s = elim s [ ]
+accesses-twins (Touch b i es t) (Touch d j hs u) fs gs p s = (record { target = s.0; index = s.1; elements = s.2; facts = p }, accesses-twins t u fs gs p s.3)

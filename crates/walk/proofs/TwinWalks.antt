@@ -14,7 +14,7 @@ use Rattle.facts.specs.Symbols.{First, Second, Symbol, Given, Length, Local, Gro
 use Rattle.facts.specs.Elements.{between, element_of, is_from_zero}
 use Rattle.facts.specs.Launching.{item_facts}
 use Rattle.walk.specs.Trees.{Tree, Leaf, accesses}
-use Rattle.walk.specs.Walks.{Setting, State, Onward, value, elements_at, settles, claimed, upper_fact, bound_facts, newest, with_new, invent, least, greatest, low_end, high_end, is_kept, kept_or_new, ranged, brought_from, product, exact, id_form, walk, walk_all, tree, setting}
+use Rattle.walk.specs.Walks.{Setting, State, stand, spot_at, store_of, Onward, value, elements_at, settles, claimed, upper_fact, bound_facts, newest, with_new, invent, least, greatest, low_end, high_end, is_kept, kept_or_new, ranged, brought_from, product, exact, id_form, walk, walk_all, tree, setting}
 use Rattle.facts.proofs.Twins.{AreTwins, Alike, constant-alike, once-alike, sum-alike, multiple-alike, minus-alike}
 use Rattle.facts.proofs.TwinElements.{element_of-alike}
 use Rattle.walk.proofs.TwinTrees.{Same, Twin, know_all-same, accesses-twins, lower-alike, upper-alike}
@@ -119,9 +119,9 @@ module _ {E : Type 0} (g : Ghosts E) (k : Kernel) (c : Conditions) (has_entry : 
   walk-same (Id f d) st go to n = n Uint (id_form s1 f d) (id_form s2 f d) (id-alike f d) st
   walk-same (Binary op q site a b) st go to n =
       walk-same a st _ _ (λ qa fa ha pa st1. walk-same b st1 _ _ (λ qb fb hb pb st2.
-      brought-same q qa fa ha st2 _ _ pa (λ qx fx hx px st3. brought-same q qb fb hb st3 _ _ pb (λ qy fy hy py st4.
+      brought-same q qa fa ha (stand (spot_at site st2) st2) _ _ pa (λ qx fx hx px st3. brought-same q qb fb hb st3 _ _ pb (λ qy fy hy py st4.
       exact-same op fx hx fy hy st4 _ _ px py (λ e i r st5. ranged-same q e i st5 go to r n)))))
-  walk-same (Convert q site a) st go to n = walk-same a st _ _ (λ qa fa ha pa st1. brought-same q qa fa ha st1 go to pa n)
+  walk-same (Convert q site a) st go to n = walk-same a st _ _ (λ qa fa ha pa st1. brought-same q qa fa ha (stand (spot_at site st1) st1) go to pa n)
   walk-same (Load a site e) st go to n = tt
   walk-same (Unary op q site e) st go to n = tt
   walk-same (Compare r q a b) st go to n = tt
@@ -135,7 +135,7 @@ module _ {E : Type 0} (g : Ghosts E) (k : Kernel) (c : Conditions) (has_entry : 
   walk_all-same : (ss : Statements) (st : State E) (go to : State E → Tree E) → ((st : State E) → Same (go st) (to st)) → Same (walk_all s1 ss st go) (walk_all s2 ss st to)
   walk_all-same none st go to n = n st
   walk_all-same (one (Store m a site index e) rest) st go to n =
-      walk-same index st _ _ (λ qi fi hi pi st1. walk-same e st1 _ _ (λ qe fe he pe st2. (refl, refl, pi, refl, walk_all-same rest (claimed (claimed st2)) go to n)))
+      walk-same index (stand (store_of m a site).spot st) _ _ (λ qi fi hi pi st1. walk-same e st1 _ _ (λ qe fe he pe st2. (refl, pi, refl, walk_all-same rest (claimed (claimed (stand (store_of m a site).spot st2))) go to n)))
   walk_all-same (one (Set m x e) rest) st go to n = tt
   walk_all-same (one (If m t a b) rest) st go to n = tt
   walk_all-same (one (Loop m t a b) rest) st go to n = tt

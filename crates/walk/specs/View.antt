@@ -2,12 +2,17 @@
 use Rattle.std.specs.Prelude.{List, [], ◌∷◌, map, take, Bool, true, false, slice_index_or}
 use Rattle.domain.specs.declared.Domain.{Ghosts}
 use Rattle.words.specs.View.{kind}
+use Rattle.core_code.specs.View.{array, site}
 use Rattle.facts.specs.View.{which, known_seen, three}
 use Rattle.linear.specs.Forms.{form, forms}
 use Rattle.facts.specs.Symbols.{Fact}
 use Rattle.walk.specs.Trees as trees
 use Rattle.walk.specs.Walks as walks
 use Rattle.walk.specs.Collected.{Claimed, Met}
+use Rattle.walk.specs.declared.path.Sort.{Sort}
+use Rattle.walk.specs.declared.path.Sort.TheVariants as sorts
+use Rattle.walk.specs.declared.path.Spot.{Spot}
+use Rattle.walk.specs.declared.path.Target.{Target}
 use Rattle.walk.specs.declared.path.Claim.{Claim}
 use Rattle.walk.specs.declared.path.Access.{Access}
 use Rattle.walk.specs.declared.path.Path.{Path}
@@ -15,11 +20,22 @@ use Rattle.walk.specs.declared.setting.Setting.{Setting}
 use Rattle.walk.specs.declared.ranges.Value.{Value}
 use Rattle.facts.specs.declared.forms.Which.{Which}
 
+abbrev pub sort : Sort → trees.Sort
+sort (sorts.OfRange k) = trees.OfRange (kind k)
+sort sorts.OfIndex = trees.OfIndex
+sort sorts.OfPair = trees.OfPair
+
+abbrev pub spot : Spot → trees.Spot
+spot p = record { statement = p.statement; site = site p.site }
+
+abbrev pub target : Target → trees.Target
+target t = record { is_store = t.is_store; array = array t.array; spot = spot t.spot }
+
 abbrev pub claim_seen : List Fact → Claim → Claimed
-claim_seen facts c = record { needed = c.needed; settled = c.settled; claim = form c.form; facts = take c.facts facts }
+claim_seen facts c = record { demand = record { sort = sort c.sort; spot = spot c.spot }; needed = c.needed; settled = c.settled; claim = form c.form; facts = take c.facts facts }
 
 abbrev pub access_seen : {E : Type 0} → List Fact → List E → Access → trees.Access E
-access_seen facts elements a = record { is_store = a.is_store; buffer = a.buffer; index = form a.index; elements = take a.elements elements; facts = take a.facts facts }
+access_seen facts elements a = record { target = target a.target; index = form a.index; elements = take a.elements elements; facts = take a.facts facts }
 
 unfoldable pub met : {E : Type 0} → Path E → Met E
 met p = record {
@@ -29,6 +45,7 @@ met p = record {
     accesses = map (access_seen (forms p.facts.items) p.elements.items) p.accesses.items;
   };
   elements = p.elements.items;
+  at = spot p.at;
 }
 
 -- of a setting, for one item

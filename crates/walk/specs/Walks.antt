@@ -2,7 +2,7 @@
 -- choices can be told in the same way.
 use Rattle.std.specs.Prelude.{ℕ, suc, ◌+◌, ℤ, pos, negsuc, List, [], ◌∷◌, ◌++◌, length, Bool, true, false, ◌&&◌, ◌||◌, cond, nat_lt, slice_index_or, Option, Some, None}
 use Rattle.semantics.specs.Word.{Kind, Int, Uint, Operator, Multiply}
-use Rattle.semantics.specs.Core.{Function, GlobalId, LocalId, GroupId, GlobalSize, LocalSize, NumGroups, Term, Literal, Variable, Id, Binary, Convert, Statement, Store, Statements, none, one}
+use Rattle.semantics.specs.Core.{Array, Site, Function, GlobalId, LocalId, GroupId, GlobalSize, LocalSize, NumGroups, Term, Literal, Variable, Id, Binary, Convert, Statement, Store, Statements, none, one}
 use Rattle.semantics.specs.Launch.{Three, Kernel}
 use Rattle.semantics.specs.Setup.{along}
 use Rattle.semantics.specs.Linear.{Weighted}
@@ -14,7 +14,7 @@ use Rattle.facts.specs.Symbols as symbols
 use Rattle.facts.specs.Symbols.{Which, First, Second, Symbol, Given, Length, New, Fact, constant, once, minus}
 use Rattle.facts.specs.Elements.{Known, Elements, elements_of, between, element_of, is_settled}
 use Rattle.facts.specs.Launching.{known}
-use Rattle.walk.specs.Trees.{Tree, Leaf, Claim, Know, Touch}
+use Rattle.walk.specs.Trees.{Sort, OfRange, OfIndex, Spot, Demand, Target, Tree, Leaf, Claim, Know, Touch}
 
 -- what a walk is of: a domain with what it knows, the local sizes, the kinds of the value parameters, the item, and the numbers
 -- of the obligations that have an entry
@@ -26,10 +26,11 @@ pub record Setting (E : Type 0) : Type 1 where
   pub item : Which
   pub has_entry : ℕ → Bool
 
--- how many claims were made, and the elements of the new symbols so far
+-- how many claims were made, the elements of the new symbols so far, and where the walk stands
 pub record State (E : Type 0) : Type 0 where
   pub claims : ℕ
   pub elements : List E
+  pub at : Spot
 
 -- a form with the kind of its value
 pub record Value : Type 0 where
@@ -49,11 +50,22 @@ abbrev pub settles : {E : Type 0} → Setting E → State E → Fact → Bool
 settles s st f = is_settled s.domain (elements_at s st) f
 
 abbrev pub claimed : {E : Type 0} → State E → State E
-claimed st = record { claims = suc st.claims; elements = st.elements }
+claimed st = record { claims = suc st.claims; elements = st.elements; at = st.at }
+
+-- the walk stands elsewhere
+abbrev pub stand : {E : Type 0} → Spot → State E → State E
+stand p st = record { claims = st.claims; elements = st.elements; at = p }
+
+-- at another site of its statement
+abbrev pub spot_at : {E : Type 0} → Site → State E → Spot
+spot_at site st = record { statement = st.at.statement; site = site }
+
+abbrev pub demand : {E : Type 0} → Sort → State E → Demand
+demand o st = record { sort = o; spot = st.at }
 
 -- one claim, which is numbered
-abbrev pub claim : {E : Type 0} → Setting E → Bool → Fact → State E → (State E → Tree E) → Tree E
-claim s needed f st go = Claim needed (settles s st f) f (go (claimed st))
+abbrev pub claim : {E : Type 0} → Setting E → Sort → Bool → Fact → State E → (State E → Tree E) → Tree E
+claim s o needed f st go = Claim (demand o st) needed (settles s st f) f (go (claimed st))
 
 abbrev pub lower_fact : Fact → Option ℤ → (rest : List Fact) → List Fact
 lower_fact f None rest = rest
@@ -74,7 +86,7 @@ abbrev pub newest : {E : Type 0} → Setting E → State E → Fact
 newest s st = once (New s.item (length st.elements))
 
 abbrev pub with_new : {E : Type 0} → State E → E → State E
-with_new st e = record { claims = st.claims; elements = st.elements ++ e ∷ [] }
+with_new st e = record { claims = st.claims; elements = st.elements ++ e ∷ []; at = st.at }
 
 -- a new symbol, with its bounds as facts
 abbrev pub invent : {E : Type 0} → Setting E → E → State E → (Fact → State E → Tree E) → Tree E
@@ -96,7 +108,7 @@ high_end k f = minus (constant (greatest k)) f
 
 -- the two ends of a kind's range
 abbrev pub in_range : {E : Type 0} → Setting E → Bool → Kind → Fact → State E → (State E → Tree E) → Tree E
-in_range s needed k f st go = claim s needed (low_end k f) st (λ st'. claim s needed (high_end k f) st' go)
+in_range s needed k f st go = claim s (OfRange k) needed (low_end k f) st (λ st'. claim s (OfRange k) needed (high_end k f) st' go)
 
 -- both claims are settled or have an entry
 abbrev pub is_kept : {E : Type 0} → Setting E → Fact → State E → Bool
@@ -161,35 +173,49 @@ joined s op k x y st go =
     brought s k x st (λ x' st1. brought s k y st1 (λ y' st2.
     exact s op x'.form y'.form st2 (λ f st3. ranged s k f st3 go)))
 
--- operands from left to right
+-- the same at a site
+abbrev pub joined_at : {E : Type 0} → Setting E → Site → Operator → Kind → (left right : Value) → State E → Onward E → Tree E
+joined_at s site op k x y st go = joined s op k x y (stand (spot_at site st) st) go
+
+abbrev pub brought_at : {E : Type 0} → Setting E → Site → Kind → Value → State E → Onward E → Tree E
+brought_at s site k v st go = brought s k v (stand (spot_at site st) st) go
+
+-- operands from left to right, then the operator at its own site
 abbrev pub walk : {E : Type 0} → Setting E → Term → State E → Onward E → Tree E
 walk s (Literal k z) st go = go (value k (constant z)) st
 walk s (Variable x) st go = go (value (argument_kind s x) (once (Given x))) st
 walk s (Id f d) st go = go (value Uint (id_form s f d)) st
-walk s (Binary op k site a b) st go = walk s a st (λ x st1. walk s b st1 (λ y st2. joined s op k x y st2 go))
-walk s (Convert k site a) st go = walk s a st (λ x st1. brought s k x st1 go)
+walk s (Binary op k site a b) st go = walk s a st (λ x st1. walk s b st1 (λ y st2. joined_at s site op k x y st2 go))
+walk s (Convert k site a) st go = walk s a st (λ x st1. brought_at s site k x st1 go)
 walk s t st go = Leaf
 
 -- an index is at least 0, and below its buffer's length
 abbrev pub in_buffer : {E : Type 0} → Setting E → ℕ → Fact → State E → (State E → Tree E) → Tree E
-in_buffer s b i st go = claim s true i st (λ st'. claim s true (minus (minus (once (Length b)) (constant (pos 1))) i) st' go)
+in_buffer s b i st go = claim s OfIndex true i st (λ st'. claim s OfIndex true (minus (minus (once (Length b)) (constant (pos 1))) i) st' go)
+
+abbrev pub store_of : (statement : ℕ) → Array → Site → Target
+store_of n a site = record { is_store = true; array = a; spot = record { statement = n; site = site } }
 
 -- the index, the value, then the access
-abbrev pub walk_store : {E : Type 0} → Setting E → (buffer : ℕ) → (index value : Term) → State E → (State E → Tree E) → Tree E
-walk_store s b index e st go =
-    walk s index st (λ i st1. walk s e st1 (λ v st2.
-    in_buffer s b i.form st2 (λ st3. Touch true b i.form st3.elements (go st3))))
+abbrev pub walk_store : {E : Type 0} → Setting E → Target → (index value : Term) → State E → (State E → Tree E) → Tree E
+walk_store s t index e st go =
+    walk s index (stand t.spot st) (λ i st1. walk s e st1 (λ v st2.
+    in_buffer s t.array.number i.form (stand t.spot st2) (λ st3. Touch t i.form st3.elements (go st3))))
 
 abbrev pub walk_one : {E : Type 0} → Setting E → Statement → State E → (State E → Tree E) → Tree E
-walk_one s (Store n a site index e) st go = walk_store s a.number index e st go
+walk_one s (Store n a site index e) st go = walk_store s (store_of n a site) index e st go
 walk_one s t st go = Leaf
 
 abbrev pub walk_all : {E : Type 0} → Setting E → Statements → State E → (State E → Tree E) → Tree E
 walk_all s none st go = go st
 walk_all s (one t rest) st go = walk_one s t st (λ st'. walk_all s rest st' go)
 
+-- before the first statement
+abbrev pub nowhere : Spot
+nowhere = record { statement = 0; site = record { line = 0; column = 0 } }
+
 abbrev pub opening_state : {E : Type 0} → State E
-opening_state = record { claims = 0; elements = [] }
+opening_state = record { claims = 0; elements = []; at = nowhere }
 
 abbrev pub tree : {E : Type 0} → Setting E → Statements → Tree E
 tree s body = walk_all s body opening_state (λ st. Leaf)

@@ -16,7 +16,7 @@ mod terms;
 mod walking;
 
 pub use accesses::{elements_before, facts_before, index_of};
-pub use path::{Access, Claim, Path};
+pub use path::{Access, Claim, Path, Sort, Spot, Target};
 pub use ranges::Value;
 pub use setting::Setting;
 pub use straight::is_straight;

@@ -11,9 +11,9 @@ ghost use Rattle.walk.specs.Collected.{state_of, collect};
 ghost use Rattle.walk.specs.Leads.{Steps, Leads};
 ghost use Rattle.facts.specs.Refusals.{IsUnfit};
 ghost use Rattle.walk.specs.Refusals.{Refused, Stops, Halts};
-ghost use Rattle.walk.specs.View.{met, setting as seen, value as value_seen};
+ghost use Rattle.walk.specs.View.{met, setting as seen, sort as sort_seen, value as value_seen};
 
-use crate::path::Path;
+use crate::path::{Path, Sort};
 use crate::setting::Setting;
 use domain::Domain;
 use facts::{WalkError, Which, between, is_settled, less_number, number_less, once_new};
@@ -44,13 +44,14 @@ pub fn claim<D: Domain>(
     setting: &Setting<D>,
     item: Which,
     path: &mut Path<D>,
+    sort: Sort,
     needed: bool,
     form: Form,
 ) -> Result<(), WalkError>
-    ensures { MatchResult result (λ _. Steps (met path.old) (met path.new) (walks.claim (seen D.Domain setting.now item) needed (form_seen form))) (λ e. Stops ⊥ (met path.old) e (walks.claim (seen D.Domain setting.now item) needed (form_seen form))) }
+    ensures { MatchResult result (λ _. Steps (met path.old) (met path.new) (walks.claim (seen D.Domain setting.now item) (sort_seen sort) needed (form_seen form))) (λ e. Stops ⊥ (met path.old) e (walks.claim (seen D.Domain setting.now item) (sort_seen sort) needed (form_seen form))) }
 {
     let settled = settles(setting, item, path, &form);
-    path.claim(needed, settled, form)?;
+    path.claim(sort, needed, settled, form)?;
     Ok(())
 }
 
@@ -65,10 +66,10 @@ pub fn invent<D: Domain>(
     ensures { MatchResult result (λ f. Leads (met path.old) (met path.new) (walks.invent (seen D.Domain setting.now item) element) (form_seen f)) (λ e. Halts ⊥ (met path.old) e (walks.invent (seen D.Domain setting.now item) element)) }
 {
     let index = path.elements.len();
-    if index > 4_294_967_295 {
+    if index >= 1 << 59 {
         return Err(WalkError::Memory);
     }
-    let newest = once_new(alloc, item, index as u32)?;
+    let newest = once_new(alloc, item, index)?;
     let bounds = element.bounds();
     know_low(alloc, path, &newest, bounds.low)?;
     know_high(alloc, path, &newest, bounds.high)?;
@@ -136,8 +137,8 @@ fn in_range<D: Domain>(
 {
     let low = low_end(alloc, kind, form)?;
     let high = high_end(alloc, kind, form)?;
-    claim(setting, item, path, needed, low)?;
-    claim(setting, item, path, needed, high)?;
+    claim(setting, item, path, Sort::OfRange(kind), needed, low)?;
+    claim(setting, item, path, Sort::OfRange(kind), needed, high)?;
     Ok(())
 }
 

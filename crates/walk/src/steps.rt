@@ -2,12 +2,15 @@
 
 ghost use Rattle.std.specs.Prelude.{◌≡◌, MatchResult};
 ghost use Rattle.linear.specs.Forms.{form as form_seen, forms};
-ghost use Rattle.walk.specs.Collected.{opening, with_claim, with_fact, with_element, with_access};
+ghost use Rattle.walk.specs.Collected.{opening, state_of, with_claim, with_fact, with_element, with_access, with_spot};
+ghost use Rattle.walk.specs.Walks.{spot_at};
+ghost use Rattle.core_code.specs.View.{site as site_seen};
 ghost use Rattle.facts.specs.Refusals.{IsMemory};
 ghost use Rattle.walk.specs.Refusals.{Refused};
-ghost use Rattle.walk.specs.View.{met};
+ghost use Rattle.walk.specs.View.{met, sort as sort_seen, spot as spot_seen, target as target_seen};
 
-use crate::path::{Access, Claim, Path};
+use crate::path::{Access, Claim, Path, Sort, Spot, Target};
+use core_code::tree::Site;
 use facts::WalkError;
 use linear::Form;
 use std::alloc::Global;
@@ -23,18 +26,50 @@ impl<D: Copy> Path<D> {
             elements: Vec::new(alloc),
             claims: Vec::new(alloc),
             accesses: Vec::new(alloc),
+            at: Spot {
+                statement: 0,
+                site: Site { line: 0, column: 0 },
+            },
+        }
+    }
+
+    #[tactic(auto, unfolding(crate::specs::View::met))]
+    /// The walk stands there.
+    pub fn stand(&mut self, spot: Spot)
+        ensures { met self.new ≡ with_spot (met self.old) (spot_seen spot) }
+    {
+        self.at = spot;
+    }
+
+    #[tactic(auto, unfolding(crate::specs::View::met))]
+    /// At this site of its statement.
+    pub fn spot_at(&self, site: Site) -> Spot
+        ensures { spot_seen result ≡ spot_at (site_seen site) (state_of (met self.now)) }
+    {
+        Spot {
+            statement: self.at.statement,
+            site,
         }
     }
 
     /// One claim more; at most 65,536 are made.
-    pub fn claim(&mut self, needed: bool, settled: bool, form: Form) -> Result<(), WalkError>
-        ensures { MatchResult result (λ _. met self.new ≡ with_claim (met self.old) needed settled (form_seen form)) (λ e. Refused ⊥ e (with_claim (met self.old) needed settled (form_seen form)).found) }
+    pub fn claim(
+        &mut self,
+        sort: Sort,
+        needed: bool,
+        settled: bool,
+        form: Form,
+    ) -> Result<(), WalkError>
+        ensures { MatchResult result (λ _. met self.new ≡ with_claim (met self.old) (sort_seen sort) needed settled (form_seen form)) (λ e. Refused ⊥ e (with_claim (met self.old) (sort_seen sort) needed settled (form_seen form)).found) }
     {
         if self.claims.len() >= 65_536 {
             return Err(WalkError::TooMany);
         }
         let facts = self.facts.len();
+        let spot = self.at;
         self.claims.push(Claim {
+            sort,
+            spot,
             needed,
             settled,
             form,
@@ -60,14 +95,13 @@ impl<D: Copy> Path<D> {
     }
 
     /// One access more.
-    pub fn touch(&mut self, is_store: bool, buffer: u32, index: Form) -> Result<(), WalkError>
-        ensures { MatchResult result (λ _. met self.new ≡ with_access (met self.old) is_store buffer (form_seen index) (met self.old).elements) IsMemory }
+    pub fn touch(&mut self, target: Target, index: Form) -> Result<(), WalkError>
+        ensures { MatchResult result (λ _. met self.new ≡ with_access (met self.old) (target_seen target) (form_seen index) (met self.old).elements) IsMemory }
     {
         let facts = self.facts.len();
         let elements = self.elements.len();
         self.accesses.push(Access {
-            is_store,
-            buffer,
+            target,
             index,
             facts,
             elements,

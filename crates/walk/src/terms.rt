@@ -3,7 +3,7 @@
 ghost use Rattle.std.specs.Prelude.{◌≡◌, ◌<◌, false, MatchResult};
 ghost use Rattle.linear.specs.Forms.{form as form_seen};
 ghost use Rattle.words.specs.View.{kind as kind_seen};
-ghost use Rattle.core_code.specs.View.{operator as operator_seen, term as term_seen, function as function_seen};
+ghost use Rattle.core_code.specs.View.{operator as operator_seen, term as term_seen, function as function_seen, site as site_seen};
 ghost use Rattle.walk.specs.Walks as walks;
 ghost use Rattle.facts.specs.Elements as elements;
 ghost use Rattle.walk.specs.Collected.{state_of};
@@ -16,7 +16,7 @@ ghost use Rattle.walk.specs.View.{met, is_number as is_number_seen, setting as s
 use crate::path::Path;
 use crate::ranges::{Value, brought, invent, ranged};
 use crate::setting::Setting;
-use core_code::tree::{Function, Operator, Term};
+use core_code::tree::{Function, Operator, Site, Term};
 use domain::Domain;
 use facts::{WalkError, Which, element_of, once_given, once_group, once_groups, once_local};
 use linear::Form;
@@ -183,6 +183,42 @@ fn joined<D: Domain>(
     Ok(value)
 }
 
+/// The same at the operator's site.
+fn joined_at<D: Domain>(
+    alloc: Global,
+    setting: &Setting<D>,
+    item: Which,
+    path: &mut Path<D>,
+    site: Site,
+    operator: Operator,
+    kind: Kind,
+    left: Value,
+    right: Value,
+) -> Result<Value, WalkError>
+    ensures { MatchResult result (λ v. Leads (met path.old) (met path.new) (walks.joined_at (seen D.Domain setting.now item) (site_seen site) (operator_seen operator) (kind_seen kind) (value_seen left) (value_seen right)) (value_seen v)) (λ e. Halts (is_exact (operator_seen operator) ≡ false) (met path.old) e (walks.joined_at (seen D.Domain setting.now item) (site_seen site) (operator_seen operator) (kind_seen kind) (value_seen left) (value_seen right))) }
+{
+    let spot = path.spot_at(site);
+    path.stand(spot);
+    joined(alloc, setting, item, path, operator, kind, left, right)
+}
+
+/// The same at a conversion's site.
+fn brought_at<D: Domain>(
+    alloc: Global,
+    setting: &Setting<D>,
+    item: Which,
+    path: &mut Path<D>,
+    site: Site,
+    kind: Kind,
+    value: Value,
+) -> Result<Value, WalkError>
+    ensures { MatchResult result (λ v. Leads (met path.old) (met path.new) (walks.brought_at (seen D.Domain setting.now item) (site_seen site) (kind_seen kind) (value_seen value)) (value_seen v)) (λ e. Halts ⊥ (met path.old) e (walks.brought_at (seen D.Domain setting.now item) (site_seen site) (kind_seen kind) (value_seen value))) }
+{
+    let spot = path.spot_at(site);
+    path.stand(spot);
+    brought(alloc, setting, item, path, kind, value)
+}
+
 /// The walk of a term; `Outside` at one that has not only numbers, value parameters, ids, sums, products and conversions.
 pub fn walk_term<D: Domain>(
     alloc: Global,
@@ -200,7 +236,7 @@ pub fn walk_term<D: Domain>(
         }),
         Term::Variable { slot } => Ok(Value {
             kind: argument_kind(setting, item, *slot),
-            form: once_given(alloc, *slot)?,
+            form: once_given(alloc, *slot as usize)?,
         }),
         Term::Id {
             function,
@@ -212,18 +248,20 @@ pub fn walk_term<D: Domain>(
         Term::Binary {
             operator,
             kind,
+            site,
             left,
             right,
-            ..
         } => {
             let first = walk_term(alloc, setting, item, path, left)?;
             let second = walk_term(alloc, setting, item, path, right)?;
-            let value = joined(alloc, setting, item, path, *operator, *kind, first, second)?;
+            let value = joined_at(
+                alloc, setting, item, path, *site, *operator, *kind, first, second,
+            )?;
             Ok(value)
         }
-        Term::Convert { kind, of, .. } => {
+        Term::Convert { kind, site, of } => {
             let operand = walk_term(alloc, setting, item, path, of)?;
-            let value = brought(alloc, setting, item, path, *kind, operand)?;
+            let value = brought_at(alloc, setting, item, path, *site, *kind, operand)?;
             Ok(value)
         }
         _ => Err(WalkError::Outside),

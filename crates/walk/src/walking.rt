@@ -7,9 +7,9 @@ ghost use Rattle.walk.specs.Walks as walks;
 ghost use Rattle.walk.specs.Collected.{collect, opening};
 ghost use Rattle.walk.specs.Leads.{Steps};
 ghost use Rattle.walk.specs.Refusals.{AreNoStraightTerms, IsNoStraightStatement, IsNoStraightBody, Refused, Stops};
-ghost use Rattle.walk.specs.View.{met, setting as seen};
+ghost use Rattle.walk.specs.View.{met, setting as seen, target as target_seen};
 
-use crate::path::Path;
+use crate::path::{Path, Sort, Spot, Target};
 use crate::ranges::claim;
 use crate::setting::Setting;
 use crate::terms::walk_term;
@@ -30,11 +30,11 @@ fn in_buffer<D: Domain>(
 ) -> Result<(), WalkError>
     ensures { MatchResult result (λ _. Steps (met path.old) (met path.new) (walks.in_buffer (seen D.Domain setting.now item) buffer (form_seen index.now))) (λ e. Stops ⊥ (met path.old) e (walks.in_buffer (seen D.Domain setting.now item) buffer (form_seen index.now))) }
 {
-    let last = less_number(alloc, &once_length(alloc, buffer)?, 1)?;
+    let last = less_number(alloc, &once_length(alloc, buffer as usize)?, 1)?;
     let room = last.sub(alloc, index)?;
     let from_zero = index.copy(alloc)?;
-    claim(setting, item, path, true, from_zero)?;
-    claim(setting, item, path, true, room)?;
+    claim(setting, item, path, Sort::OfIndex, true, from_zero)?;
+    claim(setting, item, path, Sort::OfIndex, true, room)?;
     Ok(())
 }
 
@@ -44,16 +44,18 @@ fn walk_store<D: Domain>(
     setting: &Setting<D>,
     item: Which,
     path: &mut Path<D>,
-    buffer: u32,
+    target: Target,
     index: &Term,
     value: &Term,
 ) -> Result<(), WalkError>
-    ensures { MatchResult result (λ _. Steps (met path.old) (met path.new) (walks.walk_store (seen D.Domain setting.now item) buffer (term_seen index.now) (term_seen value.now))) (λ e. Stops (AreNoStraightTerms (term_seen index.now) (term_seen value.now)) (met path.old) e (walks.walk_store (seen D.Domain setting.now item) buffer (term_seen index.now) (term_seen value.now))) }
+    ensures { MatchResult result (λ _. Steps (met path.old) (met path.new) (walks.walk_store (seen D.Domain setting.now item) (target_seen target) (term_seen index.now) (term_seen value.now))) (λ e. Stops (AreNoStraightTerms (term_seen index.now) (term_seen value.now)) (met path.old) e (walks.walk_store (seen D.Domain setting.now item) (target_seen target) (term_seen index.now) (term_seen value.now))) }
 {
+    path.stand(target.spot);
     let place = walk_term(alloc, setting, item, path, index)?;
     walk_term(alloc, setting, item, path, value)?;
-    in_buffer(alloc, setting, item, path, buffer, &place.form)?;
-    path.touch(true, buffer, place.form)?;
+    path.stand(target.spot);
+    in_buffer(alloc, setting, item, path, target.array.number, &place.form)?;
+    path.touch(target, place.form)?;
     Ok(())
 }
 
@@ -69,11 +71,22 @@ fn walk_statement<D: Domain>(
 {
     match statement {
         Statement::Store {
+            number,
             array,
+            site,
             index,
             value,
-            ..
-        } => walk_store(alloc, setting, item, path, array.number, index, value),
+        } => {
+            let target = Target {
+                is_store: true,
+                array: *array,
+                spot: Spot {
+                    statement: *number,
+                    site: *site,
+                },
+            };
+            walk_store(alloc, setting, item, path, target, index, value)
+        }
         _ => Err(WalkError::Outside),
     }
 }

@@ -1,6 +1,6 @@
 use Rattle.std.proofs.Common.{ap, ◌∙◌, ◌++◌, take}
 use Rattle.linear.specs.Forms.{forms}
-use Rattle.facts.proofs.Facts.{forms-take}
+use Rattle.linear.proofs.FormLists.{forms-take}
 use Rattle.two_thread.proofs.clashing.first_facts.Goals as goal
 
 pub returns : goal.returns

@@ -1,4 +1,4 @@
-use Rattle.std.proofs.Common.{◌≡◌, ◌++◌, ◌+◌, suc, rules, sym, subst, add-one, drop, map}
+use Rattle.std.proofs.Common.{◌≡◌, ◌++◌, ◌+◌, suc, sym, ap, subst, add-one, drop, map}
 use Rattle.launch.specs.View.{conditions}
 use Rattle.words.specs.declared.word.Kind.TheVariants.{Uint}
 use Rattle.facts.specs.View.{three}
@@ -12,10 +12,11 @@ loop-kind-preserved g c =
     let us = seen_accesses c.args.first.now in
     let vs = seen_accesses c.args.second.now in
     let cs = conditions c.args.conditions.now in
-    let next : c.in-Some.next ≡ suc c.loop-kind.buffer = search (rules, add-one) in
+    let next : c.loop-kind.buffer + 1 ≡ suc c.loop-kind.buffer = add-one c.loop-kind.buffer in
     let all = pairs_from (three c.args.sizes) cs 0 c.args.buffers.now us vs in
     let step = from_step (three c.args.sizes) cs c.loop-kind.buffer c.args.buffers.now us vs c.loop-kind._kind-index (map (pair us vs) c.loop-kind.found.items) (map (pair us vs) c.pairs_of.new.found.items) all Uint c.loop-kind-test.true c.in_ok-pairs_of.ensures.exact c.loop-kind.invariant.found in
     record {
+      count = ap (λ n. n + 1) c.loop-kind.invariant.count;
       found = subst (λ b. map (pair us vs) c.pairs_of.new.found.items ++ pairs_from (three c.args.sizes) cs b (drop (c.loop-kind._kind-index + 1) c.args.buffers.now) us vs ≡ all) (sym next) step;
       inside = c.in_ok-pairs_of.ensures.inside c.loop-kind.invariant.inside;
     }

@@ -9,6 +9,7 @@ use Rattle.two_thread.proofs.pairs.all_pairs.Given as goal
 
 abbrev pub invariant-loop-kind : goal.invariant-loop-kind
 invariant-loop-kind g l = record {
+  count : l.buffer ≡ l._kind-index;
   found : map (pair (seen_accesses l.first) (seen_accesses l.second)) l.found.items ++ specs.pairs_from (three l.sizes) (conditions l.conditions) l.buffer (drop l._kind-index l.buffers) (seen_accesses l.first) (seen_accesses l.second) ≡ specs.pairs_from (three l.sizes) (conditions l.conditions) 0 l.buffers (seen_accesses l.first) (seen_accesses l.second);
   inside : All (IsInside (length l.first.accesses.items) (length l.second.accesses.items)) l.found.items;
 }

@@ -5,4 +5,4 @@ use Rattle.walk.proofs.Nth.{nth_seen}
 use Rattle.two_thread.proofs.pairs.is_store.Goals as goal
 
 pub returns : goal.returns
-returns g c = ap (λ (a : Access). a.is_store) c.index.ensures ∙ ap (λ (a : trees.Access _). a.is_store) (sym (nth_seen c.args.path.now c.args.i c.index.result.now c.requires))
+returns g c = ap (λ (a : Access). a.target.is_store) c.index.ensures ∙ ap (λ (a : trees.Access _). a.target.is_store) (sym (nth_seen c.args.path.now c.args.i c.index.result.now c.requires))

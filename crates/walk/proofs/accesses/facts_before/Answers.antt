@@ -3,7 +3,7 @@ use Rattle.linear.specs.Forms.{forms}
 use Rattle.walk.specs.Trees as trees
 use Rattle.walk.specs.declared.path.Access.{Access}
 use Rattle.walk.proofs.Nth.{nth_seen}
-use Rattle.facts.proofs.Facts.{forms-take}
+use Rattle.linear.proofs.FormLists.{forms-take}
 use Rattle.walk.proofs.accesses.facts_before.Goals as goal
 
 pub returns : goal.returns

@@ -8,4 +8,4 @@ returns g c =
     let s = c.args.self.now in
     let p = met s in
     let e = c.in_ok-push.ensures.items in
-    λ i. record { found = record { facts = p.found.facts; claims = p.found.claims; accesses = accesses_known s.facts.items s.elements.items c.push.new.self.items c.args.element s.accesses.items e s.accesses_in i }; elements = e i }
+    λ i. record { found = record { facts = p.found.facts; claims = p.found.claims; accesses = accesses_known s.facts.items s.elements.items c.push.new.self.items c.args.element s.accesses.items e s.accesses_in i }; elements = e i; at = p.at }

@@ -1,3 +1,5 @@
+//! Section: Gate. Promises the headline of what is accepted, and true refusals; stands on the walks, `reading` and `certificate`.
+//!
 //! The check of a kernel with a certificate: what it accepts is pair-safe at each launch that meets the conditions, so that the
 //! headline holds there.
 #![tactic(auto)]

@@ -1,3 +1,5 @@
+//! Section: Gate. Promises exactly the certificate of a text, and the text of a certificate; stands on `texts` and `lines`.
+//!
 //! Certificates and their text.
 #![tactic(auto)]
 

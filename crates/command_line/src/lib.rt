@@ -1,3 +1,5 @@
+//! Section: Runs and program. Promises which words name which files; stands on `clap`.
+//!
 //! The command line. `clap` says whether the words are one; the files are the words that are no option, in their order.
 #![tactic(auto)]
 

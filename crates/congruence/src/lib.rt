@@ -1,3 +1,5 @@
+//! Section: Facts and domains. Promises a lawful domain; stands on `domain`.
+//!
 //! Congruences of whole numbers (Granger 1989): one number, or all that leave a remainder by a modulus.
 
 #![tactic(auto)]

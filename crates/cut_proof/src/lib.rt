@@ -1,3 +1,5 @@
+//! Section: Facts and domains. Promises a yes exactly to derivations that refute, so to impossible facts alone; stands on `linear`.
+//!
 //! Proofs by cutting planes that no whole numbers meet a list of linear facts (Chvátal; Cook, Coullard and Turán 1987).
 //!
 //! A derivation is a list of lines, each a fact, a sum of earlier lines with weights of at least 1, or an earlier line

@@ -1,3 +1,5 @@
+//! Section: Facts and domains. Promises the laws of an abstract domain, as a trait; stands on nothing.
+//!
 //! Abstract domains: an element stands for a set of whole numbers, and an operation on elements holds
 //! every value that the operation on numbers gives at members (Cousot and Cousot 1977).
 

@@ -1,3 +1,5 @@
+//! Section: Runs and program. Promises the result by rounds of an accepted kernel; stands on `cert_check` and `write_log`.
+//!
 //! Accepted kernels, run: work-group by work-group, item by item. What a run answers is the result by rounds, and so what every
 //! interleaving of all work-items leads to.
 #![tactic(auto)]

@@ -1,3 +1,6 @@
+//! Section: Facts and domains. Promises exactly what conditions say of launches and items, and what a lawful domain knows of it; stands
+//! on `launch`, `linear` and `domain`.
+//!
 //! What launch conditions say of each launch that meets them, and of its items: facts, which are forms that are at least 0, and the
 //! elements that an abstract domain has of symbols and forms.
 //!

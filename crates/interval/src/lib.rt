@@ -1,3 +1,5 @@
+//! Section: Facts and domains. Promises a lawful domain; stands on `domain`.
+//!
 //! Intervals of whole numbers (Cousot and Cousot 1977): each end is of `i64` or open.
 
 #![tactic(auto)]

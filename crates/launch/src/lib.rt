@@ -1,3 +1,5 @@
+//! Section: Launch. Promises whether a launch meets its conditions, and the least launch; stands on `words`.
+//!
 //! Launches of a kernel and the conditions on them: ranges of group counts and arguments, a least length for each buffer, and
 //! requirements between sums. All sums are taken over whole numbers, without wrapping.
 #![tactic(auto)]

@@ -1,3 +1,5 @@
+//! Section: Launch. Promises nothing: it is measured; stands on `launch_text`.
+//!
 //! Reads a kernel and a launch text of it, and prints how many words its buffers have. `bench/launch_text.py` measures it.
 #![tactic(auto)]
 

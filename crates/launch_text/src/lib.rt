@@ -1,3 +1,6 @@
+//! Section: Launch. Promises exactly the conditions, or the launch, that a text says of a kernel, and that this is what it says case by
+//! case; stands on `types`, `launch` and `lines`.
+//!
 //! The texts that say launch conditions and launches, read for a kernel, and the text of buffers. A reading gives exactly what the text
 //! says, or its first fault with its line; what is read fits the kernel.
 #![tactic(auto)]

@@ -1,3 +1,5 @@
+//! Section: Kernel text. Promises exactly the tokens of a text, or its first fault; stands on `texts`.
+//!
 //! Text to tokens. `lex` answers exactly the tokens that the grammar gives a text, each with its kind, its span and
 //! the line and column of its first byte, or the grammar's first fault and where that begins. It copies none of the
 //! text. No contract says that its work grows no faster than the text, though it does, or that there is memory enough:

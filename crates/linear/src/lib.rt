@@ -1,3 +1,5 @@
+//! Section: Facts and domains. Promises forms whose operations mean what they say, or `TooLarge`; stands on `semantics`.
+//!
 //! Linear forms over numbered symbols, with coefficients and constants in `i64`.
 //!
 //! A form's terms rise strictly by symbol and have no coefficient 0, so equal forms are equal values. Each operation

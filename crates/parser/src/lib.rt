@@ -1,3 +1,5 @@
+//! Section: Kernel text. Promises exactly the kernel that the grammar has of tokens, or a true refusal; stands on `lexer` and `syntax`.
+//!
 //! Tokens to trees. `parse` reads the whole language, without recursion deeper than the limits of brackets and levels allow; its answer is
 //! the tree that the definition in `specs/` reads, or the fault that it names at its place.
 #![tactic(auto)]

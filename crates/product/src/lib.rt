@@ -1,3 +1,5 @@
+//! Section: Facts and domains. Promises a lawful domain of two lawful ones; stands on `domain`.
+//!
 //! The product of two abstract domains: the numbers that are members of both elements.
 
 #![tactic(auto)]

@@ -1,3 +1,5 @@
+//! Section: Kernel text. Promises exactly the tree and the core of bytes, by the grammar; stands on `lexer`, `parser` and `types`.
+//!
 //! The bytes of a kernel's text to its tree and its core, through the lexer, the parser and the typing.
 #![tactic(auto)]
 

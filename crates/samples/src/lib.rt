@@ -1,3 +1,5 @@
+//! Section: Meaning. Promises what the definitions say of small kernels, computed; stands on `texts` and `reduction`, and nothing on it.
+//!
 //! Small kernels whose meaning the checker computes, so that the definitions are seen at work, and one kernel that is
 //! pair-safe at every launch with room for it. Nothing stands on this crate.
 #![tactic(auto)]

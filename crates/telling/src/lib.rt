@@ -1,3 +1,5 @@
+//! Section: Runs and program. Promises what is written says `accepted` only of what is; stands on `cert_check` and `executor`.
+//!
 //! What the program says of texts: it checks them, or runs an accepted kernel, and tells the answer or the refusal.
 #![tactic(auto)]
 

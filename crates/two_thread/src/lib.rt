@@ -1,3 +1,5 @@
+//! Section: Walks. Promises exactly what is to be shown of a kernel, by number, and that all of it together is enough; stands on `walk`.
+//!
 //! What is to be shown of two work-items, and what it promises: where all of it is shown, each launch that meets the conditions is
 //! pair-safe.
 //!

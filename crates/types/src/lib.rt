@@ -1,3 +1,5 @@
+//! Section: Kernel text. Promises exactly the core of a tree, or its first broken typing rule; stands on `syntax` and `core_code`.
+//!
 //! The typing of kernels: exactly the elaborated kernel of the definitions, or the first broken rule with its place.
 #![tactic(auto)]
 

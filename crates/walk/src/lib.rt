@@ -1,3 +1,6 @@
+//! Section: Walks. Promises exactly the facts, claims and accesses of one work-item of a straight-line kernel; stands on `core_code` and
+//! `facts`.
+//!
 //! The walk of one work-item along its kernel: what is to be shown on the way, what is known there, and the accesses.
 //!
 //! `Path` lists them in the order in which the item meets them: exactly the tree that `specs/Walks.antt` defines of the kernel's

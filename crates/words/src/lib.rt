@@ -1,3 +1,5 @@
+//! Section: Meaning. Promises 32-bit words and operations exactly as defined; stands on `semantics`.
+//!
 //! 32-bit integers as OpenCL C has them, and the gate by which the workers of a run tell what they do.
 //!
 //! A `Word` is a number of one kind, and can hold no number that its kind lacks. Each operation answers exactly what

@@ -1,8 +1,9 @@
 #!/usr/bin/env python3
 """What a reader has to believe: the definitions that a promise of the program rests on, with their lines.
 
-Begins at the names of a file of specs/ and follows each name that a definition uses to the definition behind it, through the `use` lines, as far
-as the repository goes; what stands in the library is not followed. Lines are those of definitions, without comments, blank lines and `use` lines.
+Begins at the names of a file of specs/ and follows each name that a definition uses to the definition behind it, through the `use`
+lines, as far as the repository goes; what stands in the library is not followed. Lines are those of definitions, without comments,
+blank lines and `use` lines.
 
     bench/believed.py [CRATE/specs/FILE.antt [NAME ..]]
 """

@@ -114,7 +114,7 @@ def walk(start, names):
                     todo.append((path, used))
                     continue
                 if ".specs.declared." in target:
-                    code.add(target.split(".specs.declared.")[0].removeprefix("Rattle.") + ": " + target.split(".")[-1] + " " + used)
+                    code.add(target.removeprefix("Rattle.") + "." + used)
                     continue
                 file = path_of(target)
                 if file is not None:
@@ -136,8 +136,8 @@ def main():
     for where in sorted(lines):
         print(f"{lines[where]:6} {where}")
     print(f"{sum(lines.values()):6} lines of {len(seen)} definitions in {len(lines)} files")
-    if code:
-        print("types of the code: " + ", ".join(sorted(code)))
+    crates = sorted({name.split(".")[0] for name in code})
+    print(f"{len(code):6} names of the code's own types" + (", of " + ", ".join(crates) if crates else ""))
 
 
 main()

@@ -1,8 +1,9 @@
 #!/usr/bin/env python3
 """What a reader has to believe: the definitions that a promise of the program rests on, with their lines.
 
-Begins at the names of a file of specs/ and follows each name that a definition uses to the definition behind it, through the `use` lines, as far
-as the repository goes; what stands in the library is not followed. Lines are those of definitions, without comments, blank lines and `use` lines.
+Begins at the names of a file of specs/ and follows each name that a definition uses to the definition behind it, through the `use`
+lines, as far as the repository goes; what stands in the library is not followed. Lines are those of definitions, without comments,
+blank lines and `use` lines.
 
     bench/believed.py [CRATE/specs/FILE.antt [NAME ..]]
 """
@@ -113,7 +114,7 @@ def walk(start, names):
                     todo.append((path, used))
                     continue
                 if ".specs.declared." in target:
-                    code.add(target.split(".specs.declared.")[0].removeprefix("Rattle.") + ": " + target.split(".")[-1] + " " + used)
+                    code.add(target.removeprefix("Rattle.") + "." + used)
                     continue
                 file = path_of(target)
                 if file is not None:
@@ -135,8 +136,8 @@ def main():
     for where in sorted(lines):
         print(f"{lines[where]:6} {where}")
     print(f"{sum(lines.values()):6} lines of {len(seen)} definitions in {len(lines)} files")
-    if code:
-        print("types of the code: " + ", ".join(sorted(code)))
+    crates = sorted({name.split(".")[0] for name in code})
+    print(f"{len(code):6} names of the code's own types" + (", of " + ", ".join(crates) if crates else ""))
 
 
 main()

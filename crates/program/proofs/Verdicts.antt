@@ -2,35 +2,47 @@
 use Rattle.std.proofs.Common.{ℕ, List, [], ◌∷◌, ◌++◌, inl, inr, refl, subst}
 use Rattle.std.specs.Prelude.{Option}
 use Rattle.std.specs.String.{string_bytes}
-use Rattle.std.specs.Io.KnownBytes.{Keeps}
-use Rattle.telling.specs.Refusals.{IsRefusalLine}
-use Rattle.program.specs.Running.{Read, IsOf, Reads, Answers, own, checked, ran, Success, Output, done, refused, silent, torn}
-use Rattle.program.specs.Verdicts.{Tells, IsTold, IsWritten, IsStopped}
+use Rattle.launch_text.specs.Answers as launches
+use Rattle.cert_check.specs.Numbers as checks
+use Rattle.executor.specs.Numbers as runs
+use Rattle.telling.specs.Refusals.{IsRefusalLine, place_seen}
+use Rattle.telling.specs.Refusing.{IsRefusedText, IsUnanswered}
+use Rattle.program.specs.Running.{Read, IsOf, Reads, own, checked, ran, Success, Output, done, refused, silent, torn}
+use Rattle.program.specs.Refusing.{Refusal}
+use Rattle.program.specs.Verdicts.{Tells, IsTold, IsWritten}
 use Rattle.telling.specs.declared.Verdict.{Verdict}
 use Rattle.telling.specs.declared.Verdict.TheVariants as verdicts
 
--- what is told whatever the texts are is told
-line_of : (given : List Read → Type 0) (ws : List (List ℕ)) (line : List ℕ) → Answers given ws (λ k c. IsRefusalLine line) (λ k c l. IsRefusalLine line) → IsRefusalLine line
-line_of given ws line (own e g h) = h
-line_of given ws line (checked k c p kernel conditions certificate w x y z g h) = h
-line_of given ws line (ran k c p l kernel conditions certificate launch w x y z u g h) = h
+-- a line that refuses has a number and a place
+check_line : (k c p line : List ℕ) → IsRefusedText k c p line → IsRefusalLine line
+check_line k c p line (e, r, h) = (checks.error_number e, place_seen (checks.error_place e), h)
+
+run_line : (k c p l line : List ℕ) → IsUnanswered k c p l line → IsRefusalLine line
+run_line k c p l line (inl h) = check_line k c p line h
+run_line k c p l line (inr (inl (e, kernel, conditions, s, r, h))) = (launches.error_number e, place_seen (checks.at_line (launches.error_place e)), h)
+run_line k c p l line (inr (inr (e, kernel, conditions, launch, workers, s, q, r, h))) = (runs.error_number e, place_seen (checks.at_line (runs.error_line e)), h)
+
+line_of : (given : List Read → Type 0) (ws : List (List ℕ)) (line : List ℕ) → Refusal given ws line → IsRefusalLine line
+line_of given ws line (own e g h) = check_line _ _ _ line h
+line_of given ws line (checked k c p kernel conditions certificate w x y z g h) = check_line kernel conditions certificate line h
+line_of given ws line (ran k c p l kernel conditions certificate launch w x y z u g h) = run_line kernel conditions certificate launch line h
 
 module _ (given : List Read → Type 0) (ws : List (List ℕ)) (old new : Option (List ℕ)) (status : ℕ) where
-  of_text : (text : List ℕ) → Success given ws text → IsWritten text old new 0 status → Output (Success given ws) old new status
+  abbrev Gained : Type 0
+  Gained = Output (Success given ws) (Refusal given ws) old new status
+
+  of_text : (text : List ℕ) → Success given ws text → IsWritten text old new 0 status → Gained
   of_text text s (inl h) = done h.0 text s h.1
   of_text text s (inr h) = torn h.0 text h.1.0 (inl s) h.1.1
 
-  of_line : (line : List ℕ) → IsRefusalLine line → IsWritten line old new 1 status → Output (Success given ws) old new status
-  of_line line s (inl h) = refused h.0 line s h.1
+  of_line : (line : List ℕ) → Refusal given ws line → IsWritten line old new 1 status → Gained
+  of_line line s (inl h) = refused h.0 line (line_of given ws line s) s h.1
   of_line line s (inr h) = torn h.0 line h.1.0 (inr s) h.1.1
 
-  pub output_of : (v : Verdict) → Tells given ws v → IsTold v old new status → Output (Success given ws) old new status
+  pub output_of : (v : Verdict) → Tells given ws v → IsTold v old new status → Output (Success given ws) (Refusal given ws) old new status
   output_of (verdicts.Done text) s h = of_text text.items s h
-  output_of (verdicts.Refused line) s h = of_line (string_bytes line) (line_of given ws (string_bytes line) s) h
+  output_of (verdicts.Refused line) s h = of_line (string_bytes line) s h
   output_of verdicts.OutOfMemory s h = silent (inr (inr h.0)) h.1
-
-  pub output_stopped : IsStopped status → Keeps old new → Output (Success given ws) old new status
-  output_stopped h k = silent h k
 
 -- one read more
 pub reads-more : {F : Type 0} (contents : F → List ℕ → Option (List ℕ)) (gives : F → List ℕ → ℕ → List ℕ → F → Type 0) (before next after : F) (rs : List Read) (r : Read) →

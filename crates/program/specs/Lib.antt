@@ -1,3 +1,4 @@
 pub mod First
 pub mod Running
+pub mod Refusing
 pub mod Verdicts

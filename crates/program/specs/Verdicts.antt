@@ -9,7 +9,8 @@ use Rattle.program.specs.Running.{Read, Answers}
 
 -- of the texts that were asked about
 abbrev pub Tells : (given : List Read → Type 0) (ws : List (List ℕ)) → Verdict → Type 0
-Tells given ws v = Answers given ws (λ kernel conditions. Checks v kernel conditions) (λ kernel conditions launch. Runs v kernel conditions launch)
+Tells given ws v =
+    Answers given ws (λ kernel conditions certificate. Checks v kernel conditions certificate) (λ kernel conditions certificate launch. Runs v kernel conditions certificate launch)
 
 -- the text is written, or a front of it, which is status 3
 abbrev pub IsWritten : (text : List ℕ) (old new : Option (List ℕ)) (done status : ℕ) → Type 0

@@ -3,8 +3,9 @@
 ghost use Rattle.std.specs.Prelude.{◌≡◌, ℕ, List, [], ◌∷◌, IfOk, codes};
 ghost use Rattle.telling.specs.Verdicts.{Checks};
 ghost use Rattle.command_line.specs.Words.{texts, HasWord, HasNames};
-ghost use Rattle.program.specs.First.{first_kernel, first_conditions};
+ghost use Rattle.program.specs.First.{first_kernel, first_conditions, first_certificate};
 ghost use Rattle.program.specs.Running.{IsOf, Reads, kernel_read, conditions_read, certificate_read, Success, Output};
+ghost use Rattle.program.specs.Refusing.{Refusal};
 ghost use Rattle.program.specs.Verdicts.{Tells, IsTold, IsWritten, IsStopped};
 
 use crate::files::{FileFault, Files};
@@ -40,6 +41,7 @@ impl Found {
     fn texts(&self) -> Texts<'_>
         ensures kernel { result.kernel.now ≡ self.now.kernel.items }
         ensures conditions { result.conditions.now ≡ self.now.conditions.items }
+        ensures certificate { result.certificate.now ≡ self.now.certificate.items }
     {
         Texts {
             kernel: &self.kernel,
@@ -79,7 +81,7 @@ fn texts_of<'a, F: Files>(files: &mut F, names: Names<'a>) -> Result<Found, Stop
 
 /// The check of the texts that stand in the program.
 fn first_verdict(alloc: Global) -> Verdict
-    ensures { Checks result first_kernel first_conditions }
+    ensures { Checks result first_kernel first_conditions first_certificate }
 {
     check_texts(alloc, first_texts())
 }
@@ -189,7 +191,7 @@ pub fn tool<R: Threads + Wait + Sync, F: Files, O: Write, E: Write>(
     out: &mut O,
     err: &mut E,
 ) -> u8
-    ensures output { Output (Success (Reads F.contents F.gives files.old files.new) (texts words.now)) (O.contents out.old) (O.contents out.new) result }
+    ensures output { Output (Success (Reads F.contents F.gives files.old files.new) (texts words.now)) (Refusal (Reads F.contents F.gives files.old files.new) (texts words.now)) (O.contents out.old) (O.contents out.new) result }
     ensures files { (n : List ℕ) → F.contents files.new n ≡ F.contents files.old n }
 {
     match verdict_of(rt, alloc, words, files) {

@@ -1,15 +1,46 @@
 -- What a refusal is of texts.
-use Rattle.std.specs.Prelude.{ℕ, List}
+use Rattle.std.proofs.Common.{inl, inr}
+use Rattle.std.specs.Prelude.{◌≡◌, ℕ, List, Ok, Err}
+use Rattle.texts.specs.ConditionsReading.{Lined}
+use Rattle.texts.specs.LaunchReading.{launch_of}
+use Rattle.reading.specs.Kernels.{Kernel}
+use Rattle.launch.specs.View.{launch as launch_seen}
+use Rattle.launch.specs.declared.conditions.Conditions.{Conditions}
+use Rattle.launch.specs.declared.launches.Launch.{Launch}
+use Rattle.launch_text.specs.View as reading
+use Rattle.launch_text.specs.Answers as launches
+use Rattle.launch_text.specs.declared.error.LaunchTextError.{LaunchTextError}
+use Rattle.cert_check.specs.Numbers as checks
+use Rattle.cert_check.specs.Numbers.{at_line}
+use Rattle.cert_check.specs.Refusing.{Refuses}
+use Rattle.cert_check.specs.declared.error.CheckError.{CheckError}
+use Rattle.executor.specs.Numbers as runs
+use Rattle.executor.specs.Results.{Answers}
+use Rattle.executor.specs.declared.error.RunError.{RunError}
+use Rattle.telling.specs.Telling.{IsSafe}
 use Rattle.telling.specs.Verdicts.{IsRefusal, Checks, Runs}
 use Rattle.telling.specs.declared.Verdict.{Verdict}
 use Rattle.telling.specs.declared.Verdict.TheVariants as verdicts
 
-pub of_check : (v : Verdict) (k c : List ℕ) → IsRefusal v → Checks v k c
-of_check (verdicts.Done text) k c h = absurd h
-of_check (verdicts.Refused line) k c h = h
-of_check verdicts.OutOfMemory k c h = tt
+module _ (k c p l : List ℕ) where
+  pub of_check : (v : Verdict) (e : CheckError) → Refuses e k c p → IsRefusal (checks.error_number e) (checks.error_place e) v → Checks v k c p
+  of_check (verdicts.Done text) e r h = absurd h
+  of_check (verdicts.Refused line) e r h = (e, r, h)
+  of_check verdicts.OutOfMemory e r h = tt
 
-pub of_run : (v : Verdict) (k c l : List ℕ) → IsRefusal v → Runs v k c l
-of_run (verdicts.Done text) k c l h = absurd h
-of_run (verdicts.Refused line) k c l h = h
-of_run verdicts.OutOfMemory k c l h = tt
+  pub unaccepted_run : (v : Verdict) (e : CheckError) → Refuses e k c p → IsRefusal (checks.error_number e) (checks.error_place e) v → Runs v k c p l
+  unaccepted_run (verdicts.Done text) e r h = absurd h
+  unaccepted_run (verdicts.Refused line) e r h = inl (e, r, h)
+  unaccepted_run verdicts.OutOfMemory e r h = tt
+
+  pub unread_run : (v : Verdict) (e : LaunchTextError) (kernel : Kernel) (conditions : Lined) → IsSafe k c kernel conditions → launches.Refuses e (launch_of kernel.tree.parameters l)
+      → IsRefusal (launches.error_number e) (at_line (launches.error_place e)) v → Runs v k c p l
+  unread_run (verdicts.Done text) e kernel conditions s r h = absurd h
+  unread_run (verdicts.Refused line) e kernel conditions s r h = inr (inl (e, kernel, conditions, s, r, h))
+  unread_run verdicts.OutOfMemory e kernel conditions s r h = tt
+
+  pub not_run : (v : Verdict) (e : RunError) (kernel : Kernel) (conditions : Conditions) (launch : Launch) (workers : ℕ) → IsSafe k c kernel (reading.lined conditions) → launch_of kernel.tree.parameters l ≡ Ok (reading.launch launch)
+      → Answers conditions (launch_seen launch) workers (Err e) → IsRefusal (runs.error_number e) (at_line (runs.error_line e)) v → Runs v k c p l
+  not_run (verdicts.Done text) e kernel conditions launch workers s q r h = absurd h
+  not_run (verdicts.Refused line) e kernel conditions launch workers s q r h = inr (inr (e, kernel, conditions, launch, workers, s, q, r, h))
+  not_run verdicts.OutOfMemory e kernel conditions launch workers s q r h = tt

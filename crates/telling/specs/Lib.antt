@@ -1,3 +1,4 @@
 pub mod Refusals
 pub mod Telling
+pub mod Refusing
 pub mod Verdicts

@@ -1,23 +1,24 @@
 -- What a verdict of the code says.
-use Rattle.std.specs.Prelude.{ℕ, List}
+use Rattle.std.specs.Prelude.{ℕ, List, Option}
 use Rattle.std.specs.String.{string_bytes}
-use Rattle.telling.specs.Refusals.{IsRefusalLine}
+use Rattle.cert_check.specs.declared.error.Place as code
+use Rattle.telling.specs.Refusing.{IsLineOf, IsRefusedText, IsUnanswered}
 use Rattle.telling.specs.Telling.{IsAcceptedText, IsResultText}
 use Rattle.telling.specs.declared.Verdict.{Verdict}
 use Rattle.telling.specs.declared.Verdict.TheVariants as verdicts
 
--- a line that refuses, or want of memory
-abbrev pub IsRefusal : Verdict → Type 0
-IsRefusal (verdicts.Done text) = ⊥
-IsRefusal (verdicts.Refused line) = IsRefusalLine (string_bytes line)
-IsRefusal verdicts.OutOfMemory = Unit {0}
+-- a refusal by this number and place, or want of memory
+abbrev pub IsRefusal : (number : ℕ) → Option code.Place → Verdict → Type 0
+IsRefusal number place (verdicts.Done text) = ⊥
+IsRefusal number place (verdicts.Refused line) = IsLineOf number place (string_bytes line)
+IsRefusal number place verdicts.OutOfMemory = Unit {0}
 
-abbrev pub Checks : Verdict → (kernel conditions : List ℕ) → Type 0
-Checks (verdicts.Done text) kernel conditions = IsAcceptedText kernel conditions text.items
-Checks (verdicts.Refused line) kernel conditions = IsRefusalLine (string_bytes line)
-Checks verdicts.OutOfMemory kernel conditions = Unit {0}
+abbrev pub Checks : Verdict → (kernel conditions certificate : List ℕ) → Type 0
+Checks (verdicts.Done text) kernel conditions certificate = IsAcceptedText kernel conditions text.items
+Checks (verdicts.Refused line) kernel conditions certificate = IsRefusedText kernel conditions certificate (string_bytes line)
+Checks verdicts.OutOfMemory kernel conditions certificate = Unit {0}
 
-abbrev pub Runs : Verdict → (kernel conditions launch : List ℕ) → Type 0
-Runs (verdicts.Done text) kernel conditions launch = IsResultText kernel conditions launch text.items
-Runs (verdicts.Refused line) kernel conditions launch = IsRefusalLine (string_bytes line)
-Runs verdicts.OutOfMemory kernel conditions launch = Unit {0}
+abbrev pub Runs : Verdict → (kernel conditions certificate launch : List ℕ) → Type 0
+Runs (verdicts.Done text) kernel conditions certificate launch = IsResultText kernel conditions launch text.items
+Runs (verdicts.Refused line) kernel conditions certificate launch = IsUnanswered kernel conditions certificate launch (string_bytes line)
+Runs verdicts.OutOfMemory kernel conditions certificate launch = Unit {0}

@@ -4,7 +4,10 @@
 #![tactic(auto)]
 
 ghost use Rattle.std.specs.Prelude.{◌≡◌};
+ghost use Rattle.launch_text.specs.Answers as launches;
+ghost use Rattle.cert_check.specs.Numbers as checks;
 ghost use Rattle.cert_check.specs.Numbers.{at_line};
+ghost use Rattle.executor.specs.Numbers as runs;
 ghost use Rattle.telling.specs.Verdicts.{Checks, Runs, IsRefusal};
 
 mod refusal;
@@ -42,7 +45,7 @@ const MEMORY: u8 = 90;
 
 /// A refusal by a number and where it points, or want of memory.
 fn refused(alloc: Global, number: u8, place: Option<Place>) -> Verdict
-    ensures { IsRefusal result }
+    ensures { IsRefusal number place result }
 {
     if number == MEMORY {
         return Verdict::OutOfMemory;
@@ -65,28 +68,28 @@ fn line_of(line: Option<u32>) -> Option<Place>
 
 /// What is said where a kernel is not accepted.
 fn unaccepted(alloc: Global, error: &CheckError) -> Verdict
-    ensures { IsRefusal result }
+    ensures { IsRefusal (checks.error_number error.now) (checks.error_place error.now) result }
 {
     refused(alloc, error.number(), error.place())
 }
 
 /// What is said where a launch is not read.
 fn unread(alloc: Global, error: &LaunchTextError) -> Verdict
-    ensures { IsRefusal result }
+    ensures { IsRefusal (launches.error_number error.now) (at_line (launches.error_place error.now)) result }
 {
     refused(alloc, error.number(), line_of(error.place()))
 }
 
 /// What is said where a launch is not run.
 fn not_run(alloc: Global, error: &RunError) -> Verdict
-    ensures { IsRefusal result }
+    ensures { IsRefusal (runs.error_number error.now) (at_line (runs.error_line error.now)) result }
 {
     refused(alloc, error.number(), line_of(error.place()))
 }
 
 /// Whether a kernel is accepted: `accepted`, or why not.
 pub fn check_texts(alloc: Global, texts: Texts) -> Verdict
-    ensures { Checks result texts.entry.kernel.now texts.entry.conditions.now }
+    ensures { Checks result texts.entry.kernel.now texts.entry.conditions.now texts.entry.certificate.now }
 {
     match check(alloc, texts.kernel, texts.conditions, texts.certificate) {
         Ok(accepted) => {
@@ -109,8 +112,9 @@ pub fn run_texts<R: Threads + Wait + Sync>(
     launch: &[u8],
     workers: u32,
 ) -> Verdict
-    ensures { Runs result texts.entry.kernel.now texts.entry.conditions.now launch.now }
+    ensures { Runs result texts.entry.kernel.now texts.entry.conditions.now texts.entry.certificate.now launch.now }
 {
+    bytes_are_the_text_of_what_is_read();
     let accepted = match check(alloc, texts.kernel, texts.conditions, texts.certificate) {
         Ok(accepted) => accepted,
         Err(error) => return unaccepted(alloc, &error),
@@ -123,7 +127,6 @@ pub fn run_texts<R: Threads + Wait + Sync>(
         Ok(buffers) => buffers,
         Err(error) => return not_run(alloc, &error),
     };
-    bytes_are_the_text_of_what_is_read();
     match write_buffers(alloc, accepted.typed(), &buffers) {
         Ok(text) => Verdict::Done(text),
         Err(_) => Verdict::OutOfMemory,

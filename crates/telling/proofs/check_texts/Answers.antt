@@ -16,4 +16,6 @@ returns-in-Ok-from_slice c =
     )
 
 pub returns-in-Err : goal.returns-in-Err
-returns-in-Err c = of_check c.unaccepted.result c.args.texts.kernel.now c.args.texts.conditions.now c.unaccepted.ensures
+returns-in-Err c =
+    let t = c.args.texts in
+    of_check t.kernel.now t.conditions.now t.certificate.now t.certificate.now c.unaccepted.result c.in-Err.error c.in-Err.ensures.refused c.unaccepted.ensures

@@ -11,6 +11,8 @@ use Rattle.launch_text.specs.View.{lined}
 use Rattle.reading.specs.Answers.{kernel_seen}
 use Rattle.cert_check.specs.View.{typed_of, kept}
 use Rattle.telling.proofs.Meanings.{is_safe, is_run}
+use Rattle.launch_text.specs.Answers as texts
+use Rattle.telling.proofs.Refusing.{unaccepted_run, unread_run, not_run}
 use Rattle.telling.proofs.run_texts.Goals as goal
 
 pub returns-in-Ok-write_buffers : goal.returns-in-Ok-write_buffers
@@ -34,3 +36,24 @@ returns-in-Ok-write_buffers g c =
           c.in-Ok-run.ensures.every
           (subst (λ t. c.in-Ok-write_buffers.text.items ≡ buffers_text (kernel t.0).parameters (reading.buffers b.words)) c.typed-2.ensures.value c.in-Ok-write_buffers.ensures),
     )
+
+pub returns-in-Err : goal.returns-in-Err
+returns-in-Err g c =
+    let t = c.args.texts in
+    unaccepted_run t.kernel.now t.conditions.now t.certificate.now c.args.launch.now c.unaccepted.result c.in-Err.error c.in-Err.ensures.refused c.unaccepted.ensures
+
+pub returns-in-Err-read_launch : goal.returns-in-Err-read_launch
+returns-in-Err-read_launch g c =
+    let t = typed_of c.in-Ok.accepted in
+    let x = c.args.texts in
+    let safe = is_safe x.kernel.now x.conditions.now t (kept c.in-Ok.accepted) (c.bytes_are_the_text_of_what_is_read.ensures x.kernel.now (kernel_seen t) c.in-Ok.ensures.kernel) c.in-Ok.ensures.conditions c.in-Ok.ensures.headline in
+    unread_run x.kernel.now x.conditions.now x.certificate.now c.args.launch.now c.unread.result c.in-Err-read_launch.error (kernel_seen t) (lined (kept c.in-Ok.accepted)) safe
+    (subst (λ t. texts.Refuses c.in-Err-read_launch.error (launch_of (kernel t.0).parameters c.args.launch.now)) c.typed.ensures.value c.in-Err-read_launch.ensures.value) c.unread.ensures
+
+pub returns-in-Err-run : goal.returns-in-Err-run
+returns-in-Err-run g c =
+    let t = typed_of c.in-Ok.accepted in
+    let x = c.args.texts in
+    let safe = is_safe x.kernel.now x.conditions.now t (kept c.in-Ok.accepted) (c.bytes_are_the_text_of_what_is_read.ensures x.kernel.now (kernel_seen t) c.in-Ok.ensures.kernel) c.in-Ok.ensures.conditions c.in-Ok.ensures.headline in
+    not_run x.kernel.now x.conditions.now x.certificate.now c.args.launch.now c.not_run.result c.in-Err-run.error (kernel_seen t) (kept c.in-Ok.accepted) c.in-Ok-read_launch.launch c.args.workers safe
+    (subst (λ t. launch_of (kernel t.0).parameters c.args.launch.now ≡ Ok (reading.launch c.in-Ok-read_launch.launch)) c.typed.ensures.value c.in-Ok-read_launch.ensures.value) c.in-Err-run.ensures.answers c.not_run.ensures

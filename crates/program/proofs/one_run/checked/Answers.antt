@@ -8,4 +8,6 @@ returns-clause-verdict g c = λ ws command names.
     let found = c.in_ok-found.found in
     running.checked c.args.names.kernel.now c.args.names.conditions.now c.args.names.certificate.now found.kernel.items found.conditions.items found.certificate.items
     command names.kernel names.conditions names.certificate c.in_ok-found.ensures.reads
-    (subst (λ t. Checks c.check_texts.result found.kernel.items t) c.texts.ensures.conditions (subst (λ t. Checks c.check_texts.result t c.texts.result.conditions.now) c.texts.ensures.kernel c.check_texts.ensures))
+    (subst (λ t. Checks c.check_texts.result found.kernel.items found.conditions.items t) c.texts.ensures.certificate
+    (subst (λ t. Checks c.check_texts.result found.kernel.items t c.texts.result.certificate.now) c.texts.ensures.conditions
+    (subst (λ t. Checks c.check_texts.result t c.texts.result.conditions.now c.texts.result.certificate.now) c.texts.ensures.kernel c.check_texts.ensures)))

@@ -1,0 +1,45 @@
+-- What stands behind a line that refuses: its number and its place are those of an error that is true of the texts.
+use Rattle.std.specs.Prelude.{◌≡◌, ◌⊎◌, ℕ, List, Ok, Err, Option}
+use Rattle.texts.specs.ConditionsReading.{Lined}
+use Rattle.texts.specs.LaunchReading.{launch_of}
+use Rattle.reading.specs.Kernels.{Kernel}
+use Rattle.launch.specs.View.{launch as launch_seen}
+use Rattle.launch.specs.declared.conditions.Conditions.{Conditions}
+use Rattle.launch.specs.declared.launches.Launch.{Launch}
+use Rattle.launch_text.specs.View as reading
+use Rattle.launch_text.specs.Answers as launches
+use Rattle.launch_text.specs.declared.error.LaunchTextError.{LaunchTextError}
+use Rattle.cert_check.specs.Numbers as checks
+use Rattle.cert_check.specs.Numbers.{at_line}
+use Rattle.cert_check.specs.Refusing.{Refuses}
+use Rattle.cert_check.specs.declared.error.Place as code
+use Rattle.cert_check.specs.declared.error.CheckError.{CheckError}
+use Rattle.executor.specs.Numbers as runs
+use Rattle.executor.specs.Results.{Answers}
+use Rattle.executor.specs.declared.error.RunError.{RunError}
+use Rattle.telling.specs.Refusals.{refusal_line, place_seen}
+use Rattle.telling.specs.Telling.{IsSafe}
+
+-- the line has this number and this place
+abbrev pub IsLineOf : (number : ℕ) → Option code.Place → (line : List ℕ) → Type 0
+IsLineOf number place line = line ≡ refusal_line number (place_seen place)
+
+-- the check refuses the texts
+abbrev pub IsRefusedText : (kernel conditions certificate line : List ℕ) → Type 0
+IsRefusedText kernel conditions certificate line = (e : CheckError) × Refuses e kernel conditions certificate × IsLineOf (checks.error_number e) (checks.error_place e) line
+
+-- the kernel is accepted, and the launch's text is refused
+abbrev pub IsUnreadText : (kernel conditions launch line : List ℕ) → Type 0
+IsUnreadText kernel conditions launch line =
+    (e : LaunchTextError) × (k : Kernel) × (c : Lined) × IsSafe kernel conditions k c × launches.Refuses e (launch_of k.tree.parameters launch)
+    × IsLineOf (launches.error_number e) (at_line (launches.error_place e)) line
+
+-- the launch is read, and is not run: the first condition that it does not meet, or the number of workers
+abbrev pub IsUnrunText : (kernel conditions launch line : List ℕ) → Type 0
+IsUnrunText kernel conditions launch line =
+    (e : RunError) × (k : Kernel) × (c : Conditions) × (l : Launch) × (workers : ℕ) × IsSafe kernel conditions k (reading.lined c) × (launch_of k.tree.parameters launch ≡ Ok (reading.launch l))
+    × Answers c (launch_seen l) workers (Err e) × IsLineOf (runs.error_number e) (at_line (runs.error_line e)) line
+
+-- one of these
+abbrev pub IsUnanswered : (kernel conditions certificate launch line : List ℕ) → Type 0
+IsUnanswered kernel conditions certificate launch line = IsRefusedText kernel conditions certificate line ⊎ (IsUnreadText kernel conditions launch line ⊎ IsUnrunText kernel conditions launch line)

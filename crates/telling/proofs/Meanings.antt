@@ -1,14 +1,15 @@
 -- What the code's kernel, conditions, launch and buffers are in the promise.
 use Rattle.std.proofs.Common.{◌≡◌, ℕ, List, [], ◌∷◌, map, refl, ap, sym, ◌∙◌, subst}
-use Rattle.std.specs.Prelude.{Ok, Vec}
+use Rattle.std.specs.Prelude.{Vec}
 use Rattle.std.specs.declared.alloc.Global.{Global}
-use Rattle.semantics.specs.Launch as meaning
 use Rattle.semantics.specs.Launch.{Fits}
 use Rattle.semantics.specs.Conditions.{Meets}
 use Rattle.semantics.specs.Rounds.{IsDefined}
-use Rattle.texts.specs.ConditionsReading.{conditions_of}
+use Rattle.texts.specs.ConditionsReading.{meant}
+use Rattle.texts.specs.ConditionsText.{IsConditionsText}
+use Rattle.texts.specs.LaunchSpelling.{IsLaunchText}
 use Rattle.texts.specs.LaunchReading as given
-use Rattle.texts.specs.LaunchReading.{number, launch_of}
+use Rattle.texts.specs.LaunchReading.{number}
 use Rattle.texts.specs.LaunchText.{buffers_text}
 use Rattle.words.specs.View.{word, value_of}
 use Rattle.words.specs.declared.word.Word.{Word}
@@ -38,23 +39,22 @@ rows_seen : (bs : List (Vec Word Global)) → map (map number) (map view.words b
 rows_seen [] = refl
 rows_seen (b ∷ bs) = ap (λ x. x ∷ map (map number) (map view.words bs)) (row_seen b.items) ∙ ap (λ xs. buffer b ∷ xs) (rows_seen bs)
 
-pub is_safe : (kernel conditions : List ℕ) (t : Kernel × Core) (c : Conditions) → IsTextOf kernel (kernel_seen t) → conditions_of (tree_seen t.0).parameters conditions ≡ Ok (lined c) → HasHeadline (core_seen t.1) (conditions_seen c)
-    → IsSafe kernel conditions (kernel_seen t) (lined c)
-is_safe kernel conditions t c text read h = record { kernel_text = text; conditions_text = read; headline = subst (HasHeadline (core_seen t.1)) (sym (conditions_meant c)) h }
+pub is_safe : (kernel conditions : List ℕ) (t : Kernel × Core) (c : Conditions) → IsTextOf kernel (kernel_seen t) → IsConditionsText (tree_seen t.0).parameters conditions (meant (lined c)) → HasHeadline (core_seen t.1) (conditions_seen c)
+    → IsSafe kernel conditions (kernel_seen t) (conditions_seen c)
+is_safe kernel conditions t c text said h = record { kernel_text = text; conditions_text = subst (IsConditionsText (tree_seen t.0).parameters conditions) (conditions_meant c) said; headline = h }
 
-pub is_run : (t : Kernel × Core) (c : Conditions) (launch written : List ℕ) (l : Launch) (b : Buffers) → launch_of (tree_seen t.0).parameters launch ≡ Ok (view.launch l) → Fits (core_seen t.1) (launch_seen l)
+pub is_run : (t : Kernel × Core) (c : Conditions) (launch written : List ℕ) (l : Launch) (b : Buffers) → IsLaunchText (tree_seen t.0).parameters launch (given.meant (view.launch l)) → Fits (core_seen t.1) (launch_seen l)
     → Meets (conditions_seen c) (launch_seen l) → IsDefined (at (core_seen t.1) (launch_seen l)) c.budget → IsResultOf (at (core_seen t.1) (launch_seen l)) c.budget (words_of b)
-    → EndsEvery (at (core_seen t.1) (launch_seen l)) (words_of b) → written ≡ buffers_text (tree_seen t.0).parameters (view.buffers b.words) → IsRun (kernel_seen t) (lined c) launch written (view.launch l) (view.buffers b.words)
-is_run t c launch written l b read fits meets defined result every text =
+    → EndsEvery (at (core_seen t.1) (launch_seen l)) (words_of b) → written ≡ buffers_text (tree_seen t.0).parameters (view.buffers b.words) → IsRun (kernel_seen t) (conditions_seen c) launch written (launch_seen l) (view.buffers b.words)
+is_run t c launch written l b said fits meets defined result every text =
     let k = core_seen t.1 in
-    let m = sym (launch_meant l) in
     let n = sym (rows_seen b.words.items) in
     record {
-      launch_text = read;
-      fits = subst (Fits k) m fits;
-      meets = subst (λ x. Meets x (given.meant (view.launch l))) (sym (conditions_meant c)) (subst (Meets (conditions_seen c)) m meets);
-      defined = subst (λ (x : meaning.Launch). IsDefined (at k x) c.budget) m defined;
-      result = subst (λ (x : meaning.Launch). IsResultOf (at k x) c.budget (map (map number) (view.buffers b.words))) m (subst (IsResultOf (at k (launch_seen l)) c.budget) n result);
-      every = subst (λ (x : meaning.Launch). EndsEvery (at k x) (map (map number) (view.buffers b.words))) m (subst (EndsEvery (at k (launch_seen l))) n every);
+      launch_text = subst (IsLaunchText (tree_seen t.0).parameters launch) (launch_meant l) said;
+      fits = fits;
+      meets = meets;
+      defined = defined;
+      result = subst (IsResultOf (at k (launch_seen l)) c.budget) n result;
+      every = subst (EndsEvery (at k (launch_seen l))) n every;
       text = text;
     }

@@ -1,10 +1,10 @@
 -- What a refusal is of texts.
 use Rattle.std.proofs.Common.{inl, inr}
 use Rattle.std.specs.Prelude.{◌≡◌, ℕ, List, Ok, Err}
-use Rattle.texts.specs.ConditionsReading.{Lined}
+use Rattle.semantics.specs.Conditions as meaning
 use Rattle.texts.specs.LaunchReading.{launch_of}
 use Rattle.reading.specs.Kernels.{Kernel}
-use Rattle.launch.specs.View.{launch as launch_seen}
+use Rattle.launch.specs.View.{conditions as conditions_seen, launch as launch_seen}
 use Rattle.launch.specs.declared.conditions.Conditions.{Conditions}
 use Rattle.launch.specs.declared.launches.Launch.{Launch}
 use Rattle.launch_text.specs.View as reading
@@ -33,13 +33,13 @@ module _ (k c p l : List ℕ) where
   unaccepted_run (verdicts.Refused line) e r h = inl (e, r, h)
   unaccepted_run verdicts.OutOfMemory e r h = tt
 
-  pub unread_run : (v : Verdict) (e : LaunchTextError) (kernel : Kernel) (conditions : Lined) → IsSafe k c kernel conditions → launches.Refuses e (launch_of kernel.tree.parameters l)
+  pub unread_run : (v : Verdict) (e : LaunchTextError) (kernel : Kernel) (conditions : meaning.Conditions) → IsSafe k c kernel conditions → launches.Refuses e (launch_of kernel.tree.parameters l)
       → IsRefusal (launches.error_number e) (at_line (launches.error_place e)) v → Runs v k c p l
   unread_run (verdicts.Done text) e kernel conditions s r h = absurd h
   unread_run (verdicts.Refused line) e kernel conditions s r h = inr (inl (e, kernel, conditions, s, r, h))
   unread_run verdicts.OutOfMemory e kernel conditions s r h = tt
 
-  pub not_run : (v : Verdict) (e : RunError) (kernel : Kernel) (conditions : Conditions) (launch : Launch) (workers : ℕ) → IsSafe k c kernel (reading.lined conditions) → launch_of kernel.tree.parameters l ≡ Ok (reading.launch launch)
+  pub not_run : (v : Verdict) (e : RunError) (kernel : Kernel) (conditions : Conditions) (launch : Launch) (workers : ℕ) → IsSafe k c kernel (conditions_seen conditions) → launch_of kernel.tree.parameters l ≡ Ok (reading.launch launch)
       → Answers conditions (launch_seen launch) workers (Err e) → IsRefusal (runs.error_number e) (at_line (runs.error_line e)) v → Runs v k c p l
   not_run (verdicts.Done text) e kernel conditions launch workers s q r h = absurd h
   not_run (verdicts.Refused line) e kernel conditions launch workers s q r h = inr (inr (e, kernel, conditions, launch, workers, s, q, r, h))

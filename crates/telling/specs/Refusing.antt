@@ -1,9 +1,9 @@
 -- What stands behind a line that refuses: its number and its place are those of an error that is true of the texts.
 use Rattle.std.specs.Prelude.{◌≡◌, ◌⊎◌, ℕ, List, Ok, Err, Option}
-use Rattle.texts.specs.ConditionsReading.{Lined}
+use Rattle.semantics.specs.Conditions as meaning
 use Rattle.texts.specs.LaunchReading.{launch_of}
 use Rattle.reading.specs.Kernels.{Kernel}
-use Rattle.launch.specs.View.{launch as launch_seen}
+use Rattle.launch.specs.View.{conditions as conditions_seen, launch as launch_seen}
 use Rattle.launch.specs.declared.conditions.Conditions.{Conditions}
 use Rattle.launch.specs.declared.launches.Launch.{Launch}
 use Rattle.launch_text.specs.View as reading
@@ -31,13 +31,13 @@ IsRefusedText kernel conditions certificate line = (e : CheckError) × Refuses e
 -- the kernel is accepted, and the launch's text is refused
 abbrev pub IsUnreadText : (kernel conditions launch line : List ℕ) → Type 0
 IsUnreadText kernel conditions launch line =
-    (e : LaunchTextError) × (k : Kernel) × (c : Lined) × IsSafe kernel conditions k c × launches.Refuses e (launch_of k.tree.parameters launch)
+    (e : LaunchTextError) × (k : Kernel) × (c : meaning.Conditions) × IsSafe kernel conditions k c × launches.Refuses e (launch_of k.tree.parameters launch)
     × IsLineOf (launches.error_number e) (at_line (launches.error_place e)) line
 
 -- the launch is read, and is not run: the first condition that it does not meet, or the number of workers
 abbrev pub IsUnrunText : (kernel conditions launch line : List ℕ) → Type 0
 IsUnrunText kernel conditions launch line =
-    (e : RunError) × (k : Kernel) × (c : Conditions) × (l : Launch) × (workers : ℕ) × IsSafe kernel conditions k (reading.lined c) × (launch_of k.tree.parameters launch ≡ Ok (reading.launch l))
+    (e : RunError) × (k : Kernel) × (c : Conditions) × (l : Launch) × (workers : ℕ) × IsSafe kernel conditions k (conditions_seen c) × (launch_of k.tree.parameters launch ≡ Ok (reading.launch l))
     × Answers c (launch_seen l) workers (Err e) × IsLineOf (runs.error_number e) (at_line (runs.error_line e)) line
 
 -- one of these

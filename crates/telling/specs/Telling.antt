@@ -1,46 +1,48 @@
 -- What the program promises where it says that a kernel is accepted, and where it gives the buffers of a launch: all of it is said of
 -- bytes and of the definitions, and no type of the code stands in it.
-use Rattle.std.specs.Prelude.{◌≡◌, ℕ, List, map, Ok, codes}
+use Rattle.std.specs.Prelude.{◌≡◌, ℕ, List, map, codes}
 use Rattle.semantics.specs.Word.{Word}
-use Rattle.semantics.specs.Launch.{Fits}
-use Rattle.semantics.specs.Conditions.{Meets}
+use Rattle.semantics.specs.Launch.{Launch, Fits}
+use Rattle.semantics.specs.Conditions.{Conditions, Meets}
 use Rattle.semantics.specs.Setup.{Setup}
 use Rattle.semantics.specs.Rounds.{IsDefined}
-use Rattle.texts.specs.ConditionsReading.{Lined, conditions_of, meant as conditions_meant}
-use Rattle.texts.specs.LaunchReading.{Given, number, launch_of, meant as launch_meant}
+use Rattle.texts.specs.ConditionsText.{IsConditionsText}
+use Rattle.texts.specs.LaunchReading.{number}
+use Rattle.texts.specs.LaunchSpelling.{IsLaunchText}
 use Rattle.texts.specs.LaunchText.{buffers_text}
 use Rattle.reading.specs.Kernels.{Kernel}
 use Rattle.reading.specs.Texts.{IsTextOf}
 use Rattle.cert_check.specs.Accepting.{at, HasHeadline}
 use Rattle.executor.specs.Ends.{IsResultOf, EndsEvery}
 
--- the bytes are the text of the kernel, by the grammar, and the text of the conditions; and at each launch that meets these the headline holds
-pub record IsSafe (kernel conditions : List ℕ) (k : Kernel) (c : Lined) : Type 0 where
+-- the bytes are the text of the kernel, by the grammar, and the text of the conditions, case by case; and at each launch that meets these
+-- the headline holds
+pub record IsSafe (kernel conditions : List ℕ) (k : Kernel) (c : Conditions) : Type 0 where
   pub kernel_text : IsTextOf kernel k
-  pub conditions_text : conditions_of k.tree.parameters conditions ≡ Ok c
-  pub headline : HasHeadline k.core (conditions_meant c)
+  pub conditions_text : IsConditionsText k.tree.parameters conditions c
+  pub headline : HasHeadline k.core c
 
 abbrev pub accepted_line : List ℕ
 accepted_line = codes "accepted\n"
 
--- a kernel at a launch that a text says
-abbrev pub launched : Kernel → Given → Setup
-launched k l = at k.core (launch_meant l)
+-- a kernel at a launch
+abbrev pub launched : Kernel → Launch → Setup
+launched k l = at k.core l
 
--- the launch is that of the bytes, and meets the conditions; what is written are the buffers that have the numbers of the result by rounds,
+-- the launch is that of the bytes, case by case, and meets the conditions; what is written are the buffers that have the numbers of the result by rounds,
 -- which is defined, and with which every run that is over ends
-pub record IsRun (k : Kernel) (c : Lined) (launch written : List ℕ) (l : Given) (b : List (List Word)) : Type 0 where
-  pub launch_text : launch_of k.tree.parameters launch ≡ Ok l
-  pub fits : Fits k.core (launch_meant l)
-  pub meets : Meets (conditions_meant c) (launch_meant l)
-  pub defined : IsDefined (launched k l) (conditions_meant c).budget
-  pub result : IsResultOf (launched k l) (conditions_meant c).budget (map (map number) b)
+pub record IsRun (k : Kernel) (c : Conditions) (launch written : List ℕ) (l : Launch) (b : List (List Word)) : Type 0 where
+  pub launch_text : IsLaunchText k.tree.parameters launch l
+  pub fits : Fits k.core l
+  pub meets : Meets c l
+  pub defined : IsDefined (launched k l) c.budget
+  pub result : IsResultOf (launched k l) c.budget (map (map number) b)
   pub every : EndsEvery (launched k l) (map (map number) b)
   pub text : written ≡ buffers_text k.tree.parameters b
 
 abbrev pub IsAcceptedText : (kernel conditions written : List ℕ) → Type 0
-IsAcceptedText kernel conditions written = (k : Kernel) × (c : Lined) × IsSafe kernel conditions k c × (written ≡ accepted_line)
+IsAcceptedText kernel conditions written = (k : Kernel) × (c : Conditions) × IsSafe kernel conditions k c × (written ≡ accepted_line)
 
 abbrev pub IsResultText : (kernel conditions launch written : List ℕ) → Type 0
 IsResultText kernel conditions launch written =
-    (k : Kernel) × (c : Lined) × (l : Given) × (b : List (List Word)) × IsSafe kernel conditions k c × IsRun k c launch written l b
+    (k : Kernel) × (c : Conditions) × (l : Launch) × (b : List (List Word)) × IsSafe kernel conditions k c × IsRun k c launch written l b

@@ -16,6 +16,7 @@ use cert_check::check;
 use cert_check::error::{CheckError, Place};
 use executor::{RunError, run};
 use launch_text::error::LaunchTextError;
+use launch_text::laws::{what_is_read_of_a_launch_is_its_text, what_is_read_of_conditions_is_their_text};
 use launch_text::{read_launch, write_buffers};
 use reading::laws::bytes_are_the_text_of_what_is_read;
 use refusal::Refusal;
@@ -94,6 +95,7 @@ pub fn check_texts(alloc: Global, texts: Texts) -> Verdict
     match check(alloc, texts.kernel, texts.conditions, texts.certificate) {
         Ok(accepted) => {
             bytes_are_the_text_of_what_is_read();
+            what_is_read_of_conditions_is_their_text();
             drop(accepted);
             match Vec::from_slice(alloc, b"accepted\n") {
                 Ok(text) => Verdict::Done(text),
@@ -115,6 +117,8 @@ pub fn run_texts<R: Threads + Wait + Sync>(
     ensures { Runs result texts.entry.kernel.now texts.entry.conditions.now texts.entry.certificate.now launch.now }
 {
     bytes_are_the_text_of_what_is_read();
+    what_is_read_of_conditions_is_their_text();
+    what_is_read_of_a_launch_is_its_text();
     let accepted = match check(alloc, texts.kernel, texts.conditions, texts.certificate) {
         Ok(accepted) => accepted,
         Err(error) => return unaccepted(alloc, &error),

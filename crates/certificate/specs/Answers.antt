@@ -6,14 +6,25 @@ use Rattle.lines.specs.declared.pieces.Pieces.{Pieces}
 use Rattle.lines.specs.Left.{left}
 use Rattle.certificate.specs.declared.error.CertFault.{CertFault}
 use Rattle.certificate.specs.declared.error.CertFault.TheVariants as faults
+use Rattle.certificate.specs.declared.error.CertError.{CertError}
+use Rattle.certificate.specs.declared.error.CertError.TheVariants as texts
 use Rattle.certificate.specs.declared.error.LineError.{LineError}
 use Rattle.certificate.specs.declared.error.LineError.TheVariants as errors
 use Rattle.certificate.specs.declared.tree.Descent.{Descent}
 use Rattle.certificate.specs.View as view
 
 abbrev pub fault : CertFault → certificate.CertificateFault
-fault faults.BadLine = certificate.BadLine
+fault (faults.BadLine line) = certificate.BadLine line
 fault faults.OtherVersion = certificate.OtherVersion
+
+-- the number that an error is printed under, and its line, where it has one
+abbrev pub error_number : CertError → ℕ
+error_number (texts.Refused f) = certificate.certificate_fault_number (fault f)
+error_number texts.Memory = 90
+
+abbrev pub error_place : CertError → Option ℕ
+error_place (texts.Refused f) = certificate.certificate_fault_line (fault f)
+error_place texts.Memory = None
 
 -- a line that says nothing has no meaning; where memory was refused nothing is said
 abbrev pub Fails : {B : Type 0} → LineError → Option B → Type 0

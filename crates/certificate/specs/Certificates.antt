@@ -15,7 +15,7 @@ certificate c = drafts.parts c.parts
 
 -- an error is the definition's, unless memory was refused
 abbrev pub Refuses : CertError → reading.Read → Type 0
-Refuses (errors.Refused f n) answer = answer ≡ Err (fault f, n)
+Refuses (errors.Refused f) answer = answer ≡ Err (fault f)
 Refuses errors.Memory answer = Unit {0}
 
 abbrev pub Says : Result Certificate CertError → reading.Read → Type 0

@@ -3,17 +3,19 @@
 ghost use Rattle.std.specs.Prelude.{◌≡◌};
 
 use std::alloc::{AllocError, AllocFailed};
+use std::fmt::{self, Display, Formatter, Write};
 use thiserror::Error;
 
 /// Why a text is no certificate.
 #[derive(Clone, Copy, Debug)]
 pub enum CertFault {
-    BadLine,
+    /// A line that says nothing, counted from 1.
+    BadLine(usize),
     OtherVersion,
 }
 
 impl CertFault {
-    ghost use Rattle.texts.specs.Certificate.{certificate_fault_number};
+    ghost use Rattle.texts.specs.Certificate.{certificate_fault_number, certificate_fault_line};
     ghost use Rattle.certificate.specs.Answers.{fault};
 
     /// The number that it is printed under.
@@ -21,19 +23,62 @@ impl CertFault {
         ensures { result ≡ certificate_fault_number (fault self) }
     {
         match self {
-            CertFault::BadLine => 50,
+            CertFault::BadLine(_) => 50,
             CertFault::OtherVersion => 51,
+        }
+    }
+
+    /// The line, where it has one.
+    pub fn place(self) -> Option<usize>
+        ensures { result ≡ certificate_fault_line (fault self) }
+    {
+        match self {
+            CertFault::BadLine(line) => Some(line),
+            CertFault::OtherVersion => None,
         }
     }
 }
 
-/// The first fault of a text with its line, counted from 1, or want of memory.
+impl Display for CertFault {
+    fn fmt<W: Write>(&self, f: &mut Formatter<W>) -> fmt::Result {
+        match self.place() {
+            Some(line) => write!(f, "{} {line}", self.number()),
+            None => write!(f, "{}", self.number()),
+        }
+    }
+}
+
+/// The first fault of a text, or want of memory.
 #[derive(Debug, Drop, Error)]
 pub enum CertError {
-    #[error("{} {line}", .fault.number())]
-    Refused { fault: CertFault, line: usize },
+    #[error("{0}")]
+    Refused(CertFault),
     #[error("90")]
     Memory,
+}
+
+impl CertError {
+    ghost use Rattle.certificate.specs.Answers.{error_number, error_place};
+
+    /// The number that it is printed under.
+    pub fn number(&self) -> u8
+        ensures { result ≡ error_number self.now }
+    {
+        match self {
+            CertError::Refused(fault) => fault.number(),
+            CertError::Memory => 90,
+        }
+    }
+
+    /// The line of the text, where it has one.
+    pub fn place(&self) -> Option<usize>
+        ensures { result ≡ error_place self.now }
+    {
+        match self {
+            CertError::Refused(fault) => fault.place(),
+            CertError::Memory => None,
+        }
+    }
 }
 
 impl From<AllocError> for CertError {

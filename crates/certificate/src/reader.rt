@@ -11,6 +11,8 @@ ghost use Rattle.lines.specs.Left.{left};
 ghost use Rattle.certificate.specs.Answers.{Means, fault};
 ghost use Rattle.certificate.specs.Drafts as drafts;
 ghost use Rattle.certificate.specs.Certificates.{Says};
+ghost use Rattle.certificate.specs.declared.error.CertError.TheVariants.{Refused};
+ghost use Rattle.certificate.specs.declared.error.CertFault.TheVariants.{BadLine};
 
 use crate::certificate::Certificate;
 use crate::draft::{Draft, Open, Parts, add};
@@ -22,6 +24,13 @@ use std::alloc::Global;
 
 /// The longest text that is read, in bytes.
 pub const LIMIT: usize = 16_777_216;
+
+/// A line that says nothing.
+fn bad(line: usize) -> CertError
+    ensures { result ≡ Refused (BadLine line) }
+{
+    CertError::Refused(CertFault::BadLine(line))
+}
 
 /// What `certificate M` has for M.
 fn version(line: &[u8]) -> Option<i64>
@@ -41,7 +50,7 @@ fn head_fault(line: &[u8]) -> Option<CertFault>
     ensures { option_map fault result ≡ reading.head_fault (words line.now) }
 {
     match version(line) {
-        None => Some(CertFault::BadLine),
+        None => Some(CertFault::BadLine(1)),
         Some(1) => None,
         Some(_) => Some(CertFault::OtherVersion),
     }
@@ -62,16 +71,10 @@ fn finish(number: usize, draft: Draft, rest: &[u8]) -> Result<Certificate, CertE
 {
     let Draft { settled, opened } = draft;
     let Open::Ended = opened else {
-        return Err(CertError::Refused {
-            fault: CertFault::BadLine,
-            line: number,
-        });
+        return Err(bad(number));
     };
     if !rest.is_empty() {
-        return Err(CertError::Refused {
-            fault: CertFault::BadLine,
-            line: number,
-        });
+        return Err(bad(number));
     }
     Ok(Certificate::of(settled))
 }
@@ -96,19 +99,13 @@ fn read_lines(alloc: Global, lines: Pieces<'_>) -> Result<Certificate, CertError
         }
         match add_line(alloc, draft, line) {
             Ok(next) => draft = next,
-            Err(LineError::Bad) => return Err(CertError::Refused {
-                fault: CertFault::BadLine,
-                line: number,
-            }),
+            Err(LineError::Bad) => return Err(bad(number)),
             Err(LineError::Memory) => return Err(CertError::Memory),
         }
         number += 1;
         rest = others;
     }
-    Err(CertError::Refused {
-        fault: CertFault::BadLine,
-        line: number,
-    })
+    Err(bad(number))
 }
 
 /// The certificate of a text, or its first fault. The text is gone through once.
@@ -116,25 +113,16 @@ pub fn read(alloc: Global, text: &[u8]) -> Result<Certificate, CertError>
     ensures { Says result (reading.certificate_of text.now) }
 {
     if text.len() > LIMIT {
-        return Err(CertError::Refused {
-            fault: CertFault::BadLine,
-            line: 1,
-        });
+        return Err(bad(1));
     }
     let Some((first, others)) = Pieces::of(text, b'\n').next() else {
-        return Err(CertError::Refused {
-            fault: CertFault::BadLine,
-            line: 1,
-        });
+        return Err(bad(1));
     };
     if others.is_over() {
-        return Err(CertError::Refused {
-            fault: CertFault::BadLine,
-            line: 1,
-        });
+        return Err(bad(1));
     }
     if let Some(fault) = head_fault(first) {
-        return Err(CertError::Refused { fault, line: 1 });
+        return Err(CertError::Refused(fault));
     }
     read_lines(alloc, others)
 }

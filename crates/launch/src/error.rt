@@ -1,10 +1,31 @@
 //! Why a launch is refused.
 
+ghost use Rattle.std.specs.Prelude.{◌≡◌, Some};
+
 use thiserror::Error;
+
+/// The number of such a refusal.
+const NUMBER: u8 = 40;
 
 /// A launch does not meet the condition of this line.
 #[derive(Debug, Drop, Error)]
-#[error("40 {line}")]
+#[error("{} {line}", NUMBER)]
 pub struct ConditionError {
     pub line: u32,
+}
+
+impl ConditionError {
+    /// The number that it is printed under.
+    pub fn number(&self) -> u8
+        ensures { result ≡ 40 }
+    {
+        NUMBER
+    }
+
+    /// The line of the condition.
+    pub fn place(&self) -> Option<u32>
+        ensures { result ≡ Some self.now.line }
+    {
+        Some(self.line)
+    }
 }

@@ -1,5 +1,5 @@
 -- What the code's answers stand for.
-use Rattle.std.specs.Prelude.{◌≡◌, ℕ, List, Result, Ok, Err}
+use Rattle.std.specs.Prelude.{◌≡◌, ℕ, List, Option, None, Some, Result, Ok, Err}
 use denote.Ref.{Bor}
 use Rattle.texts.specs.LaunchFaults as texts
 use Rattle.launch_text.specs.declared.error.LaunchFault.{LaunchFault}
@@ -14,6 +14,15 @@ fault faults.UnknownName = texts.UnknownName
 fault faults.MissingLine = texts.MissingLine
 fault faults.EmptyRange = texts.EmptyRange
 fault faults.LimitPassed = texts.LimitPassed
+
+-- the number that an error is printed under, and its line, where it has one
+abbrev pub error_number : LaunchTextError → ℕ
+error_number (errors.Refused f line) = texts.launch_fault_number (fault f)
+error_number errors.Memory = 90
+
+abbrev pub error_place : LaunchTextError → Option ℕ
+error_place (errors.Refused f line) = Some line
+error_place errors.Memory = None
 
 -- an error is the definition's, unless memory was refused
 abbrev pub Refuses : {A : Type 0} → LaunchTextError → texts.Step A → Type 0

@@ -42,6 +42,30 @@ pub enum LaunchTextError {
     Memory,
 }
 
+impl LaunchTextError {
+    ghost use Rattle.launch_text.specs.Answers.{error_number, error_place};
+
+    /// The number that it is printed under.
+    pub fn number(&self) -> u8
+        ensures { result ≡ error_number self.now }
+    {
+        match self {
+            LaunchTextError::Refused { fault, .. } => fault.number(),
+            LaunchTextError::Memory => 90,
+        }
+    }
+
+    /// The line of the text, where it has one.
+    pub fn place(&self) -> Option<u32>
+        ensures { result ≡ error_place self.now }
+    {
+        match self {
+            LaunchTextError::Refused { line, .. } => Some(*line),
+            LaunchTextError::Memory => None,
+        }
+    }
+}
+
 impl From<AllocError> for LaunchTextError {
     ghost use Rattle.launch_text.specs.declared.error.LaunchTextError.TheVariants.{Memory};
 

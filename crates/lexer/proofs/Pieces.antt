@@ -1,15 +1,16 @@
 -- One piece of a text after another.
-use Rattle.std.proofs.Common.{◌≡◌, ℕ, suc, ◌+◌, ◌-◌, ◌<◌, ◌≤◌, List, [], ◌∷◌, ◌++◌, length, drop, get_or, take, true, false, cond, Some, ap, sym, subst, ◌∙◌, arith, length-drop, IsAscii}
-use Rattle.std.specs.Prelude.{codes}
+use Rattle.std.proofs.Common.{◌≡◌, ℕ, suc, ◌+◌, ◌-◌, ◌<◌, ◌≤◌, List, [], ◌∷◌, ◌++◌, length, drop, get_or, take, Bool, true, false, cond, Some, Err, ap, sym, subst, ◌∙◌, arith, length-drop, IsAscii}
+use Rattle.std.specs.Prelude.{codes, fold}
 use Rattle.std.proofs.lemmas.Bool.Decides.{nat_tests}
-use Rattle.std.proofs.lemmas.List.Sums.{prefix_len_passes}
+use Rattle.std.proofs.lemmas.List.Sums.{prefix_len_passes, fold-append}
 use Rattle.std.proofs.lemmas.Str.Ascii.{IsAscii-nil, IsAscii-cons}
 use Rattle.std.proofs.lemmas.Bool.{cond-false, cond-true}
-use Rattle.std.proofs.lemmas.List.{at_drop_more, drop_more}
+use Rattle.std.proofs.lemmas.List.{at_drop_more, drop_more, drop-take, take-append-drop, take-take}
 use Rattle.std.specs.List.{prefix_len, find}
 use Rattle.std.specs.Str.{bytes_eq}
+use Rattle.texts.specs.Faults.{TextFault}
 use Rattle.texts.specs.Reserved.{reserved_words}
-use Rattle.texts.specs.Tokens.{TokenKind, Token, Site, site_of, Gap, Has, token_at, in_front, tokens, piece, begins_with, comment_end, is_blank, is_letter, is_word_byte, word_kind}
+use Rattle.texts.specs.Tokens.{TokenKind, Token, Site, site_of, first_site, past, Gap, Has, Bad, token_at, in_front, tokens, piece, begins_with, comment_end, first_place, is_blank, is_letter, is_word_byte, word_kind}
 use Rattle.texts.proofs.Fits.{Fits, piece_fits}
 use Rattle.texts.proofs.Steps.{reads, in_front-twice}
 
@@ -49,3 +50,42 @@ word_ascii (b ∷ bytes) h =
     let first : is_word_byte b ≡ true = prefix_len_passes is_word_byte (b ∷ bytes) 0 0 (omega (arith, h)) in
     let more : prefix_len is_word_byte (b ∷ bytes) ≡ 1 + prefix_len is_word_byte bytes = ap (λ t. cond t (1 + prefix_len is_word_byte bytes) 0) first in
     IsAscii-cons b bytes (small b first) (word_ascii bytes (omega (arith, h, more)))
+
+-- the first of the places from i on, where i is none
+pub place_more : (test : List ℕ → Bool) (i count : ℕ) (bytes : List ℕ) → i < count → i < length bytes → test (drop i bytes) ≡ false → first_place test i (count - i) (drop i bytes) ≡ first_place test (i + 1) (count - (i + 1)) (drop (i + 1) bytes)
+place_more test i count bytes h l fails =
+    let n : count - i ≡ suc (count - (i + 1)) = omega arith in
+    let split = drop_more bytes i 0 l in
+    let fails' : test (get_or bytes i 0 ∷ drop (i + 1) bytes) ≡ false = ap test (sym split) ∙ fails in
+    ap (λ k. first_place test i k (drop i bytes)) n ∙ ap (first_place test i (suc (count - (i + 1)))) split
+    ∙ cond-false (test (get_or bytes i 0 ∷ drop (i + 1) bytes)) (Some i) _ fails'
+
+-- and where i is one
+pub place_here : (test : List ℕ → Bool) (i count : ℕ) (bytes : List ℕ) → i < count → i < length bytes → test (drop i bytes) ≡ true → first_place test i (count - i) (drop i bytes) ≡ Some i
+place_here test i count bytes h l passes =
+    let n : count - i ≡ suc (count - (i + 1)) = omega arith in
+    let split = drop_more bytes i 0 l in
+    let passes' : test (get_or bytes i 0 ∷ drop (i + 1) bytes) ≡ true = ap test (sym split) ∙ passes in
+    ap (λ k. first_place test i k (drop i bytes)) n ∙ ap (first_place test i (suc (count - (i + 1)))) split
+    ∙ cond-true (test (get_or bytes i 0 ∷ drop (i + 1) bytes)) (Some i) _ passes'
+
+-- a fault stands in the text
+pub stops_before : (text : List ℕ) (at : ℕ) (fault : TextFault) (count : ℕ) → at < length text → Bad fault count ≡ piece (get_or text at 0) (drop at text) → at + count ≤ length text
+stops_before text at fault count h e =
+    let split = drop_more text at 0 h in
+    let fits = subst (Fits (suc (length (drop (at + 1) text)))) (sym (e ∙ ap (piece (get_or text at 0)) split)) (piece_fits (get_or text at 0) (drop (at + 1) text)) in
+    omega (arith, fits, length-drop (at + 1) text)
+
+-- and its place is that of its byte
+pub site_further : (text : List ℕ) (at count : ℕ) → fold past (site_of text at) (take count (drop at text)) ≡ site_of text (at + count)
+site_further text at count =
+    let front : take at (take (at + count) text) ≡ take at text = take-take at (at + count) text (omega arith) in
+    let parts : take at text ++ take count (drop at text) ≡ take (at + count) text = ap (λ xs. xs ++ take count (drop at text)) (sym front) ∙ ap (λ ys. take at (take (at + count) text) ++ ys) (sym (drop-take at count text)) ∙ take-append-drop at (take (at + count) text) in
+    sym (fold-append past first_site (take at text) (take count (drop at text))) ∙ ap (fold past first_site) parts
+
+pub past_fault : (text : List ℕ) (at count : ℕ) (fault : TextFault) (here found : Site) (front : List Token) → at < length text → Bad fault count ≡ piece (get_or text at 0) (drop at text) → here ≡ site_of text at → found ≡ fold past here (take count (drop at text)) → in_front front (tokens text 0 at (drop at text)) ≡ Err (fault, found)
+past_fault text at count fault here found front h e s f =
+    ap (in_front front) (reads text at (Bad fault count) h e) ∙ ap (λ p. Err (fault, p)) (sym (f ∙ ap (λ p. fold past p (take count (drop at text))) s ∙ site_further text at count))
+
+pub same_rest : (at count : ℕ) → at + count - at ≡ count
+same_rest at count = omega arith

@@ -1,12 +1,12 @@
 -- What the code answers, as the definitions have it.
-use Rattle.std.specs.Prelude.{ℕ, ◌≡◌, map, Vec, Result, Ok, Err}
+use Rattle.std.specs.Prelude.{ℕ, ◌≡◌, List, Bool, map, Vec, Option, None, Some, Result, Ok, Err}
 use Rattle.std.specs.declared.alloc.Global.{Global}
 use Rattle.semantics.specs.Word as words
 use Rattle.texts.specs.Numbers as numbers
 use Rattle.texts.specs.Faults as reasons
 use Rattle.texts.specs.Faults.{fault_number}
 use Rattle.texts.specs.Tokens as tokens
-use Rattle.texts.specs.Tokens.{Lexed}
+use Rattle.texts.specs.Tokens.{Lexed, leaves_line, joins_lines}
 use Rattle.lexer.specs.Spelling.{sign, word}
 use Rattle.lexer.specs.declared.Literal.TheVariants as literals
 use Rattle.lexer.specs.declared.Literal.{Literal}
@@ -20,6 +20,8 @@ use Rattle.lexer.specs.declared.TextError.{TextError}
 use Rattle.lexer.specs.declared.Piece.TheVariants as pieces
 use Rattle.lexer.specs.declared.Piece.{Piece}
 use Rattle.lexer.specs.declared.Site.{Site}
+use Rattle.lexer.specs.declared.comment.Comment.TheVariants as comments
+use Rattle.lexer.specs.declared.comment.Comment.{Comment}
 
 abbrev pub literal : Literal → numbers.Literal
 literal (literals.Int n) = record { kind = words.Int; value = n }
@@ -48,7 +50,12 @@ fault faults.TextTooLong = reasons.TextTooLong
 abbrev pub piece_seen : Piece → tokens.Piece
 piece_seen (pieces.Gap n) = tokens.Gap n
 piece_seen (pieces.Has k n) = tokens.Has (kind k) n
-piece_seen (pieces.Bad f) = tokens.Bad (fault f)
+piece_seen (pieces.Bad f n) = tokens.Bad (fault f) n
+
+-- where a compiler reads a comment otherwise
+abbrev pub leaves : Comment → List ℕ → Bool
+leaves comments.Line = leaves_line
+leaves comments.Block = joins_lines
 
 -- an answer is the definition's, unless memory was refused
 abbrev pub Fails : TextError → Lexed → Type 0
@@ -66,3 +73,7 @@ number_seen (Err f) = Err (fault f)
 abbrev pub error_number : TextError → ℕ
 error_number (errors.At f line column) = fault_number (fault f)
 error_number errors.Memory = 90
+
+abbrev pub error_place : TextError → Option (ℕ × ℕ)
+error_place (errors.At f line column) = Some (line, column)
+error_place errors.Memory = None

@@ -4,19 +4,21 @@
 //! where an allocation is refused the answer is `Memory`.
 #![tactic(auto)]
 
-ghost use Rattle.std.specs.Prelude.{◌≡◌, ℕ, ◌<◌, ◌≤◌, ◌+◌, ◌-◌, ◌^◌, drop, length};
-ghost use Rattle.std.specs.List.{prefix_len, position_or_len, find};
+ghost use Rattle.std.specs.Prelude.{◌≡◌, ℕ, ◌<◌, ◌≤◌, ◌+◌, ◌-◌, ◌^◌, length, fold};
+ghost use Rattle.std.specs.List.{prefix_len, find};
 ghost use Rattle.std.specs.Str.{bytes_eq};
 ghost use Rattle.texts.specs.Numbers.{is_decimal_digit};
 ghost use Rattle.texts.specs.Reserved.{reserved_words};
 ghost use Rattle.texts.specs.Signs.{signs};
-ghost use Rattle.texts.specs.Tokens.{is_blank, is_letter, is_word_byte, is_line_feed, begins_with, comment_piece, comment_end, word_kind, sign_piece, piece, past, tokens_of};
+ghost use Rattle.texts.specs.Tokens.{is_blank, is_letter, is_word_byte, begins_with, word_kind, sign_piece, piece, past, tokens_of};
 ghost use Rattle.lexer.specs.Seen.{kind, piece_seen, site, Gives};
 
+mod comment;
 mod number;
 mod spelling;
 
-use number::{is_decimal_digit, literal_of};
+use comment::{comment_at, line_at};
+use number::{is_decimal_digit, literal_before};
 pub use spelling::{Reserved, Sign};
 use spelling::{reserved_words, signs};
 use std::alloc::{AllocError, AllocFailed, Global};
@@ -94,7 +96,7 @@ impl TextFault {
 }
 
 impl TextError {
-    ghost use Rattle.lexer.specs.Seen.{error_number};
+    ghost use Rattle.lexer.specs.Seen.{error_number, error_place};
 
     /// The number that it is printed under.
     pub fn number(&self) -> u8
@@ -103,6 +105,16 @@ impl TextError {
         match self {
             TextError::At { fault, .. } => fault.number(),
             TextError::Memory => 90,
+        }
+    }
+
+    /// The line and the column of the fault.
+    pub fn place(&self) -> Option<(u32, u32)>
+        ensures { result ≡ error_place self.now }
+    {
+        match self {
+            TextError::At { line, column, .. } => Some((*line, *column)),
+            TextError::Memory => None,
         }
     }
 }
@@ -127,10 +139,12 @@ impl<T: Drop> From<AllocFailed<T>> for TextError {
     }
 }
 
+/// What stands at the front of a text, with the number of its bytes.
 enum Piece<'a> {
     Gap(usize),
     Has(TokenKind<'a>, usize),
-    Bad(TextFault),
+    /// A fault, behind so many bytes.
+    Bad(TextFault, usize),
 }
 
 #[derive(Clone, Copy)]
@@ -174,11 +188,14 @@ pub fn lex(alloc: Global, text: &[u8]) -> Result<Vec<Token<'_>>, TextError>
                 tokens.push(token)?;
                 skip = count.saturating_sub(1);
             }
-            Piece::Bad(fault) => return Err(TextError::At {
-                fault,
-                line,
-                column,
-            }),
+            Piece::Bad(fault, count) => {
+                let Site { line, column } = site_past(Site { line, column }, &text[at..at + count]);
+                return Err(TextError::At {
+                    fault,
+                    line,
+                    column,
+                });
+            }
         }
     }
     let end = Token {
@@ -212,6 +229,19 @@ fn past_byte(before: Site, byte: u8) -> Site
     }
 }
 
+/// Where the byte behind these stands.
+fn site_past(before: Site, bytes: &[u8]) -> Site
+    requires line { before.line + length bytes.now < 2 ^ 32 }
+    requires column { before.column + length bytes.now < 2 ^ 32 }
+    ensures { site result ≡ fold past (site before) bytes.now }
+{
+    let mut site = before;
+    for byte in bytes {
+        site = past_byte(site, *byte);
+    }
+    site
+}
+
 /// What stands at the front of bytes, of which `first` is the first.
 fn piece_at(first: u8, bytes: &[u8]) -> Piece<'_>
     ensures { piece_seen result ≡ piece first bytes.now }
@@ -223,12 +253,12 @@ fn piece_at(first: u8, bytes: &[u8]) -> Piece<'_>
         Piece::Has(kind_of_word(&bytes[..count]), count)
     } else if is_decimal_digit(first) {
         let count = word_len(bytes);
-        match literal_of(&bytes[..count]) {
+        match literal_before(&bytes[..count], &bytes[count..]) {
             Ok(literal) => Piece::Has(TokenKind::Number(literal), count),
-            Err(fault) => Piece::Bad(fault),
+            Err(fault) => Piece::Bad(fault, 0),
         }
     } else if bytes.starts_with(b"//") {
-        Piece::Gap(line_len(bytes))
+        line_at(bytes)
     } else if bytes.starts_with(b"/*") {
         comment_at(bytes)
     } else {
@@ -284,30 +314,5 @@ fn sign_at(bytes: &[u8]) -> Piece<'_>
             return Piece::Has(TokenKind::Sign(*sign), text.len());
         }
     }
-    Piece::Bad(TextFault::BadByte)
-}
-
-/// How many bytes stand before the line feed.
-fn line_len(bytes: &[u8]) -> usize
-    ensures { result ≡ position_or_len is_line_feed bytes.now }
-{
-    for (i, b) in bytes.iter().enumerate() {
-        if *b == b'\n' {
-            return i;
-        }
-    }
-    bytes.len()
-}
-
-/// The comment that begins with these bytes.
-fn comment_at(bytes: &[u8]) -> Piece<'_>
-    requires { 2 ≤ length bytes.now }
-    ensures { piece_seen result ≡ comment_piece (comment_end 2 (drop 2 bytes.now)) }
-{
-    for i in 2..bytes.len() {
-        if bytes[i..].starts_with(b"*/") {
-            return Piece::Gap(i + 2);
-        }
-    }
-    Piece::Bad(TextFault::OpenComment)
+    Piece::Bad(TextFault::BadByte, 0)
 }

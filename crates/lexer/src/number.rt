@@ -3,6 +3,7 @@
 ghost use Rattle.std.specs.Prelude.{◌≡◌, ◌≤◌, ◌^◌, length, nat_eq, MatchOption};
 ghost use Rattle.std.specs.List.{prefix_len};
 ghost use Rattle.texts.specs.Numbers.{is_decimal_digit, is_digit, digit_value, value_of, is_well_spelt, sized, with_suffix, number_in, number_of};
+ghost use Rattle.texts.specs.Tokens.{is_exponent, is_sum_sign, goes_on, number_before};
 ghost use Rattle.lexer.specs.Seen.{number_seen};
 
 use crate::{Literal, TextFault};
@@ -31,8 +32,42 @@ fn digit_value(b: u8) -> u8
     }
 }
 
+/// An exponent would begin with it.
+fn is_exponent(b: u8) -> bool
+    ensures { result ≡ is_exponent b }
+{
+    b == b'e' || b == b'E' || (b == b'p' || b == b'P')
+}
+
+fn is_sum_sign(b: u8) -> bool
+    ensures { result ≡ is_sum_sign b }
+{
+    b == b'+' || b == b'-'
+}
+
+/// A sign behind a number is part of it (C99 6.4.8).
+fn goes_on(word: &[u8], rest: &[u8]) -> bool
+    ensures { result ≡ goes_on word.now rest.now }
+{
+    match (word.last(), rest.first()) {
+        (Some(last), Some(sign)) => is_exponent(*last) && is_sum_sign(*sign),
+        _ => false,
+    }
+}
+
+/// A whole word read as a number, with the bytes behind it.
+pub fn literal_before(word: &[u8], rest: &[u8]) -> Result<Literal, TextFault>
+    ensures { number_seen result ≡ number_before word.now rest.now }
+{
+    if goes_on(word, rest) {
+        Err(TextFault::BadNumber)
+    } else {
+        literal_of(word)
+    }
+}
+
 /// A whole word read as a number.
-pub fn literal_of(word: &[u8]) -> Result<Literal, TextFault>
+fn literal_of(word: &[u8]) -> Result<Literal, TextFault>
     ensures { number_seen result ≡ number_of word.now }
 {
     if word.starts_with(b"0x") || word.starts_with(b"0X") {

@@ -1,5 +1,5 @@
 -- What tokens are read as: the one kernel within the limits, or a fault and its place.
-use Rattle.std.specs.Prelude.{◌≡◌, ℕ, List, Result, Ok, Err}
+use Rattle.std.specs.Prelude.{◌≡◌, ℕ, List, Option, None, Some, Result, Ok, Err}
 use Rattle.semantics.specs.Core as core
 use Rattle.texts.specs.Lexemes.{Lexeme}
 use Rattle.texts.specs.ParseFaults as rules
@@ -60,3 +60,7 @@ Measures (Err e) answer = answer ≡ Err (fault e.0, site e.1)
 abbrev pub error_number : ParseError → ℕ
 error_number (errors.At f s) = parse_fault_number (fault f)
 error_number errors.Memory = 90
+
+abbrev pub error_place : ParseError → Option (ℕ × ℕ)
+error_place (errors.At f s) = Some (s.line, s.column)
+error_place errors.Memory = None

@@ -68,7 +68,7 @@ impl<'a, T: Drop> From<AllocFailed<T>> for Stop<'a> {
 }
 
 impl ParseError {
-    ghost use Rattle.parser.specs.Parsed.{error_number};
+    ghost use Rattle.parser.specs.Parsed.{error_number, error_place};
 
     /// The number that it is printed under.
     pub fn number(&self) -> u8
@@ -77,6 +77,16 @@ impl ParseError {
         match self {
             ParseError::At { fault, .. } => fault.number(),
             ParseError::Memory => 90,
+        }
+    }
+
+    /// The line and the column of the token that is to blame.
+    pub fn place(&self) -> Option<(u32, u32)>
+        ensures { result ≡ error_place self.now }
+    {
+        match self {
+            ParseError::At { site, .. } => Some((site.line, site.column)),
+            ParseError::Memory => None,
         }
     }
 }

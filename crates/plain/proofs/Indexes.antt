@@ -139,6 +139,12 @@ id-form s w m e d =
 pub multiple-id : (w : Which) (m f : ℕ) → multiple (pos f) (record { terms = record { coefficient = pos 1; symbol = local w } ∷ record { coefficient = pos (suc m); symbol = group w } ∷ []; constant = pos 0 }) ≡ id_multiple w (suc m) (pos f) (pos 0)
 multiple-id w m f = let e : pos f *ℤ pos 0 ≡ pos 0 = omega (arith, ints) in λ i. record { terms = id_terms w (suc m) (pos f); constant = e i }
 
+-- the id alone is one time the id
+pub id-alone : {E : Type 0} (s : Setting E) (w : Which) (m : ℕ) → s.item ≡ w → s.sizes.x ≡ suc m → id_form s GlobalId 0 ≡ id_multiple w (suc m) (pos 1) (pos 0)
+id-alone s w m e d =
+    let one : pos (suc m) ≡ pos 1 *ℤ pos (suc m) = omega (arith, ints) in
+    id-form s w m e d ∙ ap (λ z. record { terms = put (pos 1) (local w) (put z (group w) []); constant = pos 0 }) one
+
 pub sum-multiple : (w : Which) (size : ℕ) (f z c : ℤ) → sum (id_multiple w size f z) (constant c) ≡ id_multiple w size f (z +ℤ c)
 sum-multiple w size f z c = λ i. record { terms = merge-nil (id_terms w size f) i; constant = z +ℤ c }
 

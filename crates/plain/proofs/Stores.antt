@@ -7,7 +7,7 @@ use Rattle.semantics.specs.Word.{Kind, Int, Uint, in_kind, Add, Multiply}
 use Rattle.semantics.specs.Core.{Site, Global, Term, GlobalId, Statements, none, one}
 use Rattle.semantics.specs.Launch.{Kernel}
 use Rattle.semantics.specs.Conditions.{Conditions}
-use Rattle.linear.specs.Exact.{put, multiple}
+use Rattle.linear.specs.Exact.{put, multiple, sum}
 use Rattle.linear.specs.Sizes.{size}
 use Rattle.linear.proofs.Sizes.{size-put, size_difference}
 use Rattle.facts.specs.Symbols.{Which, Length, Given, Fact, constant, once, minus}
@@ -16,9 +16,9 @@ use Rattle.walk.specs.Trees.{Tree, Leaf, Touch}
 use Rattle.walk.specs.Walks.{Setting, State, stand, spot_at, Value, value, newest, with_new, Onward, setting, settles, claimed, ranged, kept_or_new, brought_from, id_form, walk, walk_all, in_buffer, store_of, joined, exact}
 use Rattle.plain.specs.Domains.{domain}
 use Rattle.plain.specs.Claims.{brings, ranges, claims}
-use Rattle.plain.specs.Kernels.{plain_index, is_int, is_signed, has_signed, IsPlainValue, Number, BroughtNumber, Parameter, BroughtParameter, Plain, ArePlain, last_index}
+use Rattle.plain.specs.Kernels.{is_int, is_signed, has_signed, IsPlainValue, Number, BroughtNumber, Parameter, BroughtParameter, IsPlainIndex, Alone, Times, Plus, TimesPlus, Plain, ArePlain, last_index}
 use Rattle.plain.proofs.Terms.{Both}
-use Rattle.plain.proofs.Indexes.{local, group, id_multiple, settles_up, settles_down, low-multiple, minus-multiple, id-form, multiple-id, sum-multiple, number-multiple}
+use Rattle.plain.proofs.Indexes.{local, group, id_multiple, settles_up, settles_down, low-multiple, minus-multiple, id-form, id-alone, multiple-id, sum-multiple, number-multiple}
 use Rattle.plain.proofs.Trees.{most, IsTame, range-tame, range-asked}
 
 -- how large a multiple of the id is
@@ -34,6 +34,12 @@ int_below z h = grind (arith, nat_tests)
 below : (kd : Kind) (z : ℕ) → in_kind kd (pos z) ≡ true → z ≤ 4294967295
 below Int z h = int_below z h
 below Uint z h = grind (arith, nat_tests)
+
+factor-below : (e : Term) (f z : ℕ) → IsPlainIndex e f z → f ≤ 4294967295
+factor-below _ _ _ Alone = omega arith
+factor-below _ _ _ (Times p kf f hf) = below kf f hf
+factor-below _ _ _ (Plus a kc z hz) = omega arith
+factor-below _ _ _ (TimesPlus a p kf kc f z hf hz) = below kf f hf
 
 left : (a b : Bool) → a ≡ true → (a || b) ≡ true
 left a b e = rw e refl
@@ -74,9 +80,21 @@ module _ (k : Kernel) (c : Conditions) (h : ℕ → Bool) (w : Which) (m n : ℕ
       let e = number-multiple w (suc m) (pos z) in
       subst (λ x. IsTame h signed (true ∷ true ∷ rs) st.claims (ranged s Uint x st go)) (sym e) (multiple-tame 0 z (omega arith) (omega (arith, l)) rs st go (λ st'. subst (λ x. IsTame h signed rs st'.claims (go (value Uint x) st')) e (t st')))
 
-  index-tame : (sum product : Site) (kf kc : Kind) (f z : ℕ) → f ≤ 4294967295 → f * m + f * suc m * n + z ≤ 4294967295 → (rs : List Bool) (st : State Both) (go : Onward Both) →
-      ((st' : State Both) → IsTame h signed rs st'.claims (go (value Uint (id_multiple w (suc m) (pos f) (pos z))) st')) → IsTame h signed (ranges k.arguments (plain_index sum product kf kc f z) rs) st.claims (walk s (plain_index sum product kf kc f z) st go)
-  index-tame a p kf kc f z lf b rs st go t =
+  index-tame : (e : Term) (f z : ℕ) → IsPlainIndex e f z → f * m + f * suc m * n + z ≤ 4294967295 → (rs : List Bool) (st : State Both) (go : Onward Both) →
+      ((st' : State Both) → IsTame h signed rs st'.claims (go (value Uint (id_multiple w (suc m) (pos f) (pos z))) st')) → IsTame h signed (ranges k.arguments e rs) st.claims (walk s e st go)
+  index-tame _ _ _ Alone b rs st go t = subst (λ x. IsTame h signed rs st.claims (go (value Uint x) st)) (sym (id-alone s w m refl em)) (t st)
+  index-tame _ _ _ (Times p kf f hf) b rs st go t =
+      number-tame kf f (below kf f hf) (true ∷ true ∷ rs) (stand (spot_at p st) st) (λ y st1. exact s Multiply (id_form s GlobalId 0) y.form st1 (λ g st2. ranged s Uint g st2 go)) (λ st1.
+      subst (λ x. IsTame h signed (true ∷ true ∷ rs) st1.claims (ranged s Uint x st1 go)) (sym (ap (multiple (pos f)) (id-form s w m refl em) ∙ multiple-id w m f))
+      (multiple-tame f 0 (below kf f hf) b rs st1 go t))
+  index-tame _ _ _ (Plus a kc z hz) b rs st go t =
+      let z0 : pos 0 +ℤ pos z ≡ pos z = omega (arith, ints) in
+      number-tame kc z (below kc z hz) (true ∷ true ∷ rs) (stand (spot_at a st) st) (λ y st1. exact s Add (id_form s GlobalId 0) y.form st1 (λ g st2. ranged s Uint g st2 go)) (λ st1.
+      subst (λ x. IsTame h signed (true ∷ true ∷ rs) st1.claims (ranged s Uint x st1 go))
+      (sym (ap (λ g. sum g (constant (pos z))) (id-alone s w m refl em) ∙ sum-multiple w (suc m) (pos 1) (pos 0) (pos z) ∙ ap (id_multiple w (suc m) (pos 1)) z0))
+      (multiple-tame 1 z (omega arith) b rs st1 go t))
+  index-tame _ _ _ (TimesPlus a p kf kc f z hf hz) b rs st go t =
+      let lf = below kf f hf in
       let first = id_multiple w (suc m) (pos f) (pos 0) in
       let rs2 : List Bool = brings Uint kc (true ∷ true ∷ rs) in
       let on1 : Onward Both = λ x st2. joined s Add Uint x (value kc (constant (pos z))) (stand (spot_at a st2) st2) go in
@@ -108,8 +126,8 @@ module _ (k : Kernel) (c : Conditions) (h : ℕ → Bool) (w : Which) (m n : ℕ
 
   pub body-tame : (body : Statements) → ArePlain k.arguments k.sizes.x c.groups.x.high body → (has_signed k.arguments body ≡ true → signed) → (st : State Both) → IsTame h signed (claims k.arguments body) st.claims (walk_all s body st (λ st. Leaf))
   body-tame none p g st = refl
-  body-tame (one i others) (Plain num buffer site a p kf kc f z v hf hz last pv, q) g st =
-      let lf = below kf f hf in
+  body-tame (one i others) (Plain num buffer site e f z v pi last pv, q) g st =
+      let lf = factor-below e f z pi in
       let b = last_below f z k.sizes.x m n c.groups.x.high em en last in
       let form = id_multiple w (suc m) (pos f) (pos z) in
       let l : size form ≤ 4402341478400 = small f z lf b in
@@ -118,6 +136,6 @@ module _ (k : Kernel) (c : Conditions) (h : ℕ → Bool) (w : Which) (m n : ℕ
       let on : State Both → Tree Both = λ st2. in_buffer s buffer form (stand spot st2) (λ st3. Touch (store_of num (record { space = Global; number = buffer }) site) form st3.elements (walk_all s others st3 (λ st4. Leaf))) in
       let before = minus (once (Length buffer)) (constant (pos 1)) in
       let room : size (minus before form) ≤ most = less before form most (omega (arith, l, less (once (Length buffer)) (constant (pos 1)) 2 (omega arith))) in
-      index-tame a p kf kc f z lf b (ranges k.arguments v (false ∷ false ∷ rs)) (stand spot st) _ (λ st1.
+      index-tame e f z pi b (ranges k.arguments v (false ∷ false ∷ rs)) (stand spot st) _ (λ st1.
       value-tame v pv (λ e. g (left (is_signed k.arguments v) (has_signed k.arguments others) e)) (false ∷ false ∷ rs) st1 (λ x st2. on st2) (λ x st2.
       (omega (arith, l), tt, (room, tt, (omega (arith, l), body-tame others q (λ e. g (right (is_signed k.arguments v) (has_signed k.arguments others) e)) (claimed (claimed (stand spot st2))))))))

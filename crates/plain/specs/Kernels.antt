@@ -1,13 +1,18 @@
--- Plain kernels: each statement is `a[get_global_id(0) * K + C] = V;` of a `uint` buffer, K and C numbers, V a number or a value
--- parameter, and the index is one that a `uint` has at each launch of at most so many groups.
+-- Plain kernels: each statement is `a[get_global_id(0) * K + C] = V;` of a `uint` buffer, K and C numbers that may be left out, V a
+-- number or a value parameter, and the index is one that a `uint` has at each launch of at most so many groups.
 use Rattle.std.specs.Prelude.{◌≡◌, ℕ, ℤ, pos, ◌+ℤ◌, ◌-ℤ◌, ◌*ℤ◌, ◌≤ℤ◌, ◌<◌, ◌≤◌, List, length, Bool, true, false, ◌||◌, slice_index_or}
 use Rattle.semantics.specs.Word.{Kind, Int, Uint, in_kind, Add, Multiply}
 use Rattle.semantics.specs.Core.{Site, Global, GlobalId, Term, Literal, Variable, Id, Binary, Convert, Statement, Store, Statements, none, one}
 use Rattle.semantics.specs.Launch.{Kernel}
 use Rattle.semantics.specs.Conditions.{Conditions}
 
-abbrev pub plain_index : (sum product : Site) (factor_kind constant_kind : Kind) (factor constant : ℕ) → Term
-plain_index sum product kf kc f c = Binary Add Uint sum (Binary Multiply Uint product (Id GlobalId 0) (Literal kf (pos f))) (Literal kc (pos c))
+-- the global id, a multiple of it, and either with a number more
+pub data IsPlainIndex : Term → (factor constant : ℕ) → Type 0 where
+  Alone : IsPlainIndex (Id GlobalId 0) 1 0
+  Times : (product : Site) (kf : Kind) (f : ℕ) → in_kind kf (pos f) ≡ true → IsPlainIndex (Binary Multiply Uint product (Id GlobalId 0) (Literal kf (pos f))) f 0
+  Plus : (sum : Site) (kc : Kind) (c : ℕ) → in_kind kc (pos c) ≡ true → IsPlainIndex (Binary Add Uint sum (Id GlobalId 0) (Literal kc (pos c))) 1 c
+  TimesPlus : (sum product : Site) (kf kc : Kind) (f c : ℕ) → in_kind kf (pos f) ≡ true → in_kind kc (pos c) ≡ true →
+      IsPlainIndex (Binary Add Uint sum (Binary Multiply Uint product (Id GlobalId 0) (Literal kf (pos f))) (Literal kc (pos c))) f c
 
 -- what is no `uint` is brought to it (C99 6.5.16.1)
 pub data IsPlainValue (arguments : List Kind) : Term → Type 0 where
@@ -21,9 +26,9 @@ abbrev pub last_index : (size : ℕ) (groups : ℤ) (factor constant : ℕ) → 
 last_index size groups f c = pos f *ℤ (pos size *ℤ groups -ℤ pos 1) +ℤ pos c
 
 pub data IsPlainStore (arguments : List Kind) (size : ℕ) (groups : ℤ) : Statement → Type 0 where
-  Plain : (n buffer : ℕ) (site sum product : Site) (kf kc : Kind) (f c : ℕ) (value : Term) →
-      in_kind kf (pos f) ≡ true → in_kind kc (pos c) ≡ true → last_index size groups f c ≤ℤ pos 4294967295 → IsPlainValue arguments value →
-      IsPlainStore arguments size groups (Store n (record { space = Global; number = buffer }) site (plain_index sum product kf kc f c) value)
+  Plain : (n buffer : ℕ) (site : Site) (index : Term) (f c : ℕ) (value : Term) →
+      IsPlainIndex index f c → last_index size groups f c ≤ℤ pos 4294967295 → IsPlainValue arguments value →
+      IsPlainStore arguments size groups (Store n (record { space = Global; number = buffer }) site index value)
 
 abbrev pub ArePlain : (arguments : List Kind) (size : ℕ) (groups : ℤ) → Statements → Type 0
 ArePlain ks size groups none = Unit {0}

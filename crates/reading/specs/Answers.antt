@@ -1,11 +1,9 @@
 -- What the code answers, as the definition has it.
-use Rattle.std.specs.Prelude.{ℕ, ◌≡◌, Result, Ok, Err}
-use Rattle.texts.specs.Faults.{fault_number}
-use Rattle.texts.specs.ParseFaults.{parse_fault_number}
-use Rattle.texts.specs.TypeFaults.{type_fault_number}
+use Rattle.std.specs.Prelude.{ℕ, ◌≡◌, Option, Result, Ok, Err}
 use Rattle.lexer.specs.Seen as lexer
 use Rattle.lexer.specs.declared.TextError.TheVariants as texts
 use Rattle.parser.specs.View as parser
+use Rattle.parser.specs.Parsed as parsed
 use Rattle.parser.specs.declared.error.ParseError.TheVariants as trees
 use Rattle.syntax.specs.View.{kernel}
 use Rattle.core_code.specs.View.{site}
@@ -32,8 +30,13 @@ abbrev pub Gives : Result (tree.Kernel × Core) KernelError → Read → Type 0
 Gives (Ok typed) answer = answer ≡ Ok (kernel_seen typed)
 Gives (Err error) answer = Refuses error answer
 
+-- the number that an error is printed under, and its place, where it has one
 abbrev pub error_number : KernelError → ℕ
-error_number (errors.Text (texts.At f line column)) = fault_number (lexer.fault f)
-error_number (errors.Tree (trees.At f s)) = parse_fault_number (parser.fault f)
-error_number (errors.Types (typing.At f s)) = type_fault_number (types.fault f)
-error_number error = 90
+error_number (errors.Text error) = lexer.error_number error
+error_number (errors.Tree error) = parsed.error_number error
+error_number (errors.Types error) = types.error_number error
+
+abbrev pub error_place : KernelError → Option (ℕ × ℕ)
+error_place (errors.Text error) = lexer.error_place error
+error_place (errors.Tree error) = parsed.error_place error
+error_place (errors.Types error) = types.error_place error

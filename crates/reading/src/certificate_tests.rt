@@ -61,8 +61,7 @@ fn is_written_back(alloc: Global, text: &[u8]) -> Result<bool, CertError> {
 fn refusal(alloc: Global, text: &[u8]) -> Option<(u8, usize)> {
     match read(alloc, text) {
         Ok(_) => None,
-        Err(CertError::Refused { fault, line }) => Some((fault.number(), line)),
-        Err(CertError::Memory) => Some((90, 0)),
+        Err(error) => Some((error.number(), error.place().unwrap_or(0))),
     }
 }
 
@@ -88,7 +87,7 @@ fn parts_are_there(rt: HostRuntime) -> Result<(), Fail> {
 
 const REFUSED: &[(&[u8], (u8, usize))] = &[
     (b"", (50, 1)),
-    (b"certificate 9\nend\n", (51, 1)),
+    (b"certificate 9\nend\n", (51, 0)),
     (b"certificate 01\nend\n", (50, 1)),
     (b"certificate 1", (50, 1)),
     (b"certificate 1\nend\n\n", (50, 3)),

@@ -36,7 +36,7 @@ pub enum KernelError {
 }
 
 impl KernelError {
-    ghost use Rattle.reading.specs.Answers.{error_number};
+    ghost use Rattle.reading.specs.Answers.{error_number, error_place};
 
     /// The number that it is printed under.
     pub fn number(&self) -> u8
@@ -45,8 +45,18 @@ impl KernelError {
         match self {
             KernelError::Text(error) => error.number(),
             KernelError::Tree(error) => error.number(),
-            KernelError::Types(TypeError::At { fault, .. }) => fault.number(),
-            KernelError::Types(TypeError::Memory) => 90,
+            KernelError::Types(error) => error.number(),
+        }
+    }
+
+    /// The line and the column of the fault.
+    pub fn place(&self) -> Option<(u32, u32)>
+        ensures { result ≡ error_place self.now }
+    {
+        match self {
+            KernelError::Text(error) => error.place(),
+            KernelError::Tree(error) => error.place(),
+            KernelError::Types(error) => error.place(),
         }
     }
 }

@@ -1,2 +1,3 @@
 pub mod Endless
 pub mod Store
+pub mod StoresRead

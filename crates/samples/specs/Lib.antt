@@ -2,3 +2,4 @@ pub mod Terms
 pub mod Kernels
 pub mod OneStore
 pub mod Surface
+pub mod Stores

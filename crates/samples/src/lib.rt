@@ -4,4 +4,5 @@
 
 pub mod computed;
 pub mod one_store;
+pub mod texts_of_stores;
 pub mod typing;

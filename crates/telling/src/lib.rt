@@ -6,7 +6,7 @@ ghost use Rattle.telling.specs.Telling.{Checks, Runs};
 
 use cert_check::check;
 use cert_check::error::{CheckError, ShowError};
-use certificate::error::{CertError, CertFault};
+use certificate::error::CertError;
 use executor::{RunError, run};
 use facts::WalkError;
 use launch_text::error::LaunchTextError;
@@ -44,19 +44,6 @@ fn is_memory(error: &CheckError) -> bool {
     }
 }
 
-/// The version of a certificate has no place.
-fn is_version(error: &CheckError) -> bool {
-    match error {
-        CheckError::Certificate(
-            CertError::Refused {
-                fault: CertFault::OtherVersion,
-                ..
-            },
-        ) => true,
-        _ => false,
-    }
-}
-
 /// The line of a refusal, or want of memory.
 fn line_of(line: Result<String, AllocError>) -> Verdict
     ensures { (kernel conditions launch : List ℕ) → Checks result kernel conditions × Runs result kernel conditions launch }
@@ -80,9 +67,6 @@ fn unaccepted(alloc: Global, error: &CheckError) -> Verdict
 {
     if is_memory(error) {
         return Verdict::OutOfMemory;
-    }
-    if is_version(error) {
-        return refused(alloc, &51);
     }
     refused(alloc, error)
 }

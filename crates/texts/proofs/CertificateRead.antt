@@ -45,7 +45,7 @@ is_open_end Ended h = refl
 
 finish_back : (n : ℕ) (d : Draft) (line : List ℕ) (c : Certificate) → IsDraft d → finish n d line ≡ Ok c → (is_ended d.opened ≡ true) × (line ≡ []) × (d.settled ≡ c)
 finish_back n d line c h =
-    cond_both (is_ended d.opened && is_empty line) (Ok d.settled) (Err (BadLine, n)) (λ r. r ≡ Ok c → (is_ended d.opened ≡ true) × (line ≡ []) × (d.settled ≡ c))
+    cond_both (is_ended d.opened && is_empty line) (Ok d.settled) (Err (BadLine n)) (λ r. r ≡ Ok c → (is_ended d.opened ≡ true) × (line ≡ []) × (d.settled ≡ c))
     (λ e q. let p = both (is_ended d.opened) (is_empty line) e in (p.0, none_left line p.1, cc))
     (λ e q. absurd cc)
 
@@ -93,7 +93,7 @@ nothing_read = record { settled = refl; opened = tt }
 text_back : (ls : List (List ℕ)) (c : Certificate) → read_text ls ≡ Ok c → (text_of c ≡ join_with_byte 10 ls) × (is_certificate c ≡ true)
 text_back [] c = λ q. absurd cc
 text_back (line ∷ others) c =
-    cond_both (is_empty others) (Err (BadLine, 1)) (unless (head_fault (words line)) (read_lines 2 nothing_yet others)) (λ r. r ≡ Ok c → (text_of c ≡ join_with_byte 10 (line ∷ others)) × (is_certificate c ≡ true))
+    cond_both (is_empty others) (Err (BadLine 1)) (unless (head_fault (words line)) (read_lines 2 nothing_yet others)) (λ r. r ≡ Ok c → (text_of c ≡ join_with_byte 10 (line ∷ others)) × (is_certificate c ≡ true))
     (λ e q. absurd cc)
     (λ e q.
     let u = unless_back (head_fault (words line)) (read_lines 2 nothing_yet others) c q in
@@ -102,6 +102,6 @@ text_back (line ∷ others) c =
 
 pub certificate_back : (text : List ℕ) (c : Certificate) → certificate_of text ≡ Ok c → (text_of c ≡ text) × (is_certificate c ≡ true)
 certificate_back text c =
-    cond_both (nat_lt certificate_limit (length text)) (Err (BadLine, 1)) (read_text (pieces 10 text)) (λ r. r ≡ Ok c → (text_of c ≡ text) × (is_certificate c ≡ true))
+    cond_both (nat_lt certificate_limit (length text)) (Err (BadLine 1)) (read_text (pieces 10 text)) (λ r. r ≡ Ok c → (text_of c ≡ text) × (is_certificate c ≡ true))
     (λ e q. absurd cc)
     (λ e q. let r = text_back (pieces 10 text) c q in (r.0 ∙ join_with_byte-slice_split 10 text, r.1))

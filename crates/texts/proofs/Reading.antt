@@ -7,19 +7,19 @@ use Rattle.std.proofs.lemmas.Bool.{cond_both, false≢true}
 use Rattle.std.proofs.lemmas.List.{take-append-drop, length-take-le, take_at, drop_at, get_or-take, length-append}
 use Rattle.std.proofs.lemmas.List.Folds.{length-prefix_len}
 use Rattle.std.proofs.lemmas.Slice.Eq.{bytes_eq-Decides}
-use Rattle.texts.specs.Faults.{TextFault, TextTooLong}
+use Rattle.texts.specs.Faults.{TextFault, BadNumber, TextTooLong}
 use Rattle.texts.specs.Numbers.{Literal, is_decimal_digit, number_of}
 use Rattle.texts.specs.Reserved.{Reserved, reserved_words}
 use Rattle.texts.specs.Signs.{Sign, signs}
-use Rattle.texts.specs.Tokens.{TokenKind, End, tokens_of, first_site, Mark, Token, Lexed, Piece, Gap, Has, Bad, piece, next, tokens, token_at, in_front, begins_with, is_blank, is_letter, is_word_byte, is_line_feed, comment_end, comment_piece, number_piece, word_kind, sign_piece}
-use Rattle.texts.specs.Reading.{IsRun, IsWord, IsGap, blank, line_comment, comment, IsText, Reads, ends, gap, token}
-use Rattle.texts.proofs.Fits.{Fits, IsCount, begins, both, word, piece_fits}
+use Rattle.texts.specs.Tokens.{TokenKind, End, tokens_of, first_site, Mark, Token, Lexed, Piece, Gap, Has, Bad, piece, next, tokens, token_at, in_front, begins_with, is_blank, is_letter, is_word_byte, is_line_feed, comment_end, comment_piece, comment_gap, gap_without, first_place, joins_lines, leaves_line, goes_on, number_before, number_piece, word_kind, sign_piece}
+use Rattle.texts.specs.Reading.{IsRun, IsWord, IsWithout, IsGap, blank, line_comment, comment, IsText, Reads, ends, gap, token}
+use Rattle.texts.proofs.Fits.{Fits, IsCount, begins, both, word, comment_within, line_within, piece_fits}
 
 -- the bytes of a piece, and what follows
 abbrev Means : List ℕ → Piece → Type 0
 Means all (Gap count) = IsGap (take count all) (drop count all)
 Means all (Has kind count) = IsText kind (take count all) (drop count all)
-Means all (Bad fault) = Unit {0}
+Means all (Bad fault before) = Unit {0}
 
 by_parts : (P : List ℕ → List ℕ → Type 0) (all p q : List ℕ) (count : ℕ) → all ≡ p ++ q → length p ≡ count → P p q → P (take count all) (drop count all)
 by_parts P all p q count e l h =
@@ -108,9 +108,31 @@ word_means all (Some entry) h e =
     let r = found (λ entry. bytes_eq entry.0 (take_while is_word_byte all)) reserved_words entry e in
     (h, subst (λ xs. Contains reserved_words (xs, entry.1)) ((bytes_eq-Decides entry.0 (take_while is_word_byte all)).0 r.1) r.0)
 
-number_means : (all : List ℕ) (r : Result Literal TextFault) → IsWord is_decimal_digit (take_while is_word_byte all) (drop (prefix_len is_word_byte all) all) → number_of (take_while is_word_byte all) ≡ r → Means all (number_piece r (prefix_len is_word_byte all))
-number_means all (Ok literal) h e = (h, e)
+-- no sign behind it is part of a number that is read
+number_alone : (word rest : List ℕ) (l : Literal) → number_before word rest ≡ Ok l → (goes_on word rest ≡ false) × (number_of word ≡ Ok l)
+number_alone word rest l =
+    cond_both (goes_on word rest) (Err BadNumber) (number_of word) (λ r. r ≡ Ok l → (goes_on word rest ≡ false) × (number_of word ≡ Ok l)) (λ h e. cc) (λ h e. (h, e))
+
+number_means : (all : List ℕ) (r : Result Literal TextFault) → IsWord is_decimal_digit (take_while is_word_byte all) (drop (prefix_len is_word_byte all) all) → number_before (take_while is_word_byte all) (drop (prefix_len is_word_byte all) all) ≡ r → Means all (number_piece r (prefix_len is_word_byte all))
+number_means all (Ok literal) h e = let r = number_alone (take_while is_word_byte all) (drop (prefix_len is_word_byte all) all) literal e in (h, r.0, r.1)
 number_means all (Err fault) h e = tt
+
+-- where no place passes, none of the bytes there does
+pub none_passes : (test : List ℕ → Bool) (at n : ℕ) (bytes : List ℕ) → first_place test at n bytes ≡ None → n ≤ length bytes → (k : ℕ) → k < n → test (drop k bytes) ≡ false
+none_passes test at zero bytes e l k h = absurd (omega (arith, h))
+none_passes test at (suc n) [] e l k h = absurd (omega (arith, l))
+none_passes test at (suc n) (b ∷ bytes) e l zero h =
+    cond_both (test (b ∷ bytes)) (Some at) (first_place test (at + 1) n bytes) (λ o. o ≡ None → test (b ∷ bytes) ≡ false) (λ t e. cc) (λ t e. t) e
+none_passes test at (suc n) (b ∷ bytes) e l (suc k) h =
+    cond_both (test (b ∷ bytes)) (Some at) (first_place test (at + 1) n bytes) (λ o. o ≡ None → test (drop k bytes) ≡ false) (λ t e. cc)
+    (λ t e. none_passes test (at + 1) n bytes e (omega (arith, l)) k (omega (arith, h))) e
+
+gap_means : (test : List ℕ → Bool) (count : ℕ) (all : List ℕ) → count ≤ length all → (IsWithout test (take count all) (drop count all) → IsGap (take count all) (drop count all)) → Means all (gap_without test count all)
+gap_means test count all l h = by (first_place test 0 count all) refl
+  where
+    by : (o : Option ℕ) → first_place test 0 count all ≡ o → Means all (comment_gap o count)
+    by None e = h (λ k i. ap (λ xs. test (drop k xs)) (take-append-drop count all) ∙ none_passes test 0 count all e l k (omega (arith, i, length-take-le count all l)))
+    by (Some k) e = tt
 
 sign_means : (all : List ℕ) (o : Option (List ℕ × Sign)) → begins_with all (codes "//") ≡ false → begins_with all (codes "/*") ≡ false → find (λ entry. begins_with all entry.0) signs ≡ o → Means all (sign_piece o)
 sign_means all None line block e = tt
@@ -124,20 +146,23 @@ sign_means all (Some entry) line block e =
       ap (λ xs. begins_with xs (codes "/*")) (sym a) ∙ block,
     )
 
-comment_means : (all : List ℕ) (o : Option ℕ) → begins_with all (codes "/*") ≡ true → comment_end 2 (drop 2 all) ≡ o → Means all (comment_piece o)
+comment_means : (all : List ℕ) (o : Option ℕ) → begins_with all (codes "/*") ≡ true → comment_end 2 (drop 2 all) ≡ o → Means all (comment_piece all o)
 comment_means all None h e = tt
 comment_means all (Some n) h e =
     let r = closes 2 n (drop 2 all) e in
-    by_parts IsGap all (codes "/*" ++ r.0 ++ codes "*/") r.1 n (begins all (codes "/*") h ∙ ap (λ xs. 47 ∷ 42 ∷ xs) r.2) (omega (arith, r.3, length-append r.0 (codes "*/"))) (comment r.0 r.1 (r.4 0 ∙ ap Some (omega arith)))
+    gap_means joins_lines n all (comment_within all n h e).1
+    (by_parts (λ p q. IsWithout joins_lines p q → IsGap p q) all (codes "/*" ++ r.0 ++ codes "*/") r.1 n (begins all (codes "/*") h ∙ ap (λ xs. 47 ∷ 42 ∷ xs) r.2) (omega (arith, r.3, length-append r.0 (codes "*/")))
+    (λ w. comment r.0 r.1 (r.4 0 ∙ ap Some (omega arith)) w))
 
-line_means : (all : List ℕ) → begins_with all (codes "//") ≡ true → Means all (Gap (position_or_len is_line_feed all))
+line_means : (all : List ℕ) → begins_with all (codes "//") ≡ true → Means all (gap_without leaves_line (position_or_len is_line_feed all) all)
 line_means all h =
     let p : ℕ → Bool = λ b. not (is_line_feed b) in
     let xs = drop 2 all in
     let n = prefix_len p xs in
     let a = begins all (codes "//") h in
-    by_parts IsGap all (codes "//" ++ take n xs) (drop n xs) (position_or_len is_line_feed all)
-    (a ∙ ap (λ xs. 47 ∷ 47 ∷ xs) (sym (take-append-drop n xs))) (omega (arith, ap (prefix_len p) a, length-prefix_len p xs)) (line_comment (take n xs) (drop n xs) (run p xs))
+    gap_means leaves_line (position_or_len is_line_feed all) all (line_within all h).1
+    (by_parts (λ p q. IsWithout leaves_line p q → IsGap p q) all (codes "//" ++ take n xs) (drop n xs) (position_or_len is_line_feed all)
+    (a ∙ ap (λ xs. 47 ∷ 47 ∷ xs) (sym (take-append-drop n xs))) (omega (arith, ap (prefix_len p) a, length-prefix_len p xs)) (λ w. line_comment (take n xs) (drop n xs) (run p xs) w))
 
 is_word_front : (first : ℕ → Bool) (b : ℕ) (bytes : List ℕ) → is_word_byte b ≡ true → first b ≡ true → IsWord first (take_while is_word_byte (b ∷ bytes)) (drop (prefix_len is_word_byte (b ∷ bytes)) (b ∷ bytes))
 is_word_front first b bytes w h =
@@ -194,7 +219,7 @@ step n text shorter at b bytes ts l (Has kind count) fits means e =
     subst (Reads text at (b ∷ bytes)) r.2
     (with_token text at count (b ∷ bytes) kind r.0 fits.1 means
     (shorter (at + count) (drop count (b ∷ bytes)) r.0 (omega (arith, fits.0, fits.1, length-drop count (b ∷ bytes))) (sym (after text count at b bytes fits) ∙ r.1)))
-step n text shorter at b bytes ts l (Bad fault) fits means e = cc
+step n text shorter at b bytes ts l (Bad fault before) fits means e = cc
 
 reads : (n : ℕ) (text : List ℕ) (at : ℕ) (bytes : List ℕ) (ts : List Token) → length bytes ≤ n → tokens text 0 at bytes ≡ Ok ts → Reads text at bytes ts
 reads n text at [] ts l e = let k : token_at text End at 0 ∷ [] ≡ ts = cc in subst (Reads text at []) k (ends at)

@@ -57,7 +57,7 @@ identifier (b ∷ bytes) rest w =
 
 spelt : (kind : TokenKind) (bytes rest : List ℕ) → IsText kind bytes rest → IsSpelt kind
 spelt (token.Name name) bytes rest h = subst (λ x. is_identifier x ≡ true) (sym h.2) (identifier bytes rest h.0)
-spelt (token.Number l) bytes rest h = number-fits bytes l h.1
+spelt (token.Number l) bytes rest h = number-fits bytes l h.2
 spelt (token.Word w) bytes rest h = tt
 spelt (token.Mark s) bytes rest h = tt
 spelt token.End bytes rest h = tt

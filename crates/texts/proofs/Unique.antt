@@ -1,5 +1,5 @@
 -- A text has one row: that of the definition.
-use Rattle.std.proofs.Common.{◌≡◌, ℕ, suc, ◌+◌, ◌-◌, ◌≤◌, List, [], ◌∷◌, ◌++◌, inl, inr, length, take, drop, Bool, true, false, cond, not, nat_lt, ◌&&◌, Option, Some, None, Ok, ap, refl, sym, subst, ◌∙◌, arith, length-append}
+use Rattle.std.proofs.Common.{◌≡◌, ℕ, suc, ◌+◌, ◌-◌, ◌≤◌, ◌<◌, zero, List, [], ◌∷◌, ◌++◌, inl, inr, length, take, drop, Bool, true, false, cond, not, nat_lt, ◌&&◌, Option, Some, None, Ok, ap, refl, sym, subst, ◌∙◌, arith, length-append}
 use Rattle.std.specs.Prelude.{codes}
 use Rattle.std.specs.List.{prefix_len, find, Contains}
 use Rattle.std.specs.Str.{bytes_eq}
@@ -7,10 +7,10 @@ use Rattle.std.proofs.lemmas.Bool.{cond_both, cond-true, cond-false, false≢tru
 use Rattle.std.proofs.lemmas.Bool.Decides.{Decides-eqb, nat_tests}
 use Rattle.std.proofs.lemmas.List.{take_at, drop_at}
 use Rattle.std.proofs.lemmas.Slice.Eq.{bytes_eq-Decides, starts_is}
-use Rattle.texts.specs.Numbers.{is_decimal_digit, number_of}
+use Rattle.texts.specs.Numbers.{is_decimal_digit}
 use Rattle.texts.specs.Reserved.{Reserved, reserved_words}
 use Rattle.texts.specs.Signs.{Sign, signs}
-use Rattle.texts.specs.Tokens.{TokenKind, Name, End, Word, Number, Mark, Token, Piece, Gap, Has, piece, next, tokens, tokens_of, token_at, in_front, begins_with, is_blank, is_letter, is_word_byte, is_line_feed, comment_end, comment_piece, number_piece, word_kind, sign_piece}
+use Rattle.texts.specs.Tokens.{TokenKind, Name, End, Word, Number, Mark, Token, Piece, Gap, Has, piece, next, tokens, tokens_of, token_at, in_front, begins_with, is_blank, is_letter, is_word_byte, is_line_feed, comment_end, comment_piece, comment_gap, gap_without, first_place, joins_lines, leaves_line, goes_on, number_before, number_piece, word_kind, sign_piece}
 use Rattle.texts.specs.Reading.{IsRun, IsWord, IsGap, blank, line_comment, comment, IsText, Reads, ends, gap, token}
 use Rattle.texts.proofs.Fits.{begins, both}
 use Rattle.texts.proofs.Reading.{same_two, found, not_found, one_of, longest, signs_fall, after}
@@ -38,10 +38,23 @@ abbrev Begins : (bytes rest : List ℕ) → Piece → Type 0
 Begins [] rest p = ⊥
 Begins (b ∷ bytes) rest p = piece b (b ∷ (bytes ++ rest)) ≡ p
 
+-- where none of the bytes passes, no place is found
+none_found : (test : List ℕ → Bool) (at n : ℕ) (bytes : List ℕ) → ((k : ℕ) → k < n → test (drop k bytes) ≡ false) → first_place test at n bytes ≡ None
+none_found test at zero bytes h = refl
+none_found test at (suc n) [] h = refl
+none_found test at (suc n) (b ∷ bytes) h = cond-false (test (b ∷ bytes)) _ _ (h 0 (omega arith)) ∙ none_found test (at + 1) n bytes (λ k l. h (suc k) (omega (arith, l)))
+
+gap_found : (test : List ℕ → Bool) (found count : ℕ) (all : List ℕ) → found ≡ count → ((k : ℕ) → k < count → test (drop k all) ≡ false) → gap_without test found all ≡ Gap count
+gap_found test found count all e h = ap (λ n. gap_without test n all) e ∙ ap (λ o. comment_gap o count) (none_found test 0 count all h)
+
 gap_back : (bytes rest : List ℕ) → IsGap bytes rest → Begins bytes rest (Gap (length bytes))
 gap_back _ _ (blank b rest h) = cond-true (is_blank b) _ _ h
-gap_back _ _ (line_comment line rest h) = ap Gap (omega (arith, run_back (λ b. not (is_line_feed b)) line rest h))
-gap_back _ _ (comment body rest h) = ap comment_piece (comment_back 0 2 body rest (h ∙ ap Some (omega arith))) ∙ ap Gap (omega (arith, length-append body (codes "*/")))
+gap_back _ _ (line_comment line rest h w) =
+    gap_found leaves_line _ (length (codes "//" ++ line)) (codes "//" ++ line ++ rest) (omega (arith, run_back (λ b. not (is_line_feed b)) line rest h)) w
+gap_back _ _ (comment body rest h w) =
+    let all = codes "/*" ++ body ++ codes "*/" ++ rest in
+    ap (comment_piece all) (comment_back 0 2 body rest (h ∙ ap Some (omega arith)))
+    ∙ gap_found joins_lines _ (length (codes "/*" ++ body ++ codes "*/")) all (omega (arith, length-append body (codes "*/"))) w
 
 -- no two entries of the tables are written alike
 abbrev differs : {X : Type 0} → List ℕ → List (List ℕ × X) → Bool
@@ -153,9 +166,11 @@ text_back (Number literal) (b ∷ bytes) rest t =
     let all : List ℕ = b ∷ (bytes ++ rest) in
     let n = run_back is_word_byte (b ∷ bytes) rest t.0.0 in
     let same = ap (λ n. take n all) n ∙ take_at (b ∷ bytes) rest (suc (length bytes)) refl in
+    let behind = ap (λ n. drop n all) n ∙ drop_at (b ∷ bytes) rest (suc (length bytes)) refl in
     cond-false (is_blank b) _ _ (digit b t.0.1).0 ∙ cond-false (is_letter b) _ _ (digit b t.0.1).1 ∙ cond-true (is_decimal_digit b) _ _ t.0.1
-    ∙ ap (λ xs. number_piece (number_of xs) (prefix_len is_word_byte all)) same
-    ∙ ap (λ r. number_piece r (prefix_len is_word_byte all)) t.1 ∙ ap (Has (Number literal)) n
+    ∙ ap (λ xs. number_piece (number_before xs (drop (prefix_len is_word_byte all) all)) (prefix_len is_word_byte all)) same
+    ∙ ap (λ xs. number_piece (number_before (b ∷ bytes) xs) (prefix_len is_word_byte all)) behind
+    ∙ ap (λ r. number_piece r (prefix_len is_word_byte all)) (cond-false (goes_on (b ∷ bytes) rest) _ _ t.1 ∙ t.2) ∙ ap (Has (Number literal)) n
 text_back (Mark sign) (b ∷ bytes) rest t =
     let p = both (not (is_blank b)) (not (is_letter b) && not (is_decimal_digit b)) (plain signs (b ∷ bytes, sign) signs_plain t.0) in
     let q = both (not (is_letter b)) (not (is_decimal_digit b)) p.1 in

@@ -1,5 +1,5 @@
 -- Certificates (ours): what is said of places, how often loops turn, and what shows each obligation.
-use Rattle.std.specs.Prelude.{ℕ, ℤ, List, Option}
+use Rattle.std.specs.Prelude.{ℕ, ℤ, List, Option, None, Some}
 use Rattle.semantics.specs.Linear.{Form}
 
 pub data Dimension : Type 0 where
@@ -77,11 +77,17 @@ pub record Certificate : Type 0 where
   pub bounds : List Bound
   pub entries : List Entry
 
--- why a text is no certificate: a bad line, or another version
+-- why a text is no certificate: a line of this number says nothing, or the certificate is of another version
 pub data CertificateFault : Type 0 where
-  BadLine OtherVersion : CertificateFault
+  BadLine : (line : ℕ) → CertificateFault
+  OtherVersion : CertificateFault
 
 -- the number that each is printed under
 abbrev pub certificate_fault_number : CertificateFault → ℕ
-certificate_fault_number BadLine = 50
+certificate_fault_number (BadLine line) = 50
 certificate_fault_number OtherVersion = 51
+
+-- and its line, where it has one
+abbrev pub certificate_fault_line : CertificateFault → Option ℕ
+certificate_fault_line (BadLine line) = Some line
+certificate_fault_line OtherVersion = None

@@ -8,7 +8,7 @@ use Rattle.texts.specs.CertificateForms.{then, number}
 use Rattle.texts.specs.CertificateDrafts.{Open, Draft, nothing_yet, add, Ended}
 
 abbrev pub Read : Type 0
-Read = Result Certificate (CertificateFault × ℕ)
+Read = Result Certificate CertificateFault
 
 -- nothing stands behind the line `end`
 abbrev pub is_ended : Open → Bool
@@ -16,10 +16,10 @@ is_ended Ended = true
 is_ended o = false
 
 abbrev pub finish : ℕ → Draft → List ℕ → Read
-finish n d rest = cond (is_ended d.opened && is_empty rest) (Ok d.settled) (Err (BadLine, n))
+finish n d rest = cond (is_ended d.opened && is_empty rest) (Ok d.settled) (Err (BadLine n))
 
 abbrev pub go_on : ℕ → Option Draft → (Draft → Read) → Read
-go_on n None go = Err (BadLine, n)
+go_on n None go = Err (BadLine n)
 go_on n (Some d) go = go d
 
 abbrev pub add_line : Draft → List ℕ → Option Draft
@@ -27,13 +27,13 @@ add_line d line = then (item_of (words line)) (add d)
 
 -- line after line, each with its number; what follows the last line feed is no line
 abbrev pub read_lines : ℕ → Draft → List (List ℕ) → Read
-read_lines n d [] = Err (BadLine, n)
+read_lines n d [] = Err (BadLine n)
 read_lines n d (line ∷ others) =
     cond (is_empty others) (finish n d line) (go_on n (add_line d line) (λ e. read_lines (suc n) e others))
 
 -- `certificate 1` begins a text: with another number that is of another version
 abbrev pub head_of_version : Option ℤ → Option CertificateFault
-head_of_version None = Some BadLine
+head_of_version None = Some (BadLine 1)
 head_of_version (Some version) = cond (int_eq version (pos 1)) None (Some OtherVersion)
 
 abbrev pub version_of : List (List ℕ) → Option ℤ
@@ -44,16 +44,16 @@ head_fault words = head_of_version (version_of words)
 
 abbrev pub unless : Option CertificateFault → Read → Read
 unless None read = read
-unless (Some fault) read = Err (fault, 1)
+unless (Some fault) read = Err fault
 
 abbrev pub read_text : List (List ℕ) → Read
-read_text [] = Err (BadLine, 1)
-read_text (line ∷ others) = cond (is_empty others) (Err (BadLine, 1)) (unless (head_fault (words line)) (read_lines 2 nothing_yet others))
+read_text [] = Err (BadLine 1)
+read_text (line ∷ others) = cond (is_empty others) (Err (BadLine 1)) (unless (head_fault (words line)) (read_lines 2 nothing_yet others))
 
 -- the longest text of a certificate, in bytes
 abbrev pub certificate_limit : ℕ
 certificate_limit = 16777216
 
--- what a text says: its certificate, or its first fault and the number of the line
+-- what a text says: its certificate, or its first fault
 abbrev pub certificate_of : List ℕ → Read
-certificate_of text = cond (nat_lt certificate_limit (length text)) (Err (BadLine, 1)) (read_text (pieces line_feed text))
+certificate_of text = cond (nat_lt certificate_limit (length text)) (Err (BadLine 1)) (read_text (pieces line_feed text))

@@ -1,32 +1,37 @@
 -- A text as a row of blanks, comments and tokens: what the tokens of a text are, in the grammar's own words. Each
 -- definition speaks of some bytes of a text, and of the `rest` that follows them there.
-use Rattle.std.specs.Prelude.{◌≡◌, ◌≢◌, ℕ, ◌+◌, ◌<◌, ◌≤◌, List, [], ◌∷◌, ◌++◌, length, take, Bool, true, false, not, Some, Ok, codes, slice_index_or}
+use Rattle.std.specs.Prelude.{◌≡◌, ◌≢◌, ℕ, ◌+◌, ◌<◌, ◌≤◌, List, [], ◌∷◌, ◌++◌, length, take, drop, Bool, true, false, not, Some, Ok, codes, slice_index_or}
 use Rattle.std.specs.List.{prefix_len, Contains, count_by, suffix_len}
 use Rattle.texts.specs.Reserved.{Reserved, reserved_words}
 use Rattle.texts.specs.Signs.{Sign, signs}
 use Rattle.texts.specs.Numbers.{is_decimal_digit, number_of}
-use Rattle.texts.specs.Tokens.{TokenKind, Name, End, Word, Number, Mark, Token, token_at, site_of, is_blank, is_letter, is_line_feed, is_word_byte, begins_with, comment_end}
+use Rattle.texts.specs.Tokens.{TokenKind, Name, End, Word, Number, Mark, Token, token_at, site_of, is_blank, is_letter, is_line_feed, is_word_byte, begins_with, comment_end, joins_lines, leaves_line, goes_on}
 
 -- all bytes pass, and the first of the rest, where there is one, does not: no longer front passes
 abbrev pub IsRun : (test : ℕ → Bool) → (bytes rest : List ℕ) → Type 0
 IsRun test bytes rest = (prefix_len test bytes ≡ length bytes) × (prefix_len test rest ≡ 0)
 
--- a blank; a comment up to a line feed or the end of the text; a comment up to the first `*/`
+-- at none of these bytes do the bytes from there on pass
+abbrev pub IsWithout : (test : List ℕ → Bool) → (bytes rest : List ℕ) → Type 0
+IsWithout test bytes rest = (k : ℕ) → k < length bytes → test (drop k (bytes ++ rest)) ≡ false
+
+-- a blank; a comment up to a line feed or the end of the text, where compilers end it too; a comment up to the first `*/`, in which
+-- no lines are joined
 pub data IsGap : (bytes rest : List ℕ) → Type 0 where
   blank : (b : ℕ) (rest : List ℕ) → is_blank b ≡ true → IsGap (b ∷ []) rest
-  line_comment : (line rest : List ℕ) → IsRun (λ b. not (is_line_feed b)) line rest → IsGap (codes "//" ++ line) rest
-  comment : (body rest : List ℕ) → comment_end 0 (body ++ codes "*/") ≡ Some (length body + 2) → IsGap (codes "/*" ++ body ++ codes "*/") rest
+  line_comment : (line rest : List ℕ) → IsRun (λ b. not (is_line_feed b)) line rest → IsWithout leaves_line (codes "//" ++ line) rest → IsGap (codes "//" ++ line) rest
+  comment : (body rest : List ℕ) → comment_end 0 (body ++ codes "*/") ≡ Some (length body + 2) → IsWithout joins_lines (codes "/*" ++ body ++ codes "*/") rest → IsGap (codes "/*" ++ body ++ codes "*/") rest
 
 -- word bytes, as many as there are, the first of which passes
 abbrev pub IsWord : (first : ℕ → Bool) → (bytes rest : List ℕ) → Type 0
 IsWord first bytes rest = IsRun is_word_byte bytes rest × (first (slice_index_or bytes 0 0) ≡ true)
 
--- the bytes of a token: a word or number has all word bytes that follow; a sign is the longest that stands here, and no
--- comment begins here
+-- the bytes of a token: a word or number has all word bytes that follow, and no sign behind a number is part of it; a sign is
+-- the longest that stands here, and no comment begins here
 abbrev pub IsText : TokenKind → (bytes rest : List ℕ) → Type 0
 IsText (Name name) bytes rest = IsWord is_letter bytes rest × ((word : Reserved) → ¬ (Contains reserved_words (bytes, word))) × (name ≡ bytes)
 IsText (Word word) bytes rest = IsWord is_letter bytes rest × Contains reserved_words (bytes, word)
-IsText (Number literal) bytes rest = IsWord is_decimal_digit bytes rest × (number_of bytes ≡ Ok literal)
+IsText (Number literal) bytes rest = IsWord is_decimal_digit bytes rest × (goes_on bytes rest ≡ false) × (number_of bytes ≡ Ok literal)
 IsText (Mark sign) bytes rest =
     Contains signs (bytes, sign)
     × ((other : List ℕ × Sign) → Contains signs other → begins_with (bytes ++ rest) other.0 ≡ true → length other.0 ≤ length bytes)

@@ -1,6 +1,6 @@
 -- Which names are visible, and what they stand for (C99 6.2.1). Ours: a visible name is not declared again, and a name is not visible
 -- in its own initialiser.
-use Rattle.std.specs.Prelude.{ℕ, List, [], ◌∷◌, ◌++◌, length, Bool, true, false, not, cond, ◌||◌, Option, Some, None, is_some, bytes_eq, codes}
+use Rattle.std.specs.Prelude.{ℕ, List, [], ◌∷◌, ◌++◌, length, Bool, true, false, not, cond, ◌||◌, ◌&&◌, nat_eq, nat_le, Option, Some, None, is_some, bytes_eq, codes}
 use Rattle.semantics.specs.Word.{Kind}
 use Rattle.semantics.specs.Core.{Site, Array, Global, Local}
 use Rattle.semantics.specs.Launch.{LocalArray}
@@ -45,9 +45,15 @@ reserved_names =
     ∷ codes "get_num_groups" ∷ codes "reqd_work_group_size" ∷ codes "get_work_dim" ∷ codes "CLK_LOCAL_MEM_FENCE"
     ∷ codes "CLK_GLOBAL_MEM_FENCE" ∷ codes "min" ∷ codes "max" ∷ codes "barrier" ∷ []
 
--- a declaration's name is neither visible nor reserved
+-- names that belong to the compiler, which may have a macro of that name (C99 7.1.3): two underscores, or one and a capital letter
+abbrev pub is_compilers : List ℕ → Bool
+is_compilers [] = false
+is_compilers (a ∷ []) = false
+is_compilers (a ∷ b ∷ rest) = nat_eq a 95 && (nat_eq b 95 || (nat_le 65 b && nat_le b 90))
+
+-- a declaration's name is not visible, not reserved and not the compiler's
 abbrev pub may_declare : Scope → List ℕ → Bool
-may_declare scope name = not (is_some (meaning_of scope.visible name) || is_one_of reserved_names name)
+may_declare scope name = not (is_some (meaning_of scope.visible name) || (is_one_of reserved_names name || is_compilers name))
 
 abbrev pub bind : Scope → List ℕ → Meaning → Scope
 bind scope name meaning = record scope { visible = scope.visible ++ record { name = name; meaning = meaning } ∷ [] }

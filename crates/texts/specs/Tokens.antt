@@ -1,12 +1,12 @@
 -- The tokens of a text: one definition reads every list of bytes, as tokens or as the first fault in it
 -- (C99 6.4 with the tokens of OpenCL 1.2 that this profile keeps; the limit and the faults are ours).
-use Rattle.std.specs.Prelude.{ℕ, zero, suc, ◌+◌, ◌-◌, List, [], ◌∷◌, ◌++◌, length, take, drop, Bool, cond, nat_eq, nat_lt, nat_le, ◌&&◌, ◌||◌, Option, Some, None, Result, Ok, Err, fold, codes}
+use Rattle.std.specs.Prelude.{ℕ, zero, suc, ◌+◌, ◌-◌, List, [], ◌∷◌, ◌++◌, length, take, drop, Bool, true, cond, nat_eq, nat_lt, nat_le, ◌&&◌, ◌||◌, Option, Some, None, Result, Ok, Err, fold, codes, slice_index_or, not}
 use Rattle.std.specs.List.{prefix_len, position_or_len, take_while, starts_with, find}
 use Rattle.std.specs.Str.{bytes_eq}
 pub use Rattle.semantics.specs.Core.{Site}
 use Rattle.texts.specs.Signs.{Sign, signs}
 use Rattle.texts.specs.Reserved.{Reserved, reserved_words}
-use Rattle.texts.specs.Faults.{TextFault, BadByte, OpenComment, TextTooLong}
+use Rattle.texts.specs.Faults.{TextFault, BadByte, OpenComment, BadNumber, TextTooLong}
 use Rattle.texts.specs.Numbers.{Literal, is_decimal_digit, number_of}
 
 -- what a token is: a name has its bytes; `End` stands at the end of each text
@@ -52,6 +52,14 @@ is_line_feed b = nat_eq b 10
 abbrev pub is_letter : ℕ → Bool
 is_letter b = (nat_le 97 b && nat_le b 122) || ((nat_le 65 b && nat_le b 90) || nat_eq b 95)
 
+-- what an exponent begins with (C99 6.4.8): the language has none
+abbrev pub is_exponent : ℕ → Bool
+is_exponent b = (nat_eq b 101 || nat_eq b 69) || (nat_eq b 112 || nat_eq b 80)
+
+-- `+` or `-`
+abbrev pub is_sum_sign : ℕ → Bool
+is_sum_sign b = nat_eq b 43 || nat_eq b 45
+
 -- what a name, a reserved word or a number goes on with (C99 6.4.2.1, 6.4.8)
 abbrev pub is_word_byte : ℕ → Bool
 is_word_byte b = is_letter b || is_decimal_digit b
@@ -65,42 +73,87 @@ abbrev pub comment_end : (at : ℕ) → List ℕ → Option ℕ
 comment_end at [] = None
 comment_end at (b ∷ bytes) = cond (begins_with (b ∷ bytes) (codes "*/")) (Some (at + 2)) (comment_end (at + 1) bytes)
 
--- what stands at the front of a text, with the number of its bytes
+-- what a compiler passes over between a `\` and its line's end: space, tab, vertical tab, form feed and the byte 0
+abbrev pub is_padding : ℕ → Bool
+is_padding b = (nat_eq b 32 || nat_eq b 9) || (nat_eq b 11 || (nat_eq b 12 || nat_eq b 0))
+
+-- nothing else stands up to a line feed, a carriage return or the text's end
+abbrev pub is_line_over : List ℕ → Bool
+is_line_over [] = true
+is_line_over (b ∷ bytes) = (nat_eq b 10 || nat_eq b 13) || (is_padding b && is_line_over bytes)
+
+-- a compiler joins the next line to this one: at a `\`, or at the trigraph `??/` for it, that ends its line (C99 5.1.1.2p1)
+abbrev pub joins_lines : List ℕ → Bool
+joins_lines bytes = (begins_with bytes (92 ∷ []) && is_line_over (drop 1 bytes)) || (begins_with bytes (codes "??/") && is_line_over (drop 3 bytes))
+
+-- a carriage return that no line feed follows: compilers end a line there
+abbrev pub is_lone_return : List ℕ → Bool
+is_lone_return bytes = begins_with bytes (13 ∷ []) && not (begins_with bytes (13 ∷ 10 ∷ []))
+
+-- where a compiler reads a line comment otherwise than up to its line feed
+abbrev pub leaves_line : List ℕ → Bool
+leaves_line bytes = joins_lines bytes || is_lone_return bytes
+
+-- the first of `count` places where the bytes from there on pass, where the first of them is at the offset `at`
+abbrev pub first_place : (test : List ℕ → Bool) → (at count : ℕ) → List ℕ → Option ℕ
+first_place test at zero bytes = None
+first_place test at (suc count) [] = None
+first_place test at (suc count) (b ∷ bytes) = cond (test (b ∷ bytes)) (Some at) (first_place test (at + 1) count bytes)
+
+-- what stands at the front of a text, with the number of its bytes, or of those before its fault
 pub data Piece : Type 0 where
   Gap : (count : ℕ) → Piece
   Has : (kind : TokenKind) (count : ℕ) → Piece
-  Bad : (fault : TextFault) → Piece
+  Bad : (fault : TextFault) (before : ℕ) → Piece
+
+-- a comment in which a compiler reads on otherwise is a fault there
+abbrev pub comment_gap : (place : Option ℕ) → (count : ℕ) → Piece
+comment_gap None count = Gap count
+comment_gap (Some at) count = Bad BadByte at
+
+-- a comment of so many bytes, in which nothing passes
+abbrev pub gap_without : (test : List ℕ → Bool) → (count : ℕ) → List ℕ → Piece
+gap_without test count bytes = comment_gap (first_place test 0 count bytes) count
 
 -- a comment that nothing ends is a fault (C99 6.4.9)
-abbrev pub comment_piece : Option ℕ → Piece
-comment_piece None = Bad OpenComment
-comment_piece (Some count) = Gap count
+abbrev pub comment_piece : List ℕ → Option ℕ → Piece
+comment_piece bytes None = Bad OpenComment 0
+comment_piece bytes (Some count) = gap_without joins_lines count bytes
 
 -- a word is reserved where it is in the table, else a name
 abbrev pub word_kind : (word : List ℕ) → Option (List ℕ × Reserved) → TokenKind
 word_kind word None = Name word
 word_kind word (Some entry) = Word entry.1
 
+-- a sign behind a number that ends in `e` or `p` is part of it (C99 6.4.8)
+abbrev pub goes_on : (word rest : List ℕ) → Bool
+goes_on word rest = is_exponent (slice_index_or word (length word - 1) 0) && is_sum_sign (slice_index_or rest 0 0)
+
+-- and such a number is none
+abbrev pub number_before : (word rest : List ℕ) → Result Literal TextFault
+number_before word rest = cond (goes_on word rest) (Err BadNumber) (number_of word)
+
 -- a word that is no number is a fault
 abbrev pub number_piece : Result Literal TextFault → (count : ℕ) → Piece
 number_piece (Ok literal) count = Has (Number literal) count
-number_piece (Err fault) count = Bad fault
+number_piece (Err fault) count = Bad fault 0
 
 -- what is nothing else is a sign or a fault
 abbrev pub sign_piece : Option (List ℕ × Sign) → Piece
-sign_piece None = Bad BadByte
+sign_piece None = Bad BadByte 0
 sign_piece (Some entry) = Has (Mark entry.1) (length entry.0)
 
 -- the piece at the front of bytes of which b is the first (C99 6.4p4: the longest). Names, reserved words and numbers
 -- take all word bytes that follow, so a digit followed by letters is one number, well spelt or not; a line comment ends
--- before its line feed (6.4.9); of the signs the first in the table is taken, which is the longest
+-- before its line feed (6.4.9), and a comment in which a compiler would read on otherwise is a fault; of the signs the first
+-- in the table is taken, which is the longest
 abbrev pub piece : ℕ → List ℕ → Piece
 piece b bytes =
     cond (is_blank b) (Gap 1) (
     cond (is_letter b) (Has (word_kind (take_while is_word_byte bytes) (find (λ entry. bytes_eq entry.0 (take_while is_word_byte bytes)) reserved_words)) (prefix_len is_word_byte bytes)) (
-    cond (is_decimal_digit b) (number_piece (number_of (take_while is_word_byte bytes)) (prefix_len is_word_byte bytes)) (
-    cond (begins_with bytes (codes "//")) (Gap (position_or_len is_line_feed bytes)) (
-    cond (begins_with bytes (codes "/*")) (comment_piece (comment_end 2 (drop 2 bytes))) (
+    cond (is_decimal_digit b) (number_piece (number_before (take_while is_word_byte bytes) (drop (prefix_len is_word_byte bytes) bytes)) (prefix_len is_word_byte bytes)) (
+    cond (begins_with bytes (codes "//")) (gap_without leaves_line (position_or_len is_line_feed bytes) bytes) (
+    cond (begins_with bytes (codes "/*")) (comment_piece bytes (comment_end 2 (drop 2 bytes))) (
     sign_piece (find (λ entry. begins_with bytes entry.0) signs))))))
 
 -- tokens before all that was read
@@ -112,11 +165,11 @@ in_front front (Err e) = Err e
 abbrev pub token_at : (text : List ℕ) → TokenKind → (at count : ℕ) → Token
 token_at text kind at count = record { kind = kind; start = at; stop = at + count; site = site_of text at }
 
--- a piece, and then what `go` reads after that many more bytes are passed over
+-- a piece, and then what `go` reads after that many more bytes are passed over; or a fault, at its own byte
 abbrev pub next : (text : List ℕ) → Piece → (at : ℕ) → (ℕ → Lexed) → Lexed
 next text (Gap count) at go = go (count - 1)
 next text (Has kind count) at go = in_front (token_at text kind at count ∷ []) (go (count - 1))
-next text (Bad fault) at go = Err (fault, site_of text at)
+next text (Bad fault before) at go = Err (fault, site_of text (at + before))
 
 -- piece after piece: `skip` bytes belong to the piece before, and the bytes left begin at the offset `at` of the text
 abbrev pub tokens : (text : List ℕ) (skip at : ℕ) → List ℕ → Lexed

@@ -1,5 +1,5 @@
 -- What the code's answers stand for.
-use Rattle.std.specs.Prelude.{◌≡◌, Result, Ok, Err}
+use Rattle.std.specs.Prelude.{◌≡◌, ℕ, Option, None, Some, Result, Ok, Err}
 use Rattle.semantics.specs.Core as core
 use Rattle.semantics.specs.Word as word
 use Rattle.texts.specs.TypeFaults as rules
@@ -25,6 +25,15 @@ fault faults.ArrayInBlock = rules.ArrayInBlock
 fault faults.LoadInCompoundIndex = rules.LoadInCompoundIndex
 fault faults.BarrierFlags = rules.BarrierFlags
 fault faults.LeftOutWord = rules.LeftOutWord
+
+-- the number that an error is printed under, and its place, where it has one
+abbrev pub error_number : TypeError → ℕ
+error_number (errors.At f s) = rules.type_fault_number (fault f)
+error_number errors.Memory = 90
+
+abbrev pub error_place : TypeError → Option (ℕ × ℕ)
+error_place (errors.At f s) = Some (s.line, s.column)
+error_place errors.Memory = None
 
 -- an error is the definition's, unless memory was refused
 abbrev pub Refuses : {A : Type 0} → TypeError → Checked A → Type 0

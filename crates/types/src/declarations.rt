@@ -38,11 +38,22 @@ fn is_reserved(name: &str) -> bool
     )
 }
 
-/// Whether a declaration may take the name: it is neither visible nor reserved.
+/// A name that belongs to the compiler, which may have a macro of that name (C99 7.1.3).
+fn is_compilers(name: &str) -> bool
+    ensures { result ≡ scoping.is_compilers name.now }
+{
+    match name.as_bytes() {
+        [first, second, ..] => *first == b'_'
+            && (*second == b'_' || 65 <= *second && *second <= 90),
+        _ => false,
+    }
+}
+
+/// Whether a declaration may take the name: it is not visible, not reserved and not the compiler's.
 pub fn may_declare(scope: &Scope, name: &str) -> bool
     ensures { result ≡ scoping.may_declare (scope_seen scope.now) name.now }
 {
-    meaning_of(&scope.visible, name).is_none() && !is_reserved(name)
+    meaning_of(&scope.visible, name).is_none() && !is_reserved(name) && !is_compilers(name)
 }
 
 impl<'a> Scope<'a> {

@@ -49,6 +49,30 @@ pub enum TypeError {
     Memory,
 }
 
+impl TypeError {
+    ghost use Rattle.types.specs.Answers.{error_number, error_place};
+
+    /// The number that it is printed under.
+    pub fn number(&self) -> u8
+        ensures { result ≡ error_number self.now }
+    {
+        match self {
+            TypeError::At { fault, .. } => fault.number(),
+            TypeError::Memory => 90,
+        }
+    }
+
+    /// The line and the column of what breaks the rule.
+    pub fn place(&self) -> Option<(u32, u32)>
+        ensures { result ≡ error_place self.now }
+    {
+        match self {
+            TypeError::At { site, .. } => Some((site.line, site.column)),
+            TypeError::Memory => None,
+        }
+    }
+}
+
 impl From<AllocError> for TypeError {
     ghost use Rattle.types.specs.declared.error.TypeError.TheVariants.{Memory};
 

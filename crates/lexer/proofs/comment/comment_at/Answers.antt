@@ -1,7 +1,7 @@
 use Rattle.std.proofs.Common.{◌∙◌, sym}
 use Rattle.std.proofs.lemmas.List.{take_rest}
 use Rattle.lexer.proofs.Pieces.{comment_more}
-use Rattle.lexer.proofs.comment_at.Goals as goal
+use Rattle.lexer.proofs.comment.comment_at.Goals as goal
 
 pub loop-i-preserved : goal.loop-i-preserved
 loop-i-preserved c =

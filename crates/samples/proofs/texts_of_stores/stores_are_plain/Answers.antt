@@ -1,0 +1,7 @@
+use Rattle.samples.proofs.StoresRead.{stores_read, plain_there}
+use Rattle.samples.specs.Stores.{stores, kernel_of}
+use Rattle.reading.specs.Kernels.{read}
+use Rattle.samples.proofs.texts_of_stores.stores_are_plain.Goals as goal
+
+pub returns : goal.returns
+returns c = record { text = c.bytes_are_the_text_of_what_is_read.ensures stores (kernel_of (read stores)) stores_read; plain = plain_there }

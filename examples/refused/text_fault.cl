@@ -1,0 +1,3 @@
+__kernel __attribute__((reqd_work_group_size(64, 1, 1))) void scale(__global float *a) {
+  a[get_global_id(0)] = 1u;
+}

@@ -36,3 +36,8 @@ passed (Err e) x P h p = subst P (sym h) p
 pub matched : {T E : Type 0} (r : Result T E) (P P' : T → Type 0) (Q Q' : E → Type 0) → ((t : T) → P t → P' t) → ((e : E) → Q e → Q' e) → MatchResult r P Q → MatchResult r P' Q'
 matched (Ok t) P P' Q Q' f g m = f t m
 matched (Err e) P P' Q Q' f g m = g e m
+
+-- the same of an error alone
+pub erred : {T E : Type 0} (r : Result T E) (Q Q' : E → Type 0) → ((e : E) → Q e → Q' e) → IfErr r Q → IfErr r Q'
+erred (Ok t) Q Q' g m = m
+erred (Err e) Q Q' g m = g e m

@@ -1,6 +1,6 @@
 //! The facts of what is to be shown.
 
-ghost use Rattle.std.specs.Prelude.{◌≡◌, ◌++◌, ◌∷◌, [], ◌<◌, ◌≤◌, ◌⊎◌, MatchResult, pos, length, take};
+ghost use Rattle.std.specs.Prelude.{◌≡◌, ◌++◌, ◌∷◌, [], ◌<◌, ◌≤◌, ◌⊎◌, MatchResult, IfErr, pos, length, take};
 ghost use Rattle.linear.specs.Forms.{form as form_seen, forms};
 ghost use Rattle.domain.specs.Members.{leaves};
 ghost use Rattle.facts.specs.Elements as elements;
@@ -99,6 +99,26 @@ fn push_order(alloc: Global, facts: &mut Vec<Form>, pair: Pair) -> Result<(), Wa
     let fact = order_fact(alloc, pair)?;
     facts.push(fact)?;
     Ok(())
+}
+
+/// The indexes of a pair have differences of `i64`, or an error.
+pub fn try_differences<D: Copy>(
+    alloc: Global,
+    first: &Path<D>,
+    second: &Path<D>,
+    pair: Pair,
+) -> Result<(), WalkError>
+    requires first { pair.first < length first.now.accesses.items }
+    requires second { pair.second < length second.now.accesses.items }
+    ensures { IfErr result (λ e. IsUnfitPair e (pair_seen (seen_accesses first.now) (seen_accesses second.now) pair)) }
+{
+    let mut facts = Vec::new(alloc);
+    push_equals(
+        alloc,
+        &mut facts,
+        index_of(first, pair.first),
+        index_of(second, pair.second),
+    )
 }
 
 /// The facts of a pair, which are to be impossible.
@@ -207,6 +227,14 @@ fn push_denial(alloc: Global, facts: &mut Vec<Form>, form: &Form) -> Result<(), 
     let denial = number_less(alloc, -1, form)?;
     facts.push(denial)?;
     Ok(())
+}
+
+/// What denies that a form is at least 0 is of `i64`, or an error.
+pub fn try_denial(alloc: Global, form: &Form) -> Result<(), WalkError>
+    ensures { IfErr result (λ e. IsUnfit e (symbols.denial (form_seen form.now))) }
+{
+    let mut facts = Vec::new(alloc);
+    push_denial(alloc, &mut facts, form)
 }
 
 /// The facts of a claim, which are to be impossible with its denial.

@@ -18,7 +18,7 @@ ghost use Rattle.two_thread.specs.Refusals.{IsInside, DoNotFit};
 ghost use Rattle.two_thread.specs.Shown.{obligations};
 ghost use Rattle.two_thread.specs.Unfound.{IsUnwalked};
 
-use crate::clashing::{claim_facts, is_apart, pair_facts};
+use crate::clashing::{claim_facts, is_apart, pair_facts, try_denial, try_differences};
 use crate::pairs::{Pair, all_pairs, spot_of};
 use core_code::tree::Core;
 use domain::Domain;
@@ -88,8 +88,8 @@ impl<D: Domain> Obligations<D> {
     ghost use Rattle.two_thread.specs.Unfound.{IsUnwalked};
     ghost use Rattle.two_thread.specs.Listed.{listed, nth_obligation, made_fit, flagged, maybe_spot};
 
-    /// All that is to be shown of a kernel, where the obligations that are flagged have an entry.
-    pub fn find(
+    /// All that is to be shown of a kernel, whether or not its forms are of `i64`.
+    fn gather(
         alloc: Global,
         core: &Core,
         conditions: &Conditions,
@@ -115,6 +115,49 @@ impl<D: Domain> Obligations<D> {
             second,
             pairs,
         })
+    }
+
+    /// A form that is made of the obligation of a number, what denies a claim or a difference of a pair's indexes, is of `i64`.
+    fn try_forms_of(&self, alloc: Global, number: usize) -> Result<(), WalkError>
+        requires first { 0 < number }
+        requires last { number ≤ length (listed D.Domain self.now) }
+        ensures { IfErr result (DoNotFit (made_fit self.now)) }
+    {
+        let i = number - 1;
+        let claims = self.first.claims.len();
+        if i < claims {
+            let claim = &self.first.claims[i];
+            return try_denial(alloc, &claim.form);
+        }
+        let pair = self.pairs[i - claims];
+        try_differences(alloc, &self.first, &self.second, pair)
+    }
+
+    /// All such forms are, or an error.
+    fn try_forms(&self, alloc: Global) -> Result<(), WalkError>
+        ensures { IfErr result (DoNotFit (made_fit self.now)) }
+    {
+        for i in 0..self.len() {
+            self.try_forms_of(alloc, i + 1)?;
+        }
+        Ok(())
+    }
+
+    /// All that is to be shown of a kernel, where the obligations that are flagged have an entry. A form that is not of `i64` is refused
+    /// here, before an obligation is looked at.
+    pub fn find(
+        alloc: Global,
+        core: &Core,
+        conditions: &Conditions,
+        entries: Vec<bool>,
+    ) -> Result<Obligations<D>, WalkError>
+        ensures listed { IfOk result (λ o. listed D.Domain o ≡ obligations D.Domain (core_seen core.now) (conditions_seen conditions.now) (flagged entries.items)) }
+        ensures fits { IfOk result (λ o. made_fit o ≡ false → forms_fit D.Domain (core_seen core.now) (conditions_seen conditions.now) (flagged entries.items) ≡ false) }
+        ensures unwalked { IfErr result (IsUnwalked D.Domain (core_seen core.now) (conditions_seen conditions.now) (flagged entries.items)) }
+    {
+        let found = Obligations::gather(alloc, core, conditions, entries)?;
+        found.try_forms(alloc)?;
+        Ok(found)
     }
 
     /// How many there are.

@@ -20,7 +20,7 @@ use Rattle.two_thread.specs.Listed.{seen_claims, flagged}
 use Rattle.facts.proofs.Unmade.{passed}
 use Rattle.two_thread.proofs.Walked.{first_unwalked, second_unwalked, many_found, unfit_found}
 use Rattle.two_thread.proofs.Collecting.{setting_is, found_is, pairs_are, all_are, pairs_from-map}
-use Rattle.two_thread.proofs.obligations.Obligations.find.Goals as goal
+use Rattle.two_thread.proofs.obligations.Obligations.gather.Goals as goal
 
 pub returns-clause-listed : goal.returns-clause-listed
 returns-clause-listed g c =

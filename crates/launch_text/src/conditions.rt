@@ -1,7 +1,8 @@
 //! Conditions of their text.
 
-ghost use Rattle.std.specs.Prelude.{◌≡◌, ◌*◌, [], map};
+ghost use Rattle.std.specs.Prelude.{◌≡◌, ◌≤◌, ◌*◌, [], map, length};
 ghost use Rattle.words.specs.View.{kind as kind_of, value_of};
+ghost use Rattle.texts.specs.Declarations.{most_names};
 ghost use Rattle.texts.specs.ConditionsReading as meaning;
 ghost use Rattle.syntax.specs.View.{parameter as parameter_of};
 ghost use Rattle.launch_text.specs.Answers.{cursor, read, same, Gives};
@@ -132,6 +133,7 @@ fn length_line<'a>(
     kind: Kind,
     name: &str,
 ) -> Result<(Length, Cursor<'a>), LaunchTextError>
+    requires { length parameters.now ≤ most_names }
     ensures { Gives (read view.length) result (meaning.length_line (map parameter_of parameters.now) (kind_of kind) name.now (cursor at.entry)) }
 {
     let after = due_parameter(at, Form::Conditions, "length", parameters, name)?;
@@ -150,6 +152,7 @@ fn length_lines<'a>(
     at: Cursor<'a>,
     parameters: &[Parameter],
 ) -> Result<(Vec<Length>, Cursor<'a>), LaunchTextError>
+    requires { length parameters.now ≤ most_names }
     ensures { Gives (read view.lengths) result (meaning.length_lines (map parameter_of parameters.now) (cursor at.entry)) }
 {
     let mut lengths = Vec::new(alloc);
@@ -172,6 +175,7 @@ fn requirement_line<'a>(
     at: Cursor<'a>,
     parameters: &[Parameter],
 ) -> Result<(Requirement, Cursor<'a>), LaunchTextError>
+    requires { length parameters.now ≤ most_names }
     ensures { Gives (read view.requirement) result (meaning.requirement_line (map parameter_of parameters.now) (cursor at.entry)) }
 {
     let after = due_blank(at, Form::Conditions, "require")?;
@@ -191,6 +195,7 @@ fn requirement_lines<'a>(
     at: Cursor<'a>,
     parameters: &[Parameter],
 ) -> Result<(Vec<Requirement>, Cursor<'a>), LaunchTextError>
+    requires { length parameters.now ≤ most_names }
     ensures { Gives (read view.requirements) result (meaning.requirement_lines (map parameter_of parameters.now) 16 [] (cursor at.entry)) }
 {
     let mut requirements = Vec::new(alloc);
@@ -223,6 +228,7 @@ fn conditions<'a>(
     at: Cursor<'a>,
     parameters: &[Parameter],
 ) -> Result<Conditions, LaunchTextError>
+    requires { length parameters.now ≤ most_names }
     ensures { Gives view.lined result (meaning.conditions_at (map parameter_of parameters.now) (cursor at.entry)) }
 {
     let head = head_line(at, Form::Conditions, "conditions")?;
@@ -248,6 +254,7 @@ pub fn conditions_of(
     parameters: &[Parameter],
     text: &[u8],
 ) -> Result<Conditions, LaunchTextError>
+    requires { length parameters.now ≤ most_names }
     ensures { Gives view.lined result (meaning.conditions_of (map parameter_of parameters.now) text.now) }
 {
     if text.len() > CONDITIONS_LIMIT {

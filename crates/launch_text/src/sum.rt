@@ -1,9 +1,10 @@
 //! Sums of a conditions text.
 
-ghost use Rattle.std.specs.Prelude.{◌≡◌, ◌∷◌, [], map, drop, length, pos, MatchOption};
+ghost use Rattle.std.specs.Prelude.{◌≡◌, ◌≤◌, ◌∷◌, [], map, drop, length, pos, MatchOption};
 ghost use Rattle.words.specs.View.{value_of};
 ghost use Rattle.launch.specs.Numbers.{number as number_seen};
 ghost use Rattle.launch.specs.View.{summand, sum as sum_seen};
+ghost use Rattle.texts.specs.Declarations.{most_names};
 ghost use Rattle.texts.specs.LaunchSums as meaning;
 ghost use Rattle.syntax.specs.View.{parameter as parameter_of};
 ghost use Rattle.launch_text.specs.Answers.{cursor, read, Gives};
@@ -26,7 +27,8 @@ const ONE: Number = Number {
 };
 
 /// Which of the value parameters has a name, counted from 0.
-fn value_number(parameters: &[Parameter], word: &[u8]) -> Option<usize>
+fn value_number(parameters: &[Parameter], word: &[u8]) -> Option<u32>
+    requires { length parameters.now ≤ most_names }
     ensures { result ≡ meaning.value_number 0 (map parameter_of parameters.now) word.now }
 {
     let mut before = 0;
@@ -47,18 +49,15 @@ fn argument<'a>(
     parameters: &[Parameter],
     factor: Number,
 ) -> Result<(Summand, Cursor<'a>), LaunchTextError>
+    requires { length parameters.now ≤ most_names }
     ensures { Gives (read summand) result (meaning.argument_at (map parameter_of parameters.now) (number_seen factor) (cursor at.entry)) }
 {
     let (word, after) = name(at)?;
-    let Some(number) = value_number(parameters, word) else {
+    let Some(parameter) = value_number(parameters, word) else {
         if is_known(parameters, word) {
             return Err(after.refused(LaunchFault::Expected));
         }
         return Err(after.refused(LaunchFault::UnknownName));
-    };
-    // More value parameters than 32 bits count would need more memory than there is.
-    let Ok(parameter) = u32::try_from(number) else {
-        return Err(LaunchTextError::Memory);
     };
     Ok((Summand::Argument { factor, parameter }, after))
 }
@@ -69,6 +68,7 @@ fn symbol<'a>(
     parameters: &[Parameter],
     factor: Number,
 ) -> Result<(Summand, Cursor<'a>), LaunchTextError>
+    requires { length parameters.now ≤ most_names }
     ensures { Gives (read summand) result (meaning.symbol_at (map parameter_of parameters.now) (number_seen factor) (cursor at.entry)) }
 {
     if let Some(after) = at.strip("groups.0") {
@@ -100,6 +100,7 @@ fn term<'a>(
     at: Cursor<'a>,
     parameters: &[Parameter],
 ) -> Result<(Summand, Cursor<'a>), LaunchTextError>
+    requires { length parameters.now ≤ most_names }
     ensures { Gives (read summand) result (meaning.term_at (map parameter_of parameters.now) (cursor at.entry)) }
 {
     if !begins_number(at.rest) {
@@ -118,6 +119,7 @@ pub fn sum<'a>(
     at: Cursor<'a>,
     parameters: &[Parameter],
 ) -> Result<(Sum, Cursor<'a>), LaunchTextError>
+    requires { length parameters.now ≤ most_names }
     ensures { Gives (read sum_seen) result (meaning.sum_at (map parameter_of parameters.now) 8 [] (cursor at.entry)) }
 {
     let mut terms = Vec::new(alloc);

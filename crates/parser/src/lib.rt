@@ -4,9 +4,11 @@
 //! the tree that the definition in `specs/` reads, or the fault that it names at its place.
 #![tactic(auto)]
 
+ghost use Rattle.std.specs.Prelude.{IfOk};
 ghost use Rattle.syntax.specs.View.{kernel as kernel_seen};
 ghost use Rattle.parser.specs.View.{lexemes};
 ghost use Rattle.parser.specs.Parsed.{parsed, Gives, Measures};
+ghost use Rattle.texts.specs.Declarations.{HasFewNames};
 ghost use Rattle.texts.specs.Limits.{within_limits};
 
 pub(crate) mod counts;
@@ -53,9 +55,10 @@ fn measure(kernel: &Kernel) -> Result<Counts, (ParseFault, Site)>
 
 /// The kernel that the tokens are, the last of them `End`; else a fault and its place: that of the token where another is due, of a
 /// bracket, node or name past a limit.
-#[tactic(auto, unfolding(crate::specs::Parsed::parsed))]
+#[tactic(auto, using(texts::proofs::Declarations::few_names), unfolding(crate::specs::Parsed::parsed))]
 pub fn parse(alloc: Global, tokens: &[Token]) -> Result<Kernel, ParseError>
-    ensures { Gives result (parsed (lexemes tokens.now)) }
+    ensures value { Gives result (parsed (lexemes tokens.now)) }
+    ensures few { IfOk result (λ k. HasFewNames (kernel_seen k)) }
 {
     let kernel = match whole_kernel(alloc, tokens) {
         Ok((kernel, _)) => kernel,

@@ -15,3 +15,4 @@ pub mod ItemsWritten
 pub mod CertificateWritten
 pub mod Endings
 pub mod Spellings
+pub mod Declarations

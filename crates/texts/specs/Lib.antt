@@ -15,6 +15,7 @@ pub mod ParseFaults
 pub mod KernelGrammar
 pub mod Limits
 pub mod KernelLimits
+pub mod Declarations
 pub mod Ended
 pub mod Lines
 pub mod Certificate

@@ -1,9 +1,12 @@
 //! Tokens: `tokens_of` is a function, so a text has one reading. These laws say what that reading is.
 
 ghost use Rattle.std.specs.Prelude.{◌≡◌, ◌≤◌, ℕ, List, length, Ok};
+ghost use Rattle.texts.specs.Declarations.{HasFewNames};
 ghost use Rattle.texts.specs.Ended.{EndsOnce, IsShort};
 ghost use Rattle.texts.specs.Lexemes.{lexemes};
+ghost use Rattle.texts.specs.Limits.{Counts, within_limits};
 ghost use Rattle.texts.specs.Spelling.{AreSpelt};
+ghost use Rattle.texts.specs.Surface.{Kernel};
 ghost use Rattle.texts.specs.Tokens.{Token, tokens_of};
 ghost use Rattle.texts.specs.Reading.{Reads, IsInOrder, IsCounted};
 
@@ -40,4 +43,10 @@ pub fn a_text_has_one_reading()
 #[tactic(auto, using(crate::proofs::Sites::counted))]
 pub fn sites_are_counted()
     ensures { (text : List ℕ) (at : ℕ) → at ≤ length text → IsCounted text at }
+{}
+
+/// A kernel within the limits declares at most 96 names.
+#[tactic(auto, using(crate::proofs::Declarations::few_names))]
+pub fn a_kernel_within_the_limits_has_few_names()
+    ensures { (k : Kernel) (c : Counts) → within_limits k ≡ Ok c → HasFewNames k }
 {}

@@ -1,6 +1,7 @@
 //! The typing of kernels.
 
 ghost use Rattle.std.specs.Prelude.{◌≡◌, IfOk};
+ghost use Rattle.texts.specs.Declarations.{HasFewNames};
 ghost use Rattle.texts.specs.Elaboration.{elaborate as elaborates};
 ghost use Rattle.syntax.specs.View.{kernel as tree_seen};
 ghost use Rattle.core_code.specs.View.{kernel as core_seen};
@@ -14,6 +15,7 @@ use syntax::tree::Kernel;
 
 /// The kernel with its core, where it is well typed, or its first broken rule with its place.
 pub fn check_types(alloc: Global, tree: Kernel) -> Result<Typed, TypeError>
+    requires { HasFewNames (tree_seen tree) }
     ensures core { Gives (λ t. core_seen t.1) result (elaborates (tree_seen tree)) }
     ensures tree { IfOk result (λ t. t.0 ≡ tree) }
 {

@@ -9,6 +9,7 @@ ghost use Rattle.syntax.specs.View.{parameter as parameter_of};
 ghost use Rattle.core_code.specs.View.{site};
 ghost use Rattle.types.specs.Names.{scope_seen, meaning_seen};
 ghost use Rattle.types.specs.Answers.{Gives};
+ghost use Rattle.types.specs.Rooms.{HasRoom};
 
 use crate::error::{TypeError, TypeFault};
 use crate::scope::{Binding, Meaning, Scope, meaning_of};
@@ -78,12 +79,11 @@ impl<'a> Scope<'a> {
         name: &'a str,
         kind: Kind,
     ) -> Result<u32, TypeError>
+        requires { HasRoom (scope_seen self.old) 1 }
         ensures scope { Gives (λ _. scope_seen self.new) result (scoping.declare_variable (scope_seen self.old) (site at) name.now (kind_of kind)) }
         ensures slot { IfOk result (λ slot. slot ≡ length self.old.slots.items) }
     {
-        let Ok(slot) = u32::try_from(self.slots.len()) else {
-            return Err(TypeError::Memory);
-        };
+        let slot = self.slots.len() as u32;
         self.bind(at, name, Meaning::Variable { slot, kind })?;
         self.slots.push(kind)?;
         Ok(slot)
@@ -97,14 +97,12 @@ impl<'a> Scope<'a> {
         kind: Kind,
         constant: bool,
     ) -> Result<(), TypeError>
+        requires { HasRoom (scope_seen self.old) 1 }
         ensures { Gives (λ _. scope_seen self.new) result (scoping.declare_buffer (scope_seen self.old) (site at) name.now (kind_of kind) constant) }
     {
-        let Ok(number) = u32::try_from(self.buffers.len()) else {
-            return Err(TypeError::Memory);
-        };
         let array = Array {
             space: Space::Global,
-            number,
+            number: self.buffers.len() as u32,
         };
         let meaning = Meaning::Array {
             array,
@@ -124,14 +122,12 @@ impl<'a> Scope<'a> {
         kind: Kind,
         length: u32,
     ) -> Result<(), TypeError>
+        requires { HasRoom (scope_seen self.old) 1 }
         ensures { Gives (λ _. scope_seen self.new) result (scoping.declare_array (scope_seen self.old) (site at) name.now (kind_of kind) length) }
     {
-        let Ok(number) = u32::try_from(self.arrays.len()) else {
-            return Err(TypeError::Memory);
-        };
         let array = Array {
             space: Space::Local,
-            number,
+            number: self.arrays.len() as u32,
         };
         let meaning = Meaning::Array {
             array,
@@ -144,6 +140,7 @@ impl<'a> Scope<'a> {
     }
 
     fn declare_parameter(&mut self, parameter: &'a Parameter) -> Result<(), TypeError>
+        requires { HasRoom (scope_seen self.old) 1 }
         ensures { Gives (λ _. scope_seen self.new) result (elaboration.declare_parameter (scope_seen self.old) (parameter_of parameter.now)) }
     {
         match parameter {
@@ -166,6 +163,7 @@ impl<'a> Scope<'a> {
 
     /// Declares the parameters, from left to right.
     pub fn declare_parameters(&mut self, parameters: &'a [Parameter]) -> Result<(), TypeError>
+        requires { HasRoom (scope_seen self.old) (length parameters.now) }
         ensures { Gives (λ _. scope_seen self.new) result (elaboration.declare_parameters (scope_seen self.old) (map parameter_of parameters.now)) }
     {
         for parameter in parameters {

@@ -2,6 +2,7 @@
 
 ghost use Rattle.std.specs.Prelude.{◌≡◌, ℕ};
 ghost use Rattle.semantics.specs.Core as core;
+ghost use Rattle.texts.specs.Declarations.{declared_first};
 ghost use Rattle.texts.specs.Elaboration as elaboration;
 ghost use Rattle.texts.specs.Surface as surface;
 ghost use Rattle.words.specs.View.{kind as kind_of};
@@ -9,6 +10,7 @@ ghost use Rattle.syntax.specs.View.{declaration, first as first_of};
 ghost use Rattle.core_code.specs.View.{site as site_of};
 ghost use Rattle.types.specs.Names.{scope_seen, one_seen};
 ghost use Rattle.types.specs.Answers.{Gives};
+ghost use Rattle.types.specs.Rooms.{HasRoom};
 
 use crate::assignments::elaborate_assignment;
 use crate::error::{TypeError, TypeFault};
@@ -26,6 +28,7 @@ pub fn elaborate_declaration<'a>(
     scope: &mut Scope<'a>,
     d: &'a Declaration,
 ) -> Result<Statement, TypeError>
+    requires { HasRoom (scope_seen scope.old) 1 }
     ensures { Gives (one_seen scope.new) result (elaboration.elaborate_declaration (scope_seen scope.old) (declaration d.now)) }
 {
     let value = type_of(alloc, &scope.visible, &d.value)?;
@@ -43,6 +46,7 @@ pub fn elaborate_first<'a>(
     scope: &mut Scope<'a>,
     first: &'a First,
 ) -> Result<Statement, TypeError>
+    requires { HasRoom (scope_seen scope.old) (declared_first (first_of first.now)) }
     ensures { Gives (one_seen scope.new) result (elaboration.elaborate_first (scope_seen scope.old) (first_of first.now)) }
 {
     match first {
@@ -62,6 +66,7 @@ pub fn declare_local<'a>(
     kind: Kind,
     length: u32,
 ) -> Result<(), TypeError>
+    requires { HasRoom (scope_seen scope.old) 1 }
     ensures { (n : ℕ) → Gives (λ _. elaboration.elaborated core.none (scope_seen scope.new)) result (elaboration.elaborate_statement top (scope_seen scope.old) (surface.DeclareArray n (site_of site) (kind_of kind) (site_of name_site) name.now length)) }
 {
     if !top {

@@ -1,6 +1,7 @@
 //! Kernels.
 
 ghost use Rattle.std.specs.Prelude.{◌≡◌, drop};
+ghost use Rattle.texts.specs.Declarations.{HasFewNames};
 ghost use Rattle.texts.specs.Elaboration as elaboration;
 ghost use Rattle.syntax.specs.View.{kernel as tree_of};
 ghost use Rattle.core_code.specs.View.{kernel};
@@ -28,6 +29,7 @@ fn behind(kinds: &[Kind], first: usize) -> &[Kind]
 /// The core of a kernel, or its first broken rule: of its parameters, then of its statements.
 #[tactic(auto, unfolding(texts::specs::Elaboration::elaborate))]
 pub fn elaborate(alloc: Global, tree: &Kernel) -> Result<Core, TypeError>
+    requires { HasFewNames (tree_of tree.now) }
     ensures { Gives kernel result (elaboration.elaborate (tree_of tree.now)) }
 {
     let mut scope = Scope {

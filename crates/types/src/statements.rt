@@ -1,7 +1,8 @@
 //! Statements.
 
-ghost use Rattle.std.specs.Prelude.{◌≡◌, Bool, Ok};
+ghost use Rattle.std.specs.Prelude.{◌≡◌, ◌+◌, Bool, Ok};
 ghost use Rattle.semantics.specs.Core as core;
+ghost use Rattle.texts.specs.Declarations.{declared_first, declared_in, declared_by};
 ghost use Rattle.texts.specs.Elaboration as elaboration;
 ghost use Rattle.texts.specs.Surface as surface;
 ghost use Rattle.texts.specs.Scope as scoping;
@@ -11,6 +12,7 @@ ghost use Rattle.core_code.specs.View.{term, statement, statements};
 ghost use Rattle.types.specs.Blocks.{behind, block, otherwise, repeated};
 ghost use Rattle.types.specs.Names.{scope_seen, one_seen, all_seen};
 ghost use Rattle.types.specs.Answers.{Gives};
+ghost use Rattle.types.specs.Rooms.{HasRoom};
 
 use crate::assignments::elaborate_assignment;
 use crate::barriers::barrier_of;
@@ -32,6 +34,7 @@ pub fn elaborate_all<'a>(
     body: &'a [Stmt],
     out: &mut Vec<Statement>,
 ) -> Result<(), TypeError>
+    requires { HasRoom (scope_seen scope.old) (declared_by (stmts body.now)) }
     ensures { Gives (λ _. all_seen out.new.items scope.new) result (behind (statements out.old.items) (elaboration.elaborate_all top (scope_seen scope.old) (stmts body.now))) }
 {
     for s in body {
@@ -48,6 +51,7 @@ fn elaborate_block<'a>(
     body: &'a [Stmt],
     out: &mut Vec<Statement>,
 ) -> Result<(), TypeError>
+    requires { HasRoom (scope_seen scope.old) (declared_by (stmts body.now)) }
     ensures { Gives (λ _. all_seen out.new.items scope.new) result (behind (statements out.old.items) (block (scope_seen scope.old) (stmts body.now))) }
 {
     let outside = scope.visible.len();
@@ -66,6 +70,7 @@ fn elaborate_else<'a>(
     test: Term,
     taken: Vec<Statement>,
 ) -> Result<Statement, TypeError>
+    requires { HasRoom (scope_seen scope.old) (declared_by (stmts skipped.now)) }
     ensures { Gives (one_seen scope.new) result (otherwise (scope_seen scope.old) number (term test) (statements taken.items) (stmts skipped.now)) }
 {
     let mut inside = Vec::new(alloc);
@@ -87,6 +92,7 @@ fn elaborate_while<'a>(
     number: u32,
     test: &Expr,
 ) -> Result<Statement, TypeError>
+    requires { HasRoom (scope_seen scope.old) (declared_by (stmts body.now)) }
     ensures { (top : Bool) (at : core.Site) → Gives (one_seen scope.new) result (elaboration.elaborate_statement top (scope_seen scope.old) (surface.While number at (expression test.now) (stmts body.now))) }
 {
     let test = type_of(alloc, &scope.visible, test)?;
@@ -130,6 +136,7 @@ fn elaborate_repeated<'a>(
     test: &Expr,
     update: &Assignment,
 ) -> Result<Statement, TypeError>
+    requires { HasRoom (scope_seen scope.old) (declared_by (stmts body.now)) }
     ensures { Gives (one_seen scope.new) result (repeated (scope_seen scope.old) number (expression test.now) (assignment update.now) (stmts body.now)) }
 {
     let test = type_of(alloc, &scope.visible, test)?;
@@ -151,6 +158,7 @@ fn elaborate_for<'a>(
     test: &Expr,
     update: &Assignment,
 ) -> Result<(), TypeError>
+    requires { HasRoom (scope_seen scope.old) (declared_first (first_of first.now) + declared_by (stmts body.now)) }
     ensures { (top : Bool) (at : core.Site) → Gives (λ _. all_seen out.new.items scope.new) result (behind (statements out.old.items) (elaboration.elaborate_statement top (scope_seen scope.old) (surface.For number at (first_of first.now) (expression test.now) (assignment update.now) (stmts body.now)))) }
 {
     let outside = scope.visible.len();
@@ -178,6 +186,7 @@ fn elaborate_statement<'a>(
     s: &'a Stmt,
     out: &mut Vec<Statement>,
 ) -> Result<(), TypeError>
+    requires { HasRoom (scope_seen scope.old) (declared_in (stmt s.now)) }
     ensures { Gives (λ _. all_seen out.new.items scope.new) result (behind (statements out.old.items) (elaboration.elaborate_statement top (scope_seen scope.old) (stmt s.now))) }
 {
     match s {

@@ -1,6 +1,7 @@
 //! Well-typed kernels.
 
 ghost use Rattle.std.specs.Prelude.{◌≡◌, Ok};
+ghost use Rattle.texts.specs.Declarations.{HasFewNames};
 ghost use Rattle.texts.specs.Elaboration.{elaborate as elaborates};
 ghost use Rattle.syntax.specs.View.{kernel as tree_seen};
 ghost use Rattle.core_code.specs.View.{kernel as core_seen};
@@ -9,7 +10,7 @@ use core_code::tree::Core;
 use std::marker::Model;
 use syntax::tree::Kernel;
 
-/// A kernel's tree with its core, which is what the tree elaborates to.
+/// A kernel's tree with its core, which is what the tree elaborates to. It has few names.
 #[derive(Drop)]
 pub struct Typed {
     tree: Kernel,
@@ -19,6 +20,7 @@ pub struct Typed {
 impl Model for Typed {
     ghost use Rattle.std.specs.Prelude.{◌≡◌, Ok};
     ghost use Rattle.std.specs.Coded.{codes};
+    ghost use Rattle.texts.specs.Declarations.{HasFewNames};
     ghost use Rattle.texts.specs.Elaboration.{elaborate as elaborates};
     ghost use Rattle.syntax.specs.View.{kernel as tree_seen};
     ghost use Rattle.syntax.specs.contracts.tree.Kernel as tree_type;
@@ -33,13 +35,14 @@ impl Model for Typed {
 
     ghost view = { λ t. (t.tree, t.core) };
 
-    ghost invariant = { λ t. elaborates (tree_seen t.tree) ≡ Ok (core_seen t.core) };
+    ghost invariant = { λ t. (elaborates (tree_seen t.tree) ≡ Ok (core_seen t.core)) × HasFewNames (tree_seen t.tree) };
 }
 
 impl Typed {
     /// A tree with the core that it elaborates to, as the caller has shown.
     pub fn new(tree: Kernel, core: Core) -> Typed
-        requires { elaborates (tree_seen tree) ≡ Ok (core_seen core) }
+        requires typed { elaborates (tree_seen tree) ≡ Ok (core_seen core) }
+        requires few { HasFewNames (tree_seen tree) }
         ensures { result ≡ (tree, core) }
     {
         Typed { tree, core }
@@ -49,6 +52,7 @@ impl Typed {
     pub fn kernel(&self) -> &Kernel
         ensures value { result.now ≡ self.now.0 }
         ensures typed { elaborates (tree_seen self.now.0) ≡ Ok (core_seen self.now.1) }
+        ensures few { HasFewNames (tree_seen self.now.0) }
     {
         &self.tree
     }

@@ -1,6 +1,7 @@
 use Rattle.std.proofs.Common.{ap, sym, ◌∙◌, ◌≡◌, arith, rules, length, false, string_bytes, Ok, refl}
 use Rattle.std.proofs.lemmas.Grind.{common_steps}
-use Rattle.semantics.specs.Core.{Loop}
+use Rattle.semantics.specs.Core.{Loop, none}
+use Rattle.texts.specs.Declarations.{declared_in}
 use Rattle.texts.specs.Surface.{DeclareArray}
 use Rattle.words.specs.View.{kind}
 use Rattle.texts.specs.Elaboration.{elaborated, single, elaborate_statement, elaborate_assignment, barrier_of}
@@ -11,20 +12,30 @@ use Rattle.types.specs.Names.{scope_seen, one_seen, all_seen}
 use Rattle.core_code.specs.View.{term, statement, statements}
 use Rattle.types.specs.Answers.{typed_term}
 use Rattle.types.proofs.Blocks.{all-done, all-step, gives-behind, gives-alone, if-taken, if-refused, otherwise-done, while-done, repeated-done, for-done, for-first, for-repeated, behind-two, block-done}
+use Rattle.types.proofs.Rooms.{statement-grown, first-grown, block-grown, next-room, if-declares, while-declares, for-declares, block-declares}
 use Rattle.types.proofs.Names.{names-left, for-left, names-kept}
 use Rattle.core_code.proofs.Rows as core_rows
 use Rattle.core_code.proofs.Rows.{seen_loop}
+use Rattle.syntax.specs.declared.tree.Stmt.{size-Stmt}
+use Rattle.syntax.specs.declared.tree.Stmt.TheViews.{sized-If, sized-While, sized-For, sized-Block}
 use Rattle.types.proofs.statements.+statements.Goals as goal
 
 pub elaborate_all-loop-s-preserved : goal.elaborate_all-loop-s-preserved
 elaborate_all-loop-s-preserved t c =
-    let k = all-step c.args.top (statements c.loop-s.out.items) (scope_seen c.loop-s.scope) c.args.body.now c.loop-s.s-index c.s-item.result c.loop-s-test.true c.s-item.is in
+    let sc = scope_seen c.loop-s.scope in
+    let out = statements c.loop-s.out.items in
+    let k = all-step c.args.top out sc c.args.body.now c.loop-s.s-index c.s-item.result c.loop-s-test.true c.s-item.is in
     let k' = rw c.in_ok-elaborate_statement.ensures at k in
-    sym k' ∙ c.loop-s.invariant
+    let after = c.elaborate_statement.new in
+    let g = statement-grown c.args.top sc (stmt c.s-item.result) out (all_seen after.out.items after.scope) c.in_ok-elaborate_statement.ensures in
+    record {
+      room = omega (arith, c.loop-s.invariant.room, g, next-room c.args.body.now c.loop-s.s-index c.s-item.result c.loop-s-test.true c.s-item.is);
+      same = sym k' ∙ c.loop-s.invariant.same;
+    }
 
 pub elaborate_all-returns : goal.elaborate_all-returns
 elaborate_all-returns t c =
-    sym c.loop-s.invariant ∙ all-done c.args.top (statements c.loop-s.out.items) (scope_seen c.loop-s.scope) c.args.body.now c.loop-s.s-index c.loop-s-test.false
+    sym c.loop-s.invariant.same ∙ all-done c.args.top (statements c.loop-s.out.items) (scope_seen c.loop-s.scope) c.args.body.now c.loop-s.s-index c.loop-s-test.false
 
 pub elaborate_statement-returns-in-DeclareArray : goal.elaborate_statement-returns-in-DeclareArray
 elaborate_statement-returns-in-DeclareArray t c =
@@ -139,3 +150,41 @@ elaborate_repeated-returns t c =
     let x = Loop c.args.number (term c.in_ok-test.test.term) (statements after.out.items) (single (statement c.in_ok-update.update)) in
     rw (repeated-done (scope_seen c.args.scope.now) c.args.number (expression c.args.test.now) (assignment c.args.update.now) (stmts c.args.body.now) (typed_term c.in_ok-test.test) (statement c.in_ok-update.update) (all_seen after.out.items after.scope) p c.in_ok-update.ensures q)
     (gives-alone c.loop_with.result (Ok x) (scope_seen after.scope) c.loop_with.ensures)
+
+pub elaborate_for-elaborate_repeated-requires : goal.elaborate_for-elaborate_repeated-requires
+elaborate_for-elaborate_repeated-requires t c =
+    let g = first-grown (scope_seen c.args.scope.now) (first_of c.args.first.now) (one_seen c.elaborate_first.new.scope c.in_ok-elaborate_first.field-0) c.in_ok-elaborate_first.ensures in
+    omega (arith, c.requires, g)
+
+pub elaborate_statement-elaborate_block-requires : goal.elaborate_statement-elaborate_block-requires
+elaborate_statement-elaborate_block-requires t c =
+    let e = ap (λ s. declared_in (stmt s)) c.in-If.is ∙ if-declares c.in-If.number c.in-If.site c.in-If.test c.in-If.taken c.in-If.skipped in
+    let d = ap size-Stmt c.in-If.is ∙ sized-If c.in-If.number c.in-If.site c.in-If.test c.in-If.taken c.in-If.skipped in
+    rw c.deref-in-If.ensures.value (omega (arith, d, c.decreases), omega (arith, c.requires, e))
+
+pub elaborate_statement-elaborate_else-requires : goal.elaborate_statement-elaborate_else-requires
+elaborate_statement-elaborate_else-requires t c =
+    let e = ap (λ s. declared_in (stmt s)) c.in-If.is ∙ if-declares c.in-If.number c.in-If.site c.in-If.test c.in-If.taken c.in-If.skipped in
+    let d = ap size-Stmt c.in-If.is ∙ sized-If c.in-If.number c.in-If.site c.in-If.test c.in-If.taken c.in-If.skipped in
+    let q = rw (c.new-inside.ensures.items, c.deref-in-If.ensures.value) at c.in_ok-elaborate_block-in-If.ensures in
+    let after = c.elaborate_block.new in
+    let g = block-grown (scope_seen c.args.scope.now) (stmts c.in-If.taken.items) none (all_seen after.out.items after.scope) q in
+    rw c.deref-in-If-2.ensures.value (omega (arith, d, c.decreases), omega (arith, c.requires, e, g))
+
+pub elaborate_statement-elaborate_while-requires : goal.elaborate_statement-elaborate_while-requires
+elaborate_statement-elaborate_while-requires t c =
+    let e = ap (λ s. declared_in (stmt s)) c.in-While.is ∙ while-declares c.in-While.number c.in-While.site c.in-While.test c.in-While.body in
+    let d = ap size-Stmt c.in-While.is ∙ sized-While c.in-While.number c.in-While.site c.in-While.test c.in-While.body in
+    rw c.deref-in-While.ensures.value (omega (arith, d, c.decreases), omega (arith, c.requires, e))
+
+pub elaborate_statement-elaborate_for-requires : goal.elaborate_statement-elaborate_for-requires
+elaborate_statement-elaborate_for-requires t c =
+    let e = ap (λ s. declared_in (stmt s)) c.in-For.is ∙ for-declares c.in-For.number c.in-For.site c.in-For.first c.in-For.test c.in-For.update c.in-For.body in
+    let d = ap size-Stmt c.in-For.is ∙ sized-For c.in-For.number c.in-For.site c.in-For.first c.in-For.test c.in-For.update c.in-For.body in
+    rw c.deref-in-For.ensures.value (omega (arith, d, c.decreases), omega (arith, c.requires, e))
+
+pub elaborate_statement-elaborate_block-requires-in-Block : goal.elaborate_statement-elaborate_block-requires-in-Block
+elaborate_statement-elaborate_block-requires-in-Block t c =
+    let e = ap (λ s. declared_in (stmt s)) c.in-Block.is ∙ block-declares c.in-Block.number c.in-Block.site c.in-Block.body in
+    let d = ap size-Stmt c.in-Block.is ∙ sized-Block c.in-Block.number c.in-Block.site c.in-Block.body in
+    rw c.deref-in-Block.ensures.value (omega (arith, d, c.decreases), omega (arith, c.requires, e))

@@ -16,7 +16,9 @@ use cert_check::check;
 use cert_check::error::{CheckError, Place};
 use executor::{RunError, run};
 use launch_text::error::LaunchTextError;
-use launch_text::laws::{what_is_read_of_a_launch_is_its_text, what_is_read_of_conditions_is_their_text};
+use launch_text::laws::{
+    what_is_read_of_a_launch_is_its_text, what_is_read_of_conditions_is_their_text,
+};
 use launch_text::{read_launch, write_buffers};
 use reading::laws::bytes_are_the_text_of_what_is_read;
 use refusal::Refusal;

@@ -176,7 +176,7 @@ const ROWS: &[(&str, &str, &str, &str)] = &[
         "kernel __attribute__((reqd_work_group_size(2, 1, 1))) void k(__global uint *a) { a[get_local_id(0)] = 1u; }\n",
         "conditions 1\ngroups 1..1 1..1 1..1\nlength a >= 2\nbudget 9\n",
         "certificate 2\n",
-        "51 1",
+        "51",
     ),
     (
         "__kernel __attribute__((reqd_work_group_size(4, 4, 1))) void k(__global uint *a) {\n\

@@ -9,7 +9,7 @@ use Rattle.cut_proof.specs.Derivations.{Forms}
 use Rattle.facts.specs.declared.error.WalkError.{WalkError}
 use Rattle.walk.specs.Trees.{Obligation}
 use Rattle.cert_check.specs.Entries.{entry_of, is_found, is_refuted, found_refutes, refutes_by}
-use Rattle.cert_check.specs.Lacking.{AllPass, AreFew, IsNumbered, IsStopped, Passes, Names, Lacks, PassesOf, Tells, TellsOf}
+use Rattle.cert_check.specs.Lacking.{AllPass, IsNumbered, IsStopped, Passes, TellsBy, Lacks, PassesOf, TellsOfList, TellsOf}
 use Rattle.two_thread.proofs.Listing.{at_place}
 use Rattle.cert_check.specs.declared.error.ShowError.{ShowError}
 use Rattle.cert_check.specs.declared.error.ShowError.TheVariants as errors
@@ -42,7 +42,7 @@ module _ (es : List Entry) (os : List Obligation) (d : Obligation) where
   first_lacks i (suc n) h p s = (get_or os i d, (i, omega (arith, s.0), h, at_place os i (get_or os i d) d h), s.1, λ m o l x. passes_at m o x (p x.0 (omega (arith, l, x.1, s.0))))
 
 -- an error says what follows of what it says
-pub named : (s t : ℕ → Type 0) (walk walk' : WalkError → Type 0) (e : ShowError) → ((n : ℕ) → s n → t n) → ((w : WalkError) → walk w → walk' w) → Names s walk e → Names t walk' e
+pub named : (s t : ℕ → Type 0) (walk walk' : WalkError → Type 0) (e : ShowError) → ((n : ℕ) → s n → t n) → ((w : WalkError) → walk w → walk' w) → TellsBy s walk e → TellsBy t walk' e
 named s t walk walk' (errors.NotShown n) f g h = f n h
 named s t walk walk' (errors.Walk e) f g h = g e h
 named s t walk walk' errors.OverBudget f g h = h
@@ -62,6 +62,6 @@ pub gains : {T E : Type 0} (P Q : Type 0) (r : Result T E) → Q → IfOk r (λ 
 gains P Q (Ok t) q p = (p, q)
 gains P Q (Err e) q p = tt
 
--- what is shown of few obligations is told of them
-pub told_few : (es : List Entry) (os : List Obligation) (walk walk' : WalkError → Type 0) (e : ShowError) → length os ≤ 65536 → ((w : WalkError) → walk w → walk' w) → Names (Lacks es os) walk e → Tells es os walk' e
-told_few es os walk walk' e l f t = named (Lacks es os) (λ n. AreFew os × Lacks es os n) walk walk' e (λ n s. (l, s)) f t
+-- what is shown of obligations that are listed is told of them
+pub told_listed : (es : List Entry) (listed : Type 0) (os : List Obligation) (walk walk' : WalkError → Type 0) (e : ShowError) → listed → ((w : WalkError) → walk w → walk' w) → TellsBy (Lacks es os) walk e → TellsOfList es listed os walk' e
+told_listed es listed os walk walk' e l f t = named (Lacks es os) (λ n. listed × Lacks es os n) walk walk' e (λ n s. (l, s)) f t

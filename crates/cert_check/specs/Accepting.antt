@@ -7,13 +7,13 @@ use Rattle.semantics.specs.Safety.{IsPairSafe}
 use Rattle.semantics.specs.Headline.{Headline}
 use Rattle.walk.specs.Straight as straight
 
-abbrev pub at : Kernel → Launch → Setup
-at k l = record { kernel = k; launch = l }
+abbrev pub at_launch : Kernel → Launch → Setup
+at_launch k l = record { kernel = k; launch = l }
 
 -- a work-group has work-items, and at each launch that meets the conditions the kernel is pair-safe within the budget
 pub record IsAccepted (k : Kernel) (c : Conditions) : Type 0 where
   pub has_items : 0 < product k.sizes
-  pub is_pair_safe : (l : Launch) → Fits k l → Meets c l → IsPairSafe (at k l) c.budget
+  pub is_pair_safe : (l : Launch) → Fits k l → Meets c l → IsPairSafe (at_launch k l) c.budget
 
 -- the conditions have the kernel's parameters; the kernel is a straight-line one, whose items take no more steps than the budget
 pub record IsStraightUnder (k : Kernel) (c : Conditions) : Type 0 where
@@ -24,4 +24,4 @@ pub record IsStraightUnder (k : Kernel) (c : Conditions) : Type 0 where
 
 -- and the headline holds there
 abbrev pub HasHeadline : Kernel → Conditions → Type 0
-HasHeadline k c = (l : Launch) → Fits k l → Meets c l → Headline (at k l) c.budget
+HasHeadline k c = (l : Launch) → Fits k l → Meets c l → Headline (at_launch k l) c.budget

@@ -6,6 +6,7 @@ use Rattle.domain.specs.declared.Domain.{Ghosts}
 use Rattle.texts.specs.Certificate.{Entry}
 use Rattle.walk.specs.Straight.{is_straight, steps}
 use Rattle.walk.specs.Trees.{Obligation}
+use Rattle.two_thread.specs.Fitting.{forms_fit}
 use Rattle.two_thread.specs.Shown.{obligations}
 use Rattle.two_thread.specs.Unfound as unfound
 use Rattle.facts.specs.declared.error.WalkError.{WalkError}
@@ -42,11 +43,11 @@ abbrev pub IsStopped : List Entry → (own : ℕ) → Obligation → (number : �
 IsStopped es own o n = (n ≡ own) × IsLacking es n o
 
 -- an error that comes of what is to be shown: `stops` is what its number says, `walk` what an error of a walk says
-abbrev pub Names : (stops : ℕ → Type 0) → (walk : WalkError → Type 0) → ShowError → Type 0
-Names stops walk (errors.NotShown n) = stops n
-Names stops walk (errors.Walk e) = walk e
-Names stops walk errors.OverBudget = ⊥
-Names stops walk errors.Memory = Unit {0}
+abbrev pub TellsBy : (stops : ℕ → Type 0) → (walk : WalkError → Type 0) → ShowError → Type 0
+TellsBy stops walk (errors.NotShown n) = stops n
+TellsBy stops walk (errors.Walk e) = walk e
+TellsBy stops walk errors.OverBudget = ⊥
+TellsBy stops walk errors.Memory = Unit {0}
 
 -- 0, where all pass and an entry is past the last obligation, or the number of the first that stops the check
 abbrev pub Lacks : List Entry → List Obligation → (number : ℕ) → Type 0
@@ -69,22 +70,22 @@ IsUnwalked g k c es = unfound.IsUnwalked g k c (has_entry es)
 abbrev pub HasObligations : Kernel → Type 0
 HasObligations k = (0 < product k.sizes) × (is_straight k ≡ true)
 
--- they are listed: there are 65,536 at most
-abbrev pub AreFew : List Obligation → Type 0
-AreFew os = length os ≤ 65536
+-- they are listed: there are 65,536 at most, and all forms that are made for them are of i64
+abbrev pub AreListed : {E : Type 0} → Ghosts E → Kernel → Conditions → List Entry → Type 0
+AreListed g k c es = (length (owing g k c es) ≤ 65536) × (forms_fit g k c (has_entry es) ≡ true)
 
 -- an error that comes of what is to be shown, once it is listed, or before that
-abbrev pub Tells : List Entry → List Obligation → (walk : WalkError → Type 0) → ShowError → Type 0
-Tells es os = Names (λ n. AreFew os × Lacks es os n)
+abbrev pub TellsOfList : List Entry → (listed : Type 0) → List Obligation → (walk : WalkError → Type 0) → ShowError → Type 0
+TellsOfList es listed os = TellsBy (λ n. listed × Lacks es os n)
 
--- of a kernel: nothing stops the check, and there are 65,536 obligations at most
+-- of a kernel: nothing stops the check, once they are listed
 abbrev pub PassesOf : {E : Type 0} → Ghosts E → Kernel → Conditions → List Entry → Type 0
-PassesOf g k c es = ArePassed es (owing g k c es) × AreFew (owing g k c es)
+PassesOf g k c es = ArePassed es (owing g k c es) × AreListed g k c es
 
 -- 0 also where a work-group has no work-items, or the kernel is not a straight-line one
 abbrev pub LacksOf : {E : Type 0} → Ghosts E → Kernel → Conditions → List Entry → (number : ℕ) → Type 0
-LacksOf g k c es zero = (product k.sizes ≡ 0) ⊎ ((is_straight k ≡ false) ⊎ (HasObligations k × AreFew (owing g k c es) × Lacks es (owing g k c es) zero))
-LacksOf g k c es (suc n) = HasObligations k × AreFew (owing g k c es) × Lacks es (owing g k c es) (suc n)
+LacksOf g k c es zero = (product k.sizes ≡ 0) ⊎ ((is_straight k ≡ false) ⊎ (HasObligations k × AreListed g k c es × Lacks es (owing g k c es) zero))
+LacksOf g k c es (suc n) = HasObligations k × AreListed g k c es × Lacks es (owing g k c es) (suc n)
 
 -- what an error tells of a kernel. The budget comes last: an item takes more steps than it has, and nothing else stops the check
 abbrev pub TellsOf : {E : Type 0} → Ghosts E → Kernel → Conditions → List Entry → ShowError → Type 0

@@ -3,6 +3,7 @@ use Rattle.std.specs.Prelude.{ℕ, Option, Some, None}
 use Rattle.reading.specs.Answers as reading
 use Rattle.launch_text.specs.Answers as conditions
 use Rattle.certificate.specs.Answers as certificates
+use Rattle.facts.specs.Numbers as walk_numbers
 use Rattle.facts.specs.declared.error.WalkError.{WalkError}
 use Rattle.facts.specs.declared.error.WalkError.TheVariants as walks
 use Rattle.cert_check.specs.declared.error.Place.{Place}
@@ -13,15 +14,9 @@ use Rattle.cert_check.specs.declared.error.CheckError.{CheckError}
 use Rattle.cert_check.specs.declared.error.CheckError.TheVariants as errors
 
 -- 90 is want of memory, everywhere
-abbrev pub walk_number : WalkError → ℕ
-walk_number walks.TooMany = 53
-walk_number walks.TooLarge = 54
-walk_number walks.Outside = 52
-walk_number walks.Memory = 90
-
 abbrev pub show_number : ShowError → ℕ
 show_number (shows.NotShown n) = 52
-show_number (shows.Walk e) = walk_number e
+show_number (shows.Walk e) = walk_numbers.error_number e
 show_number shows.OverBudget = 56
 show_number shows.Memory = 90
 

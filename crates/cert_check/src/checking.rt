@@ -17,7 +17,7 @@ ghost use Rattle.two_thread.specs.Shown.{IsShown};
 ghost use Rattle.certificate.specs.View.{entry as entry_seen};
 ghost use Rattle.cert_check.specs.Accepting.{IsAccepted, IsStraightUnder, HasHeadline};
 ghost use Rattle.cert_check.specs.Lacking as lacking;
-ghost use Rattle.cert_check.specs.Lacking.{owing, IsUnwalked, PassesOf, TellsOf};
+ghost use Rattle.cert_check.specs.Lacking.{owing, AreListed, IsUnwalked, PassesOf, TellsOf};
 ghost use Rattle.cert_check.specs.Refusing.{IsPassed, Tells};
 ghost use Rattle.cert_check.specs.Plainly.{OnPlain};
 ghost use Rattle.cert_check.specs.View.{typed_of, kept};
@@ -53,7 +53,7 @@ fn show_all<D: Domain>(
 ) -> Result<(), ShowError>
     ensures shown { IfOk result (λ _. All IsShown (owing D.Domain (core_seen core.now) (conditions_seen conditions.now) (map entry_seen entries.now))) }
     ensures passed { IfOk result (λ _. PassesOf D.Domain (core_seen core.now) (conditions_seen conditions.now) (map entry_seen entries.now)) }
-    ensures lacks { IfErr result (lacking.Tells (map entry_seen entries.now) (owing D.Domain (core_seen core.now) (conditions_seen conditions.now) (map entry_seen entries.now)) (IsUnwalked D.Domain (core_seen core.now) (conditions_seen conditions.now) (map entry_seen entries.now))) }
+    ensures lacks { IfErr result (lacking.TellsOfList (map entry_seen entries.now) (AreListed D.Domain (core_seen core.now) (conditions_seen conditions.now) (map entry_seen entries.now)) (owing D.Domain (core_seen core.now) (conditions_seen conditions.now) (map entry_seen entries.now)) (IsUnwalked D.Domain (core_seen core.now) (conditions_seen conditions.now) (map entry_seen entries.now))) }
 {
     let places = places_of(alloc, entries)?;
     let flags = flags_of(alloc, entries, places.as_slice())?;
@@ -106,8 +106,9 @@ fn accept<D: Domain>(
 }
 
 /// A kernel, launch conditions and a certificate, each by its text. What is accepted is pair-safe at each launch that meets the
-/// conditions, and the headline holds there. Parts refuse in this order: kernel, conditions, certificate, the obligations by their
-/// numbers, the budget.
+/// conditions, and the headline holds there. What is refused first, in this order: the kernel, the conditions, the certificate's text, what
+/// it tells of that the kernel lacks, over 65,536 obligations or a number that is too large, the obligations by their numbers, entries past
+/// the last of them, the budget.
 pub fn check(
     alloc: Global,
     kernel: &[u8],

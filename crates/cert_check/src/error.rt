@@ -45,18 +45,6 @@ pub enum CheckError {
     Show(ShowError),
 }
 
-/// The number of a walk's refusal.
-fn walk_number(error: &WalkError) -> u8
-    ensures { result ≡ numbers.walk_number error.now }
-{
-    match error {
-        WalkError::TooMany => 53,
-        WalkError::TooLarge => 54,
-        WalkError::Outside => 52,
-        WalkError::Memory => 90,
-    }
-}
-
 /// Where a walk's refusal points.
 fn walk_place(error: &WalkError) -> Option<Place>
     ensures { result ≡ numbers.walk_place error.now }
@@ -97,7 +85,7 @@ impl ShowError {
     {
         match self {
             ShowError::NotShown(_) => 52,
-            ShowError::Walk(error) => walk_number(error),
+            ShowError::Walk(error) => error.number(),
             ShowError::OverBudget => 56,
             ShowError::Memory => 90,
         }

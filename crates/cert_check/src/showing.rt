@@ -11,7 +11,7 @@ ghost use Rattle.certificate.specs.View.{scaled as scaled_seen, step as step_see
 ghost use Rattle.cut_proof.specs.View.{line as line_seen};
 ghost use Rattle.cert_check.specs.Entries as entries;
 ghost use Rattle.cert_check.specs.Entries.{IsTable, entry_of, has_entry, is_past};
-ghost use Rattle.cert_check.specs.Lacking.{ArePassed, IsStopped, Lacks, Names, Passes};
+ghost use Rattle.cert_check.specs.Lacking.{ArePassed, IsStopped, Lacks, TellsBy, Passes};
 
 use crate::error::ShowError;
 use certificate::tree::{Claim as Word, Entry, Scaled, Step};
@@ -151,7 +151,7 @@ fn show_one<D: Domain>(
     requires table { IsTable (map entry_seen entries.now) places.now }
     ensures shown { IfOk result (λ _. IsShown (nth_obligation (listed D.Domain found.now) number)) }
     ensures passes { IfOk result (λ _. Passes (map entry_seen entries.now) number (nth_obligation (listed D.Domain found.now) number)) }
-    ensures lacks { IfErr result (Names (IsStopped (map entry_seen entries.now) number (nth_obligation (listed D.Domain found.now) number)) (DoNotFit (made_fit found.now))) }
+    ensures lacks { IfErr result (TellsBy (IsStopped (map entry_seen entries.now) number (nth_obligation (listed D.Domain found.now) number)) (DoNotFit (made_fit found.now))) }
 {
     if found.is_settled(alloc, number)? {
         return Ok(());
@@ -191,7 +191,7 @@ pub fn show_found<D: Domain>(
     requires { IsTable (map entry_seen entries.now) places.now }
     ensures shown { IfOk result (λ _. All IsShown (listed D.Domain found.now)) }
     ensures passed { IfOk result (λ _. ArePassed (map entry_seen entries.now) (listed D.Domain found.now)) }
-    ensures lacks { IfErr result (Names (Lacks (map entry_seen entries.now) (listed D.Domain found.now)) (DoNotFit (made_fit found.now))) }
+    ensures lacks { IfErr result (TellsBy (Lacks (map entry_seen entries.now) (listed D.Domain found.now)) (DoNotFit (made_fit found.now))) }
 {
     let count = found.len();
     for i in 0..count {

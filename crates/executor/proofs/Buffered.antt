@@ -7,11 +7,11 @@ use Rattle.semantics.specs.Headline.{Headline}
 use Rattle.semantics.specs.Rounds.{logged, group_log, group_stores, result_of}
 use Rattle.semantics.proofs.Logs.{applied-log}
 use Rattle.launch.specs.declared.launches.Buffers.{Buffers}
-use Rattle.cert_check.specs.Accepting.{at}
+use Rattle.cert_check.specs.Accepting.{at_launch}
 use Rattle.write_log.specs.Written.{written, words_of, element}
 use Rattle.write_log.specs.declared.log.WriteLog.{WriteLog}
 use Rattle.write_log.proofs.Entries.{row-length}
-use Rattle.executor.specs.Stores.{at as cell}
+use Rattle.executor.specs.Ends.{buffer_cell as cell}
 use Rattle.executor.specs.Ends.{HasBuffers, IsResultOf, EndsEvery}
 
 rows-alike : (xs ys : List (List ℤ)) (b : ℕ) → map length xs ≡ map length ys → length (slice_index_or xs b []) ≡ length (slice_index_or ys b [])
@@ -38,7 +38,7 @@ group-more s bound g before after log h of_group elements lengths = subst (λ n.
 pub all-groups : (s : Setup) (bound g : ℕ) (b : List (List ℤ)) → g ≡ group_count s → HasBuffers s (result_of s bound g) b → IsResultOf s bound b
 all-groups s bound g b e h = subst (λ n. HasBuffers s (result_of s bound n) b) e h
 
-pub count-of : (k : Kernel) (l : Launch) → product l.groups ≡ group_count (at k l)
+pub count-of : (k : Kernel) (l : Launch) → product l.groups ≡ group_count (at_launch k l)
 unfolding group_count
 count-of k l = refl
 

@@ -18,7 +18,7 @@ use Rattle.words.specs.declared.word.Word as code
 use Rattle.walk.specs.Straight.{is_straight, is_straight_body, steps}
 use Rattle.facts.specs.Launching.{are_sizes}
 use Rattle.facts.proofs.Launched.{buffers-length}
-use Rattle.cert_check.specs.Accepting.{at}
+use Rattle.cert_check.specs.Accepting.{at_launch}
 use Rattle.executor.specs.Runs.{stores_by}
 use Rattle.executor.proofs.OneRound.{one-round}
 
@@ -38,18 +38,18 @@ body-of k h = (and_parts (are_sizes k.sizes) (is_straight_body (length k.argumen
 pub body-at : (k : Kernel) (ws : List code.Word) → is_straight k ≡ true → AllZip IsArgument k.arguments (map word ws) → is_straight_body (length ws) k.body ≡ true
 body-at k ws h a = subst (λ n. is_straight_body n k.body ≡ true) (sym (arguments-length k.arguments (map word ws) a) ∙ length-map ws word) (body-of k h)
 
-pub below-count : (k : Kernel) (l : Launch) (g : ℕ) → g < group_count (at k l) → g < product l.groups
+pub below-count : (k : Kernel) (l : Launch) (g : ℕ) → g < group_count (at_launch k l) → g < product l.groups
 unfolding group_count
 below-count k l g h = h
 
-pub some-items : (k : Kernel) (l : Launch) → 0 < product k.sizes → 0 < group_size (at k l)
+pub some-items : (k : Kernel) (l : Launch) → 0 < product k.sizes → 0 < group_size (at_launch k l)
 unfolding group_size
 some-items k l h = h
 
 -- what its items store is the group's log
-pub log-of-group : (k : Kernel) (l : Launch) (bound g : ℕ) (c : Cell) → is_straight k ≡ true → steps k.body ≤ bound → 0 < product k.sizes → log_of (stores_by (at k l) g (product k.sizes)) c None ≡ log_of (group_stores (at k l) bound g) c None
+pub log-of-group : (k : Kernel) (l : Launch) (bound g : ℕ) (c : Cell) → is_straight k ≡ true → steps k.body ≤ bound → 0 < product k.sizes → log_of (stores_by (at_launch k l) g (product k.sizes)) c None ≡ log_of (group_stores (at_launch k l) bound g) c None
 unfolding group_size
-log-of-group k l bound g c h n some = ap (λ xs. log_of xs c None) (sym (one-round (length k.arguments) (at k l) bound g (body-of k h) n some))
+log-of-group k l bound g c h n some = ap (λ xs. log_of xs c None) (sym (one-round (length k.arguments) (at_launch k l) bound g (body-of k h) n some))
 
 -- as many as the kernel has parameters
 pub arguments-alike : (k : Kernel) (rs : List ArgumentRange) (ws : List code.Word) → length (map argument_range rs) ≡ length k.arguments → AllZip IsArgument k.arguments (map word ws) → length rs ≡ length ws

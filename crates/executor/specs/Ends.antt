@@ -7,8 +7,8 @@ use Rattle.semantics.specs.Headline.{IsOver}
 use Rattle.semantics.specs.Rounds.{result_by_rounds}
 
 -- an element of a buffer, which belongs to no group
-abbrev pub at : (buffer index : ℕ) → Cell
-at buffer index = record { owner = 0; array = buffer; index = index }
+abbrev pub buffer_cell : (buffer index : ℕ) → Cell
+buffer_cell buffer index = record { owner = 0; array = buffer; index = index }
 
 abbrev pub element : List (List ℤ) → (buffer index : ℕ) → ℤ
 element b buffer index = slice_index_or (slice_index_or b buffer []) index (pos 0)
@@ -16,7 +16,7 @@ element b buffer index = slice_index_or (slice_index_or b buffer []) index (pos 
 -- buffers as long as the launch's, with the numbers that a memory has
 pub record HasBuffers (s : Setup) (m : Memory) (b : List (List ℤ)) : Type 0 where
   pub lengths : map length b ≡ map length s.launch.buffers
-  pub elements : (buffer index : ℕ) → index < length (slice_index_or s.launch.buffers buffer []) → element b buffer index ≡ m (at buffer index)
+  pub elements : (buffer index : ℕ) → index < length (slice_index_or s.launch.buffers buffer []) → element b buffer index ≡ m (buffer_cell buffer index)
 
 -- the result by rounds
 abbrev pub IsResultOf : Setup → ℕ → List (List ℤ) → Type 0

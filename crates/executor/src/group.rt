@@ -11,10 +11,10 @@ ghost use Rattle.launch.specs.View.{launch as launch_seen, conditions as conditi
 ghost use Rattle.facts.specs.Launching.{are_sizes};
 ghost use Rattle.walk.specs.Straight.{is_straight_body};
 ghost use Rattle.cert_check.specs.View.{typed_of, kept};
-ghost use Rattle.cert_check.specs.Accepting.{at};
+ghost use Rattle.cert_check.specs.Accepting.{at_launch};
 ghost use Rattle.write_log.specs.Written.{written};
 ghost use Rattle.executor.specs.Runs.{stores_by};
-ghost use Rattle.executor.specs.Stores.{at as element};
+ghost use Rattle.executor.specs.Ends.{buffer_cell as element};
 ghost use Rattle.executor.specs.View.{setup_of, AreFew, IsItem};
 
 use crate::dimension::Dimension;
@@ -111,8 +111,8 @@ pub fn run_group(
 ) -> Result<WriteLog, AllocError>
     requires fits { Fits (core_seen (typed_of accepted.now).1) (launch_seen launch.now) }
     requires meets { Meets (conditions_seen (kept accepted.now)) (launch_seen launch.now) }
-    requires group { group < group_count (at (core_seen (typed_of accepted.now).1) (launch_seen launch.now)) }
-    ensures { IfOk result (λ log. (buffer index : ℕ) → written log buffer index ≡ group_log (at (core_seen (typed_of accepted.now).1) (launch_seen launch.now)) (kept accepted.now).budget group buffer index) }
+    requires group { group < group_count (at_launch (core_seen (typed_of accepted.now).1) (launch_seen launch.now)) }
+    ensures { IfOk result (λ log. (buffer index : ℕ) → written log buffer index ≡ group_log (at_launch (core_seen (typed_of accepted.now).1) (launch_seen launch.now)) (kept accepted.now).budget group buffer index) }
 {
     let log = run_items(alloc, accepted.typed().core(), launch, group)?;
     Ok(log)

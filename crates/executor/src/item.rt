@@ -14,7 +14,8 @@ ghost use Rattle.walk.specs.Straight.{is_global, is_straight_term, is_straight_s
 ghost use Rattle.write_log.specs.Written.{written};
 ghost use Rattle.executor.specs.Runs.{stored, item_stores};
 ghost use Rattle.executor.specs.View.{setup_of, IsItem};
-ghost use Rattle.executor.specs.Stores.{store_seen, at};
+ghost use Rattle.executor.specs.Stores.{store_seen};
+ghost use Rattle.executor.specs.Ends.{buffer_cell};
 
 use crate::evaluation::{Item, read_as};
 use core_code::tree::{Array, Statement, Term};
@@ -104,7 +105,7 @@ impl Item<'_> {
     /// Runs the item, and notes what it stores.
     pub fn run(&self, log: &mut WriteLog) -> Result<(), AllocError>
         requires { is_straight_body (length self.now.launch.now.arguments.items) (statements_seen self.now.core.now.body.items) ≡ true }
-        ensures { OnOk result ((i b k : ℕ) → IsItem self.now i → written log.new b k ≡ log_of (item_stores (setup_of self.now.core.now self.now.launch.now) i (statements_seen self.now.core.now.body.items)) (at b k) (written log.old b k)) }
+        ensures { OnOk result ((i b k : ℕ) → IsItem self.now i → written log.new b k ≡ log_of (item_stores (setup_of self.now.core.now self.now.launch.now) i (statements_seen self.now.core.now.body.items)) (buffer_cell b k) (written log.old b k)) }
     {
         for statement in &self.core.body {
             let Some(store) = self.stored(statement) else {

@@ -6,7 +6,7 @@ ghost use Rattle.semantics.specs.Conditions.{Meets};
 ghost use Rattle.core_code.specs.View.{kernel as core_seen};
 ghost use Rattle.launch.specs.View.{launch as launch_seen, conditions as conditions_seen};
 ghost use Rattle.cert_check.specs.View.{typed_of, kept};
-ghost use Rattle.cert_check.specs.Accepting.{at};
+ghost use Rattle.cert_check.specs.Accepting.{at_launch};
 ghost use Rattle.semantics.specs.Rounds.{IsDefined};
 ghost use Rattle.write_log.specs.Written.{words_of};
 ghost use Rattle.executor.specs.Ends.{IsResultOf, EndsEvery};
@@ -39,7 +39,7 @@ fn copy(alloc: Global, buffers: &Buffers) -> Result<Buffers, AllocError>
 fn run_groups(alloc: Global, accepted: &Accepted, launch: &Launch) -> Result<Buffers, AllocError>
     requires fits { Fits (core_seen (typed_of accepted.now).1) (launch_seen launch.now) }
     requires meets { Meets (conditions_seen (kept accepted.now)) (launch_seen launch.now) }
-    ensures { IfOk result (λ b. IsResultOf (at (core_seen (typed_of accepted.now).1) (launch_seen launch.now)) (kept accepted.now).budget (words_of b)) }
+    ensures { IfOk result (λ b. IsResultOf (at_launch (core_seen (typed_of accepted.now).1) (launch_seen launch.now)) (kept accepted.now).budget (words_of b)) }
 {
     let mut buffers = copy(alloc, &launch.buffers)?;
     for group in 0..product_of(launch.groups) {
@@ -62,10 +62,10 @@ pub fn run<R: Threads + Wait + Sync, G: Gate>(
 ) -> Result<Buffers, RunError>
     requires { Fits (core_seen (typed_of accepted.now).1) (launch_seen launch.now) }
     ensures answers { Answers (kept accepted.now) (launch_seen launch.now) workers result }
-    ensures value { IfOk result (λ b. IsResultOf (at (core_seen (typed_of accepted.now).1) (launch_seen launch.now)) (kept accepted.now).budget (words_of b)) }
-    ensures every { IfOk result (λ b. EndsEvery (at (core_seen (typed_of accepted.now).1) (launch_seen launch.now)) (words_of b)) }
+    ensures value { IfOk result (λ b. IsResultOf (at_launch (core_seen (typed_of accepted.now).1) (launch_seen launch.now)) (kept accepted.now).budget (words_of b)) }
+    ensures every { IfOk result (λ b. EndsEvery (at_launch (core_seen (typed_of accepted.now).1) (launch_seen launch.now)) (words_of b)) }
     ensures meets { IfOk result (λ _. Meets (conditions_seen (kept accepted.now)) (launch_seen launch.now)) }
-    ensures defined { IfOk result (λ _. IsDefined (at (core_seen (typed_of accepted.now).1) (launch_seen launch.now)) (kept accepted.now).budget) }
+    ensures defined { IfOk result (λ _. IsDefined (at_launch (core_seen (typed_of accepted.now).1) (launch_seen launch.now)) (kept accepted.now).budget) }
 {
     meets(accepted.conditions(), launch)?;
     if workers < 1 || workers > 64 {

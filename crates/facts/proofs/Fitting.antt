@@ -11,7 +11,7 @@ use Rattle.semantics.specs.Conditions.{Range, Summand, Conditions, IsIn, IsLongE
 use Rattle.domain.specs.declared.Domain.{Ghosts}
 use Rattle.domain.specs.Members.{is_above, is_below}
 use Rattle.facts.specs.Symbols as symbols
-use Rattle.facts.specs.Symbols.{First, Second, Symbol, Given, Length, Local, Group, New, Variable, AtAnchor, Turns}
+use Rattle.facts.specs.Symbols.{First, Second, Symbol, ArgumentOf, Length, Local, Group, New, Variable, AtAnchor, Turns}
 use Rattle.facts.specs.Elements.{nth, between, element_of}
 use Rattle.facts.specs.Launching.{sum_form, of_range, known_so_far, from_least, at_least_some, below, known}
 use Rattle.facts.proofs.Integers.{le_test}
@@ -96,7 +96,7 @@ module _ {E : Type 0} (g : Ghosts E) (laws : Lawful g) where
   -- counts and arguments alone
   so_far-has : (s : Setup) (c : Conditions) → Meets c s.launch → Members g (known_so_far g c) (meaning s 0 0 [] [])
   so_far-has s c m (symbols.Groups d) = counts-has c s.launch m d
-  so_far-has s c m (Given n) = arguments-has c.arguments s.launch.arguments m.arguments n
+  so_far-has s c m (ArgumentOf n) = arguments-has c.arguments s.launch.arguments m.arguments n
   so_far-has s c m (Length b) = laws.top _
   so_far-has s c m (Local First d) = laws.top _
   so_far-has s c m (Local Second d) = laws.top _
@@ -111,13 +111,13 @@ module _ {E : Type 0} (g : Ghosts E) (laws : Lawful g) where
   sums-has : (s : Setup) (c : Conditions) → Meets c s.launch → (xs : List Summand) → g.has (element_of g (known_so_far g c) (sum_form xs)) (sum_value s.launch xs) ≡ true
   sums-has s c m xs =
       let w = meaning s 0 0 [] [] in
-      subst (λ z. g.has (element_of g (known_so_far g c) (sum_form xs)) z ≡ true) (sum_form-value (by_number w) s.launch (λ d. ap w (symbol_of-number (symbols.Groups d))) (λ n. ap w (symbol_of-number (Given n))) xs)
+      subst (λ z. g.has (element_of g (known_so_far g c) (sum_form xs)) z ≡ true) (sum_form-value (by_number w) s.launch (λ d. ap w (symbol_of-number (symbols.Groups d))) (λ n. ap w (symbol_of-number (ArgumentOf n))) xs)
       (element_of-has g laws (known_so_far g c) w (so_far-has s c m) (sum_form xs))
 
 -- of two items, with the new numbers of each
 pub members : {E : Type 0} (c : Walked E) (i j : ℕ) → i < item_count (setup_of c) → j < item_count (setup_of c) → (es fs : List E) (news more : List ℤ) → Fit c.domain es news → Fit c.domain fs more → Members c.domain (record { known = known c.domain c.kernel.sizes c.conditions; first = es; second = fs }) (meaning (setup_of c) i j news more)
 members c i j hi hj es fs news more p q (symbols.Groups d) = counts-has c.domain c.lawful c.conditions c.launch c.meets d
-members c i j hi hj es fs news more p q (Given n) = arguments-has c.domain c.lawful c.conditions.arguments c.launch.arguments c.meets.arguments n
+members c i j hi hj es fs news more p q (ArgumentOf n) = arguments-has c.domain c.lawful c.conditions.arguments c.launch.arguments c.meets.arguments n
 members c i j hi hj es fs news more p q (Length b) = lengths-has c.domain c.lawful c.conditions c.launch (sums-has c.domain c.lawful (setup_of c) c.conditions c.meets) c.conditions.lengths c.kernel.buffers c.launch.buffers c.meets.lengths c.fits.buffers b
 members c i j hi hj es fs news more p q (Local First d) = locals-has c.domain c.lawful (setup_of c) i hi d
 members c i j hi hj es fs news more p q (Local Second d) = locals-has c.domain c.lawful (setup_of c) j hj d

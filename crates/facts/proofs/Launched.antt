@@ -13,7 +13,7 @@ use Rattle.semantics.proofs.Groups.{group_size-pos, place-below, group-below}
 use Rattle.semantics.proofs.Places.{place-is}
 use Rattle.linear.specs.Exact.{sum}
 use Rattle.facts.specs.Symbols as symbols
-use Rattle.facts.specs.Symbols.{First, Symbol, Given, Length, Local, Group, number, Fact, constant, once, minus}
+use Rattle.facts.specs.Symbols.{First, Symbol, ArgumentOf, Length, Local, Group, number, Fact, constant, once, minus}
 use Rattle.facts.specs.Launching.{each_dimension, summand_form, sum_from, sum_form, ends, argument_facts, length_facts, required, count_range, launch_facts, id_facts, item_facts}
 use Rattle.facts.proofs.Values.{value-sum, value-multiple, value-minus, value-constant, value-once}
 use Rattle.facts.proofs.Worlds.{View, setup, groups_at, given_at, Knows}
@@ -43,16 +43,16 @@ count_in c l m (suc zero) h = m.groups_y
 count_in c l m (suc (suc zero)) h = m.groups_z
 count_in c l m (suc (suc (suc d))) h = absurd (omega arith)
 
-summand-value : (v : ℕ → ℤ) (l : Launch) → ((d : ℕ) → v (number (symbols.Groups d)) ≡ groups_at l d) → ((n : ℕ) → v (number (Given n)) ≡ given_at l n) → (x : Summand) → value_of v (summand_form x) ≡ summand_value l x
+summand-value : (v : ℕ → ℤ) (l : Launch) → ((d : ℕ) → v (number (symbols.Groups d)) ≡ groups_at l d) → ((n : ℕ) → v (number (ArgumentOf n)) ≡ given_at l n) → (x : Summand) → value_of v (summand_form x) ≡ summand_value l x
 summand-value v l g a (Constant z) = value-constant v z
-summand-value v l g a (Argument c n) = value-multiple v c (once (Given n)) ∙ ap (λ z. c *ℤ z) (value-once v (Given n) ∙ a n)
+summand-value v l g a (Argument c n) = value-multiple v c (once (ArgumentOf n)) ∙ ap (λ z. c *ℤ z) (value-once v (ArgumentOf n) ∙ a n)
 summand-value v l g a (Groups c d) = value-multiple v c (once (symbols.Groups d)) ∙ ap (λ z. c *ℤ z) (value-once v (symbols.Groups d) ∙ g d)
 
-sum_from-value : (v : ℕ → ℤ) (l : Launch) → ((d : ℕ) → v (number (symbols.Groups d)) ≡ groups_at l d) → ((n : ℕ) → v (number (Given n)) ≡ given_at l n) → (f : Fact) (xs : List Summand) → value_of v (sum_from f xs) ≡ value_of v f +ℤ sum_value l xs
+sum_from-value : (v : ℕ → ℤ) (l : Launch) → ((d : ℕ) → v (number (symbols.Groups d)) ≡ groups_at l d) → ((n : ℕ) → v (number (ArgumentOf n)) ≡ given_at l n) → (f : Fact) (xs : List Summand) → value_of v (sum_from f xs) ≡ value_of v f +ℤ sum_value l xs
 sum_from-value v l g a f [] = omega (arith, ints)
 sum_from-value v l g a f (x ∷ xs) = omega (arith, ints, sum_from-value v l g a (sum f (summand_form x)) xs, value-sum v f (summand_form x), summand-value v l g a x)
 
-pub sum_form-value : (v : ℕ → ℤ) (l : Launch) → ((d : ℕ) → v (number (symbols.Groups d)) ≡ groups_at l d) → ((n : ℕ) → v (number (Given n)) ≡ given_at l n) → (xs : List Summand) → value_of v (sum_form xs) ≡ sum_value l xs
+pub sum_form-value : (v : ℕ → ℤ) (l : Launch) → ((d : ℕ) → v (number (symbols.Groups d)) ≡ groups_at l d) → ((n : ℕ) → v (number (ArgumentOf n)) ≡ given_at l n) → (xs : List Summand) → value_of v (sum_form xs) ≡ sum_value l xs
 sum_form-value v l g a xs = omega (arith, ints, sum_from-value v l g a (constant (pos 0)) xs, value-constant v (pos 0))
 
 ends_hold : (v : ℕ → ℤ) (r : Range) (s : Symbol) (z : ℤ) → v (number s) ≡ z → IsIn r z → All (IsMet v) (ends r (once s))
@@ -60,14 +60,14 @@ ends_hold v r s z e h =
     All-cons (IsMet v) (minus (once s) (constant r.low)) (minus (constant r.high) (once s) ∷ []) (omega (arith, ints, value-minus v (once s) (constant r.low), value-once v s, value-constant v r.low, e, h.0))
     (All-cons (IsMet v) (minus (constant r.high) (once s)) [] (omega (arith, ints, value-minus v (constant r.high) (once s), value-once v s, value-constant v r.high, e, h.1)) (All-nil (IsMet v)))
 
-arguments_hold : (v : ℕ → ℤ) (n : ℕ) (rs : List Range) (ws : List Word) → AllZip (λ (r : Range) (w : Word). IsIn r w.value) rs ws → ((k : ℕ) → v (number (Given (n + k))) ≡ (slice_index_or ws k zero_word).value) → All (IsMet v) (argument_facts n rs)
+arguments_hold : (v : ℕ → ℤ) (n : ℕ) (rs : List Range) (ws : List Word) → AllZip (λ (r : Range) (w : Word). IsIn r w.value) rs ws → ((k : ℕ) → v (number (ArgumentOf (n + k))) ≡ (slice_index_or ws k zero_word).value) → All (IsMet v) (argument_facts n rs)
 arguments_hold v n [] ws h e = All-nil (IsMet v)
 arguments_hold v n (r ∷ rs) [] h e = elim h [ ]
 arguments_hold v n (r ∷ rs) (w ∷ ws) h e =
-    let here : v (number (Given n)) ≡ w.value = ap (λ m. v (number (Given m))) (omega arith) ∙ e 0 in
-    All-append (IsMet v) (ends r (once (Given n))) (argument_facts (suc n) rs) (ends_hold v r (Given n) w.value here h.0) (arguments_hold v (suc n) rs ws h.1 (λ k. let m : suc n + k ≡ n + suc k = omega arith in ap (λ x. v (number (Given x))) m ∙ e (suc k)))
+    let here : v (number (ArgumentOf n)) ≡ w.value = ap (λ m. v (number (ArgumentOf m))) (omega arith) ∙ e 0 in
+    All-append (IsMet v) (ends r (once (ArgumentOf n))) (argument_facts (suc n) rs) (ends_hold v r (ArgumentOf n) w.value here h.0) (arguments_hold v (suc n) rs ws h.1 (λ k. let m : suc n + k ≡ n + suc k = omega arith in ap (λ x. v (number (ArgumentOf x))) m ∙ e (suc k)))
 
-lengths_hold : (v : ℕ → ℤ) (l : Launch) → ((d : ℕ) → v (number (symbols.Groups d)) ≡ groups_at l d) → ((n : ℕ) → v (number (Given n)) ≡ given_at l n) → (n : ℕ) (ss : List (List Summand)) (ks : List Kind) (bs : List (List ℤ)) → AllZip (IsLongEnough l) ss bs → AllZip IsBuffer ks bs → ((k : ℕ) → v (number (Length (n + k))) ≡ pos (length (slice_index_or bs k []))) → All (IsMet v) (length_facts n ss)
+lengths_hold : (v : ℕ → ℤ) (l : Launch) → ((d : ℕ) → v (number (symbols.Groups d)) ≡ groups_at l d) → ((n : ℕ) → v (number (ArgumentOf n)) ≡ given_at l n) → (n : ℕ) (ss : List (List Summand)) (ks : List Kind) (bs : List (List ℤ)) → AllZip (IsLongEnough l) ss bs → AllZip IsBuffer ks bs → ((k : ℕ) → v (number (Length (n + k))) ≡ pos (length (slice_index_or bs k []))) → All (IsMet v) (length_facts n ss)
 lengths_hold v l g a n [] ks bs h j e = All-nil (IsMet v)
 lengths_hold v l g a n (s ∷ ss) ks [] h j e = elim h [ ]
 lengths_hold v l g a n (s ∷ ss) [] (b ∷ bs) h j e = elim j [ ]
@@ -80,7 +80,7 @@ lengths_hold v l g a n (s ∷ ss) (k ∷ ks) (b ∷ bs) h j e =
     (All-cons (IsMet v) (minus (constant (pos 4294967295)) long) (length_facts (suc n) ss) (omega (arith, ints, value-minus v (constant (pos 4294967295)) long, value-constant v (pos 4294967295), value-once v (Length n), here, most))
     (lengths_hold v l g a (suc n) ss ks bs h.1 j.1 (λ k. let m : suc n + k ≡ n + suc k = omega arith in ap (λ x. v (number (Length x))) m ∙ e (suc k))))
 
-requires_hold : (v : ℕ → ℤ) (l : Launch) → ((d : ℕ) → v (number (symbols.Groups d)) ≡ groups_at l d) → ((n : ℕ) → v (number (Given n)) ≡ given_at l n) → (rs : List Requirement) → All (IsRequired l) rs → All (IsMet v) (map required rs)
+requires_hold : (v : ℕ → ℤ) (l : Launch) → ((d : ℕ) → v (number (symbols.Groups d)) ≡ groups_at l d) → ((n : ℕ) → v (number (ArgumentOf n)) ≡ given_at l n) → (rs : List Requirement) → All (IsRequired l) rs → All (IsMet v) (map required rs)
 requires_hold v l g a [] h = All-nil (IsMet v)
 requires_hold v l g a (r ∷ rs) h =
     let here = All-head (IsRequired l) r rs h in
@@ -93,7 +93,7 @@ launch_known c news v a =
     All-append (IsMet v) (each_dimension (λ d. ends (count_range k d) (once (symbols.Groups d)))) (argument_facts 0 k.arguments ++ (length_facts 0 k.lengths ++ map required k.requires))
     (each_dimension-all (IsMet v) (λ d. ends (count_range k d) (once (symbols.Groups d))) (λ d l. ends_hold v (count_range k d) (symbols.Groups d) (groups_at c.launch d) (a.groups d) (count_in k c.launch m d l)))
     (All-append (IsMet v) (argument_facts 0 k.arguments) (length_facts 0 k.lengths ++ map required k.requires)
-    (arguments_hold v 0 k.arguments c.launch.arguments m.arguments (λ n. ap (λ x. v (number (Given x))) (omega arith) ∙ a.given n))
+    (arguments_hold v 0 k.arguments c.launch.arguments m.arguments (λ n. ap (λ x. v (number (ArgumentOf x))) (omega arith) ∙ a.given n))
     (All-append (IsMet v) (length_facts 0 k.lengths) (map required k.requires)
     (lengths_hold v c.launch a.groups a.given 0 k.lengths c.kernel.buffers c.launch.buffers m.lengths c.fits.buffers (λ n. ap (λ x. v (number (Length x))) (omega arith) ∙ a.lengths n))
     (requires_hold v c.launch a.groups a.given k.requires m.requires)))

@@ -1,6 +1,6 @@
 -- A symbol has its number.
 use Rattle.std.proofs.Common.{◌≡◌, ℕ, ◌+◌, ◌*◌, ◌/◌, ◌%◌, ◌<◌, arith, ap, ◌∙◌}
-use Rattle.facts.specs.Symbols.{First, Second, Symbol, Groups, Given, Length, Local, Group, New, Variable, AtAnchor, Turns, number, of_family, symbol_of}
+use Rattle.facts.specs.Symbols.{First, Second, Symbol, Groups, ArgumentOf, Length, Local, Group, New, Variable, AtAnchor, Turns, number, of_family, symbol_of}
 
 family : (f i : ℕ) → f < 16 → symbol_of (f + 16 * i) ≡ of_family f i
 unfolding symbol_of
@@ -11,7 +11,7 @@ family f i h =
 
 pub symbol_of-number : (s : Symbol) → symbol_of (number s) ≡ s
 symbol_of-number (Groups d) = family 0 d (omega arith)
-symbol_of-number (Given n) = family 1 n (omega arith)
+symbol_of-number (ArgumentOf n) = family 1 n (omega arith)
 symbol_of-number (Length b) = family 2 b (omega arith)
 symbol_of-number (Local First d) = family 3 d (omega arith)
 symbol_of-number (Group First d) = family 4 d (omega arith)

@@ -4,7 +4,7 @@ use Rattle.std.specs.Prelude.{ℤ, pos, ◌-ℤ◌}
 use Rattle.semantics.specs.Launch.{Three}
 use Rattle.semantics.specs.Setup.{along}
 use Rattle.facts.specs.Symbols as symbols
-use Rattle.facts.specs.Symbols.{First, Second, Given, Length, Local, Group, New, Variable, AtAnchor, Turns, number, Fact, constant, once, minus}
+use Rattle.facts.specs.Symbols.{First, Second, ArgumentOf, Length, Local, Group, New, Variable, AtAnchor, Turns, number, Fact, constant, once, minus}
 use Rattle.facts.specs.Launching.{id_facts, item_facts}
 use Rattle.facts.proofs.Twins.{Twins, constant-alike, once-alike, minus-alike, AreAlike, alike-append}
 
@@ -12,7 +12,7 @@ use Rattle.facts.proofs.Twins.{Twins, constant-alike, once-alike, minus-alike, A
 pub groups-twin : (d : ℕ) → Twins (number (symbols.Groups d)) (number (symbols.Groups d))
 groups-twin d = record { own = omega arith; same = omega arith }
 
-pub given-twin : (n : ℕ) → Twins (number (Given n)) (number (Given n))
+pub given-twin : (n : ℕ) → Twins (number (ArgumentOf n)) (number (ArgumentOf n))
 given-twin n = record { own = omega arith; same = omega arith }
 
 pub length-twin : (b : ℕ) → Twins (number (Length b)) (number (Length b))

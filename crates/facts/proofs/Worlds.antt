@@ -11,7 +11,7 @@ use Rattle.semantics.specs.Conditions.{Conditions, Meets}
 use Rattle.semantics.specs.Linear.{value_of, IsMet}
 use Rattle.domain.specs.declared.Domain.{Ghosts}
 use Rattle.facts.specs.Symbols as symbols
-use Rattle.facts.specs.Symbols.{Which, First, Second, Symbol, Given, Length, Local, Group, New, Variable, AtAnchor, Turns, number, Fact}
+use Rattle.facts.specs.Symbols.{Side, First, Second, Symbol, ArgumentOf, Length, Local, Group, New, Variable, AtAnchor, Turns, number, Fact}
 use Rattle.facts.specs.Launching.{are_sizes}
 use Rattle.facts.proofs.Naming.{symbol_of-number}
 use Rattle.facts.proofs.Members.{Lawful, by_number}
@@ -57,7 +57,7 @@ new_at news k = slice_index_or news k (pos 0)
 -- those of two items; variables and turns stand for no number as yet
 abbrev pub meaning : Setup → (i j : ℕ) → (news more : List ℤ) → Symbol → ℤ
 meaning s i j news more (symbols.Groups d) = groups_at s.launch d
-meaning s i j news more (Given n) = given_at s.launch n
+meaning s i j news more (ArgumentOf n) = given_at s.launch n
 meaning s i j news more (Length b) = length_at s.launch b
 meaning s i j news more (Local First d) = pos (local_id s i d)
 meaning s i j news more (Group First d) = pos (group_id s i d)
@@ -71,7 +71,7 @@ meaning s i j news more (Turns w k) = pos 0
 
 pub record Agrees {E : Type 0} (c : View E) (news : List ℤ) (v : ℕ → ℤ) : Type 0 where
   pub groups : (d : ℕ) → v (number (symbols.Groups d)) ≡ groups_at c.launch d
-  pub given : (n : ℕ) → v (number (Given n)) ≡ given_at c.launch n
+  pub given : (n : ℕ) → v (number (ArgumentOf n)) ≡ given_at c.launch n
   pub lengths : (b : ℕ) → v (number (Length b)) ≡ length_at c.launch b
   pub local : (d : ℕ) → v (number (Local First d)) ≡ pos (local_id (setup c) c.item d)
   pub group : (d : ℕ) → v (number (Group First d)) ≡ pos (group_id (setup c) c.item d)
@@ -91,7 +91,7 @@ own c news = meaning (setup c) c.item c.item news []
 pub agrees_itself : {E : Type 0} (c : View E) (news : List ℤ) → Agrees c news (by_number (own c news))
 agrees_itself c news = record {
   groups = λ d. ap (own c news) (symbol_of-number (symbols.Groups d));
-  given = λ n. ap (own c news) (symbol_of-number (Given n));
+  given = λ n. ap (own c news) (symbol_of-number (ArgumentOf n));
   lengths = λ b. ap (own c news) (symbol_of-number (Length b));
   local = λ d. ap (own c news) (symbol_of-number (Local First d));
   group = λ d. ap (own c news) (symbol_of-number (Group First d));

@@ -3,7 +3,7 @@ use Rattle.std.specs.Prelude.{ℕ, ℤ, pos, List, [], ◌∷◌, Bool, false, �
 use Rattle.semantics.specs.Linear.{Weighted}
 use Rattle.domain.specs.declared.Domain.{Ghosts}
 use Rattle.domain.specs.Members.{leaves}
-use Rattle.facts.specs.Symbols.{Which, First, Second, Symbol, Groups, Given, Length, Local, Group, New, Variable, AtAnchor, Turns, symbol_of, Fact}
+use Rattle.facts.specs.Symbols.{Side, First, Second, Symbol, Groups, ArgumentOf, Length, Local, Group, New, Variable, AtAnchor, Turns, symbol_of, Fact}
 
 -- the elements of a launch's symbols, and of the ids of its items
 pub record Known (E : Type 0) : Type 0 where
@@ -20,7 +20,7 @@ pub record Elements (E : Type 0) : Type 0 where
   pub second : List E
 
 -- of one item alone
-abbrev pub elements_of : {E : Type 0} → Known E → Which → List E → Elements E
+abbrev pub elements_of : {E : Type 0} → Known E → Side → List E → Elements E
 elements_of k First es = record { known = k; first = es; second = [] }
 elements_of k Second es = record { known = k; first = []; second = es }
 
@@ -34,7 +34,7 @@ nth g es n = slice_index_or es n g.top_of
 -- of variables and turns nothing is known beforehand
 abbrev pub element : {E : Type 0} → Ghosts E → Elements E → Symbol → E
 element g e (Groups d) = nth g e.known.counts d
-element g e (Given n) = nth g e.known.arguments n
+element g e (ArgumentOf n) = nth g e.known.arguments n
 element g e (Length b) = nth g e.known.lengths b
 element g e (Local w d) = nth g e.known.locals d
 element g e (Group w d) = nth g e.known.groups d

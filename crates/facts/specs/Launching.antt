@@ -6,7 +6,7 @@ use Rattle.semantics.specs.Conditions.{Range, Summand, Constant, Argument, Group
 use Rattle.linear.specs.Exact.{sum, multiple}
 use Rattle.domain.specs.declared.Domain.{Ghosts}
 use Rattle.facts.specs.Symbols as symbols
-use Rattle.facts.specs.Symbols.{Which, Symbol, Given, Length, Local, Group, Fact, constant, once, minus}
+use Rattle.facts.specs.Symbols.{Side, Symbol, ArgumentOf, Length, Local, Group, Fact, constant, once, minus}
 use Rattle.facts.specs.Elements.{Known, Elements, between, element_of}
 
 abbrev pub each_dimension : {A : Type 0} → (ℕ → List A) → List A
@@ -14,7 +14,7 @@ each_dimension f = f 0 ++ (f 1 ++ f 2)
 
 abbrev pub summand_form : Summand → Fact
 summand_form (Constant z) = constant z
-summand_form (Argument c n) = multiple c (once (Given n))
+summand_form (Argument c n) = multiple c (once (ArgumentOf n))
 summand_form (Groups c d) = multiple c (once (symbols.Groups d))
 
 abbrev pub sum_from : Fact → List Summand → Fact
@@ -30,7 +30,7 @@ ends r f = minus f (constant r.low) ∷ minus (constant r.high) f ∷ []
 
 abbrev pub argument_facts : ℕ → List Range → List Fact
 argument_facts n [] = []
-argument_facts n (r ∷ rs) = ends r (once (Given n)) ++ argument_facts (suc n) rs
+argument_facts n (r ∷ rs) = ends r (once (ArgumentOf n)) ++ argument_facts (suc n) rs
 
 -- a buffer is as long as its sum, and a `uint` counts its elements
 abbrev pub length_ends : ℕ → List Summand → List Fact
@@ -59,16 +59,16 @@ abbrev pub are_sizes : Three ℕ → Bool
 are_sizes t = nat_le t.x 1024 && (nat_le t.y 1024 && nat_le t.z 1024)
 
 -- an item's local id is below the local size, and its group id below the group count
-abbrev pub local_facts : Three ℕ → Which → ℕ → List Fact
+abbrev pub local_facts : Three ℕ → Side → ℕ → List Fact
 local_facts sizes w d = once (Local w d) ∷ minus (constant (pos (along sizes d 1) -ℤ pos 1)) (once (Local w d)) ∷ []
 
-abbrev pub group_facts : Which → ℕ → List Fact
+abbrev pub group_facts : Side → ℕ → List Fact
 group_facts w d = once (Group w d) ∷ minus (minus (once (symbols.Groups d)) (once (Group w d))) (constant (pos 1)) ∷ []
 
-abbrev pub id_facts : Three ℕ → Which → ℕ → List Fact
+abbrev pub id_facts : Three ℕ → Side → ℕ → List Fact
 id_facts sizes w d = local_facts sizes w d ++ group_facts w d
 
-abbrev pub item_facts : Three ℕ → Which → List Fact
+abbrev pub item_facts : Three ℕ → Side → List Fact
 item_facts sizes w = each_dimension (id_facts sizes w)
 
 abbrev pub of_range : {E : Type 0} → Ghosts E → Range → E

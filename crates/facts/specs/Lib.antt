@@ -1,3 +1,4 @@
+pub mod Numbers
 pub mod Symbols
 pub mod Elements
 pub mod Launching

@@ -4,28 +4,28 @@ use Rattle.semantics.specs.Linear.{Form}
 use Rattle.linear.specs.Exact.{sum, multiple}
 
 -- one of the two items of a pair; where one item is enough, it is the first
-pub data Which : Type 0 where
-  First : Which
-  Second : Which
+pub data Side : Type 0 where
+  First : Side
+  Second : Side
 
 -- of the launch: a group count, an argument by its parameter, a buffer's length; of an item: its local and its group id, the new
 -- symbols along its path, from 0, a private variable by its slot, where a path begins and at the anchor before it, and how often the
 -- test of a loop was true
 pub data Symbol : Type 0 where
   Groups : (dimension : ℕ) → Symbol
-  Given : (parameter : ℕ) → Symbol
+  ArgumentOf : (parameter : ℕ) → Symbol
   Length : (buffer : ℕ) → Symbol
-  Local : (item : Which) (dimension : ℕ) → Symbol
-  Group : (item : Which) (dimension : ℕ) → Symbol
-  New : (item : Which) (index : ℕ) → Symbol
-  Variable : (item : Which) (slot : ℕ) → Symbol
-  AtAnchor : (item : Which) (slot : ℕ) → Symbol
-  Turns : (item : Which) (loop : ℕ) → Symbol
+  Local : (item : Side) (dimension : ℕ) → Symbol
+  Group : (item : Side) (dimension : ℕ) → Symbol
+  New : (item : Side) (index : ℕ) → Symbol
+  Variable : (item : Side) (slot : ℕ) → Symbol
+  AtAnchor : (item : Side) (slot : ℕ) → Symbol
+  Turns : (item : Side) (loop : ℕ) → Symbol
 
 -- sixteen families, whose numbers alternate
 abbrev pub number : Symbol → ℕ
 number (Groups d) = 0 + 16 * d
-number (Given n) = 1 + 16 * n
+number (ArgumentOf n) = 1 + 16 * n
 number (Length b) = 2 + 16 * b
 number (Local First d) = 3 + 16 * d
 number (Group First d) = 4 + 16 * d
@@ -43,7 +43,7 @@ number (Turns Second k) = 14 + 16 * k
 -- a family's symbol; there is none past the fifteenth family
 abbrev pub of_family : (family index : ℕ) → Symbol
 of_family zero i = Groups i
-of_family (suc zero) i = Given i
+of_family (suc zero) i = ArgumentOf i
 of_family (suc (suc zero)) i = Length i
 of_family (suc (suc (suc zero))) i = Local First i
 of_family (suc (suc (suc (suc zero)))) i = Group First i

@@ -8,16 +8,16 @@ use Rattle.facts.specs.Elements as elements
 use Rattle.facts.specs.declared.elements.Known.{Known}
 use Rattle.facts.specs.declared.error.WalkError.{WalkError}
 use Rattle.facts.specs.declared.error.WalkError.TheVariants as errors
-use Rattle.facts.specs.declared.forms.Which.{Which}
-use Rattle.facts.specs.declared.forms.Which.TheVariants as items
+use Rattle.facts.specs.declared.forms.Side.{Side}
+use Rattle.facts.specs.declared.forms.Side.TheVariants as items
 
 abbrev pub error_of_form : LinearError → WalkError
 error_of_form linear.TooLarge = errors.TooLarge
 error_of_form linear.Memory = errors.Memory
 
-abbrev pub which : Which → symbols.Which
-which items.First = symbols.First
-which items.Second = symbols.Second
+abbrev pub side : Side → symbols.Side
+side items.First = symbols.First
+side items.Second = symbols.Second
 
 abbrev pub known_seen : {E : Type 0} → Known E → elements.Known E
 known_seen k = record { counts = k.counts.items; arguments = k.arguments.items; lengths = k.lengths.items; locals = k.locals.items; groups = k.groups.items }

@@ -19,6 +19,22 @@ pub enum WalkError {
     Memory,
 }
 
+impl WalkError {
+    ghost use Rattle.facts.specs.Numbers.{error_number};
+
+    /// The number under which the refusal is told.
+    pub fn number(&self) -> u8
+        ensures { result ≡ error_number self.now }
+    {
+        match self {
+            WalkError::TooMany => 53,
+            WalkError::TooLarge => 54,
+            WalkError::Outside => 52,
+            WalkError::Memory => 90,
+        }
+    }
+}
+
 impl From<LinearError> for WalkError {
     ghost use Rattle.linear.specs.declared.form.LinearError.TheVariants as linear;
     ghost use Rattle.facts.specs.View.{error_of_form};

@@ -4,7 +4,7 @@ ghost use Rattle.std.specs.Prelude.{◌≡◌, ◌<◌, ◌+◌, ◌*◌, ◌^�
 ghost use Rattle.linear.specs.Forms.{form};
 ghost use Rattle.linear.specs.Exact as linear_exact;
 ghost use Rattle.facts.specs.Symbols as symbols;
-ghost use Rattle.facts.specs.View.{which};
+ghost use Rattle.facts.specs.View.{side};
 ghost use Rattle.facts.specs.Refusals.{IsMemory, IsUnfit};
 
 use crate::error::WalkError;
@@ -13,7 +13,7 @@ use std::alloc::Global;
 
 /// One of the two items of a pair; where one item is enough, it is the first.
 #[derive(Clone, Copy)]
-pub enum Which {
+pub enum Side {
     First,
     Second,
 }
@@ -39,7 +39,7 @@ pub fn once_groups(alloc: Global, dimension: u32) -> Result<Form, WalkError>
 /// A value parameter's argument.
 pub fn once_given(alloc: Global, parameter: usize) -> Result<Form, WalkError>
     requires { parameter < 2 ^ 59 }
-    ensures { MatchResult result (λ f. form f ≡ symbols.once (symbols.Given parameter)) IsMemory }
+    ensures { MatchResult result (λ f. form f ≡ symbols.once (symbols.ArgumentOf parameter)) IsMemory }
 {
     of_family(alloc, 1, parameter)
 }
@@ -53,33 +53,33 @@ pub fn once_length(alloc: Global, buffer: usize) -> Result<Form, WalkError>
 }
 
 /// An item's local id.
-pub fn once_local(alloc: Global, item: Which, dimension: u32) -> Result<Form, WalkError>
-    ensures { MatchResult result (λ f. form f ≡ symbols.once (symbols.Local (which item) dimension)) IsMemory }
+pub fn once_local(alloc: Global, item: Side, dimension: u32) -> Result<Form, WalkError>
+    ensures { MatchResult result (λ f. form f ≡ symbols.once (symbols.Local (side item) dimension)) IsMemory }
 {
     match item {
-        Which::First => of_family(alloc, 3, dimension as usize),
-        Which::Second => of_family(alloc, 9, dimension as usize),
+        Side::First => of_family(alloc, 3, dimension as usize),
+        Side::Second => of_family(alloc, 9, dimension as usize),
     }
 }
 
 /// An item's group id.
-pub fn once_group(alloc: Global, item: Which, dimension: u32) -> Result<Form, WalkError>
-    ensures { MatchResult result (λ f. form f ≡ symbols.once (symbols.Group (which item) dimension)) IsMemory }
+pub fn once_group(alloc: Global, item: Side, dimension: u32) -> Result<Form, WalkError>
+    ensures { MatchResult result (λ f. form f ≡ symbols.once (symbols.Group (side item) dimension)) IsMemory }
 {
     match item {
-        Which::First => of_family(alloc, 4, dimension as usize),
-        Which::Second => of_family(alloc, 10, dimension as usize),
+        Side::First => of_family(alloc, 4, dimension as usize),
+        Side::Second => of_family(alloc, 10, dimension as usize),
     }
 }
 
 /// An item's new symbol.
-pub fn once_new(alloc: Global, item: Which, index: usize) -> Result<Form, WalkError>
+pub fn once_new(alloc: Global, item: Side, index: usize) -> Result<Form, WalkError>
     requires { index < 2 ^ 59 }
-    ensures { MatchResult result (λ f. form f ≡ symbols.once (symbols.New (which item) index)) IsMemory }
+    ensures { MatchResult result (λ f. form f ≡ symbols.once (symbols.New (side item) index)) IsMemory }
 {
     match item {
-        Which::First => of_family(alloc, 5, index),
-        Which::Second => of_family(alloc, 11, index),
+        Side::First => of_family(alloc, 5, index),
+        Side::Second => of_family(alloc, 11, index),
     }
 }
 

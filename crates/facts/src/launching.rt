@@ -9,12 +9,12 @@ ghost use Rattle.launch.specs.View.{summand as summand_seen, sum as sum_seen, le
 ghost use Rattle.semantics.specs.Setup.{along};
 ghost use Rattle.facts.specs.Symbols as symbols;
 ghost use Rattle.facts.specs.Launching as launching;
-ghost use Rattle.facts.specs.View.{which, three};
+ghost use Rattle.facts.specs.View.{side, three};
 ghost use Rattle.facts.specs.Refusals.{IsMemory};
 
 use crate::error::WalkError;
 use crate::forms::{
-    Which, less_number, number_less, once_given, once_group, once_groups, once_length, once_local,
+    Side, less_number, number_less, once_given, once_group, once_groups, once_length, once_local,
 };
 use launch::conditions::{
     ArgumentRange, Conditions, CountRange, Dimension, Length, Requirement, Sum, Summand,
@@ -120,7 +120,7 @@ fn argument_fact(
     range: ArgumentRange,
 ) -> Result<(), WalkError>
     requires { parameter < 2 ^ 59 }
-    ensures { MatchResult result (λ _. forms facts.new.items ≡ forms facts.old.items ++ launching.ends (argument_range_seen range) (symbols.once (symbols.Given parameter))) IsMemory }
+    ensures { MatchResult result (λ _. forms facts.new.items ≡ forms facts.old.items ++ launching.ends (argument_range_seen range) (symbols.once (symbols.ArgumentOf parameter))) IsMemory }
 {
     let argument = once_given(alloc, parameter)?;
     let low = less_number(alloc, &argument, number_of(range.low))?;
@@ -238,11 +238,11 @@ fn local_facts(
     alloc: Global,
     facts: &mut Vec<Form>,
     sizes: [u32; 3],
-    item: Which,
+    item: Side,
     dimension: u32,
 ) -> Result<(), WalkError>
     requires { dimension < 3 }
-    ensures { MatchResult result (λ _. forms facts.new.items ≡ forms facts.old.items ++ launching.local_facts (three sizes) (which item) dimension) IsMemory }
+    ensures { MatchResult result (λ _. forms facts.new.items ≡ forms facts.old.items ++ launching.local_facts (three sizes) (side item) dimension) IsMemory }
 {
     let local = once_local(alloc, item, dimension)?;
     let last = number_less(alloc, last_id(sizes, dimension), &local)?;
@@ -253,10 +253,10 @@ fn local_facts(
 fn group_facts(
     alloc: Global,
     facts: &mut Vec<Form>,
-    item: Which,
+    item: Side,
     dimension: u32,
 ) -> Result<(), WalkError>
-    ensures { MatchResult result (λ _. forms facts.new.items ≡ forms facts.old.items ++ launching.group_facts (which item) dimension) IsMemory }
+    ensures { MatchResult result (λ _. forms facts.new.items ≡ forms facts.old.items ++ launching.group_facts (side item) dimension) IsMemory }
 {
     let group = once_group(alloc, item, dimension)?;
     let behind = once_groups(alloc, dimension)?.sub(alloc, &group)?;
@@ -269,11 +269,11 @@ fn id_facts(
     alloc: Global,
     facts: &mut Vec<Form>,
     sizes: [u32; 3],
-    item: Which,
+    item: Side,
     dimension: u32,
 ) -> Result<(), WalkError>
     requires { dimension < 3 }
-    ensures { MatchResult result (λ _. forms facts.new.items ≡ forms facts.old.items ++ launching.id_facts (three sizes) (which item) dimension) IsMemory }
+    ensures { MatchResult result (λ _. forms facts.new.items ≡ forms facts.old.items ++ launching.id_facts (three sizes) (side item) dimension) IsMemory }
 {
     local_facts(alloc, facts, sizes, item, dimension)?;
     group_facts(alloc, facts, item, dimension)?;
@@ -281,8 +281,8 @@ fn id_facts(
 }
 
 /// What each item has.
-pub fn item_facts(alloc: Global, sizes: [u32; 3], item: Which) -> Result<Vec<Form>, WalkError>
-    ensures { MatchResult result (λ fs. forms fs.items ≡ launching.item_facts (three sizes) (which item)) IsMemory }
+pub fn item_facts(alloc: Global, sizes: [u32; 3], item: Side) -> Result<Vec<Form>, WalkError>
+    ensures { MatchResult result (λ fs. forms fs.items ≡ launching.item_facts (three sizes) (side item)) IsMemory }
 {
     let mut facts = Vec::new(alloc);
     id_facts(alloc, &mut facts, sizes, item, 0)?;

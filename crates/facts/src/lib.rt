@@ -20,7 +20,7 @@ pub use elements::{Known, between, element_of, is_settled};
 pub use error::WalkError;
 pub use extents::known;
 pub use forms::{
-    Which, less_number, number_less, once_given, once_group, once_groups, once_length, once_local,
+    Side, less_number, number_less, once_given, once_group, once_groups, once_length, once_local,
     once_new,
 };
 pub use launching::{item_facts, launch_facts};

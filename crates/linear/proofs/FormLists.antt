@@ -1,5 +1,6 @@
 -- Lists of forms, taken apart and grown at the end.
-use Rattle.std.proofs.Common.{◌≡◌, ℕ, zero, suc, List, [], ◌∷◌, ◌++◌, length, take, refl, ap, ◌∙◌}
+use Rattle.std.proofs.Common.{◌≡◌, ℕ, zero, suc, true, List, [], ◌∷◌, ◌++◌, length, take, refl, ap, ◌∙◌}
+use Rattle.linear.specs.Exact.{fits}
 use Rattle.linear.specs.Forms.{form, forms}
 use Rattle.linear.specs.declared.form.Form.{Form}
 
@@ -18,3 +19,7 @@ pub forms-take : (n : ℕ) (fs : List Form) → forms (take n fs) ≡ take n (fo
 forms-take zero fs = refl
 forms-take (suc n) [] = refl
 forms-take (suc n) (f ∷ fs) = ap (λ l. form f ∷ l) (forms-take n fs)
+
+-- what is made is of i64
+pub form-fits : (f : Form) → fits (form f) ≡ true
+form-fits f = rw (f.constant_in_range, f.in_range) refl

@@ -1,7 +1,7 @@
 // Forms, and their operations.
 ghost use Rattle.std.specs.Prelude.{◌≡◌, ℕ, ℤ, pos, negsuc, true, false, ◌+ℤ◌, ◌-ℤ◌, ◌*ℤ◌, ◌<ℤ◌, ◌&&◌, [], ◌∷◌, IfOk, OnOk, IsErrOf, IfSome, MatchOption, length, IsTrue, ◌↔◌};
 ghost use Rattle.semantics.specs.Linear.{value_of, IsMet};
-ghost use Rattle.linear.specs.Exact.{sum, multiple, form_without, coefficient_of, substituted, with_value, quotient, all_divide, fits};
+ghost use Rattle.linear.specs.Exact.{sum, multiple, form_without, coefficient_of, substituted, with_value, quotient, all_divide, fits, fits_i64};
 ghost use Rattle.linear.specs.Terms.{terms, are_rising, are_i64};
 
 use super::merge::{coefficient_at, combine_terms, divide_terms, without_symbol};
@@ -16,6 +16,7 @@ pub struct Form {
     constant: i64,
     ghost rising: { are_rising terms.items ≡ true },
     ghost in_range: { are_i64 terms.items ≡ true },
+    ghost constant_in_range: { fits_i64 constant ≡ true },
 }
 
 /// Says of a form that it is at least 0.

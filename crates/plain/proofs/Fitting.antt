@@ -6,11 +6,11 @@ use Rattle.semantics.specs.Launch.{Three}
 use Rattle.semantics.specs.Conditions.{Conditions}
 use Rattle.linear.specs.Exact.{fits}
 use Rattle.linear.proofs.Sizes.{size_difference, fits_small}
-use Rattle.facts.specs.Symbols.{Which, Groups, Local, Group, Fact, constant, once, minus, denial}
+use Rattle.facts.specs.Symbols.{Side, Groups, Local, Group, Fact, constant, once, minus, denial}
 use Rattle.facts.specs.Launching.{item_facts}
 use Rattle.walk.specs.Trees as trees
 use Rattle.walk.specs.Trees.{Tree, Leaf, Claim, Know, Touch, Obligation, Access}
-use Rattle.walk.specs.Collected.{Claimed, Found, collect, add_claim, add_fact, add_access}
+use Rattle.walk.specs.Collected.{Claimed, Collected, collect, add_claim, add_fact, add_access}
 use Rattle.two_thread.specs.Pairs.{Scope, Within, Across, Pair, two_orders, all_orders, differs, conflict, where_so, with_one, with_each, pairs_in, pairs_of, pairs_from}
 use Rattle.two_thread.proofs.PairLists.{Each}
 use Rattle.plain.proofs.Trees.{most, IsSmall, IsRight, IsTame}
@@ -31,7 +31,7 @@ IsSmallClaim c = IsSmall c.claim
 abbrev pub IsSmallAccess : {E : Type 0} → Access E → Type 0
 IsSmallAccess a = IsSmall a.index
 
-pub record AreSmall {E : Type 0} (m : Found E) : Type 0 where
+pub record AreSmall {E : Type 0} (m : Collected E) : Type 0 where
   pub facts : Each IsSmall m.facts
   pub claims : Each IsSmallClaim m.claims
   pub accesses : Each IsSmallAccess m.accesses
@@ -41,7 +41,7 @@ with-one P [] x h p = (p, tt)
 with-one P (y ∷ xs) x h p = (h.0, with-one P xs x h.1 p)
 
 -- what is collected of a tame tree is small
-pub small-collected : {E : Type 0} (h : ℕ → Bool) (signed : Type 0) (rs : List Bool) (n : ℕ) (t : Tree E) (m : Found E) → IsTame h signed rs n t → AreSmall m → AreSmall (collect m t)
+pub small-collected : {E : Type 0} (h : ℕ → Bool) (signed : Type 0) (rs : List Bool) (n : ℕ) (t : Tree E) (m : Collected E) → IsTame h signed rs n t → AreSmall m → AreSmall (collect m t)
 unfolding collect
 small-collected h signed rs n Leaf m t s = s
 small-collected h signed [] n (Claim o needed settled f rest) m t s = absurd t
@@ -71,7 +71,7 @@ claims-right h signed rs n launch facts (Know f rest) more t = claims-right h si
 claims-right h signed rs n launch facts (Touch b j es rest) more t = claims-right h signed rs n launch facts rest more t.1
 
 -- what is known of an item at first is small, where no local size is over 1,024
-pub small-items : (sizes : Three ℕ) (w : Which) → sizes.x ≤ 1024 → sizes.y ≤ 1024 → sizes.z ≤ 1024 → Each IsSmall (item_facts sizes w)
+pub small-items : (sizes : Three ℕ) (w : Side) → sizes.x ≤ 1024 → sizes.y ≤ 1024 → sizes.z ≤ 1024 → Each IsSmall (item_facts sizes w)
 small-items sizes w x y z =
     let last = λ (d n : ℕ) (h : n ≤ 1024). less (constant (pos n -ℤ pos 1)) (once (Local w d)) most (omega (arith, ints, h)) in
     let room = λ (d : ℕ). less (minus (once (Groups d)) (once (Group w d))) (constant (pos 1)) most (omega (arith, less (once (Groups d)) (once (Group w d)) 2 (omega arith))) in

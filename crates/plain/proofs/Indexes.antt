@@ -8,7 +8,7 @@ use Rattle.semantics.specs.Conditions.{Conditions}
 use Rattle.semantics.specs.Word.{Uint}
 use Rattle.semantics.specs.Core.{GlobalId}
 use Rattle.linear.specs.Exact.{Terms, put, merge, multiple, sum}
-use Rattle.facts.specs.Symbols.{Which, First, Second, Local, Group, number, symbol_of, Fact, constant, once, minus}
+use Rattle.facts.specs.Symbols.{Side, First, Second, Local, Group, number, symbol_of, Fact, constant, once, minus}
 use Rattle.facts.specs.Elements.{Known, element, element_of, nth, elements_of}
 use Rattle.facts.specs.Launching.{known, below}
 use Rattle.walk.specs.Walks.{Setting, State, setting, elements_at, settles, id_form, low_end}
@@ -23,34 +23,34 @@ below-in z n e h =
     let d : z -ℤ pos 1 ≡ pos n = omega (arith, ints, e) in
     subst (λ y. EndsIn (pos 0) (pos n) (at_most (at_least all (pos 0)) y)) (sym d) (counts n (omega arith))
 
-of_local : (kn : Known Both) (w v : Which) (es : List Both) → element domain (elements_of kn w es) (Local v 0) ≡ nth domain kn.locals 0
+of_local : (kn : Known Both) (w v : Side) (es : List Both) → element domain (elements_of kn w es) (Local v 0) ≡ nth domain kn.locals 0
 of_local kn First v es = refl
 of_local kn Second v es = refl
 
-of_group : (kn : Known Both) (w v : Which) (es : List Both) → element domain (elements_of kn w es) (Group v 0) ≡ nth domain kn.groups 0
+of_group : (kn : Known Both) (w v : Side) (es : List Both) → element domain (elements_of kn w es) (Group v 0) ≡ nth domain kn.groups 0
 of_group kn First v es = refl
 of_group kn Second v es = refl
 
 -- the numbers of an item's ids in the first dimension
-abbrev pub local : Which → ℕ
+abbrev pub local : Side → ℕ
 local w = number (Local w 0)
 
-abbrev pub group : Which → ℕ
+abbrev pub group : Side → ℕ
 group w = number (Group w 0)
 
 -- the terms of a multiple of the global id
-abbrev pub id_terms : Which → (size : ℕ) (factor : ℤ) → Terms
+abbrev pub id_terms : Side → (size : ℕ) (factor : ℤ) → Terms
 id_terms w size k = put (k *ℤ pos 1) (local w) (put (k *ℤ pos size) (group w) [])
 
-abbrev pub id_multiple : Which → (size : ℕ) (factor constant : ℤ) → Fact
+abbrev pub id_multiple : Side → (size : ℕ) (factor constant : ℤ) → Fact
 id_multiple w size k z = record { terms = id_terms w size k; constant = z }
 
-pub id-merge : (w : Which) (n : ℕ) → merge (put (pos (suc n) *ℤ pos 1) (group w) []) (record { coefficient = pos 1; symbol = local w } ∷ []) ≡ record { coefficient = pos 1; symbol = local w } ∷ record { coefficient = pos (suc n); symbol = group w } ∷ []
+pub id-merge : (w : Side) (n : ℕ) → merge (put (pos (suc n) *ℤ pos 1) (group w) []) (record { coefficient = pos 1; symbol = local w } ∷ []) ≡ record { coefficient = pos 1; symbol = local w } ∷ record { coefficient = pos (suc n); symbol = group w } ∷ []
 id-merge w n =
     let e : pos (suc n) *ℤ pos 1 ≡ pos (suc n) = omega (arith, ints) in
     ap (λ z. merge (put z (group w) []) (record { coefficient = pos 1; symbol = local w } ∷ [])) e ∙ in_order w
   where
-    in_order : (w : Which) → merge (record { coefficient = pos (suc n); symbol = group w } ∷ []) (record { coefficient = pos 1; symbol = local w } ∷ []) ≡ record { coefficient = pos 1; symbol = local w } ∷ record { coefficient = pos (suc n); symbol = group w } ∷ []
+    in_order : (w : Side) → merge (record { coefficient = pos (suc n); symbol = group w } ∷ []) (record { coefficient = pos 1; symbol = local w } ∷ []) ≡ record { coefficient = pos 1; symbol = local w } ∷ record { coefficient = pos (suc n); symbol = group w } ∷ []
     in_order First = refl
     in_order Second = refl
 
@@ -67,7 +67,7 @@ near_two x y h i = (omega (arith, ints, h, i), omega (arith, ints, h, i))
 near_three : (x y z : ℤ) → IsNear x → IsNear y → IsNear z → IsEnd (x +ℤ y +ℤ z)
 near_three x y z h i j = (omega (arith, ints, h, i, j), omega (arith, ints, h, i, j))
 
-module _ (k : Kernel) (c : Conditions) (h : ℕ → Bool) (w : Which) (m n : ℕ) (em : k.sizes.x ≡ suc m) (en : c.groups.x.high ≡ pos (suc n)) (lm : m ≤ 1023) (ln : n ≤ 65535) where
+module _ (k : Kernel) (c : Conditions) (h : ℕ → Bool) (w : Side) (m n : ℕ) (em : k.sizes.x ≡ suc m) (en : c.groups.x.high ≡ pos (suc n)) (lm : m ≤ 1023) (ln : n ≤ 65535) where
   abbrev s : Setting Both
   s = setting domain k c h w
 
@@ -114,12 +114,12 @@ module _ (k : Kernel) (c : Conditions) (h : ℕ → Bool) (w : Which) (m n : ℕ
         settled _ _ _ (omega (arith, ints, b)) r
 
 -- the low end of a multiple's range is the multiple itself, and what is left to the high end the turned multiple
-pub low-multiple : (w : Which) (size : ℕ) (f z : ℤ) → low_end Uint (id_multiple w size f z) ≡ id_multiple w size f z
+pub low-multiple : (w : Side) (size : ℕ) (f z : ℤ) → low_end Uint (id_multiple w size f z) ≡ id_multiple w size f z
 low-multiple w size f z =
     let e : z +ℤ pos 0 ≡ z = omega (arith, ints) in
     λ i. record { terms = merge-nil (id_terms w size f) i; constant = e i }
 
-pub minus-multiple : (w : Which) (size : ℕ) (top f z : ℤ) → minus (constant top) (id_multiple w size f z) ≡ id_multiple w size (negsuc 0 *ℤ f) (top -ℤ z)
+pub minus-multiple : (w : Side) (size : ℕ) (top f z : ℤ) → minus (constant top) (id_multiple w size f z) ≡ id_multiple w size (negsuc 0 *ℤ f) (top -ℤ z)
 minus-multiple w size top f z =
     let e : top +ℤ (negsuc 0 *ℤ z) ≡ top -ℤ z = omega (arith, ints) in
     let t = multiples-put (negsuc 0) (f *ℤ pos 1) (local w) (put (f *ℤ pos size) (group w) []) ∙ ap (put (negsuc 0 *ℤ (f *ℤ pos 1)) (local w)) (multiples-put (negsuc 0) (f *ℤ pos size) (group w) []) in
@@ -128,7 +128,7 @@ minus-multiple w size top f z =
     λ i. record { terms = (t ∙ u) i; constant = e i }
 
 -- the id itself, its multiples, and a number more
-pub id-form : {E : Type 0} (s : Setting E) (w : Which) (m : ℕ) → s.item ≡ w → s.sizes.x ≡ suc m → id_form s GlobalId 0 ≡ record { terms = record { coefficient = pos 1; symbol = local w } ∷ record { coefficient = pos (suc m); symbol = group w } ∷ []; constant = pos 0 }
+pub id-form : {E : Type 0} (s : Setting E) (w : Side) (m : ℕ) → s.item ≡ w → s.sizes.x ≡ suc m → id_form s GlobalId 0 ≡ record { terms = record { coefficient = pos 1; symbol = local w } ∷ record { coefficient = pos (suc m); symbol = group w } ∷ []; constant = pos 0 }
 id-form s w m e d =
     (λ i. sum (multiple (pos (d i)) (once (Group (e i) 0))) (once (Local (e i) 0)))
     ∙ (λ i. record { terms = id-merge w m i; constant = zero_more i })
@@ -136,19 +136,19 @@ id-form s w m e d =
     zero_more : pos (suc m) *ℤ pos 0 +ℤ pos 0 ≡ pos 0
     zero_more = omega (arith, ints)
 
-pub multiple-id : (w : Which) (m f : ℕ) → multiple (pos f) (record { terms = record { coefficient = pos 1; symbol = local w } ∷ record { coefficient = pos (suc m); symbol = group w } ∷ []; constant = pos 0 }) ≡ id_multiple w (suc m) (pos f) (pos 0)
+pub multiple-id : (w : Side) (m f : ℕ) → multiple (pos f) (record { terms = record { coefficient = pos 1; symbol = local w } ∷ record { coefficient = pos (suc m); symbol = group w } ∷ []; constant = pos 0 }) ≡ id_multiple w (suc m) (pos f) (pos 0)
 multiple-id w m f = let e : pos f *ℤ pos 0 ≡ pos 0 = omega (arith, ints) in λ i. record { terms = id_terms w (suc m) (pos f); constant = e i }
 
 -- the id alone is one time the id
-pub id-alone : {E : Type 0} (s : Setting E) (w : Which) (m : ℕ) → s.item ≡ w → s.sizes.x ≡ suc m → id_form s GlobalId 0 ≡ id_multiple w (suc m) (pos 1) (pos 0)
+pub id-alone : {E : Type 0} (s : Setting E) (w : Side) (m : ℕ) → s.item ≡ w → s.sizes.x ≡ suc m → id_form s GlobalId 0 ≡ id_multiple w (suc m) (pos 1) (pos 0)
 id-alone s w m e d =
     let one : pos (suc m) ≡ pos 1 *ℤ pos (suc m) = omega (arith, ints) in
     id-form s w m e d ∙ ap (λ z. record { terms = put (pos 1) (local w) (put z (group w) []); constant = pos 0 }) one
 
-pub sum-multiple : (w : Which) (size : ℕ) (f z c : ℤ) → sum (id_multiple w size f z) (constant c) ≡ id_multiple w size f (z +ℤ c)
+pub sum-multiple : (w : Side) (size : ℕ) (f z c : ℤ) → sum (id_multiple w size f z) (constant c) ≡ id_multiple w size f (z +ℤ c)
 sum-multiple w size f z c = λ i. record { terms = merge-nil (id_terms w size f) i; constant = z +ℤ c }
 
-pub number-multiple : (w : Which) (size : ℕ) (z : ℤ) → constant z ≡ id_multiple w size (pos 0) z
+pub number-multiple : (w : Side) (size : ℕ) (z : ℤ) → constant z ≡ id_multiple w size (pos 0) z
 number-multiple w size z =
     let e : pos 0 ≡ pos 0 *ℤ pos size = omega (arith, ints) in
     ap (λ c. record { terms = put c (group w) []; constant = z }) e

@@ -6,12 +6,12 @@ use Rattle.std.proofs.lemmas.Bool.{false≢true}
 use Rattle.std.proofs.lemmas.Bool.Decides.{nat_tests}
 use Rattle.semantics.specs.Launch.{Kernel}
 use Rattle.semantics.specs.Conditions.{Conditions}
-use Rattle.facts.specs.Symbols.{Which, First, Second, Fact}
+use Rattle.facts.specs.Symbols.{Side, First, Second, Fact}
 use Rattle.walk.specs.Straight.{is_straight}
 use Rattle.walk.specs.Trees.{Access, Obligation}
 use Rattle.facts.specs.Launching.{launch_facts, item_facts, known}
 use Rattle.walk.specs.Walks.{setting, tree, opening_state}
-use Rattle.walk.specs.Collected.{Claimed, Found, opening}
+use Rattle.walk.specs.Collected.{Claimed, Collected, opening}
 use Rattle.walk.specs.Refusals.{are_fit, all_fit}
 use Rattle.two_thread.specs.Pairs.{Pair, pair_obligation}
 use Rattle.two_thread.specs.Shown.{obligations, pairs, item_accesses}
@@ -37,7 +37,7 @@ accesses-fit : {E : Type 0} (us : List (Access E)) → Each IsSmallAccess us →
 accesses-fit [] h = refl
 accesses-fit (u ∷ us) h = rw (small-fits u.index h.0, accesses-fit us h.1) refl
 
-found-fit : {E : Type 0} (m : Found E) → AreSmall m → all_fit m ≡ true
+found-fit : {E : Type 0} (m : Collected E) → AreSmall m → all_fit m ≡ true
 found-fit m s = rw (facts-fit m.facts s.facts, claims-fit m.claims s.claims, accesses-fit m.accesses s.accesses) refl
 
 denials-fit : (cs : List Claimed) → Each IsSmallClaim cs → are_fit (map denied cs) ≡ true
@@ -82,18 +82,18 @@ module _ (k : Kernel) (c : Conditions) (h : ℕ → Bool) (limits : HasLimits k 
   abbrev signed : Type 0
   signed = has_signed k.arguments k.body ≡ true
 
-  tree-tame : (w : Which) → IsTame h signed (claims k.arguments k.body) 0 (tree (setting domain k c h w) k.body)
+  tree-tame : (w : Side) → IsTame h signed (claims k.arguments k.body) 0 (tree (setting domain k c h w) k.body)
   tree-tame w =
       let x = before k.sizes.x limits.size_x.0 in
       let g = before_z c.groups.x.high limits.groups_x.0 limits.groups_x.1 in
       body-tame k c h w x.0 g.0 x.1 g.1 (omega (arith, x.1, limits.size_x.1)) g.2 signed k.body plain (λ e. e) opening_state
 
-  found-small : (w : Which) → AreSmall (found domain k c h w)
+  found-small : (w : Side) → AreSmall (found domain k c h w)
   found-small w =
       small-collected h signed (claims k.arguments k.body) 0 (tree (setting domain k c h w) k.body) (opening (item_facts k.sizes w)).found (tree-tame w)
       (record { facts = small-items k.sizes w limits.size_x.1 limits.size_y.1 limits.size_z.1; claims = tt; accesses = tt })
 
-  small : (w : Which) → Each IsSmallAccess (item_accesses domain k c h w)
+  small : (w : Side) → Each IsSmallAccess (item_accesses domain k c h w)
   small w = small-accesses h signed (claims k.arguments k.body) 0 (item_facts k.sizes w) (tree (setting domain k c h w) k.body) (tree-tame w)
 
   pub plain-fits : forms_fit domain k c h ≡ true

@@ -10,7 +10,7 @@ use Rattle.semantics.specs.Conditions.{Conditions}
 use Rattle.linear.specs.Exact.{put, multiple, sum}
 use Rattle.linear.specs.Sizes.{size}
 use Rattle.linear.proofs.Sizes.{size-put, size_difference}
-use Rattle.facts.specs.Symbols.{Which, Length, Given, Fact, constant, once, minus}
+use Rattle.facts.specs.Symbols.{Side, Length, ArgumentOf, Fact, constant, once, minus}
 use Rattle.facts.specs.Elements.{between}
 use Rattle.walk.specs.Trees.{Tree, Leaf, Touch}
 use Rattle.walk.specs.Walks.{Setting, State, stand, spot_at, Value, value, newest, with_new, Onward, setting, settles, claimed, ranged, kept_or_new, brought_from, id_form, walk, walk_all, in_buffer, store_of, joined, exact}
@@ -22,7 +22,7 @@ use Rattle.plain.proofs.Indexes.{local, group, id_multiple, settles_up, settles_
 use Rattle.plain.proofs.Trees.{most, IsTame, range-tame, range-asked}
 
 -- how large a multiple of the id is
-multiple-size : (w : Which) (size' f z : ℕ) → size (id_multiple w size' (pos f) (pos z)) ≡ z + (f * 1 + (f * size' + 0))
+multiple-size : (w : Side) (size' f z : ℕ) → size (id_multiple w size' (pos f) (pos z)) ≡ z + (f * 1 + (f * size' + 0))
 multiple-size w size' f z = ap (λ n. z + n) (size-put (pos f *ℤ pos 1) (local w) (put (pos f *ℤ pos size') (group w) []) ∙ ap (λ n. f * 1 + n) (size-put (pos f *ℤ pos size') (group w) []))
 
 pub less : (f g : Fact) (n : ℕ) → size f + size g ≤ n → size (minus f g) ≤ n
@@ -56,7 +56,7 @@ last_below f z size' m n groups em en h =
     let r : (pos f *ℤ pos (m + suc m * n) +ℤ pos z) ≤ℤ pos 4294967295 = subst (λ x. x ≤ℤ pos 4294967295) e h in
     omega (arith, ints, r, mul-add f m (suc m * n), mul_assoc f (suc m) n)
 
-module _ (k : Kernel) (c : Conditions) (h : ℕ → Bool) (w : Which) (m n : ℕ) (em : k.sizes.x ≡ suc m) (en : c.groups.x.high ≡ pos (suc n)) (lm : m ≤ 1023) (ln : n ≤ 65535) (signed : Type 0) where
+module _ (k : Kernel) (c : Conditions) (h : ℕ → Bool) (w : Side) (m n : ℕ) (em : k.sizes.x ≡ suc m) (en : c.groups.x.high ≡ pos (suc n)) (lm : m ≤ 1023) (ln : n ≤ 65535) (signed : Type 0) where
   abbrev s : Setting Both
   s = setting domain k c h w
 
@@ -112,16 +112,16 @@ module _ (k : Kernel) (c : Conditions) (h : ℕ → Bool) (w : Which) (m n : ℕ
       let new = newest s st in
       (less new (constant (pos 0)) most (omega arith), (less (constant (pos 4294967295)) new most (omega arith), t (value Uint new) (with_new st (between domain (pos 0) (pos 4294967295)))))
 
-  given-tame : (kd : Kind) (x : ℕ) → (is_int kd ≡ true → signed) → (rs : List Bool) (st : State Both) (go : Onward Both) → ((x : Value) (st' : State Both) → IsTame h signed rs st'.claims (go x st')) → IsTame h signed (brings Uint kd rs) st.claims (brought_from s Uint kd (once (Given x)) st go)
-  given-tame Uint x g rs st go t = t (value Uint (once (Given x))) st
+  given-tame : (kd : Kind) (x : ℕ) → (is_int kd ≡ true → signed) → (rs : List Bool) (st : State Both) (go : Onward Both) → ((x : Value) (st' : State Both) → IsTame h signed rs st'.claims (go x st')) → IsTame h signed (brings Uint kd rs) st.claims (brought_from s Uint kd (once (ArgumentOf x)) st go)
+  given-tame Uint x g rs st go t = t (value Uint (once (ArgumentOf x))) st
   given-tame Int x g rs st go t =
-      let f = once (Given x) in
+      let f = once (ArgumentOf x) in
       range-asked s h signed rs f st go (λ i. refl) (g refl) (less f (constant (pos 0)) most (omega arith)) (less (constant (pos 4294967295)) f most (omega arith)) (new-tame rs f (claimed (claimed st)) go t)
 
   value-tame : (v : Term) → IsPlainValue k.arguments v → (is_signed k.arguments v ≡ true → signed) → (rs : List Bool) (st : State Both) (go : Onward Both) → ((x : Value) (st' : State Both) → IsTame h signed rs st'.claims (go x st')) → IsTame h signed (ranges k.arguments v rs) st.claims (walk s v st go)
   value-tame v (Number z l) g rs st go t = t (value Uint (constant (pos z))) st
   value-tame v (BroughtNumber site z l) g rs st go t = number-tame Int z (int_below z l) rs (stand (spot_at site st) st) go (λ st'. t (value Uint (constant (pos z))) st')
-  value-tame v (Parameter x l) g rs st go t = t (value (slice_index_or k.arguments x Int) (once (Given x))) st
+  value-tame v (Parameter x l) g rs st go t = t (value (slice_index_or k.arguments x Int) (once (ArgumentOf x))) st
   value-tame v (BroughtParameter site x l) g rs st go t = given-tame (slice_index_or k.arguments x Int) x g rs (stand (spot_at site st) st) go t
 
   pub body-tame : (body : Statements) → ArePlain k.arguments k.sizes.x c.groups.x.high body → (has_signed k.arguments body ≡ true → signed) → (st : State Both) → IsTame h signed (claims k.arguments body) st.claims (walk_all s body st (λ st. Leaf))

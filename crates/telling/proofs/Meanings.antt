@@ -26,7 +26,7 @@ use Rattle.launch_text.specs.View.{lined}
 use Rattle.launch_text.proofs.LeastFits.{conditions_meant, launch_meant}
 use Rattle.reading.specs.Answers.{kernel_seen}
 use Rattle.reading.specs.Texts.{IsTextOf}
-use Rattle.cert_check.specs.Accepting.{at, HasHeadline}
+use Rattle.cert_check.specs.Accepting.{at_launch, HasHeadline}
 use Rattle.write_log.specs.Written.{words_of}
 use Rattle.executor.specs.Ends.{IsResultOf, EndsEvery}
 use Rattle.telling.specs.Telling.{IsSafe, IsRun}
@@ -44,8 +44,8 @@ pub is_safe : (kernel conditions : List ℕ) (t : Kernel × Core) (c : Condition
 is_safe kernel conditions t c text said h = record { kernel_text = text; conditions_text = subst (IsConditionsText (tree_seen t.0).parameters conditions) (conditions_meant c) said; headline = h }
 
 pub is_run : (t : Kernel × Core) (c : Conditions) (launch written : List ℕ) (l : Launch) (b : Buffers) → IsLaunchText (tree_seen t.0).parameters launch (given.meant (view.launch l)) → Fits (core_seen t.1) (launch_seen l)
-    → Meets (conditions_seen c) (launch_seen l) → IsDefined (at (core_seen t.1) (launch_seen l)) c.budget → IsResultOf (at (core_seen t.1) (launch_seen l)) c.budget (words_of b)
-    → EndsEvery (at (core_seen t.1) (launch_seen l)) (words_of b) → written ≡ buffers_text (tree_seen t.0).parameters (view.buffers b.words) → IsRun (kernel_seen t) (conditions_seen c) launch written (launch_seen l) (view.buffers b.words)
+    → Meets (conditions_seen c) (launch_seen l) → IsDefined (at_launch (core_seen t.1) (launch_seen l)) c.budget → IsResultOf (at_launch (core_seen t.1) (launch_seen l)) c.budget (words_of b)
+    → EndsEvery (at_launch (core_seen t.1) (launch_seen l)) (words_of b) → written ≡ buffers_text (tree_seen t.0).parameters (view.buffers b.words) → IsRun (kernel_seen t) (conditions_seen c) launch written (launch_seen l) (view.buffers b.words)
 is_run t c launch written l b said fits meets defined result every text =
     let k = core_seen t.1 in
     let n = sym (rows_seen b.words.items) in
@@ -54,7 +54,7 @@ is_run t c launch written l b said fits meets defined result every text =
       fits = fits;
       meets = meets;
       defined = defined;
-      result = subst (IsResultOf (at k (launch_seen l)) c.budget) n result;
-      every = subst (EndsEvery (at k (launch_seen l))) n every;
+      result = subst (IsResultOf (at_launch k (launch_seen l)) c.budget) n result;
+      every = subst (EndsEvery (at_launch k (launch_seen l))) n every;
       text = text;
     }

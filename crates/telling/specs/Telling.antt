@@ -12,7 +12,7 @@ use Rattle.texts.specs.LaunchSpelling.{IsLaunchText}
 use Rattle.texts.specs.LaunchText.{buffers_text}
 use Rattle.reading.specs.Kernels.{Kernel}
 use Rattle.reading.specs.Texts.{IsTextOf}
-use Rattle.cert_check.specs.Accepting.{at, HasHeadline}
+use Rattle.cert_check.specs.Accepting.{at_launch, HasHeadline}
 use Rattle.executor.specs.Ends.{IsResultOf, EndsEvery}
 
 -- the bytes are the text of the kernel, by the grammar, and the text of the conditions, case by case; and at each launch that meets these
@@ -27,7 +27,7 @@ accepted_line = codes "accepted\n"
 
 -- a kernel at a launch
 abbrev pub launched : Kernel → Launch → Setup
-launched k l = at k.core l
+launched k l = at_launch k.core l
 
 -- the launch is that of the bytes, case by case, and meets the conditions; what is written are the buffers that have the numbers of the result by rounds,
 -- which is defined, and with which every run that is over ends

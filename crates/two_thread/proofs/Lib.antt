@@ -10,3 +10,4 @@ pub mod Safe
 pub mod Listing
 pub mod Collecting
 pub mod Walked
+pub mod Fits

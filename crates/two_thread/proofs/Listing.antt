@@ -8,7 +8,7 @@ use Rattle.linear.specs.Forms.{forms}
 use Rattle.facts.specs.View.{known_seen}
 use Rattle.walk.specs.Trees.{Obligation}
 use Rattle.walk.specs.Before.{HasFacts}
-use Rattle.walk.specs.View.{met, claim_seen}
+use Rattle.walk.specs.View.{followed, claim_seen}
 use Rattle.walk.specs.declared.path.Path.{Path}
 use Rattle.walk.specs.declared.path.Claim.{Claim}
 use Rattle.two_thread.specs.Pairs.{pair_obligation}
@@ -25,11 +25,11 @@ at_place (x ∷ xs) zero d e h = refl
 at_place (x ∷ xs) (suc i) d e h = at_place xs i d e (omega arith)
 
 pub claim_is : {E : Type 0} (p : Path E) (i : ℕ) (c : Claim) → i < length p.claims.items → c ≡ get_or p.claims.items i c → get_or (seen_claims p) i no_claim ≡ claim_seen (forms p.facts.items) c
-unfolding met
+unfolding followed
 claim_is p i c h e = get_or-map (claim_seen (forms p.facts.items)) p.claims.items i c no_claim h ∙ ap (claim_seen (forms p.facts.items)) (sym e)
 
 pub length_claims : {E : Type 0} (p : Path E) → length (seen_claims p) ≡ length p.claims.items
-unfolding met
+unfolding followed
 length_claims p = length-map p.claims.items (claim_seen (forms p.facts.items))
 
 pub claim_fits : (n : ℕ) (cs : List Claim) (i : ℕ) (c : Claim) → All (HasFacts n) cs → i < length cs → c ≡ get_or cs i c → c.facts ≤ n

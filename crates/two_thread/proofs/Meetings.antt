@@ -8,7 +8,7 @@ use Rattle.std.proofs.lemmas.List.Elements.{All-append, All-cons, All-nil}
 use Rattle.semantics.specs.Setup.{Setup, along, group_of, item_count, local_id, group_id, place}
 use Rattle.semantics.specs.Linear.{value_of, IsMet}
 use Rattle.facts.specs.Symbols as symbols
-use Rattle.facts.specs.Symbols.{Which, First, Second, Symbol, Given, Length, Local, Group, New, number, symbol_of, Fact, constant, once, minus, equals}
+use Rattle.facts.specs.Symbols.{Side, First, Second, Symbol, ArgumentOf, Length, Local, Group, New, number, symbol_of, Fact, constant, once, minus, equals}
 use Rattle.facts.specs.Elements.{Elements, element_of}
 use Rattle.facts.specs.Launching.{launch_facts, known, count_range}
 use Rattle.walk.specs.Straight.{is_global}
@@ -49,7 +49,7 @@ module _ {E : Type 0} (w : Walked E) (i j : ℕ) (hi : i < item_count (setup_of 
   first-agrees : Agrees one p.news v
   first-agrees = record {
     groups = λ d. ap m (symbol_of-number (symbols.Groups d));
-    given = λ n. ap m (symbol_of-number (Given n));
+    given = λ n. ap m (symbol_of-number (ArgumentOf n));
     lengths = λ n. ap m (symbol_of-number (Length n));
     local = λ d. ap m (symbol_of-number (Local First d));
     group = λ d. ap m (symbol_of-number (Group First d));
@@ -62,7 +62,7 @@ module _ {E : Type 0} (w : Walked E) (i j : ℕ) (hi : i < item_count (setup_of 
   second-agrees : Agrees two q.news (λ n. v (twin n))
   second-agrees = record {
     groups = λ d. twin-is (symbols.Groups d) (symbols.Groups d) (groups-twin d);
-    given = λ n. twin-is (Given n) (Given n) (given-twin n);
+    given = λ n. twin-is (ArgumentOf n) (ArgumentOf n) (given-twin n);
     lengths = λ n. twin-is (Length n) (Length n) (length-twin n);
     local = λ d. twin-is (Local First d) (Local Second d) (local-twin d);
     group = λ d. twin-is (Group First d) (Group Second d) (group-twin d);

@@ -1,5 +1,5 @@
 -- An error of a walk says of the kernel what it says of a part.
-use Rattle.std.proofs.Common.{◌≡◌, ℕ, zero, suc, ◌+◌, ◌<◌, Bool, false, ◌&&◌, List, [], ◌∷◌, length, map, get_or, arith, refl, sym, ap, subst, ◌∙◌}
+use Rattle.std.proofs.Common.{◌≡◌, ℕ, zero, suc, ◌+◌, ◌<◌, Bool, true, false, true≢false, ◌&&◌, List, [], ◌∷◌, length, map, get_or, arith, refl, sym, ap, subst, ◌∙◌}
 use Rattle.std.proofs.lemmas.List.{length-map, length-append, get_or-map}
 use Rattle.semantics.specs.Launch.{Kernel}
 use Rattle.semantics.specs.Conditions.{Conditions}
@@ -9,9 +9,9 @@ use Rattle.linear.specs.Forms.{form}
 use Rattle.facts.specs.Symbols.{Fact, First, Second, denial}
 use Rattle.facts.specs.Launching.{are_sizes, launch_facts, item_facts, known}
 use Rattle.walk.specs.Straight.{is_straight, is_straight_body}
-use Rattle.walk.specs.View.{met}
+use Rattle.walk.specs.View.{followed}
 use Rattle.walk.specs.Trees.{Tree, Leaf, Claim, Know, Touch, claims}
-use Rattle.walk.specs.Collected.{Claimed, Found, opening}
+use Rattle.walk.specs.Collected.{Claimed, Collected, opening}
 use Rattle.walk.specs.Walks.{setting, tree}
 use Rattle.facts.specs.Refusals.{IsMemory, IsUnfit}
 use Rattle.walk.specs.Refusals.{IsNoStraightBody, Refused, are_fit, all_fit}
@@ -124,19 +124,15 @@ module _ {E : Type 0} (g : Ghosts E) (k : Kernel) (c : Conditions) (h : ℕ → 
   pub memory_unwalked : (e : WalkError) → IsMemory e → IsUnwalked g k c h e
   memory_unwalked e m = subst (IsUnwalked g k c h) (sym m) tt
 
-  pub unfit_unwalked : (fit : Bool) → (fit ≡ false → forms_fit g k c h ≡ false) → (e : WalkError) → DoNotFit fit e → IsUnwalked g k c h e
+  pub unfit_unwalked : (fit : Bool) → fit ≡ true → (e : WalkError) → DoNotFit fit e → IsUnwalked g k c h e
   unfit_unwalked fit f walks.TooMany u = absurd u
-  unfit_unwalked fit f walks.TooLarge u = f u
+  unfit_unwalked fit f walks.TooLarge u = absurd (true≢false (sym f ∙ u))
   unfit_unwalked fit f walks.Outside u = absurd u
   unfit_unwalked fit f walks.Memory u = tt
 
-  pub unfit_found : (cs : List Claimed) (ps : List (Pair E)) → cs ≡ (found g k c h First).claims → ps ≡ pairs g k c h → (are_fit (map denied cs) && pairs_fit ps) ≡ false → forms_fit g k c h ≡ false
-  unfit_found cs ps p q u =
-      and_right (all_fit (found g k c h First)) _ (and_right (all_fit (found g k c h Second)) _ ((λ i. are_fit (map denied (sym p i)) && pairs_fit (sym q i)) ∙ u))
-
-  pub many_found : (p : Path E) (ps : List (Pair E)) (n : ℕ) → (met p).found ≡ found g k c h First → ps ≡ pairs g k c h → n ≡ length p.claims.items + length ps → 65536 < n → 65536 < length (obligations g k c h)
+  pub many_found : (p : Path E) (ps : List (Pair E)) (n : ℕ) → (followed p).found ≡ found g k c h First → ps ≡ pairs g k c h → n ≡ length p.claims.items + length ps → 65536 < n → 65536 < length (obligations g k c h)
   many_found p ps n d q e l =
       let o = pair_obligation g (known g k.sizes c) (launch_facts c) in
-      let first : length p.claims.items ≡ length (item_claims g k c h) = sym (length_claims p) ∙ ap (λ (x : Found _). length x.claims) d ∙ count_first in
+      let first : length p.claims.items ≡ length (item_claims g k c h) = sym (length_claims p) ∙ ap (λ (x : Collected _). length x.claims) d ∙ count_first in
       let second : length ps ≡ length (map o (pairs g k c h)) = ap length q ∙ sym (length-map (pairs g k c h) o) in
       omega (arith, e, l, first, second, length-append (item_claims g k c h) (map o (pairs g k c h)))

@@ -3,17 +3,17 @@ use Rattle.std.specs.Prelude.{ℕ, List, [], ◌∷◌, map, Bool, true, ◌&&�
 use Rattle.semantics.specs.Launch.{Kernel}
 use Rattle.semantics.specs.Conditions.{Conditions}
 use Rattle.domain.specs.declared.Domain.{Ghosts}
-use Rattle.facts.specs.Symbols.{Which, First, Second, Fact, denial}
+use Rattle.facts.specs.Symbols.{Side, First, Second, Fact, denial}
 use Rattle.facts.specs.Launching.{item_facts}
 use Rattle.walk.specs.Walks.{setting, tree}
-use Rattle.walk.specs.Collected.{Claimed, Found, collect, opening}
+use Rattle.walk.specs.Collected.{Claimed, Collected, collect, opening}
 use Rattle.walk.specs.Refusals.{are_fit, all_fit}
 use Rattle.two_thread.specs.Pairs.{Pair}
 use Rattle.two_thread.specs.Refusals.{pair_fits}
 use Rattle.two_thread.specs.Shown.{pairs}
 
 -- what an item finds on its way
-abbrev pub found : {E : Type 0} → Ghosts E → Kernel → Conditions → (has_entry : ℕ → Bool) → Which → Found E
+abbrev pub found : {E : Type 0} → Ghosts E → Kernel → Conditions → (has_entry : ℕ → Bool) → Side → Collected E
 found g k c has_entry w = collect (opening (item_facts k.sizes w)).found (tree (setting g k c has_entry w) k.body)
 
 abbrev pub denied : Claimed → Fact

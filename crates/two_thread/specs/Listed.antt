@@ -8,7 +8,7 @@ use Rattle.walk.specs.Trees.{OfIndex, Obligation}
 use Rattle.walk.specs.Collected.{Claimed}
 use Rattle.walk.specs.Refusals.{are_fit}
 use Rattle.walk.specs.Trees as trees
-use Rattle.walk.specs.View.{met, spot}
+use Rattle.walk.specs.View.{followed, spot}
 use Rattle.walk.specs.declared.path.Spot.{Spot}
 use Rattle.walk.specs.Walks.{nowhere}
 use Rattle.walk.specs.declared.path.Path.{Path}
@@ -29,7 +29,7 @@ abbrev pub owed : (launch : List Fact) → Claimed → Obligation
 owed launch c = record { sort = c.demand.sort; spot = c.demand.spot; other = None; needed = c.needed; settled = c.settled; facts = launch ++ (c.facts ++ denial c.claim ∷ []) }
 
 abbrev pub seen_claims : {E : Type 0} → Path E → List Claimed
-seen_claims p = (met p).found.claims
+seen_claims p = (followed p).found.claims
 
 -- past the end
 abbrev pub no_claim : Claimed

@@ -4,7 +4,7 @@ use Rattle.semantics.specs.Launch.{Three}
 use Rattle.semantics.specs.Setup.{along}
 use Rattle.semantics.specs.Conditions.{Conditions}
 use Rattle.domain.specs.declared.Domain.{Ghosts}
-use Rattle.facts.specs.Symbols.{Which, First, Second, Symbol, Local, Group, Fact, constant, once, minus, equals}
+use Rattle.facts.specs.Symbols.{Side, First, Second, Symbol, Local, Group, Fact, constant, once, minus, equals}
 use Rattle.facts.specs.Elements.{Known, element_of, lacks_zero}
 use Rattle.facts.specs.Launching.{each_dimension, count_range}
 use Rattle.walk.specs.Straight.{is_global}
@@ -27,7 +27,7 @@ pub record Pair (E : Type 0) : Type 0 where
   pub dimension : ℕ
   pub order : Order
 
-abbrev pub id : Scope → Which → ℕ → Symbol
+abbrev pub id : Scope → Side → ℕ → Symbol
 id Within w d = Local w d
 id Across w d = Group w d
 

@@ -4,13 +4,13 @@ use Rattle.semantics.specs.Launch.{Kernel}
 use Rattle.semantics.specs.Conditions.{Conditions}
 use Rattle.semantics.specs.Linear.{IsImpossible}
 use Rattle.domain.specs.declared.Domain.{Ghosts}
-use Rattle.facts.specs.Symbols.{Which, First, Second}
+use Rattle.facts.specs.Symbols.{Side, First, Second}
 use Rattle.facts.specs.Launching.{launch_facts, item_facts, known}
 use Rattle.walk.specs.Trees.{Access, Obligation, claims, accesses}
 use Rattle.walk.specs.Walks.{setting, tree}
 use Rattle.two_thread.specs.Pairs.{Pair, pairs_from, pair_obligation}
 
-abbrev pub item_accesses : {E : Type 0} → Ghosts E → Kernel → Conditions → (has_entry : ℕ → Bool) → Which → List (Access E)
+abbrev pub item_accesses : {E : Type 0} → Ghosts E → Kernel → Conditions → (has_entry : ℕ → Bool) → Side → List (Access E)
 item_accesses g k c has_entry w = accesses (item_facts k.sizes w) (tree (setting g k c has_entry w) k.body)
 
 abbrev pub item_claims : {E : Type 0} → Ghosts E → Kernel → Conditions → (has_entry : ℕ → Bool) → List Obligation

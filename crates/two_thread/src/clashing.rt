@@ -1,20 +1,21 @@
 //! The facts of what is to be shown.
 
-ghost use Rattle.std.specs.Prelude.{◌≡◌, ◌++◌, ◌∷◌, [], ◌<◌, ◌≤◌, ◌⊎◌, MatchResult, IfErr, pos, length, take};
+ghost use Rattle.std.specs.Prelude.{◌≡◌, ◌++◌, ◌∷◌, [], ◌<◌, ◌≤◌, ◌⊎◌, MatchResult, true, pos, length, take};
+ghost use Rattle.linear.specs.Exact.{fits};
 ghost use Rattle.linear.specs.Forms.{form as form_seen, forms};
 ghost use Rattle.domain.specs.Members.{leaves};
 ghost use Rattle.facts.specs.Elements as elements;
 ghost use Rattle.facts.specs.Symbols as symbols;
-ghost use Rattle.facts.specs.View.{which, known_seen};
+ghost use Rattle.facts.specs.View.{side, known_seen};
 ghost use Rattle.two_thread.specs.Pairs as specs;
 ghost use Rattle.facts.specs.Refusals.{IsMemory, IsUnfit};
-ghost use Rattle.two_thread.specs.Refusals.{AreUnfit, IsUnfitPair};
+ghost use Rattle.two_thread.specs.Refusals.{AreUnfit, IsUnfitPair, pair_fits};
 ghost use Rattle.two_thread.specs.View.{scope as scope_seen, order as order_seen, pair as pair_seen, seen_accesses};
 
 use crate::pairs::{Order, Pair, Scope};
 use domain::{Domain, Residue};
 use facts::{
-    Known, WalkError, Which, copy_all, element_of, less_number, number_less, once_group, once_local,
+    Known, WalkError, Side, copy_all, element_of, less_number, number_less, once_group, once_local,
 };
 use linear::Form;
 use std::alloc::Global;
@@ -41,8 +42,8 @@ fn push_equals(
 fn same_group(alloc: Global, facts: &mut Vec<Form>, dimension: u32) -> Result<(), WalkError>
     ensures { MatchResult result (λ _. forms facts.new.items ≡ forms facts.old.items ++ specs.same_group dimension) IsMemory }
 {
-    let first = once_group(alloc, Which::First, dimension)?;
-    let second = once_group(alloc, Which::Second, dimension)?;
+    let first = once_group(alloc, Side::First, dimension)?;
+    let second = once_group(alloc, Side::Second, dimension)?;
     push_equals(alloc, facts, &first, &second)
 }
 
@@ -62,8 +63,8 @@ fn scope_facts(alloc: Global, facts: &mut Vec<Form>, scope: Scope) -> Result<(),
 }
 
 /// An item's id that its scope tells of.
-fn id_of(alloc: Global, scope: Scope, item: Which, dimension: u32) -> Result<Form, WalkError>
-    ensures { MatchResult result (λ f. form_seen f ≡ symbols.once (specs.id (scope_seen scope) (which item) dimension)) IsMemory }
+fn id_of(alloc: Global, scope: Scope, item: Side, dimension: u32) -> Result<Form, WalkError>
+    ensures { MatchResult result (λ f. form_seen f ≡ symbols.once (specs.id (scope_seen scope) (side item) dimension)) IsMemory }
 {
     match scope {
         Scope::Within => once_local(alloc, item, dimension),
@@ -83,8 +84,8 @@ fn less(alloc: Global, left: &Form, right: &Form) -> Result<Form, WalkError>
 fn order_fact(alloc: Global, pair: Pair) -> Result<Form, WalkError>
     ensures { MatchResult result (λ f. form_seen f ≡ specs.order_fact (order_seen pair.order) (symbols.once (specs.id (scope_seen pair.scope) symbols.First pair.dimension)) (symbols.once (specs.id (scope_seen pair.scope) symbols.Second pair.dimension))) IsMemory }
 {
-    let first = id_of(alloc, pair.scope, Which::First, pair.dimension)?;
-    let second = id_of(alloc, pair.scope, Which::Second, pair.dimension)?;
+    let first = id_of(alloc, pair.scope, Side::First, pair.dimension)?;
+    let second = id_of(alloc, pair.scope, Side::Second, pair.dimension)?;
     match pair.order {
         Order::Below => less(alloc, &first, &second),
         Order::Above => less(alloc, &second, &first),
@@ -110,15 +111,13 @@ pub fn try_differences<D: Copy>(
 ) -> Result<(), WalkError>
     requires first { pair.first < length first.now.accesses.items }
     requires second { pair.second < length second.now.accesses.items }
-    ensures { IfErr result (λ e. IsUnfitPair e (pair_seen (seen_accesses first.now) (seen_accesses second.now) pair)) }
+    ensures { MatchResult result (λ _. pair_fits (pair_seen (seen_accesses first.now) (seen_accesses second.now) pair) ≡ true) (λ e. IsUnfitPair e (pair_seen (seen_accesses first.now) (seen_accesses second.now) pair)) }
 {
-    let mut facts = Vec::new(alloc);
-    push_equals(
-        alloc,
-        &mut facts,
-        index_of(first, pair.first),
-        index_of(second, pair.second),
-    )
+    let left = index_of(first, pair.first);
+    let right = index_of(second, pair.second);
+    left.sub(alloc, right)?;
+    right.sub(alloc, left)?;
+    Ok(())
 }
 
 /// The facts of a pair, which are to be impossible.
@@ -231,10 +230,10 @@ fn push_denial(alloc: Global, facts: &mut Vec<Form>, form: &Form) -> Result<(), 
 
 /// What denies that a form is at least 0 is of `i64`, or an error.
 pub fn try_denial(alloc: Global, form: &Form) -> Result<(), WalkError>
-    ensures { IfErr result (λ e. IsUnfit e (symbols.denial (form_seen form.now))) }
+    ensures { MatchResult result (λ _. fits (symbols.denial (form_seen form.now)) ≡ true) (λ e. IsUnfit e (symbols.denial (form_seen form.now))) }
 {
-    let mut facts = Vec::new(alloc);
-    push_denial(alloc, &mut facts, form)
+    let _denial = number_less(alloc, -1, form)?;
+    Ok(())
 }
 
 /// The facts of a claim, which are to be impossible with its denial.

@@ -8,10 +8,10 @@ ghost use Rattle.launch.specs.View.{conditions as conditions_seen};
 ghost use Rattle.words.specs.View.{kind};
 ghost use Rattle.facts.specs.Launching as launching;
 ghost use Rattle.facts.specs.Refusals.{IsMemory};
-ghost use Rattle.facts.specs.View.{which, known_seen};
+ghost use Rattle.facts.specs.View.{side, known_seen};
 ghost use Rattle.walk.specs.Collected.{collect, opening};
 ghost use Rattle.walk.specs.Refusals.{Refused, IsNoStraightBody};
-ghost use Rattle.walk.specs.View.{met, setting as setting_seen};
+ghost use Rattle.walk.specs.View.{followed, setting as setting_seen};
 ghost use Rattle.walk.specs.Walks as walks;
 ghost use Rattle.two_thread.specs.Fitting.{forms_fit};
 ghost use Rattle.two_thread.specs.Refusals.{IsInside, DoNotFit};
@@ -22,7 +22,7 @@ use crate::clashing::{claim_facts, is_apart, pair_facts, try_denial, try_differe
 use crate::pairs::{Pair, all_pairs, spot_of};
 use core_code::tree::Core;
 use domain::Domain;
-use facts::{WalkError, Which, item_facts, known, launch_facts};
+use facts::{WalkError, Side, item_facts, known, launch_facts};
 use launch::conditions::Conditions;
 use linear::Form;
 use std::alloc::Global;
@@ -67,26 +67,26 @@ fn path_of<D: Domain>(
     alloc: Global,
     core: &Core,
     setting: &Setting<D>,
-    item: Which,
+    item: Side,
 ) -> Result<Path<D>, WalkError>
-    ensures path { IfOk result (λ p. (met p).found ≡ collect (opening (launching.item_facts (core_seen core.now).sizes (which item))).found (walks.tree (setting_seen D.Domain setting.now item) (core_seen core.now).body)) }
-    ensures refused { IfErr result (λ e. Refused (IsNoStraightBody (core_seen core.now).body) e (collect (opening (launching.item_facts (core_seen core.now).sizes (which item))).found (walks.tree (setting_seen D.Domain setting.now item) (core_seen core.now).body))) }
+    ensures path { IfOk result (λ p. (followed p).found ≡ collect (opening (launching.item_facts (core_seen core.now).sizes (side item))).found (walks.tree (setting_seen D.Domain setting.now item) (core_seen core.now).body)) }
+    ensures refused { IfErr result (λ e. Refused (IsNoStraightBody (core_seen core.now).body) e (collect (opening (launching.item_facts (core_seen core.now).sizes (side item))).found (walks.tree (setting_seen D.Domain setting.now item) (core_seen core.now).body))) }
 {
     let facts = item_facts(alloc, core.sizes, item)?;
     Ok(walk(alloc, setting, item, facts, core.body.as_slice())?)
 }
 
 impl<D: Domain> Obligations<D> {
-    ghost use Rattle.std.specs.Prelude.{◌≡◌, ◌≤◌, ◌<◌, length, false, IfOk, IfErr, MatchResult};
+    ghost use Rattle.std.specs.Prelude.{◌≡◌, ◌≤◌, ◌<◌, length, true, IfOk, OnOk, IfErr, MatchResult};
     ghost use Rattle.core_code.specs.View.{kernel as core_seen};
     ghost use Rattle.linear.specs.Forms.{forms};
     ghost use Rattle.launch.specs.View.{conditions as conditions_seen};
     ghost use Rattle.walk.specs.View.{sort as sort_seen, spot as spot_seen};
-    ghost use Rattle.two_thread.specs.Fitting.{forms_fit};
+    ghost use Rattle.two_thread.specs.Fitting.{forms_fit, pairs_fit};
     ghost use Rattle.two_thread.specs.Refusals.{DoNotFit};
     ghost use Rattle.two_thread.specs.Shown.{obligations};
     ghost use Rattle.two_thread.specs.Unfound.{IsUnwalked};
-    ghost use Rattle.two_thread.specs.Listed.{listed, nth_obligation, made_fit, flagged, maybe_spot};
+    ghost use Rattle.two_thread.specs.Listed.{listed, nth_obligation, made_fit, denials_fit, seen_claims, found_pairs, flagged, maybe_spot};
 
     /// All that is to be shown of a kernel, whether or not its forms are of `i64`.
     fn gather(
@@ -96,13 +96,13 @@ impl<D: Domain> Obligations<D> {
         entries: Vec<bool>,
     ) -> Result<Obligations<D>, WalkError>
         ensures listed { IfOk result (λ o. listed D.Domain o ≡ obligations D.Domain (core_seen core.now) (conditions_seen conditions.now) (flagged entries.items)) }
-        ensures fits { IfOk result (λ o. made_fit o ≡ false → forms_fit D.Domain (core_seen core.now) (conditions_seen conditions.now) (flagged entries.items) ≡ false) }
+        ensures fits { IfOk result (λ o. forms_fit D.Domain (core_seen core.now) (conditions_seen conditions.now) (flagged entries.items) ≡ made_fit o) }
         ensures unwalked { IfErr result (IsUnwalked D.Domain (core_seen core.now) (conditions_seen conditions.now) (flagged entries.items)) }
     {
         let launch = launch_facts(alloc, conditions)?;
         let setting = setting_of::<D>(alloc, core, conditions, entries)?;
-        let first = path_of(alloc, core, &setting, Which::First)?;
-        let second = path_of(alloc, core, &setting, Which::Second)?;
+        let first = path_of(alloc, core, &setting, Side::First)?;
+        let second = path_of(alloc, core, &setting, Side::Second)?;
         let buffers = core.buffers.as_slice();
         let pairs = all_pairs(alloc, core.sizes, conditions, buffers, &first, &second)?;
         if first.claims.len() + pairs.len() > 65_536 {
@@ -117,30 +117,33 @@ impl<D: Domain> Obligations<D> {
         })
     }
 
-    /// A form that is made of the obligation of a number, what denies a claim or a difference of a pair's indexes, is of `i64`.
-    fn try_forms_of(&self, alloc: Global, number: usize) -> Result<(), WalkError>
-        requires first { 0 < number }
-        requires last { number ≤ length (listed D.Domain self.now) }
-        ensures { IfErr result (DoNotFit (made_fit self.now)) }
+    /// What denies each claim is of `i64`, or an error.
+    fn try_denials(&self, alloc: Global) -> Result<(), WalkError>
+        ensures { MatchResult result (λ _. denials_fit (seen_claims self.now.first) ≡ true) (DoNotFit (denials_fit (seen_claims self.now.first))) }
     {
-        let i = number - 1;
-        let claims = self.first.claims.len();
-        if i < claims {
-            let claim = &self.first.claims[i];
-            return try_denial(alloc, &claim.form);
-        }
-        let pair = self.pairs[i - claims];
-        try_differences(alloc, &self.first, &self.second, pair)
-    }
-
-    /// All such forms are, or an error.
-    fn try_forms(&self, alloc: Global) -> Result<(), WalkError>
-        ensures { IfErr result (DoNotFit (made_fit self.now)) }
-    {
-        for i in 0..self.len() {
-            self.try_forms_of(alloc, i + 1)?;
+        for claim in &self.first.claims {
+            try_denial(alloc, &claim.form)?;
         }
         Ok(())
+    }
+
+    /// The differences of each pair's indexes are, or an error.
+    fn try_pairs(&self, alloc: Global) -> Result<(), WalkError>
+        ensures { MatchResult result (λ _. pairs_fit (found_pairs self.now.first self.now.second self.now.pairs.items) ≡ true) (DoNotFit (pairs_fit (found_pairs self.now.first self.now.second self.now.pairs.items))) }
+    {
+        for i in 0..self.pairs.len() {
+            let pair = self.pairs[i];
+            try_differences(alloc, &self.first, &self.second, pair)?;
+        }
+        Ok(())
+    }
+
+    /// All forms that are made of the obligations are of `i64`, or an error.
+    fn try_forms(&self, alloc: Global) -> Result<(), WalkError>
+        ensures { MatchResult result (λ _. made_fit self.now ≡ true) (DoNotFit (made_fit self.now)) }
+    {
+        self.try_denials(alloc)?;
+        self.try_pairs(alloc)
     }
 
     /// All that is to be shown of a kernel, where the obligations that are flagged have an entry. A form that is not of `i64` is refused
@@ -152,7 +155,8 @@ impl<D: Domain> Obligations<D> {
         entries: Vec<bool>,
     ) -> Result<Obligations<D>, WalkError>
         ensures listed { IfOk result (λ o. listed D.Domain o ≡ obligations D.Domain (core_seen core.now) (conditions_seen conditions.now) (flagged entries.items)) }
-        ensures fits { IfOk result (λ o. made_fit o ≡ false → forms_fit D.Domain (core_seen core.now) (conditions_seen conditions.now) (flagged entries.items) ≡ false) }
+        ensures fits { OnOk result (forms_fit D.Domain (core_seen core.now) (conditions_seen conditions.now) (flagged entries.items) ≡ true) }
+        ensures made { IfOk result (λ o. made_fit o ≡ true) }
         ensures unwalked { IfErr result (IsUnwalked D.Domain (core_seen core.now) (conditions_seen conditions.now) (flagged entries.items)) }
     {
         let found = Obligations::gather(alloc, core, conditions, entries)?;

@@ -7,7 +7,7 @@ use Rattle.semantics.specs.Core.{Term, Literal, Variable, Id, Load, Unary, Binar
 use Rattle.semantics.specs.Setup.{identity}
 use Rattle.semantics.specs.Evaluation.{Gives, evaluate, settled, operate, and_then}
 use Rattle.semantics.proofs.Words.{as_kind-in_kind}
-use Rattle.facts.specs.Symbols.{Given, Fact, constant, once}
+use Rattle.facts.specs.Symbols.{ArgumentOf, Fact, constant, once}
 use Rattle.walk.specs.Straight.{is_straight_term, is_exact}
 use Rattle.walk.specs.Walks.{State, stand, spot_at, Onward, value, walk, brought, exact, ranged, id_form}
 use Rattle.facts.proofs.Values.{value-once}
@@ -33,7 +33,7 @@ term_sound (Variable x) c launch facts st go news vars answers h g s =
     let k = slice_index_or c.kernel.arguments x Int in
     let w = slice_index_or c.launch.arguments x zero_word in
     let a = argument-is c.kernel.arguments c.launch.arguments c.fits.arguments x l in
-    gives (word k w.value) answers (ap (λ y. Gives y answers) (g x l ∙ same_word w k w.value a.0 refl)) a.1 (at_once c launch facts (at_kind k go) news w.value (once (Given x)) st s (λ v e. value-once v (Given x) ∙ e.given x))
+    gives (word k w.value) answers (ap (λ y. Gives y answers) (g x l ∙ same_word w k w.value a.0 refl)) a.1 (at_once c launch facts (at_kind k go) news w.value (once (ArgumentOf x)) st s (λ v e. value-once v (ArgumentOf x) ∙ e.given x))
 term_sound (Id f d) c launch facts st go news vars answers h g s =
     let n = identity (setup c) c.item f d in
     gives (word Uint (pos n)) answers refl (lt-ltb n 4294967296 (id-below c f d)) (at_once c launch facts (at_kind Uint go) news (pos n) (id_form (walks c) f d) st s (means_id c news f d))

@@ -13,3 +13,4 @@ pub mod Nth
 pub mod Leading
 pub mod Refusing
 pub mod Bodies
+pub mod MadeFit

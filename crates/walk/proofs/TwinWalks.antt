@@ -10,7 +10,7 @@ use Rattle.semantics.specs.Conditions.{Conditions}
 use Rattle.linear.specs.Exact.{Terms, sum, multiple}
 use Rattle.domain.specs.declared.Domain.{Ghosts}
 use Rattle.facts.specs.Symbols as symbols
-use Rattle.facts.specs.Symbols.{First, Second, Symbol, Given, Length, Local, Group, New, number, Fact, constant, once, minus}
+use Rattle.facts.specs.Symbols.{First, Second, Symbol, ArgumentOf, Length, Local, Group, New, number, Fact, constant, once, minus}
 use Rattle.facts.specs.Elements.{between, element_of, is_from_zero}
 use Rattle.facts.specs.Launching.{item_facts}
 use Rattle.walk.specs.Trees.{Tree, Leaf, accesses}
@@ -115,7 +115,7 @@ module _ {E : Type 0} (g : Ghosts E) (k : Kernel) (c : Conditions) (has_entry : 
 
   walk-same : (t : Term) (st : State E) (go to : Onward E) → Goes_by_kind go to → Same (walk s1 t st go) (walk s2 t st to)
   walk-same (Literal q z) st go to n = n q (constant z) (constant z) (constant-alike z) st
-  walk-same (Variable x) st go to n = n _ (once (Given x)) (once (Given x)) (once-alike (Given x) (Given x) (given-twin x)) st
+  walk-same (Variable x) st go to n = n _ (once (ArgumentOf x)) (once (ArgumentOf x)) (once-alike (ArgumentOf x) (ArgumentOf x) (given-twin x)) st
   walk-same (Id f d) st go to n = n Uint (id_form s1 f d) (id_form s2 f d) (id-alike f d) st
   walk-same (Binary op q site a b) st go to n =
       walk-same a st _ _ (λ qa fa ha pa st1. walk-same b st1 _ _ (λ qb fb hb pb st2.

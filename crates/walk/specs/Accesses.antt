@@ -4,7 +4,7 @@ use Rattle.semantics.specs.Core.{Global}
 use Rattle.facts.specs.Symbols.{constant}
 use Rattle.walk.specs.Trees.{Access}
 use Rattle.walk.specs.Walks.{nowhere}
-use Rattle.walk.specs.View.{met}
+use Rattle.walk.specs.View.{followed}
 use Rattle.walk.specs.declared.path.Path.{Path}
 
 -- past the end
@@ -15,4 +15,4 @@ abbrev pub nth_access : {E : Type 0} → List (Access E) → ℕ → Access E
 nth_access us n = get_or us n no_access
 
 abbrev pub seen_accesses : {E : Type 0} → Path E → List (Access E)
-seen_accesses p = (met p).found.accesses
+seen_accesses p = (followed p).found.accesses

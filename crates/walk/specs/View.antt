@@ -3,12 +3,12 @@ use Rattle.std.specs.Prelude.{List, [], ◌∷◌, map, take, Bool, true, false,
 use Rattle.domain.specs.declared.Domain.{Ghosts}
 use Rattle.words.specs.View.{kind}
 use Rattle.core_code.specs.View.{array, site}
-use Rattle.facts.specs.View.{which, known_seen, three}
+use Rattle.facts.specs.View.{side, known_seen, three}
 use Rattle.linear.specs.Forms.{form, forms}
 use Rattle.facts.specs.Symbols.{Fact}
 use Rattle.walk.specs.Trees as trees
 use Rattle.walk.specs.Walks as walks
-use Rattle.walk.specs.Collected.{Claimed, Met}
+use Rattle.walk.specs.Collected.{Claimed, Followed}
 use Rattle.walk.specs.declared.path.Sort.{Sort}
 use Rattle.walk.specs.declared.path.Sort.TheVariants as sorts
 use Rattle.walk.specs.declared.path.Spot.{Spot}
@@ -18,7 +18,7 @@ use Rattle.walk.specs.declared.path.Access.{Access}
 use Rattle.walk.specs.declared.path.Path.{Path}
 use Rattle.walk.specs.declared.setting.Setting.{Setting}
 use Rattle.walk.specs.declared.ranges.Value.{Value}
-use Rattle.facts.specs.declared.forms.Which.{Which}
+use Rattle.facts.specs.declared.forms.Side.{Side}
 
 abbrev pub sort : Sort → trees.Sort
 sort (sorts.OfRange k) = trees.OfRange (kind k)
@@ -37,8 +37,8 @@ claim_seen facts c = record { demand = record { sort = sort c.sort; spot = spot 
 abbrev pub access_seen : {E : Type 0} → List Fact → List E → Access → trees.Access E
 access_seen facts elements a = record { target = target a.target; index = form a.index; elements = take a.elements elements; facts = take a.facts facts }
 
-unfoldable pub met : {E : Type 0} → Path E → Met E
-met p = record {
+unfoldable pub followed : {E : Type 0} → Path E → Followed E
+followed p = record {
   found = record {
     facts = forms p.facts.items;
     claims = map (claim_seen (forms p.facts.items)) p.claims.items;
@@ -49,13 +49,13 @@ met p = record {
 }
 
 -- of a setting, for one item
-abbrev pub setting : {E : Type 0} → Ghosts E → Setting E → Which → walks.Setting E
+abbrev pub setting : {E : Type 0} → Ghosts E → Setting E → Side → walks.Setting E
 setting g s w = record {
   domain = g;
   known = known_seen s.known;
   sizes = three s.sizes;
   arguments = map kind s.arguments.items;
-  item = which w;
+  item = side w;
   has_entry = λ n. slice_index_or s.entries.items n false;
 }
 

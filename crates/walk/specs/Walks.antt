@@ -11,7 +11,7 @@ use Rattle.linear.specs.Exact.{sum, multiple}
 use Rattle.domain.specs.declared.Domain.{Ghosts}
 use Rattle.domain.specs.declared.Bounds.{Bounds}
 use Rattle.facts.specs.Symbols as symbols
-use Rattle.facts.specs.Symbols.{Which, First, Second, Symbol, Given, Length, New, Fact, constant, once, minus}
+use Rattle.facts.specs.Symbols.{Side, First, Second, Symbol, ArgumentOf, Length, New, Fact, constant, once, minus}
 use Rattle.facts.specs.Elements.{Known, Elements, elements_of, between, element_of, is_settled}
 use Rattle.facts.specs.Launching.{known}
 use Rattle.walk.specs.Trees.{Sort, OfRange, OfIndex, Spot, Demand, Target, Tree, Leaf, Claim, Know, Touch}
@@ -23,7 +23,7 @@ pub record Setting (E : Type 0) : Type 1 where
   pub known : Known E
   pub sizes : Three ℕ
   pub arguments : List Kind
-  pub item : Which
+  pub item : Side
   pub has_entry : ℕ → Bool
 
 -- how many claims were made, the elements of the new symbols so far, and where the walk stands
@@ -183,7 +183,7 @@ brought_at s site k v st go = brought s k v (stand (spot_at site st) st) go
 -- operands from left to right, then the operator at its own site
 abbrev pub walk : {E : Type 0} → Setting E → Term → State E → Onward E → Tree E
 walk s (Literal k z) st go = go (value k (constant z)) st
-walk s (Variable x) st go = go (value (argument_kind s x) (once (Given x))) st
+walk s (Variable x) st go = go (value (argument_kind s x) (once (ArgumentOf x))) st
 walk s (Id f d) st go = go (value Uint (id_form s f d)) st
 walk s (Binary op k site a b) st go = walk s a st (λ x st1. walk s b st1 (λ y st2. joined_at s site op k x y st2 go))
 walk s (Convert k site a) st go = walk s a st (λ x st1. brought_at s site k x st1 go)
@@ -221,5 +221,5 @@ abbrev pub tree : {E : Type 0} → Setting E → Statements → Tree E
 tree s body = walk_all s body opening_state (λ st. Leaf)
 
 -- of this kernel under these conditions
-abbrev pub setting : {E : Type 0} → Ghosts E → Kernel → Conditions → (has_entry : ℕ → Bool) → Which → Setting E
+abbrev pub setting : {E : Type 0} → Ghosts E → Kernel → Conditions → (has_entry : ℕ → Bool) → Side → Setting E
 setting g k c has_entry w = record { domain = g; known = known g k.sizes c; sizes = k.sizes; arguments = k.arguments; item = w; has_entry = has_entry }

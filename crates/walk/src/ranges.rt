@@ -10,13 +10,13 @@ ghost use Rattle.walk.specs.Trees.{Tree};
 ghost use Rattle.walk.specs.Collected.{state_of, collect};
 ghost use Rattle.walk.specs.Leads.{Steps, Leads};
 ghost use Rattle.facts.specs.Refusals.{IsUnfit};
-ghost use Rattle.walk.specs.Refusals.{Refused, Stops, Halts};
-ghost use Rattle.walk.specs.View.{met, setting as seen, sort as sort_seen, value as value_seen};
+ghost use Rattle.walk.specs.Refusals.{Refused, HaltsAtStep, Halts};
+ghost use Rattle.walk.specs.View.{followed, setting as seen, sort as sort_seen, value as value_seen};
 
 use crate::path::{Path, Sort};
 use crate::setting::Setting;
 use domain::Domain;
-use facts::{WalkError, Which, between, is_settled, less_number, number_less, once_new};
+use facts::{WalkError, Side, between, is_settled, less_number, number_less, once_new};
 use linear::Form;
 use std::alloc::Global;
 use words::Kind;
@@ -28,27 +28,27 @@ pub struct Value {
     pub form: Form,
 }
 
-#[tactic(auto, unfolding(crate::specs::View::met))]
+#[tactic(auto, unfolding(crate::specs::View::followed))]
 /// The domain alone tells that a form is at least 0.
-fn settles<D: Domain>(setting: &Setting<D>, item: Which, path: &Path<D>, form: &Form) -> bool
-    ensures { result ≡ walks.settles (seen D.Domain setting.now item) (state_of (met path.now)) (form_seen form.now) }
+fn settles<D: Domain>(setting: &Setting<D>, item: Side, path: &Path<D>, form: &Form) -> bool
+    ensures { result ≡ walks.settles (seen D.Domain setting.now item) (state_of (followed path.now)) (form_seen form.now) }
 {
     match item {
-        Which::First => is_settled(&setting.known, path.elements.as_slice(), &[], form),
-        Which::Second => is_settled(&setting.known, &[], path.elements.as_slice(), form),
+        Side::First => is_settled(&setting.known, path.elements.as_slice(), &[], form),
+        Side::Second => is_settled(&setting.known, &[], path.elements.as_slice(), form),
     }
 }
 
 /// A claim that a form is at least 0.
 pub fn claim<D: Domain>(
     setting: &Setting<D>,
-    item: Which,
+    item: Side,
     path: &mut Path<D>,
     sort: Sort,
     needed: bool,
     form: Form,
 ) -> Result<(), WalkError>
-    ensures { MatchResult result (λ _. Steps (met path.old) (met path.new) (walks.claim (seen D.Domain setting.now item) (sort_seen sort) needed (form_seen form))) (λ e. Stops ⊥ (met path.old) e (walks.claim (seen D.Domain setting.now item) (sort_seen sort) needed (form_seen form))) }
+    ensures { MatchResult result (λ _. Steps (followed path.old) (followed path.new) (walks.claim (seen D.Domain setting.now item) (sort_seen sort) needed (form_seen form))) (λ e. HaltsAtStep ⊥ (followed path.old) e (walks.claim (seen D.Domain setting.now item) (sort_seen sort) needed (form_seen form))) }
 {
     let settled = settles(setting, item, path, &form);
     path.claim(sort, needed, settled, form)?;
@@ -59,11 +59,11 @@ pub fn claim<D: Domain>(
 pub fn invent<D: Domain>(
     alloc: Global,
     setting: &Setting<D>,
-    item: Which,
+    item: Side,
     path: &mut Path<D>,
     element: D,
 ) -> Result<Form, WalkError>
-    ensures { MatchResult result (λ f. Leads (met path.old) (met path.new) (walks.invent (seen D.Domain setting.now item) element) (form_seen f)) (λ e. Halts ⊥ (met path.old) e (walks.invent (seen D.Domain setting.now item) element)) }
+    ensures { MatchResult result (λ f. Leads (followed path.old) (followed path.new) (walks.invent (seen D.Domain setting.now item) element) (form_seen f)) (λ e. Halts ⊥ (followed path.old) e (walks.invent (seen D.Domain setting.now item) element)) }
 {
     let index = path.elements.len();
     if index >= 1 << 59 {
@@ -84,9 +84,9 @@ fn know_low<D: Copy>(
     of: &Form,
     low: Option<i64>,
 ) -> Result<(), WalkError>
-    ensures leads { IfOk result (λ _. (more : List Fact) (rest : Tree D) → collect (met path.old).found (walks.know_all (walks.lower_fact (form_seen of.now) low more) rest) ≡ collect (met path.new).found (walks.know_all more rest)) }
-    ensures state { IfOk result (λ _. state_of (met path.new) ≡ state_of (met path.old)) }
-    ensures refused { IfErr result (λ e. (more : List Fact) (rest : Tree D) → Refused ⊥ e (collect (met path.old).found (walks.know_all (walks.lower_fact (form_seen of.now) low more) rest))) }
+    ensures leads { IfOk result (λ _. (more : List Fact) (rest : Tree D) → collect (followed path.old).found (walks.know_all (walks.lower_fact (form_seen of.now) low more) rest) ≡ collect (followed path.new).found (walks.know_all more rest)) }
+    ensures state { IfOk result (λ _. state_of (followed path.new) ≡ state_of (followed path.old)) }
+    ensures refused { IfErr result (λ e. (more : List Fact) (rest : Tree D) → Refused ⊥ e (collect (followed path.old).found (walks.know_all (walks.lower_fact (form_seen of.now) low more) rest))) }
 {
     if let Some(low) = low {
         let fact = less_number(alloc, of, low)?;
@@ -102,9 +102,9 @@ fn know_high<D: Copy>(
     of: &Form,
     high: Option<i64>,
 ) -> Result<(), WalkError>
-    ensures leads { IfOk result (λ _. (rest : Tree D) → collect (met path.old).found (walks.know_all (walks.upper_fact (form_seen of.now) high) rest) ≡ collect (met path.new).found rest) }
-    ensures state { IfOk result (λ _. state_of (met path.new) ≡ state_of (met path.old)) }
-    ensures refused { IfErr result (λ e. (rest : Tree D) → Refused ⊥ e (collect (met path.old).found (walks.know_all (walks.upper_fact (form_seen of.now) high) rest))) }
+    ensures leads { IfOk result (λ _. (rest : Tree D) → collect (followed path.old).found (walks.know_all (walks.upper_fact (form_seen of.now) high) rest) ≡ collect (followed path.new).found rest) }
+    ensures state { IfOk result (λ _. state_of (followed path.new) ≡ state_of (followed path.old)) }
+    ensures refused { IfErr result (λ e. (rest : Tree D) → Refused ⊥ e (collect (followed path.old).found (walks.know_all (walks.upper_fact (form_seen of.now) high) rest))) }
 {
     if let Some(high) = high {
         let fact = number_less(alloc, high, of)?;
@@ -114,7 +114,7 @@ fn know_high<D: Copy>(
 }
 
 /// The obligation of this number has an entry.
-fn has_entry<D: Domain>(setting: &Setting<D>, item: Which, number: usize) -> bool
+fn has_entry<D: Domain>(setting: &Setting<D>, item: Side, number: usize) -> bool
     ensures { result ≡ (seen D.Domain setting.now item).has_entry number }
 {
     match setting.entries.get(number) {
@@ -127,13 +127,13 @@ fn has_entry<D: Domain>(setting: &Setting<D>, item: Which, number: usize) -> boo
 fn in_range<D: Domain>(
     alloc: Global,
     setting: &Setting<D>,
-    item: Which,
+    item: Side,
     path: &mut Path<D>,
     needed: bool,
     kind: Kind,
     form: &Form,
 ) -> Result<(), WalkError>
-    ensures { MatchResult result (λ _. Steps (met path.old) (met path.new) (walks.in_range (seen D.Domain setting.now item) needed (kind_seen kind) (form_seen form.now))) (λ e. Stops ⊥ (met path.old) e (walks.in_range (seen D.Domain setting.now item) needed (kind_seen kind) (form_seen form.now))) }
+    ensures { MatchResult result (λ _. Steps (followed path.old) (followed path.new) (walks.in_range (seen D.Domain setting.now item) needed (kind_seen kind) (form_seen form.now))) (λ e. HaltsAtStep ⊥ (followed path.old) e (walks.in_range (seen D.Domain setting.now item) needed (kind_seen kind) (form_seen form.now))) }
 {
     let low = low_end(alloc, kind, form)?;
     let high = high_end(alloc, kind, form)?;
@@ -162,16 +162,16 @@ fn high_end(alloc: Global, kind: Kind, of: &Form) -> Result<Form, WalkError>
     }
 }
 
-#[tactic(auto, unfolding(crate::specs::View::met))]
+#[tactic(auto, unfolding(crate::specs::View::followed))]
 /// Both claims of a `uint` are settled or have an entry.
 fn is_kept<D: Domain>(
     alloc: Global,
     setting: &Setting<D>,
-    item: Which,
+    item: Side,
     path: &Path<D>,
     form: &Form,
 ) -> Result<bool, WalkError>
-    ensures { MatchResult result (λ b. b ≡ walks.is_kept (seen D.Domain setting.now item) (form_seen form.now) (state_of (met path.now))) (λ e. IsUnfit e (walks.low_end Uint (form_seen form.now)) ⊎ IsUnfit e (walks.high_end Uint (form_seen form.now))) }
+    ensures { MatchResult result (λ b. b ≡ walks.is_kept (seen D.Domain setting.now item) (form_seen form.now) (state_of (followed path.now))) (λ e. IsUnfit e (walks.low_end Uint (form_seen form.now)) ⊎ IsUnfit e (walks.high_end Uint (form_seen form.now))) }
 {
     let low = low_end(alloc, Kind::Uint, form)?;
     let high = high_end(alloc, Kind::Uint, form)?;
@@ -185,12 +185,12 @@ fn is_kept<D: Domain>(
 pub fn ranged<D: Domain>(
     alloc: Global,
     setting: &Setting<D>,
-    item: Which,
+    item: Side,
     path: &mut Path<D>,
     kind: Kind,
     form: Form,
 ) -> Result<Value, WalkError>
-    ensures { MatchResult result (λ v. Leads (met path.old) (met path.new) (walks.ranged (seen D.Domain setting.now item) (kind_seen kind) (form_seen form)) (value_seen v)) (λ e. Halts ⊥ (met path.old) e (walks.ranged (seen D.Domain setting.now item) (kind_seen kind) (form_seen form))) }
+    ensures { MatchResult result (λ v. Leads (followed path.old) (followed path.new) (walks.ranged (seen D.Domain setting.now item) (kind_seen kind) (form_seen form)) (value_seen v)) (λ e. Halts ⊥ (followed path.old) e (walks.ranged (seen D.Domain setting.now item) (kind_seen kind) (form_seen form))) }
 {
     match kind {
         Kind::Int => {
@@ -205,11 +205,11 @@ pub fn ranged<D: Domain>(
 fn ranged_uint<D: Domain>(
     alloc: Global,
     setting: &Setting<D>,
-    item: Which,
+    item: Side,
     path: &mut Path<D>,
     form: Form,
 ) -> Result<Value, WalkError>
-    ensures { MatchResult result (λ v. Leads (met path.old) (met path.new) (walks.ranged (seen D.Domain setting.now item) Uint (form_seen form)) (value_seen v)) (λ e. Halts ⊥ (met path.old) e (walks.ranged (seen D.Domain setting.now item) Uint (form_seen form))) }
+    ensures { MatchResult result (λ v. Leads (followed path.old) (followed path.new) (walks.ranged (seen D.Domain setting.now item) Uint (form_seen form)) (value_seen v)) (λ e. Halts ⊥ (followed path.old) e (walks.ranged (seen D.Domain setting.now item) Uint (form_seen form))) }
 {
     let kept = is_kept(alloc, setting, item, path, &form)?;
     in_range(alloc, setting, item, path, kept, Kind::Uint, &form)?;
@@ -230,12 +230,12 @@ fn ranged_uint<D: Domain>(
 pub fn brought<D: Domain>(
     alloc: Global,
     setting: &Setting<D>,
-    item: Which,
+    item: Side,
     path: &mut Path<D>,
     kind: Kind,
     value: Value,
 ) -> Result<Value, WalkError>
-    ensures { MatchResult result (λ v. Leads (met path.old) (met path.new) (walks.brought (seen D.Domain setting.now item) (kind_seen kind) (value_seen value)) (value_seen v)) (λ e. Halts ⊥ (met path.old) e (walks.brought (seen D.Domain setting.now item) (kind_seen kind) (value_seen value))) }
+    ensures { MatchResult result (λ v. Leads (followed path.old) (followed path.new) (walks.brought (seen D.Domain setting.now item) (kind_seen kind) (value_seen value)) (value_seen v)) (λ e. Halts ⊥ (followed path.old) e (walks.brought (seen D.Domain setting.now item) (kind_seen kind) (value_seen value))) }
 {
     match (kind, value.kind) {
         (Kind::Int, Kind::Int) => Ok(value),

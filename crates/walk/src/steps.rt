@@ -7,7 +7,7 @@ ghost use Rattle.walk.specs.Walks.{spot_at};
 ghost use Rattle.core_code.specs.View.{site as site_seen};
 ghost use Rattle.facts.specs.Refusals.{IsMemory};
 ghost use Rattle.walk.specs.Refusals.{Refused};
-ghost use Rattle.walk.specs.View.{met, sort as sort_seen, spot as spot_seen, target as target_seen};
+ghost use Rattle.walk.specs.View.{followed, sort as sort_seen, spot as spot_seen, target as target_seen};
 
 use crate::path::{Access, Claim, Path, Sort, Spot, Target};
 use core_code::tree::Site;
@@ -16,10 +16,10 @@ use linear::Form;
 use std::alloc::Global;
 
 impl<D: Copy> Path<D> {
-    #[tactic(auto, unfolding(crate::specs::View::met))]
+    #[tactic(auto, unfolding(crate::specs::View::followed))]
     /// With these facts, before the first step.
     pub fn opening(alloc: Global, facts: Vec<Form>) -> Path<D>
-        ensures { met result ≡ opening (forms facts.items) }
+        ensures { followed result ≡ opening (forms facts.items) }
     {
         Path {
             facts,
@@ -33,18 +33,18 @@ impl<D: Copy> Path<D> {
         }
     }
 
-    #[tactic(auto, unfolding(crate::specs::View::met))]
+    #[tactic(auto, unfolding(crate::specs::View::followed))]
     /// The walk stands there.
     pub fn stand(&mut self, spot: Spot)
-        ensures { met self.new ≡ with_spot (met self.old) (spot_seen spot) }
+        ensures { followed self.new ≡ with_spot (followed self.old) (spot_seen spot) }
     {
         self.at = spot;
     }
 
-    #[tactic(auto, unfolding(crate::specs::View::met))]
+    #[tactic(auto, unfolding(crate::specs::View::followed))]
     /// At this site of its statement.
     pub fn spot_at(&self, site: Site) -> Spot
-        ensures { spot_seen result ≡ spot_at (site_seen site) (state_of (met self.now)) }
+        ensures { spot_seen result ≡ spot_at (site_seen site) (state_of (followed self.now)) }
     {
         Spot {
             statement: self.at.statement,
@@ -60,7 +60,7 @@ impl<D: Copy> Path<D> {
         settled: bool,
         form: Form,
     ) -> Result<(), WalkError>
-        ensures { MatchResult result (λ _. met self.new ≡ with_claim (met self.old) (sort_seen sort) needed settled (form_seen form)) (λ e. Refused ⊥ e (with_claim (met self.old) (sort_seen sort) needed settled (form_seen form)).found) }
+        ensures { MatchResult result (λ _. followed self.new ≡ with_claim (followed self.old) (sort_seen sort) needed settled (form_seen form)) (λ e. Refused ⊥ e (with_claim (followed self.old) (sort_seen sort) needed settled (form_seen form)).found) }
     {
         if self.claims.len() >= 65_536 {
             return Err(WalkError::TooMany);
@@ -80,7 +80,7 @@ impl<D: Copy> Path<D> {
 
     /// One fact more.
     pub fn know(&mut self, fact: Form) -> Result<(), WalkError>
-        ensures { MatchResult result (λ _. met self.new ≡ with_fact (met self.old) (form_seen fact)) IsMemory }
+        ensures { MatchResult result (λ _. followed self.new ≡ with_fact (followed self.old) (form_seen fact)) IsMemory }
     {
         self.facts.push(fact)?;
         Ok(())
@@ -88,7 +88,7 @@ impl<D: Copy> Path<D> {
 
     /// One new symbol more.
     pub fn invent(&mut self, element: D) -> Result<(), WalkError>
-        ensures { MatchResult result (λ _. met self.new ≡ with_element (met self.old) element) IsMemory }
+        ensures { MatchResult result (λ _. followed self.new ≡ with_element (followed self.old) element) IsMemory }
     {
         self.elements.push(element)?;
         Ok(())
@@ -96,7 +96,7 @@ impl<D: Copy> Path<D> {
 
     /// One access more.
     pub fn touch(&mut self, target: Target, index: Form) -> Result<(), WalkError>
-        ensures { MatchResult result (λ _. met self.new ≡ with_access (met self.old) (target_seen target) (form_seen index) (met self.old).elements) IsMemory }
+        ensures { MatchResult result (λ _. followed self.new ≡ with_access (followed self.old) (target_seen target) (form_seen index) (followed self.old).elements) IsMemory }
     {
         let facts = self.facts.len();
         let elements = self.elements.len();

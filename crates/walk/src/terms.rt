@@ -11,14 +11,14 @@ ghost use Rattle.walk.specs.Leads.{Leads};
 ghost use Rattle.walk.specs.Straight.{is_exact};
 ghost use Rattle.facts.specs.Refusals.{IsMemory};
 ghost use Rattle.walk.specs.Refusals.{IsNoStraightTerm, Halts, HaltsAtForm};
-ghost use Rattle.walk.specs.View.{met, is_number as is_number_seen, setting as seen, value as value_seen};
+ghost use Rattle.walk.specs.View.{followed, is_number as is_number_seen, setting as seen, value as value_seen};
 
 use crate::path::Path;
 use crate::ranges::{Value, brought, invent, ranged};
 use crate::setting::Setting;
 use core_code::tree::{Function, Operator, Site, Term};
 use domain::Domain;
-use facts::{WalkError, Which, element_of, once_given, once_group, once_groups, once_local};
+use facts::{WalkError, Side, element_of, once_given, once_group, once_groups, once_local};
 use linear::Form;
 use std::alloc::Global;
 use words::Kind;
@@ -30,14 +30,14 @@ fn is_number(form: &Form) -> bool
     form.terms().is_empty()
 }
 
-#[tactic(auto, unfolding(crate::specs::View::met))]
+#[tactic(auto, unfolding(crate::specs::View::followed))]
 /// A form's element on the path.
-fn element_at<D: Domain>(setting: &Setting<D>, item: Which, path: &Path<D>, form: &Form) -> D
-    ensures { result ≡ elements.element_of D.Domain (walks.elements_at (seen D.Domain setting.now item) (state_of (met path.now))) (form_seen form.now) }
+fn element_at<D: Domain>(setting: &Setting<D>, item: Side, path: &Path<D>, form: &Form) -> D
+    ensures { result ≡ elements.element_of D.Domain (walks.elements_at (seen D.Domain setting.now item) (state_of (followed path.now))) (form_seen form.now) }
 {
     match item {
-        Which::First => element_of(&setting.known, path.elements.as_slice(), &[], form),
-        Which::Second => element_of(&setting.known, &[], path.elements.as_slice(), form),
+        Side::First => element_of(&setting.known, path.elements.as_slice(), &[], form),
+        Side::Second => element_of(&setting.known, &[], path.elements.as_slice(), form),
     }
 }
 
@@ -45,12 +45,12 @@ fn element_at<D: Domain>(setting: &Setting<D>, item: Which, path: &Path<D>, form
 fn product<D: Domain>(
     alloc: Global,
     setting: &Setting<D>,
-    item: Which,
+    item: Side,
     path: &mut Path<D>,
     left: &Form,
     right: &Form,
 ) -> Result<Form, WalkError>
-    ensures { MatchResult result (λ f. Leads (met path.old) (met path.new) (walks.product (seen D.Domain setting.now item) (form_seen left.now).terms (form_seen right.now).terms (form_seen left.now) (form_seen right.now)) (form_seen f)) (λ e. HaltsAtForm ⊥ (seen D.Domain setting.now item) (met path.old) e (walks.product (seen D.Domain setting.now item) (form_seen left.now).terms (form_seen right.now).terms (form_seen left.now) (form_seen right.now))) }
+    ensures { MatchResult result (λ f. Leads (followed path.old) (followed path.new) (walks.product (seen D.Domain setting.now item) (form_seen left.now).terms (form_seen right.now).terms (form_seen left.now) (form_seen right.now)) (form_seen f)) (λ e. HaltsAtForm ⊥ (seen D.Domain setting.now item) (followed path.old) e (walks.product (seen D.Domain setting.now item) (form_seen left.now).terms (form_seen right.now).terms (form_seen left.now) (form_seen right.now))) }
 {
     if is_number(right) {
         let form = left.times(alloc, right.constant_part())?;
@@ -68,13 +68,13 @@ fn product<D: Domain>(
 fn exact<D: Domain>(
     alloc: Global,
     setting: &Setting<D>,
-    item: Which,
+    item: Side,
     path: &mut Path<D>,
     operator: Operator,
     left: &Form,
     right: &Form,
 ) -> Result<Form, WalkError>
-    ensures { MatchResult result (λ f. Leads (met path.old) (met path.new) (walks.exact (seen D.Domain setting.now item) (operator_seen operator) (form_seen left.now) (form_seen right.now)) (form_seen f)) (λ e. HaltsAtForm (is_exact (operator_seen operator) ≡ false) (seen D.Domain setting.now item) (met path.old) e (walks.exact (seen D.Domain setting.now item) (operator_seen operator) (form_seen left.now) (form_seen right.now))) }
+    ensures { MatchResult result (λ f. Leads (followed path.old) (followed path.new) (walks.exact (seen D.Domain setting.now item) (operator_seen operator) (form_seen left.now) (form_seen right.now)) (form_seen f)) (λ e. HaltsAtForm (is_exact (operator_seen operator) ≡ false) (seen D.Domain setting.now item) (followed path.old) e (walks.exact (seen D.Domain setting.now item) (operator_seen operator) (form_seen left.now) (form_seen right.now))) }
 {
     match operator {
         Operator::Multiply => product(alloc, setting, item, path, left, right),
@@ -90,7 +90,7 @@ fn exact<D: Domain>(
 fn id_inside<D: Domain>(
     alloc: Global,
     setting: &Setting<D>,
-    item: Which,
+    item: Side,
     function: Function,
     dimension: u32,
 ) -> Result<Form, WalkError>
@@ -131,7 +131,7 @@ fn id_outside(alloc: Global, function: Function) -> Form
 fn id_form<D: Domain>(
     alloc: Global,
     setting: &Setting<D>,
-    item: Which,
+    item: Side,
     function: Function,
     dimension: u32,
 ) -> Result<Form, WalkError>
@@ -144,9 +144,9 @@ fn id_form<D: Domain>(
     }
 }
 
-#[tactic(auto, unfolding(crate::specs::View::met))]
+#[tactic(auto, unfolding(crate::specs::View::followed))]
 /// A value parameter's kind.
-fn argument_kind<D: Domain>(setting: &Setting<D>, item: Which, slot: u32) -> Kind
+fn argument_kind<D: Domain>(setting: &Setting<D>, item: Side, slot: u32) -> Kind
     ensures { kind_seen result ≡ walks.argument_kind (seen D.Domain setting.now item) slot }
 {
     match setting.arguments.get(slot as usize) {
@@ -159,14 +159,14 @@ fn argument_kind<D: Domain>(setting: &Setting<D>, item: Which, slot: u32) -> Kin
 fn joined<D: Domain>(
     alloc: Global,
     setting: &Setting<D>,
-    item: Which,
+    item: Side,
     path: &mut Path<D>,
     operator: Operator,
     kind: Kind,
     left: Value,
     right: Value,
 ) -> Result<Value, WalkError>
-    ensures { MatchResult result (λ v. Leads (met path.old) (met path.new) (walks.joined (seen D.Domain setting.now item) (operator_seen operator) (kind_seen kind) (value_seen left) (value_seen right)) (value_seen v)) (λ e. Halts (is_exact (operator_seen operator) ≡ false) (met path.old) e (walks.joined (seen D.Domain setting.now item) (operator_seen operator) (kind_seen kind) (value_seen left) (value_seen right))) }
+    ensures { MatchResult result (λ v. Leads (followed path.old) (followed path.new) (walks.joined (seen D.Domain setting.now item) (operator_seen operator) (kind_seen kind) (value_seen left) (value_seen right)) (value_seen v)) (λ e. Halts (is_exact (operator_seen operator) ≡ false) (followed path.old) e (walks.joined (seen D.Domain setting.now item) (operator_seen operator) (kind_seen kind) (value_seen left) (value_seen right))) }
 {
     let first = brought(alloc, setting, item, path, kind, left)?;
     let second = brought(alloc, setting, item, path, kind, right)?;
@@ -187,7 +187,7 @@ fn joined<D: Domain>(
 fn joined_at<D: Domain>(
     alloc: Global,
     setting: &Setting<D>,
-    item: Which,
+    item: Side,
     path: &mut Path<D>,
     site: Site,
     operator: Operator,
@@ -195,7 +195,7 @@ fn joined_at<D: Domain>(
     left: Value,
     right: Value,
 ) -> Result<Value, WalkError>
-    ensures { MatchResult result (λ v. Leads (met path.old) (met path.new) (walks.joined_at (seen D.Domain setting.now item) (site_seen site) (operator_seen operator) (kind_seen kind) (value_seen left) (value_seen right)) (value_seen v)) (λ e. Halts (is_exact (operator_seen operator) ≡ false) (met path.old) e (walks.joined_at (seen D.Domain setting.now item) (site_seen site) (operator_seen operator) (kind_seen kind) (value_seen left) (value_seen right))) }
+    ensures { MatchResult result (λ v. Leads (followed path.old) (followed path.new) (walks.joined_at (seen D.Domain setting.now item) (site_seen site) (operator_seen operator) (kind_seen kind) (value_seen left) (value_seen right)) (value_seen v)) (λ e. Halts (is_exact (operator_seen operator) ≡ false) (followed path.old) e (walks.joined_at (seen D.Domain setting.now item) (site_seen site) (operator_seen operator) (kind_seen kind) (value_seen left) (value_seen right))) }
 {
     let spot = path.spot_at(site);
     path.stand(spot);
@@ -206,13 +206,13 @@ fn joined_at<D: Domain>(
 fn brought_at<D: Domain>(
     alloc: Global,
     setting: &Setting<D>,
-    item: Which,
+    item: Side,
     path: &mut Path<D>,
     site: Site,
     kind: Kind,
     value: Value,
 ) -> Result<Value, WalkError>
-    ensures { MatchResult result (λ v. Leads (met path.old) (met path.new) (walks.brought_at (seen D.Domain setting.now item) (site_seen site) (kind_seen kind) (value_seen value)) (value_seen v)) (λ e. Halts ⊥ (met path.old) e (walks.brought_at (seen D.Domain setting.now item) (site_seen site) (kind_seen kind) (value_seen value))) }
+    ensures { MatchResult result (λ v. Leads (followed path.old) (followed path.new) (walks.brought_at (seen D.Domain setting.now item) (site_seen site) (kind_seen kind) (value_seen value)) (value_seen v)) (λ e. Halts ⊥ (followed path.old) e (walks.brought_at (seen D.Domain setting.now item) (site_seen site) (kind_seen kind) (value_seen value))) }
 {
     let spot = path.spot_at(site);
     path.stand(spot);
@@ -223,11 +223,11 @@ fn brought_at<D: Domain>(
 pub fn walk_term<D: Domain>(
     alloc: Global,
     setting: &Setting<D>,
-    item: Which,
+    item: Side,
     path: &mut Path<D>,
     term: &Term,
 ) -> Result<Value, WalkError>
-    ensures { MatchResult result (λ v. Leads (met path.old) (met path.new) (walks.walk (seen D.Domain setting.now item) (term_seen term.now)) (value_seen v)) (λ e. Halts (IsNoStraightTerm (term_seen term.now)) (met path.old) e (walks.walk (seen D.Domain setting.now item) (term_seen term.now))) }
+    ensures { MatchResult result (λ v. Leads (followed path.old) (followed path.new) (walks.walk (seen D.Domain setting.now item) (term_seen term.now)) (value_seen v)) (λ e. Halts (IsNoStraightTerm (term_seen term.now)) (followed path.old) e (walks.walk (seen D.Domain setting.now item) (term_seen term.now))) }
 {
     match term {
         Term::Literal { kind, value } => Ok(Value {

@@ -6,8 +6,8 @@ ghost use Rattle.core_code.specs.View.{term as term_seen, statement as statement
 ghost use Rattle.walk.specs.Walks as walks;
 ghost use Rattle.walk.specs.Collected.{collect, opening};
 ghost use Rattle.walk.specs.Leads.{Steps};
-ghost use Rattle.walk.specs.Refusals.{AreNoStraightTerms, IsNoStraightStatement, IsNoStraightBody, Refused, Stops};
-ghost use Rattle.walk.specs.View.{met, setting as seen, target as target_seen};
+ghost use Rattle.walk.specs.Refusals.{AreNoStraightTerms, IsNoStraightStatement, IsNoStraightBody, Refused, HaltsAtStep};
+ghost use Rattle.walk.specs.View.{followed, setting as seen, target as target_seen};
 
 use crate::path::{Path, Sort, Spot, Target};
 use crate::ranges::claim;
@@ -15,7 +15,7 @@ use crate::setting::Setting;
 use crate::terms::walk_term;
 use core_code::tree::{Statement, Term};
 use domain::Domain;
-use facts::{WalkError, Which, less_number, once_length};
+use facts::{WalkError, Side, less_number, once_length};
 use linear::Form;
 use std::alloc::Global;
 
@@ -23,12 +23,12 @@ use std::alloc::Global;
 fn in_buffer<D: Domain>(
     alloc: Global,
     setting: &Setting<D>,
-    item: Which,
+    item: Side,
     path: &mut Path<D>,
     buffer: u32,
     index: &Form,
 ) -> Result<(), WalkError>
-    ensures { MatchResult result (λ _. Steps (met path.old) (met path.new) (walks.in_buffer (seen D.Domain setting.now item) buffer (form_seen index.now))) (λ e. Stops ⊥ (met path.old) e (walks.in_buffer (seen D.Domain setting.now item) buffer (form_seen index.now))) }
+    ensures { MatchResult result (λ _. Steps (followed path.old) (followed path.new) (walks.in_buffer (seen D.Domain setting.now item) buffer (form_seen index.now))) (λ e. HaltsAtStep ⊥ (followed path.old) e (walks.in_buffer (seen D.Domain setting.now item) buffer (form_seen index.now))) }
 {
     let last = less_number(alloc, &once_length(alloc, buffer as usize)?, 1)?;
     let room = last.sub(alloc, index)?;
@@ -42,13 +42,13 @@ fn in_buffer<D: Domain>(
 fn walk_store<D: Domain>(
     alloc: Global,
     setting: &Setting<D>,
-    item: Which,
+    item: Side,
     path: &mut Path<D>,
     target: Target,
     index: &Term,
     value: &Term,
 ) -> Result<(), WalkError>
-    ensures { MatchResult result (λ _. Steps (met path.old) (met path.new) (walks.walk_store (seen D.Domain setting.now item) (target_seen target) (term_seen index.now) (term_seen value.now))) (λ e. Stops (AreNoStraightTerms (term_seen index.now) (term_seen value.now)) (met path.old) e (walks.walk_store (seen D.Domain setting.now item) (target_seen target) (term_seen index.now) (term_seen value.now))) }
+    ensures { MatchResult result (λ _. Steps (followed path.old) (followed path.new) (walks.walk_store (seen D.Domain setting.now item) (target_seen target) (term_seen index.now) (term_seen value.now))) (λ e. HaltsAtStep (AreNoStraightTerms (term_seen index.now) (term_seen value.now)) (followed path.old) e (walks.walk_store (seen D.Domain setting.now item) (target_seen target) (term_seen index.now) (term_seen value.now))) }
 {
     path.stand(target.spot);
     let place = walk_term(alloc, setting, item, path, index)?;
@@ -63,11 +63,11 @@ fn walk_store<D: Domain>(
 fn walk_statement<D: Domain>(
     alloc: Global,
     setting: &Setting<D>,
-    item: Which,
+    item: Side,
     path: &mut Path<D>,
     statement: &Statement,
 ) -> Result<(), WalkError>
-    ensures { MatchResult result (λ _. Steps (met path.old) (met path.new) (walks.walk_one (seen D.Domain setting.now item) (statement_seen statement.now))) (λ e. Stops (IsNoStraightStatement (statement_seen statement.now)) (met path.old) e (walks.walk_one (seen D.Domain setting.now item) (statement_seen statement.now))) }
+    ensures { MatchResult result (λ _. Steps (followed path.old) (followed path.new) (walks.walk_one (seen D.Domain setting.now item) (statement_seen statement.now))) (λ e. HaltsAtStep (IsNoStraightStatement (statement_seen statement.now)) (followed path.old) e (walks.walk_one (seen D.Domain setting.now item) (statement_seen statement.now))) }
 {
     match statement {
         Statement::Store {
@@ -95,11 +95,11 @@ fn walk_statement<D: Domain>(
 pub fn walk<D: Domain>(
     alloc: Global,
     setting: &Setting<D>,
-    item: Which,
+    item: Side,
     facts: Vec<Form>,
     body: &[Statement],
 ) -> Result<Path<D>, WalkError>
-    ensures { MatchResult result (λ p. (met p).found ≡ collect (opening (forms facts.items)).found (walks.tree (seen D.Domain setting.now item) (statements_seen body.now))) (λ e. Refused (IsNoStraightBody (statements_seen body.now)) e (collect (opening (forms facts.items)).found (walks.tree (seen D.Domain setting.now item) (statements_seen body.now)))) }
+    ensures { MatchResult result (λ p. (followed p).found ≡ collect (opening (forms facts.items)).found (walks.tree (seen D.Domain setting.now item) (statements_seen body.now))) (λ e. Refused (IsNoStraightBody (statements_seen body.now)) e (collect (opening (forms facts.items)).found (walks.tree (seen D.Domain setting.now item) (statements_seen body.now)))) }
 {
     let mut path = Path::opening(alloc, facts);
     for statement in body {

@@ -5,7 +5,7 @@ use Rattle.two_thread.specs.Refusals.{DoNotFit}
 use Rattle.two_thread.specs.Shown.{IsShown}
 use Rattle.facts.proofs.Unmade.{passed}
 use Rattle.cert_check.specs.Entries.{is_past}
-use Rattle.cert_check.specs.Lacking.{IsStopped, Lacks, Names, Passes}
+use Rattle.cert_check.specs.Lacking.{IsStopped, Lacks, TellsBy, Passes}
 use Rattle.cert_check.proofs.OneByOne.{one_more, all_shown}
 use Rattle.cert_check.proofs.Unshown.{all_passed, first_lacks, named}
 use Rattle.cert_check.proofs.showing.show_found.Goals as goal
@@ -48,6 +48,6 @@ returns-in_err-show_one-clause-lacks g c =
     let e = c.in_err-show_one.field-0.0 in
     let h : i < length os = omega (arith, c.loop-i-test.true, c.len-count.ensures.exact) in
     let q : (i + 1) - 1 ≡ i = omega arith in
-    let t : Names (IsStopped es (i + 1) (nth_obligation os (i + 1))) unfit e = search rules in
-    passed c.from_residual.result e (Names (Lacks es os) unfit) c.from_residual.ensures.1
+    let t : TellsBy (IsStopped es (i + 1) (nth_obligation os (i + 1))) unfit e = search rules in
+    passed c.from_residual.result e (TellsBy (Lacks es os) unfit) c.from_residual.ensures.1
     (named (IsStopped es (i + 1) (nth_obligation os (i + 1))) (Lacks es os) unfit unfit e (λ m s. first_lacks es os no_obligation i m h (λ k l. (c.loop-i.invariant k l).1) (subst (λ j. IsStopped es (i + 1) (get_or os j no_obligation) m) q s)) (λ w u. u) t)

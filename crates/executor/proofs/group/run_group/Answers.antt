@@ -7,7 +7,7 @@ use Rattle.facts.specs.Launching.{are_sizes}
 use Rattle.walk.specs.Straight.{is_straight_body}
 use Rattle.cert_check.specs.View.{typed_of, kept}
 use Rattle.executor.specs.Runs.{stores_by}
-use Rattle.executor.specs.Stores.{at}
+use Rattle.executor.specs.Ends.{buffer_cell}
 use Rattle.executor.specs.View.{setup_of}
 use Rattle.executor.proofs.Kernels.{sizes-of, body-at, below-count, log-of-group}
 use Rattle.executor.proofs.group.run_group.Goals as goal
@@ -30,5 +30,5 @@ returns c = λ b i.
     let k = kernel (typed_of c.args.accepted.now).1 in
     let s = c.typed.ensures.shape in
     c.in_ok-log.ensures b i
-    ∙ ap (λ x. log_of (stores_by (setup_of x c.args.launch.now) c.args.group (product (kernel x).sizes)) (at b i) None) (c.core.ensures.value ∙ ap (λ t. t.1) c.typed.ensures.value)
-    ∙ log-of-group k (launch c.args.launch.now) (conditions (kept c.args.accepted.now)).budget c.args.group (at b i) s.is_straight s.is_short c.typed.ensures.accepted.has_items
+    ∙ ap (λ x. log_of (stores_by (setup_of x c.args.launch.now) c.args.group (product (kernel x).sizes)) (buffer_cell b i) None) (c.core.ensures.value ∙ ap (λ t. t.1) c.typed.ensures.value)
+    ∙ log-of-group k (launch c.args.launch.now) (conditions (kept c.args.accepted.now)).budget c.args.group (buffer_cell b i) s.is_straight s.is_short c.typed.ensures.accepted.has_items

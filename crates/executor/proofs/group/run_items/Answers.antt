@@ -8,7 +8,7 @@ use Rattle.core_code.specs.View.{kernel, statements}
 use Rattle.launch.specs.View.{launch}
 use Rattle.write_log.specs.Written.{written}
 use Rattle.executor.specs.Runs.{item_stores}
-use Rattle.executor.specs.Stores.{at}
+use Rattle.executor.specs.Ends.{buffer_cell}
 use Rattle.executor.specs.View.{setup_of, IsItem}
 use Rattle.executor.proofs.Noting.{item-more}
 use Rattle.executor.proofs.group.run_items.Goals as goal
@@ -30,7 +30,7 @@ loop-number-preserved c =
     let it : IsItem c.item_at-item.result i = c.item_at-item.ensures.item i
     (c.place-of_group.ensures.place ∙ ap (setup.place (launch l).groups) (sym w.0))
     (c.place.ensures.place ∙ ap (λ t. setup.place t n) c.sizes_of-sizes.ensures ∙ ap (setup.place (kernel core).sizes) (sym w.1)) in
-    λ b j. item-more s g n (at b j) _ _ (c.loop-number.invariant b j)
+    λ b j. item-more s g n (buffer_cell b j) _ _ (c.loop-number.invariant b j)
     (c.in_ok-run.ensures i b j it
-    ∙ ap (λ x. log_of (item_stores (setup_of x c.item_at-item.result.launch.now) i (statements x.body.items)) (at b j) (written c.loop-number.log b j)) c.item_at-item.ensures.core
-    ∙ ap (λ y. log_of (item_stores (setup_of core y) i (statements core.body.items)) (at b j) (written c.loop-number.log b j)) c.item_at-item.ensures.launch)
+    ∙ ap (λ x. log_of (item_stores (setup_of x c.item_at-item.result.launch.now) i (statements x.body.items)) (buffer_cell b j) (written c.loop-number.log b j)) c.item_at-item.ensures.core
+    ∙ ap (λ y. log_of (item_stores (setup_of core y) i (statements core.body.items)) (buffer_cell b j) (written c.loop-number.log b j)) c.item_at-item.ensures.launch)

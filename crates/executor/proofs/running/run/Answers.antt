@@ -2,7 +2,7 @@ use Rattle.std.proofs.Common.{sym, ◌∙◌, subst, ap, length, refl}
 use Rattle.core_code.specs.View.{kernel}
 use Rattle.launch.specs.View.{launch, conditions}
 use Rattle.semantics.specs.Conditions.{Meets}
-use Rattle.cert_check.specs.Accepting.{at}
+use Rattle.cert_check.specs.Accepting.{at_launch}
 use Rattle.cert_check.specs.View.{typed_of, kept}
 use Rattle.write_log.specs.Written.{words_of}
 use Rattle.executor.proofs.Kernels.{some-items, arguments-alike, buffers-alike}
@@ -31,8 +31,8 @@ returns-clause-every g c =
     let l = launch c.args.launch.now in
     let bound = (conditions (kept c.args.accepted.now)).budget in
     let m : Meets (conditions (kept c.args.accepted.now)) l = subst (λ x. Meets (conditions x) l) c.conditions.ensures.value (c.in_ok-meets.ensures.met.0 refl) in
-    every-end (at k l) bound (words_of c.in_ok-buffers.buffers)
-    (c.headline.ensures (at k l) bound (some-items k l c.conditions.ensures.accepted.has_items) (c.conditions.ensures.accepted.is_pair_safe l c.requires m))
+    every-end (at_launch k l) bound (words_of c.in_ok-buffers.buffers)
+    (c.headline.ensures (at_launch k l) bound (some-items k l c.conditions.ensures.accepted.has_items) (c.conditions.ensures.accepted.is_pair_safe l c.requires m))
     c.in_ok-buffers.ensures
 
 pub returns-clause-meets : goal.returns-clause-meets
@@ -43,5 +43,5 @@ pub returns-clause-defined : goal.returns-clause-defined
 returns-clause-defined g c =
     let k = kernel (typed_of c.args.accepted.now).1 in
     let l = launch c.args.launch.now in
-    c.result_is_defined.ensures (at k l) (conditions (kept c.args.accepted.now)).budget (some-items k l c.conditions.ensures.accepted.has_items)
+    c.result_is_defined.ensures (at_launch k l) (conditions (kept c.args.accepted.now)).budget (some-items k l c.conditions.ensures.accepted.has_items)
     (c.conditions.ensures.accepted.is_pair_safe l c.requires (returns-clause-meets g c))

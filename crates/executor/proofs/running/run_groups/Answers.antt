@@ -1,7 +1,7 @@
 use Rattle.std.proofs.Common.{◌≡◌, ◌<◌, ◌∙◌, subst, arith}
 use Rattle.core_code.specs.View.{kernel}
 use Rattle.launch.specs.View.{launch, conditions}
-use Rattle.cert_check.specs.Accepting.{at}
+use Rattle.cert_check.specs.Accepting.{at_launch}
 use Rattle.cert_check.specs.View.{typed_of, kept}
 use Rattle.write_log.specs.Written.{words_of}
 use Rattle.executor.proofs.Buffered.{group-more, all-groups, count-of}

@@ -2,7 +2,7 @@ use Rattle.std.proofs.Common.{rules, ap, subst, ◌∙◌}
 use Rattle.core_code.specs.View.{kernel, statements}
 use Rattle.linear.specs.Forms.{forms}
 use Rattle.facts.specs.Launching.{item_facts}
-use Rattle.facts.specs.View.{which}
+use Rattle.facts.specs.View.{side}
 use Rattle.facts.proofs.Unmade.{passed}
 use Rattle.walk.specs.Collected.{collect, opening}
 use Rattle.walk.specs.Refusals.{IsNoStraightBody, Refused}
@@ -24,6 +24,6 @@ returns-in_err-walk-clause-refused g c =
     let k = kernel c.args.core.now in
     let facts = forms c.in_ok-facts.facts.items in
     let r : Refused (IsNoStraightBody (statements c.as_slice.result.now)) e (collect (opening facts).found (tree s (statements c.as_slice.result.now))) = search rules in
-    passed c.from_residual-in_err-walk.result e (λ w. Refused (IsNoStraightBody k.body) w (collect (opening (item_facts k.sizes (which c.args.item))).found (tree s k.body))) c.from_residual-in_err-walk.ensures.1
+    passed c.from_residual-in_err-walk.result e (λ w. Refused (IsNoStraightBody k.body) w (collect (opening (item_facts k.sizes (side c.args.item))).found (tree s k.body))) c.from_residual-in_err-walk.ensures.1
     (subst (λ fs. Refused (IsNoStraightBody k.body) e (collect (opening fs).found (tree s k.body))) c.in_ok-facts.ensures
     (subst (λ b. Refused (IsNoStraightBody (statements b)) e (collect (opening facts).found (tree s (statements b)))) c.as_slice.ensures.value r))

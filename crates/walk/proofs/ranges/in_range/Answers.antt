@@ -1,5 +1,5 @@
 use Rattle.linear.specs.Forms.{form}
-use Rattle.walk.specs.View.{met, setting as seen}
+use Rattle.walk.specs.View.{followed, setting as seen}
 use Rattle.words.specs.View.{kind}
 use Rattle.walk.proofs.Refusing.{low_stops, high_stops, first_stops, second_stops}
 use Rattle.facts.proofs.Unmade.{handed}
@@ -7,24 +7,24 @@ use Rattle.walk.proofs.Leading.{range_steps}
 use Rattle.walk.proofs.ranges.in_range.Goals as goal
 
 pub returns : goal.returns
-returns g c = range_steps (seen g.D.Domain c.args.setting.now c.args.item) c.args.needed (kind c.args.kind) (form c.args.form.now) (form c.in_ok-low.low) (form c.in_ok-high.high) (met c.args.path.now) (met c.claim.new.path) (met c.claim-2.new.path) c.in_ok-low.ensures c.in_ok-high.ensures c.in_ok-claim.ensures c.in_ok-claim-2.ensures
+returns g c = range_steps (seen g.D.Domain c.args.setting.now c.args.item) c.args.needed (kind c.args.kind) (form c.args.form.now) (form c.in_ok-low.low) (form c.in_ok-high.high) (followed c.args.path.now) (followed c.claim.new.path) (followed c.claim-2.new.path) c.in_ok-low.ensures c.in_ok-high.ensures c.in_ok-claim.ensures c.in_ok-claim-2.ensures
 
 pub returns-in_err-low : goal.returns-in_err-low
 returns-in_err-low g c =
-    let k = low_stops (seen g.D.Domain c.args.setting.now c.args.item) c.args.needed (kind c.args.kind) (form c.args.form.now) (met c.args.path.now) c.in_err-low.field-0.0 c.in_err-low.ensures in
+    let k = low_stops (seen g.D.Domain c.args.setting.now c.args.item) c.args.needed (kind c.args.kind) (form c.args.form.now) (followed c.args.path.now) c.in_err-low.field-0.0 c.in_err-low.ensures in
     handed c.from_residual.result c.in_err-low.field-0.0 _ _ c.from_residual.ensures k
 
 pub returns-in_err-high : goal.returns-in_err-high
 returns-in_err-high g c =
-    let k = high_stops (seen g.D.Domain c.args.setting.now c.args.item) c.args.needed (kind c.args.kind) (form c.args.form.now) (met c.args.path.now) c.in_err-high.field-0.0 c.in_err-high.ensures in
+    let k = high_stops (seen g.D.Domain c.args.setting.now c.args.item) c.args.needed (kind c.args.kind) (form c.args.form.now) (followed c.args.path.now) c.in_err-high.field-0.0 c.in_err-high.ensures in
     handed c.from_residual-in_err-high.result c.in_err-high.field-0.0 _ _ c.from_residual-in_err-high.ensures k
 
 pub returns-in_err-claim : goal.returns-in_err-claim
 returns-in_err-claim g c =
-    let k = first_stops (seen g.D.Domain c.args.setting.now c.args.item) c.args.needed (kind c.args.kind) (form c.args.form.now) (form c.in_ok-low.low) (met c.args.path.now) c.in_err-claim.field-0.0 c.in_ok-low.ensures c.in_err-claim.ensures in
+    let k = first_stops (seen g.D.Domain c.args.setting.now c.args.item) c.args.needed (kind c.args.kind) (form c.args.form.now) (form c.in_ok-low.low) (followed c.args.path.now) c.in_err-claim.field-0.0 c.in_ok-low.ensures c.in_err-claim.ensures in
     handed c.from_residual-in_err-claim.result c.in_err-claim.field-0.0 _ _ c.from_residual-in_err-claim.ensures k
 
 pub returns-in_err-claim-2 : goal.returns-in_err-claim-2
 returns-in_err-claim-2 g c =
-    let k = second_stops (seen g.D.Domain c.args.setting.now c.args.item) c.args.needed (kind c.args.kind) (form c.args.form.now) (form c.in_ok-low.low) (form c.in_ok-high.high) (met c.args.path.now) (met c.claim.new.path) c.in_err-claim-2.field-0.0 c.in_ok-low.ensures c.in_ok-high.ensures c.in_ok-claim.ensures c.in_err-claim-2.ensures in
+    let k = second_stops (seen g.D.Domain c.args.setting.now c.args.item) c.args.needed (kind c.args.kind) (form c.args.form.now) (form c.in_ok-low.low) (form c.in_ok-high.high) (followed c.args.path.now) (followed c.claim.new.path) c.in_err-claim-2.field-0.0 c.in_ok-low.ensures c.in_ok-high.ensures c.in_ok-claim.ensures c.in_err-claim-2.ensures in
     handed c.from_residual-in_err-claim-2.result c.in_err-claim-2.field-0.0 _ _ c.from_residual-in_err-claim-2.ensures k

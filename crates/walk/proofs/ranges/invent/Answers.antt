@@ -1,7 +1,7 @@
 use Rattle.std.proofs.Common.{◌∙◌, ◌≡◌, ap, rules, length}
 use Rattle.linear.specs.Forms.{form}
-use Rattle.walk.specs.View.{met, setting as seen}
-use Rattle.facts.specs.View.{which}
+use Rattle.walk.specs.View.{followed, setting as seen}
+use Rattle.facts.specs.View.{side}
 use Rattle.std.specs.Prelude.{ℕ}
 use Rattle.facts.specs.Symbols.{New, once}
 use Rattle.walk.specs.declared.path.Path.{Path}
@@ -11,26 +11,26 @@ use Rattle.walk.proofs.Leading.{invents}
 use Rattle.walk.proofs.ranges.invent.Goals as goal
 
 -- as many new symbols as the path has
-pub count : {E : Type 0} (p : Path E) (n : ℕ) → n ≡ length p.elements.items → n ≡ length (met p).elements
-unfolding met
+pub count : {E : Type 0} (p : Path E) (n : ℕ) → n ≡ length p.elements.items → n ≡ length (followed p).elements
+unfolding followed
 count p n e = e
 
 pub returns : goal.returns
 returns g c =
     let n : c.len-index.result ≡ length c.args.path.now.elements.items = search rules in
-    let e : form c.in_ok-newest.newest ≡ once (New (which c.args.item) c.len-index.result) = search rules in
-    invents (seen g.D.Domain c.args.setting.now c.args.item) c.args.element (form c.in_ok-newest.newest) c.bounds-bounds.result (met c.args.path.now) (met c.know_low.new.path) (met c.know_high.new.path) (met c.invent.new.self) (e ∙ ap (λ k. once (New (which c.args.item) k)) (count c.args.path.now _ n)) c.bounds-bounds.ensures c.in_ok-know_low.ensures.leads c.in_ok-know_low.ensures.state c.in_ok-know_high.ensures.leads c.in_ok-know_high.ensures.state c.in_ok-invent.ensures
+    let e : form c.in_ok-newest.newest ≡ once (New (side c.args.item) c.len-index.result) = search rules in
+    invents (seen g.D.Domain c.args.setting.now c.args.item) c.args.element (form c.in_ok-newest.newest) c.bounds-bounds.result (followed c.args.path.now) (followed c.know_low.new.path) (followed c.know_high.new.path) (followed c.invent.new.self) (e ∙ ap (λ k. once (New (side c.args.item) k)) (count c.args.path.now _ n)) c.bounds-bounds.ensures c.in_ok-know_low.ensures.leads c.in_ok-know_low.ensures.state c.in_ok-know_high.ensures.leads c.in_ok-know_high.ensures.state c.in_ok-invent.ensures
 
 pub returns-in_err-know_low : goal.returns-in_err-know_low
 returns-in_err-know_low g c =
     let n : c.len-index.result ≡ length c.args.path.now.elements.items = search rules in
-    let e : form c.in_ok-newest.newest ≡ once (New (which c.args.item) c.len-index.result) = search rules in
-    let k = invent_low (seen g.D.Domain c.args.setting.now c.args.item) c.args.element (form c.in_ok-newest.newest) c.bounds-bounds.result (met c.args.path.now) c.in_err-know_low.field-0.0 (e ∙ ap (λ k. once (New (which c.args.item) k)) (count c.args.path.now _ n)) c.bounds-bounds.ensures c.in_err-know_low.ensures.refused in
+    let e : form c.in_ok-newest.newest ≡ once (New (side c.args.item) c.len-index.result) = search rules in
+    let k = invent_low (seen g.D.Domain c.args.setting.now c.args.item) c.args.element (form c.in_ok-newest.newest) c.bounds-bounds.result (followed c.args.path.now) c.in_err-know_low.field-0.0 (e ∙ ap (λ k. once (New (side c.args.item) k)) (count c.args.path.now _ n)) c.bounds-bounds.ensures c.in_err-know_low.ensures.refused in
     handed c.from_residual-in_err-know_low.result c.in_err-know_low.field-0.0 _ _ c.from_residual-in_err-know_low.ensures k
 
 pub returns-in_err-know_high : goal.returns-in_err-know_high
 returns-in_err-know_high g c =
     let n : c.len-index.result ≡ length c.args.path.now.elements.items = search rules in
-    let e : form c.in_ok-newest.newest ≡ once (New (which c.args.item) c.len-index.result) = search rules in
-    let k = invent_high (seen g.D.Domain c.args.setting.now c.args.item) c.args.element (form c.in_ok-newest.newest) c.bounds-bounds.result (met c.args.path.now) (met c.know_low.new.path) c.in_err-know_high.field-0.0 (e ∙ ap (λ k. once (New (which c.args.item) k)) (count c.args.path.now _ n)) c.bounds-bounds.ensures c.in_ok-know_low.ensures.leads c.in_err-know_high.ensures.refused in
+    let e : form c.in_ok-newest.newest ≡ once (New (side c.args.item) c.len-index.result) = search rules in
+    let k = invent_high (seen g.D.Domain c.args.setting.now c.args.item) c.args.element (form c.in_ok-newest.newest) c.bounds-bounds.result (followed c.args.path.now) (followed c.know_low.new.path) c.in_err-know_high.field-0.0 (e ∙ ap (λ k. once (New (side c.args.item) k)) (count c.args.path.now _ n)) c.bounds-bounds.ensures c.in_ok-know_low.ensures.leads c.in_err-know_high.ensures.refused in
     handed c.from_residual-in_err-know_high.result c.in_err-know_high.field-0.0 _ _ c.from_residual-in_err-know_high.ensures k

@@ -2,7 +2,7 @@ use Rattle.std.proofs.Common.{◌∙◌, ap}
 use Rattle.std.specs.Prelude.{pos}
 use Rattle.linear.specs.Forms.{form}
 use Rattle.facts.specs.Symbols.{constant, minus}
-use Rattle.walk.specs.View.{met, setting as seen}
+use Rattle.walk.specs.View.{followed, setting as seen}
 use Rattle.facts.specs.View.{error_of_form}
 use Rattle.walk.proofs.Refusing.{room_stops, index_stops, end_stops}
 use Rattle.facts.proofs.Unmade.{unfit_of, handed}
@@ -12,22 +12,22 @@ use Rattle.walk.proofs.walking.in_buffer.Goals as goal
 pub returns : goal.returns
 returns g c =
     let e = c.in_ok-last.ensures ∙ ap (λ f. minus f (constant (pos 1))) c.in_ok-once_length.ensures in
-    buffer_steps (seen g.D.Domain c.args.setting.now c.args.item) c.args.buffer (form c.args.index.now) (form c.in_ok-from_zero.from_zero) (form c.in_ok-last.last) (form c.in_ok-room.room) (met c.args.path.now) (met c.claim.new.path) (met c.claim-2.new.path) c.in_ok-from_zero.ensures e c.in_ok-room.ensures.exact c.in_ok-claim.ensures c.in_ok-claim-2.ensures
+    buffer_steps (seen g.D.Domain c.args.setting.now c.args.item) c.args.buffer (form c.args.index.now) (form c.in_ok-from_zero.from_zero) (form c.in_ok-last.last) (form c.in_ok-room.room) (followed c.args.path.now) (followed c.claim.new.path) (followed c.claim-2.new.path) c.in_ok-from_zero.ensures e c.in_ok-room.ensures.exact c.in_ok-claim.ensures c.in_ok-claim-2.ensures
 
 pub returns-in_err-room : goal.returns-in_err-room
 returns-in_err-room g c =
     let d = c.in_ok-last.ensures ∙ ap (λ f. minus f (constant (pos 1))) c.in_ok-once_length.ensures in
     let u = unfit_of c.sub.result c.in_err-room.field-0.0 (minus (form c.in_ok-last.last) (form c.args.index.now)) c.in_err-room.was c.sub.ensures.too_large in
-    let k = room_stops (seen g.D.Domain c.args.setting.now c.args.item) c.args.buffer (form c.args.index.now) (form c.in_ok-last.last) (met c.args.path.now) (error_of_form c.in_err-room.field-0.0) d u in
+    let k = room_stops (seen g.D.Domain c.args.setting.now c.args.item) c.args.buffer (form c.args.index.now) (form c.in_ok-last.last) (followed c.args.path.now) (error_of_form c.in_err-room.field-0.0) d u in
     handed c.from_residual-in_err-room.result (error_of_form c.in_err-room.field-0.0) _ _ c.from_residual-in_err-room.ensures k
 
 pub returns-in_err-claim : goal.returns-in_err-claim
 returns-in_err-claim g c =
-    let k = index_stops (seen g.D.Domain c.args.setting.now c.args.item) c.args.buffer (form c.args.index.now) (form c.in_ok-from_zero.from_zero) (met c.args.path.now) c.in_err-claim.field-0.0 c.in_ok-from_zero.ensures c.in_err-claim.ensures in
+    let k = index_stops (seen g.D.Domain c.args.setting.now c.args.item) c.args.buffer (form c.args.index.now) (form c.in_ok-from_zero.from_zero) (followed c.args.path.now) c.in_err-claim.field-0.0 c.in_ok-from_zero.ensures c.in_err-claim.ensures in
     handed c.from_residual-in_err-claim.result c.in_err-claim.field-0.0 _ _ c.from_residual-in_err-claim.ensures k
 
 pub returns-in_err-claim-2 : goal.returns-in_err-claim-2
 returns-in_err-claim-2 g c =
     let e = c.in_ok-last.ensures ∙ ap (λ f. minus f (constant (pos 1))) c.in_ok-once_length.ensures in
-    let k = end_stops (seen g.D.Domain c.args.setting.now c.args.item) c.args.buffer (form c.args.index.now) (form c.in_ok-from_zero.from_zero) (form c.in_ok-last.last) (form c.in_ok-room.room) (met c.args.path.now) (met c.claim.new.path) c.in_err-claim-2.field-0.0 c.in_ok-from_zero.ensures e c.in_ok-room.ensures.exact c.in_ok-claim.ensures c.in_err-claim-2.ensures in
+    let k = end_stops (seen g.D.Domain c.args.setting.now c.args.item) c.args.buffer (form c.args.index.now) (form c.in_ok-from_zero.from_zero) (form c.in_ok-last.last) (form c.in_ok-room.room) (followed c.args.path.now) (followed c.claim.new.path) c.in_err-claim-2.field-0.0 c.in_ok-from_zero.ensures e c.in_ok-room.ensures.exact c.in_ok-claim.ensures c.in_err-claim-2.ensures in
     handed c.from_residual-in_err-claim-2.result c.in_err-claim-2.field-0.0 _ _ c.from_residual-in_err-claim-2.ensures k

@@ -1,5 +1,2 @@
-pub mod OneByOne
 pub mod Headlines
-pub mod Entering
-pub mod Unshown
 pub mod Plainly

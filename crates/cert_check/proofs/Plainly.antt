@@ -9,12 +9,12 @@ use Rattle.facts.specs.declared.error.WalkError.TheVariants as walks
 use Rattle.plain.specs.Domains.{domain}
 use Rattle.plain.specs.Kernels.{HasLimits, IsPlain}
 use Rattle.plain.proofs.Plainly.{plain-straight, plain-fits, plain-range}
-use Rattle.cert_check.specs.Entries.{has_entry}
-use Rattle.cert_check.specs.Lacking.{Stops, owing}
+use Rattle.entry_check.specs.Entries.{has_entry}
+use Rattle.entry_check.specs.Lacking.{Stops, owing}
 use Rattle.cert_check.specs.Refusing.{Shows}
 use Rattle.cert_check.specs.Plainly.{IsUnrefuted, IsOwnRange, TellsPlain}
-use Rattle.cert_check.specs.declared.error.ShowError.{ShowError}
-use Rattle.cert_check.specs.declared.error.ShowError.TheVariants as shows
+use Rattle.entry_check.specs.declared.error.ShowError.{ShowError}
+use Rattle.entry_check.specs.declared.error.ShowError.TheVariants as shows
 
 -- no dimension is empty
 some_items : (x y z : ℕ) → 1 ≤ x → 1 ≤ y → 1 ≤ z → x * y * z ≡ 0 → ⊥

@@ -3,23 +3,13 @@ use Rattle.std.specs.Prelude.{ℕ, Option, Some, None}
 use Rattle.reading.specs.Answers as reading
 use Rattle.launch_text.specs.Answers as conditions
 use Rattle.certificate.specs.Answers as certificates
-use Rattle.facts.specs.Numbers as walk_numbers
-use Rattle.facts.specs.declared.error.WalkError.{WalkError}
-use Rattle.facts.specs.declared.error.WalkError.TheVariants as walks
-use Rattle.cert_check.specs.declared.error.Place.{Place}
-use Rattle.cert_check.specs.declared.error.Place.TheVariants.{At, Number}
-use Rattle.cert_check.specs.declared.error.ShowError.{ShowError}
-use Rattle.cert_check.specs.declared.error.ShowError.TheVariants as shows
+use Rattle.entry_check.specs.declared.error.Place.{Place}
+use Rattle.entry_check.specs.declared.error.Place.TheVariants.{At, Number}
+use Rattle.entry_check.specs.Numbers.{show_number, show_place}
 use Rattle.cert_check.specs.declared.error.CheckError.{CheckError}
 use Rattle.cert_check.specs.declared.error.CheckError.TheVariants as errors
 
 -- 90 is want of memory, everywhere
-abbrev pub show_number : ShowError → ℕ
-show_number (shows.NotShown n) = 52
-show_number (shows.Walk e) = walk_numbers.error_number e
-show_number shows.OverBudget = 56
-show_number shows.Memory = 90
-
 abbrev pub error_number : CheckError → ℕ
 error_number (errors.Kernel e) = reading.error_number e
 error_number (errors.Conditions e) = conditions.error_number e
@@ -35,19 +25,6 @@ at_place None = None
 abbrev pub at_line : Option ℕ → Option Place
 at_line (Some line) = Some (Number line)
 at_line None = None
-
-abbrev pub walk_place : WalkError → Option Place
-walk_place walks.TooMany = Some (At 1 1)
-walk_place walks.TooLarge = None
-walk_place walks.Outside = Some (Number 0)
-walk_place walks.Memory = None
-
--- what is not shown, to the number of an obligation, or 0
-abbrev pub show_place : ShowError → Option Place
-show_place (shows.NotShown n) = Some (Number n)
-show_place (shows.Walk e) = walk_place e
-show_place shows.OverBudget = None
-show_place shows.Memory = None
 
 abbrev pub error_place : CheckError → Option Place
 error_place (errors.Kernel e) = at_place (reading.error_place e)

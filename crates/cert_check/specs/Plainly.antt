@@ -16,15 +16,15 @@ use Rattle.facts.specs.declared.error.WalkError.TheVariants as walks
 use Rattle.plain.specs.Domains.{domain}
 use Rattle.plain.specs.Claims.{is_range}
 use Rattle.plain.specs.Kernels.{IsPlain, has_signed}
-use Rattle.cert_check.specs.Entries.{has_entry, is_refuted, is_past}
-use Rattle.cert_check.specs.Lacking.{IsNumbered, owing}
+use Rattle.entry_check.specs.Entries.{has_entry, is_refuted, is_past}
+use Rattle.entry_check.specs.Lacking.{IsNumbered, owing}
 use Rattle.cert_check.specs.Refusing.{AreRead}
 use Rattle.cert_check.specs.Names.{is_for_others}
 use Rattle.cert_check.specs.declared.accepted.Accepted.{Accepted}
 use Rattle.cert_check.specs.declared.error.CheckError.{CheckError}
 use Rattle.cert_check.specs.declared.error.CheckError.TheVariants as errors
-use Rattle.cert_check.specs.declared.error.ShowError.{ShowError}
-use Rattle.cert_check.specs.declared.error.ShowError.TheVariants as shows
+use Rattle.entry_check.specs.declared.error.ShowError.{ShowError}
+use Rattle.entry_check.specs.declared.error.ShowError.TheVariants as shows
 
 -- a claim of a range is named only where the certificate has an entry for it, and then some value is an `int` parameter
 abbrev pub IsOwnRange : semantics.Kernel → Certificate → (number : ℕ) → Type 0

@@ -16,12 +16,12 @@ use Rattle.launch_text.specs.Answers as launches
 use Rattle.certificate.specs.Certificates.{Says}
 use Rattle.plain.specs.Domains.{domain}
 use Rattle.cert_check.specs.Names.{is_for_others}
-use Rattle.cert_check.specs.Lacking.{PassesOf, TellsOf}
+use Rattle.entry_check.specs.Lacking.{PassesOf, TellsOf}
 use Rattle.cert_check.specs.declared.accepted.Accepted.{Accepted}
 use Rattle.cert_check.specs.declared.error.CheckError.{CheckError}
 use Rattle.cert_check.specs.declared.error.CheckError.TheVariants as errors
-use Rattle.cert_check.specs.declared.error.ShowError.{ShowError}
-use Rattle.cert_check.specs.declared.error.ShowError.TheVariants.{NotShown}
+use Rattle.entry_check.specs.declared.error.ShowError.{ShowError}
+use Rattle.entry_check.specs.declared.error.ShowError.TheVariants.{NotShown}
 
 -- the kernel is read, to this tree and core
 abbrev pub IsRead : Kernel × Core → (kernel : List ℕ) → Type 0

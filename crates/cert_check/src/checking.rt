@@ -1,7 +1,6 @@
 //! The check.
 
 ghost use Rattle.std.specs.Prelude.{◌≡◌, ◌<◌, nat_lt, true, map, false, Ok, IfOk, IfErr, IsTrue};
-ghost use Rattle.std.specs.List.{All};
 ghost use Rattle.semantics.specs.Launch.{product};
 ghost use Rattle.semantics.specs.Conditions.{ConditionsFit};
 ghost use Rattle.launch.specs.View.{conditions as conditions_seen};
@@ -13,23 +12,21 @@ ghost use Rattle.reading.specs.Kernels.{read};
 ghost use Rattle.reading.specs.Answers.{kernel_seen};
 ghost use Rattle.facts.specs.View.{three};
 ghost use Rattle.walk.specs.Straight.{is_straight, steps};
-ghost use Rattle.two_thread.specs.Shown.{IsShown};
 ghost use Rattle.certificate.specs.View.{entry as entry_seen};
 ghost use Rattle.cert_check.specs.Accepting.{IsAccepted, IsStraightUnder, HasHeadline};
-ghost use Rattle.cert_check.specs.Lacking as lacking;
-ghost use Rattle.cert_check.specs.Lacking.{owing, AreListed, IsUnwalked, PassesOf, TellsOf};
+ghost use Rattle.entry_check.specs.Lacking.{PassesOf, TellsOf};
 ghost use Rattle.cert_check.specs.Refusing.{IsPassed, Tells};
 ghost use Rattle.cert_check.specs.Plainly.{OnPlain};
 ghost use Rattle.cert_check.specs.View.{typed_of, kept};
 
 use crate::accepted::Accepted;
-use crate::error::{CheckError, ShowError};
+use crate::error::CheckError;
 use crate::names::is_for_others;
-use crate::showing::{flags_of, places_of, show_found};
 use certificate::tree::Entry;
 use congruence::Congruence;
 use core_code::tree::Core;
 use domain::Domain;
+use entry_check::{ShowError, show_all};
 use interval::Interval;
 use launch::conditions::Conditions;
 use launch_text::read_conditions;
@@ -40,26 +37,8 @@ use reading::laws::local_sizes_are_within_limits;
 use reading::read_kernel;
 use reduction::headline;
 use std::alloc::Global;
-use two_thread::Obligations;
 use two_thread::laws::what_is_shown_is_pair_safe;
 use walk::is_straight;
-
-/// All that is to be shown is shown.
-fn show_all<D: Domain>(
-    alloc: Global,
-    core: &Core,
-    conditions: &Conditions,
-    entries: &[Entry],
-) -> Result<(), ShowError>
-    ensures shown { IfOk result (λ _. All IsShown (owing D.Domain (core_seen core.now) (conditions_seen conditions.now) (map entry_seen entries.now))) }
-    ensures passed { IfOk result (λ _. PassesOf D.Domain (core_seen core.now) (conditions_seen conditions.now) (map entry_seen entries.now)) }
-    ensures lacks { IfErr result (lacking.TellsOfList (map entry_seen entries.now) (AreListed D.Domain (core_seen core.now) (conditions_seen conditions.now) (map entry_seen entries.now)) (owing D.Domain (core_seen core.now) (conditions_seen conditions.now) (map entry_seen entries.now)) (IsUnwalked D.Domain (core_seen core.now) (conditions_seen conditions.now) (map entry_seen entries.now))) }
-{
-    let places = places_of(alloc, entries)?;
-    let flags = flags_of(alloc, entries, places.as_slice())?;
-    let found = Obligations::<D>::find(alloc, core, conditions, flags)?;
-    show_found(alloc, &found, entries, places.as_slice())
-}
 
 /// Each dimension of a work-group has a work-item.
 fn has_items(sizes: [u32; 3]) -> bool

@@ -4,33 +4,10 @@ ghost use Rattle.std.specs.Prelude.{◌≡◌};
 ghost use Rattle.cert_check.specs.Numbers as numbers;
 
 use certificate::error::CertError;
-use facts::WalkError;
+pub use entry_check::{Place, ShowError};
 use launch_text::error::LaunchTextError;
 use reading::KernelError;
-use std::alloc::{AllocError, AllocFailed};
 use thiserror::Error;
-
-/// Where a refusal points: a place of the kernel's text; or a number, that of a line or of an obligation.
-#[derive(Clone, Copy, Debug, PartialEq, Eq)]
-pub enum Place {
-    At { line: u32, column: u32 },
-    Number(u64),
-}
-
-/// Why what is to be shown of a kernel is not shown, or want of memory.
-#[derive(Debug, Drop, Error)]
-pub enum ShowError {
-    /// An obligation is not shown; 0 where the certificate tells of what the kernel lacks, a work-group has no work-items, or the
-    /// kernel is not straight-line.
-    #[error("52 {0}")]
-    NotShown(u64),
-    #[error("{0}")]
-    Walk(WalkError),
-    #[error("56")]
-    OverBudget,
-    #[error("90")]
-    Memory,
-}
 
 /// Why a kernel is refused, or want of memory.
 #[derive(Debug, Drop, Error)]
@@ -43,17 +20,6 @@ pub enum CheckError {
     Certificate(CertError),
     #[error("{0}")]
     Show(ShowError),
-}
-
-/// Where a walk's refusal points.
-fn walk_place(error: &WalkError) -> Option<Place>
-    ensures { result ≡ numbers.walk_place error.now }
-{
-    match error {
-        WalkError::TooMany => Some(Place::At { line: 1, column: 1 }),
-        WalkError::Outside => Some(Place::Number(0)),
-        WalkError::TooLarge | WalkError::Memory => None,
-    }
 }
 
 /// Where a refusal points that points to a line and a column.
@@ -73,33 +39,6 @@ fn at_line(line: Option<u64>) -> Option<Place>
     match line {
         Some(line) => Some(Place::Number(line)),
         None => None,
-    }
-}
-
-impl ShowError {
-    ghost use Rattle.cert_check.specs.Numbers.{show_number, show_place};
-
-    /// The number that it is printed under.
-    pub fn number(&self) -> u8
-        ensures { result ≡ show_number self.now }
-    {
-        match self {
-            ShowError::NotShown(_) => 52,
-            ShowError::Walk(error) => error.number(),
-            ShowError::OverBudget => 56,
-            ShowError::Memory => 90,
-        }
-    }
-
-    /// Where it points.
-    pub fn place(&self) -> Option<Place>
-        ensures { result ≡ show_place self.now }
-    {
-        match self {
-            ShowError::NotShown(number) => Some(Place::Number(*number)),
-            ShowError::Walk(error) => walk_place(error),
-            ShowError::OverBudget | ShowError::Memory => None,
-        }
     }
 }
 
@@ -128,35 +67,5 @@ impl CheckError {
             CheckError::Certificate(error) => at_line(error.place().map(|line| line as u64)),
             CheckError::Show(error) => error.place(),
         }
-    }
-}
-
-impl From<WalkError> for ShowError {
-    ghost use Rattle.cert_check.specs.declared.error.ShowError.TheVariants.{Walk};
-
-    ghost from_gives = { λ e r. r ≡ Walk e };
-
-    fn from(e: WalkError) -> ShowError {
-        ShowError::Walk(e)
-    }
-}
-
-impl From<AllocError> for ShowError {
-    ghost use Rattle.cert_check.specs.declared.error.ShowError.TheVariants.{Memory};
-
-    ghost from_gives = { λ _ e. e ≡ Memory };
-
-    fn from(_: AllocError) -> ShowError {
-        ShowError::Memory
-    }
-}
-
-impl<T: Drop> From<AllocFailed<T>> for ShowError {
-    ghost use Rattle.cert_check.specs.declared.error.ShowError.TheVariants.{Memory};
-
-    ghost from_gives = { λ _ e. e ≡ Memory };
-
-    fn from(_: AllocFailed<T>) -> ShowError {
-        ShowError::Memory
     }
 }

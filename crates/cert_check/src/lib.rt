@@ -9,7 +9,6 @@ mod checking;
 pub mod error;
 mod keeping;
 mod names;
-mod showing;
 #[cfg(test)]
 mod tests;
 

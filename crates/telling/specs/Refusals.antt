@@ -1,8 +1,8 @@
 -- What is written of a refusal.
 use Rattle.std.specs.Prelude.{◌≡◌, ℕ, List, ◌++◌, codes, Option, Some, None}
 use Rattle.std.specs.Fmt.{decimal}
-use Rattle.cert_check.specs.declared.error.Place as code
-use Rattle.cert_check.specs.declared.error.Place.TheVariants as places
+use Rattle.entry_check.specs.declared.error.Place as code
+use Rattle.entry_check.specs.declared.error.Place.TheVariants as places
 
 -- it points nowhere, or to a line, or to an obligation, by its number, or to a line and a column
 pub data Place : Type 0 where

@@ -12,7 +12,7 @@ use Rattle.launch_text.specs.declared.error.LaunchTextError.{LaunchTextError}
 use Rattle.cert_check.specs.Numbers as checks
 use Rattle.cert_check.specs.Numbers.{at_line}
 use Rattle.cert_check.specs.Refusing.{Refuses}
-use Rattle.cert_check.specs.declared.error.Place as code
+use Rattle.entry_check.specs.declared.error.Place as code
 use Rattle.cert_check.specs.declared.error.CheckError.{CheckError}
 use Rattle.executor.specs.Numbers as runs
 use Rattle.executor.specs.Results.{Answers}

@@ -1,7 +1,7 @@
 -- What a verdict of the code says.
 use Rattle.std.specs.Prelude.{ℕ, List, Option}
 use Rattle.std.specs.String.{string_bytes}
-use Rattle.cert_check.specs.declared.error.Place as code
+use Rattle.entry_check.specs.declared.error.Place as code
 use Rattle.telling.specs.Refusing.{IsLineOf, IsRefusedText, IsUnanswered}
 use Rattle.telling.specs.Telling.{IsAcceptedText, IsResultText}
 use Rattle.telling.specs.declared.Verdict.{Verdict}

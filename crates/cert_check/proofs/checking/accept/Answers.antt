@@ -3,7 +3,7 @@ use Rattle.core_code.specs.View.{kernel, statements}
 use Rattle.launch.specs.View.{conditions}
 use Rattle.walk.specs.Straight.{is_straight, steps}
 use Rattle.certificate.specs.View.{entry}
-use Rattle.cert_check.specs.Entries.{has_entry}
+use Rattle.entry_check.specs.Entries.{has_entry}
 use Rattle.cert_check.proofs.checking.accept.Goals as goal
 
 pub returns-clause-promise : goal.returns-clause-promise

@@ -9,7 +9,7 @@ use Rattle.launch.specs.View.{conditions}
 use Rattle.launch_text.specs.View.{lined}
 use Rattle.launch_text.proofs.LeastFits.{conditions_meant}
 use Rattle.plain.specs.Domains.{domain}
-use Rattle.cert_check.proofs.Unshown.{same_passed, same_told}
+use Rattle.entry_check.proofs.Unshown.{same_passed, same_told}
 use Rattle.cert_check.specs.Accepting.{IsAccepted}
 use Rattle.cert_check.specs.View.{typed_of, kept}
 use Rattle.std.proofs.lemmas.Int.{ints}

@@ -1,7 +1,0 @@
-use Rattle.std.proofs.Common.{◌≡◌, ◌++◌, drop, map}
-use Rattle.certificate.specs.View.{scaled}
-use Rattle.cert_check.specs.Entries.{part_of}
-use Rattle.cert_check.proofs.showing.parts_of.Given as goal
-
-abbrev pub invariant-loop-part : goal.invariant-loop-part
-invariant-loop-part l = l.weighted.items ++ map part_of (map scaled (drop l.part-index l.parts)) ≡ map part_of (map scaled l.parts)

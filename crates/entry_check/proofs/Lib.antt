@@ -1,0 +1,3 @@
+pub mod OneByOne
+pub mod Entering
+pub mod Unshown

@@ -1,0 +1,12 @@
+//! Section: Gate. Promises that all obligations are shown, or names the first that is not; stands on `two_thread` and `certificate`.
+//!
+//! The obligations of a kernel one by one, each settled by the domain or refuted by its entry in a certificate.
+#![tactic(auto)]
+
+mod derivations;
+mod error;
+mod obligations;
+mod table;
+
+pub use error::{Place, ShowError};
+pub use obligations::show_all;

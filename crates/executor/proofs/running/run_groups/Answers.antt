@@ -12,12 +12,12 @@ run_group-requires-clause-group c = subst (λ n. c.loop-group.group < n) (c.prod
 
 pub loop-group-preserved : goal.loop-group-preserved
 loop-group-preserved c =
-    let s = at (kernel (typed_of c.args.accepted.now).1) (launch c.args.launch.now) in
+    let s = at_launch (kernel (typed_of c.args.accepted.now).1) (launch c.args.launch.now) in
     group-more s (conditions (kept c.args.accepted.now)).budget c.loop-group.group c.loop-group.buffers c.apply.new.buffers c.in_ok-log.log c.loop-group.invariant c.in_ok-log.ensures c.apply.ensures.elements c.apply.ensures.lengths
 
 pub returns : goal.returns
 returns c =
-    let s = at (kernel (typed_of c.args.accepted.now).1) (launch c.args.launch.now) in
+    let s = at_launch (kernel (typed_of c.args.accepted.now).1) (launch c.args.launch.now) in
     let below = c.loop-group.auto.group-end in
     let past = c.loop-group-test.false in
     let e : c.loop-group.group ≡ c.product_of-group-end.result = omega (arith, below, past) in

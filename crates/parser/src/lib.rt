@@ -16,7 +16,6 @@ pub mod error;
 pub(crate) mod expressions;
 pub(crate) mod front;
 pub(crate) mod kernels;
-pub mod laws;
 pub(crate) mod limits;
 pub(crate) mod parts;
 pub(crate) mod statements;

@@ -14,7 +14,7 @@ ghost use Rattle.cert_check.specs.Entries.{IsTable, entry_of, has_entry, is_past
 ghost use Rattle.cert_check.specs.Lacking.{ArePassed, IsStopped, Lacks, Names, Passes};
 
 use crate::error::ShowError;
-use certificate::tree::{Claim as Word, Entry, Scaled, Step};
+use certificate::tree::{Entry, EntrySort as Word, Scaled, Step};
 use cut_proof::{Derivation, Line, refutes};
 use domain::Domain;
 use linear::Form;
@@ -75,7 +75,7 @@ fn is_refuted(alloc: Global, facts: &[Form], entry: &Entry) -> Result<bool, Allo
     ensures exact { IfOk result (λ b. b ≡ entries.refutes_by (entry_seen entry.now) (forms facts.now)) }
     ensures impossible { IfOk result (λ b. IsTrue b → IsImpossible (forms facts.now)) }
 {
-    match entry.claim {
+    match entry.sort {
         Word::Show => {
             let derivation = derivation_of(alloc, entry.steps.as_slice())?;
             refutes(alloc, facts, &derivation)

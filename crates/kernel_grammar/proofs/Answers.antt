@@ -3,7 +3,7 @@ use Rattle.std.proofs.Common.{◌≡◌, Bool, true, false, cond, List, refl, ap
 use Rattle.std.proofs.lemmas.Bool.{false≢true}
 use Rattle.texts.specs.Lexemes.{Lexeme}
 use Rattle.texts.specs.ParseFaults.{TooDeep, TooMany}
-use Rattle.parser.specs.Reader.{Reader, Gives, Fails, Looks, Passes, Then, Took, Refused, carry, front, behind, run}
+use Rattle.readers.specs.Reader.{Reader, Gives, Fails, Looks, Passes, Then, Took, Refused, carry, front, behind, run}
 
 -- what is neither too `deep` nor too `many` it takes
 pub data Answers {A : Type 0} (reader : Reader A) (ts : List Lexeme) (a : A) (rest : List Lexeme) (deep many : Type 0) : Type 0 where

@@ -12,10 +12,10 @@ use Rattle.texts.specs.Elaboration.{either}
 use Rattle.texts.specs.Limits.{past, deep_expression, deep_statement}
 use Rattle.texts.specs.Grammar as rules
 use Rattle.texts.specs.Grammar.{IsExpression, IsRank, IsOperand}
-use Rattle.parser.specs.Reader.{front}
-use Rattle.parser.specs.Expressions.{is_left_parenthesis, is_right_parenthesis, is_left_bracket, is_question, of_rank, infix_at, kind_at}
+use Rattle.readers.specs.Reader.{front}
+use Rattle.readers.specs.Expressions.{is_left_parenthesis, is_right_parenthesis, is_left_bracket, is_question, of_rank, infix_at, kind_at}
 use Rattle.kernel_grammar.proofs.Options.{none-some, not-some}
-use Rattle.parser.proofs.Depths.{expression-here, statement-here}
+use Rattle.tree_limits.proofs.Depths.{expression-here, statement-here}
 
 -- no operand goes on here, and no chain of signs up to this rank
 abbrev pub Ends : (kind : TokenKind) → Type 0

@@ -7,9 +7,9 @@ use Rattle.texts.specs.Lexemes.{Lexeme, mark, infix_of}
 use Rattle.texts.specs.ParseFaults.{TooDeep, TooMany}
 use Rattle.texts.specs.Surface.{Expression, InfixSign, Infix}
 use Rattle.texts.specs.Limits.{deep_expression}
-use Rattle.parser.specs.Reader.{Reader, Outcome, Took, Refused, carry, front, run}
-use Rattle.parser.specs.Expressions.{infix_at, goes_on, longer, chain, ranked}
-use Rattle.parser.proofs.Depths.{expression-here}
+use Rattle.readers.specs.Reader.{Reader, Attempt, Took, Refused, carry, front, run}
+use Rattle.readers.specs.Expressions.{infix_at, goes_on, longer, chain, ranked}
+use Rattle.tree_limits.proofs.Depths.{expression-here}
 use Rattle.kernel_grammar.proofs.Options.{not-some}
 use Rattle.kernel_grammar.proofs.Answers.{Answers, takes, too_deep, too_many}
 use Rattle.kernel_grammar.proofs.Beginnings.{its-rank, inner, parts}
@@ -61,7 +61,7 @@ joined operand depth rank d {us = us} {l = l} {r = r} s sign at found le low few
     (k ∙ ap (λ o. run (goes_on (longer (ranked operand depth rank) (suc rank) zero l) l at o) (mark s at ∷ us)) (its-rank s (suc rank) sign found))
 joined operand depth rank d {ts = ts} {us = us} {rest = rest} {l = l} {r = r} {deep-right = deep-right} {many-right = many-right} {deep = deep} {many = many} s sign at found le low few low-right few-right has (reached (suc left) spine k) h = by h
   where
-    came : (o : Outcome Expression) → run (ranked operand depth rank) us ≡ o → run (ranked operand depth (suc rank)) ts ≡ carry o (λ r rest. run (goes_on (longer (ranked operand depth rank) (suc rank) left (Infix at sign l r)) (Infix at sign l r) (front rest).site (infix_at (suc rank) (front rest).kind)) rest)
+    came : (o : Attempt Expression) → run (ranked operand depth rank) us ≡ o → run (ranked operand depth (suc rank)) ts ≡ carry o (λ r rest. run (goes_on (longer (ranked operand depth rank) (suc rank) left (Infix at sign l r)) (Infix at sign l r) (front rest).site (infix_at (suc rank) (front rest).kind)) rest)
     came o q = k ∙ ap (λ o. run (goes_on (longer (ranked operand depth rank) (suc rank) (suc left) l) l at o) (mark s at ∷ us)) (its-rank s (suc rank) sign found)
         ∙ ap (λ o. carry o (λ r rest. run (goes_on (longer (ranked operand depth rank) (suc rank) left (Infix at sign l r)) (Infix at sign l r) (front rest).site (infix_at (suc rank) (front rest).kind)) rest)) q
 

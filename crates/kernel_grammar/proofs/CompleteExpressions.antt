@@ -12,8 +12,8 @@ use Rattle.texts.specs.Surface.{Expression, Expressions, nothing}
 use Rattle.texts.specs.Limits.{deep_expression, deep_arguments}
 use Rattle.texts.specs.Grammar as rules
 use Rattle.texts.specs.Grammar.{IsExpression, IsRank, IsOperand, IsArguments, IsMore}
-use Rattle.parser.specs.Reader.{Reader, front}
-use Rattle.parser.specs.Expressions.{is_right_parenthesis, is_question, ranked, argument, more_arguments, arguments, operand_reader, expression_reader}
+use Rattle.readers.specs.Reader.{Reader, front}
+use Rattle.readers.specs.Expressions.{is_right_parenthesis, is_question, ranked, argument, more_arguments, arguments, operand_reader, expression_reader}
 use Rattle.kernel_grammar.proofs.Answers.{Answers, gives, refuses-many, looks, passes, sure, both, if-false}
 use Rattle.kernel_grammar.proofs.Later.{Later, past, stays, later-length, expression-later, rank-later}
 use Rattle.kernel_grammar.proofs.Beginnings.{Ends, Stops, Closes, lower, sign-stops, expression-begins, inner, parts, too-deep}

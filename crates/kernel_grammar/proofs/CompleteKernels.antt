@@ -18,9 +18,9 @@ use Rattle.texts.specs.Limits.{Counts, nothing_declared, count_parameter, count_
 use Rattle.texts.specs.KernelLimits.{IsLocalSize, IsShallow, IsFew}
 use Rattle.texts.specs.KernelGrammar as rules
 use Rattle.texts.specs.KernelGrammar.{IsParameter, IsParameters, IsKernel}
-use Rattle.parser.specs.Reader.{front}
-use Rattle.parser.specs.Expressions.{is_right_parenthesis}
-use Rattle.parser.specs.Kernels.{is_global, is_const, buffer_reader, value_reader, parameter_reader, one_parameter, more_parameters, parameters_reader, size_reader, sizes_reader, attribute_reader, kernel_reader}
+use Rattle.readers.specs.Reader.{front}
+use Rattle.readers.specs.Expressions.{is_right_parenthesis}
+use Rattle.readers.specs.Kernels.{is_global, is_const, buffer_reader, value_reader, parameter_reader, one_parameter, more_parameters, parameters_reader, size_reader, sizes_reader, attribute_reader, kernel_reader}
 use Rattle.kernel_grammar.proofs.Options.{none-some}
 use Rattle.kernel_grammar.proofs.Answers.{Answers, gives, refuses-many, looks, passes, sure, both, weaker, if-so, if-false}
 use Rattle.kernel_grammar.proofs.Counting.{items-counts}

@@ -15,9 +15,9 @@ use Rattle.texts.specs.Limits.{deep_expression, deep_index, deep_declaration, de
 use Rattle.texts.specs.Grammar.{IsExpression}
 use Rattle.texts.specs.KernelGrammar as rules
 use Rattle.texts.specs.KernelGrammar.{IsAssignment, IsDeclaration, IsFirst}
-use Rattle.parser.specs.Reader.{Gives, Then, Took, front, run}
-use Rattle.parser.specs.Expressions.{is_left_bracket, is_right_bracket, expects, kind_at, expression_reader}
-use Rattle.parser.specs.Statements.{takes, taken, assign_at, bracket, index_reader, assigned_reader, assignment_reader, declaration_reader, first_by, first_reader, tested, parts_reader, head_reader, length_reader}
+use Rattle.readers.specs.Reader.{Gives, Then, Took, front, run}
+use Rattle.readers.specs.Expressions.{is_left_bracket, is_right_bracket, expects, kind_at, expression_reader}
+use Rattle.readers.specs.Statements.{takes, taken, assign_at, bracket, index_reader, assigned_reader, assignment_reader, declaration_reader, first_by, first_reader, tested, parts_reader, head_reader, length_reader}
 use Rattle.kernel_grammar.proofs.Options.{none-some}
 use Rattle.kernel_grammar.proofs.Answers.{Answers, gives, refuses-deep, looks, passes, sure, both, if-so}
 use Rattle.kernel_grammar.proofs.Later.{later-length, expression-later, first-later}

@@ -13,9 +13,9 @@ use Rattle.texts.specs.Limits.{deep_expression, deep_assignment, deep_first, dee
 use Rattle.texts.specs.KernelLimits.{ArraysFit, AllArraysFit}
 use Rattle.texts.specs.KernelGrammar as rules
 use Rattle.texts.specs.KernelGrammar.{IsStatement, IsBody, IsItems, IsItem}
-use Rattle.parser.specs.Reader.{Gives, Then, front}
-use Rattle.parser.specs.Expressions.{expects, kind_at}
-use Rattle.parser.specs.Statements.{is_semicolon, is_right_brace, is_local, declaration_reader, items, array_reader, item_by, statement_reader, body_reader, block_reader, item_reader}
+use Rattle.readers.specs.Reader.{Gives, Then, front}
+use Rattle.readers.specs.Expressions.{expects, kind_at}
+use Rattle.readers.specs.Statements.{is_semicolon, is_right_brace, is_local, declaration_reader, items, array_reader, item_by, statement_reader, body_reader, block_reader, item_reader}
 use Rattle.kernel_grammar.proofs.Answers.{Answers, gives, refuses-deep, looks, passes, sure, both, weaker, if-false, if-not}
 use Rattle.kernel_grammar.proofs.Counting.{body-counts, items-counts, item-counts, at-least-one}
 use Rattle.kernel_grammar.proofs.Later.{past, stays, later-length, expression-later, first-later, assignment-later, body-later, item-later}

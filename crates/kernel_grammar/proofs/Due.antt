@@ -9,10 +9,10 @@ use Rattle.texts.specs.Reserved as words
 use Rattle.texts.specs.Tokens.{TokenKind, Mark, Word, Name}
 use Rattle.texts.specs.Lexemes.{Lexeme}
 use Rattle.texts.specs.KernelGrammar.{is_else}
-use Rattle.parser.specs.Reader.{Took, front, behind, run}
-use Rattle.parser.specs.Expressions.{expects, is_left_parenthesis, is_right_parenthesis, is_right_bracket, is_comma}
-use Rattle.parser.specs.Statements.{is_semicolon, is_equal, is_left_brace, is_right_brace, is_local}
-use Rattle.parser.specs.Kernels.{is_kernel, is_attribute, is_void, is_global, is_const, is_star, is_required_size}
+use Rattle.readers.specs.Reader.{Took, front, behind, run}
+use Rattle.readers.specs.Expressions.{expects, is_left_parenthesis, is_right_parenthesis, is_right_bracket, is_comma}
+use Rattle.readers.specs.Statements.{is_semicolon, is_equal, is_left_brace, is_right_brace, is_local}
+use Rattle.readers.specs.Kernels.{is_kernel, is_attribute, is_void, is_global, is_const, is_star, is_required_size}
 use Rattle.kernel_grammar.proofs.Inversion.{front-is}
 use Rattle.kernel_grammar.proofs.Marks.{left_parenthesis-kind, right_parenthesis-kind, right_bracket-kind, comma-kind}
 use Rattle.kernel_grammar.proofs.Taking.{past}

@@ -9,8 +9,8 @@ use Rattle.texts.specs.Limits.{deep_statements, Counts, nothing_declared, next, 
 use Rattle.texts.specs.KernelLimits.{IsWithinLimits}
 use Rattle.texts.specs.KernelGrammar.{IsKernel}
 use Rattle.texts.specs.Surface.{Kernel}
-use Rattle.parser.specs.Reader.{Outcome, Took, Refused, run}
-use Rattle.parser.specs.Kernels.{kernel_reader}
+use Rattle.readers.specs.Reader.{Attempt, Took, Refused, run}
+use Rattle.readers.specs.Kernels.{kernel_reader}
 use Rattle.parser.specs.Parsed.{Parsed, judged, finished, parsed}
 use Rattle.kernel_grammar.proofs.SoundKernels.{KernelRead, kernel-sound}
 
@@ -47,6 +47,6 @@ pub parsed-sound : (ts : List Lexeme) (k : Kernel) → EndsOnce ts → parsed ts
 unfolding parsed
 parsed-sound ts k once h = by (run kernel_reader ts) refl h
   where
-    by : (o : Outcome Kernel) → run kernel_reader ts ≡ o → finished o ≡ Ok k → IsKernel 64 ts k × IsWithinLimits k
+    by : (o : Attempt Kernel) → run kernel_reader ts ≡ o → finished o ≡ Ok k → IsKernel 64 ts k × IsWithinLimits k
     by (Took l rest) q h = within ts l k (within_limits l) refl (kernel-sound ts rest l once q) h
     by (Refused fault rest) q h = absurd (no-error _ k h)

@@ -5,16 +5,16 @@ use Rattle.semantics.specs.Core.{Site}
 use Rattle.texts.specs.Tokens.{TokenKind}
 use Rattle.texts.specs.Lexemes.{Lexeme}
 use Rattle.texts.specs.ParseFaults.{Expected}
-use Rattle.parser.specs.Reader.{Reader, Gives, Fails, Passes, Outcome, Took, Refused, carry, front, behind, run}
-use Rattle.parser.specs.Expressions.{expects}
-use Rattle.parser.specs.Kernels.{is_end}
-use Rattle.parser.specs.Fronts.{rest_of}
+use Rattle.readers.specs.Reader.{Reader, Gives, Fails, Passes, Attempt, Took, Refused, carry, front, behind, run}
+use Rattle.readers.specs.Expressions.{expects}
+use Rattle.readers.specs.Kernels.{is_end}
+use Rattle.readers.specs.Fronts.{rest_of}
 
-abbrev is_taken : {A : Type 0} → Outcome A → Bool
+abbrev is_taken : {A : Type 0} → Attempt A → Bool
 is_taken (Took a rest) = true
 is_taken (Refused fault rest) = false
 
-abbrev value_in : {A : Type 0} → A → Outcome A → A
+abbrev value_in : {A : Type 0} → A → Attempt A → A
 value_in d (Took a rest) = a
 value_in d (Refused fault rest) = d
 
@@ -28,10 +28,10 @@ pub same-rest : {A : Type 0} (a b : A) (rest left : List Lexeme) → Took a rest
 same-rest a b rest left e = ap rest_of e
 
 -- one reading after another
-pub data Through {A B : Type 0} (first : Outcome A) (next : A → List Lexeme → Outcome B) (b : B) (rest : List Lexeme) : Type 0 where
+pub data Through {A B : Type 0} (first : Attempt A) (next : A → List Lexeme → Attempt B) (b : B) (rest : List Lexeme) : Type 0 where
   through : (a : A) (middle : List Lexeme) → first ≡ Took a middle → next a middle ≡ Took b rest → Through first next b rest
 
-pub went : {A B : Type 0} (first : Outcome A) (next : A → List Lexeme → Outcome B) (b : B) (rest : List Lexeme) → carry first next ≡ Took b rest → Through first next b rest
+pub went : {A B : Type 0} (first : Attempt A) (next : A → List Lexeme → Attempt B) (b : B) (rest : List Lexeme) → carry first next ≡ Took b rest → Through first next b rest
 went (Took a middle) next b rest e = through a middle refl e
 went (Refused fault left) next b rest e = absurd (not-taken fault left rest b e)
 

@@ -8,7 +8,7 @@ use Rattle.texts.specs.Grammar as rules
 use Rattle.texts.specs.Grammar.{IsExpression, IsRank, IsOperand, IsArguments, IsMore}
 use Rattle.texts.specs.KernelGrammar as kernels
 use Rattle.texts.specs.KernelGrammar.{IsAssignment, IsDeclaration, IsFirst, IsStatement, IsBody, IsItems, IsItem, IsParameter, IsParameters}
-use Rattle.parser.specs.Kernels.{is_end}
+use Rattle.readers.specs.Kernels.{is_end}
 
 pub data Later : List Lexeme → List Lexeme → Type 0 where
   stays : {ts : List Lexeme} → Later ts ts

@@ -4,8 +4,8 @@ use Rattle.std.proofs.lemmas.Bool.{false≢true}
 use Rattle.texts.specs.Signs.{LeftParenthesis, RightParenthesis, LeftBracket, RightBracket, Comma, Question, Colon}
 use Rattle.texts.specs.Tokens.{TokenKind, Mark}
 use Rattle.texts.specs.Lexemes.{Lexeme, mark}
-use Rattle.parser.specs.Reader.{front, behind}
-use Rattle.parser.specs.Expressions.{is_left_parenthesis, is_right_parenthesis, is_left_bracket, is_right_bracket, is_comma, is_question, is_colon}
+use Rattle.readers.specs.Reader.{front, behind}
+use Rattle.readers.specs.Expressions.{is_left_parenthesis, is_right_parenthesis, is_left_bracket, is_right_bracket, is_comma, is_question, is_colon}
 use Rattle.kernel_grammar.proofs.Inversion.{front-is}
 
 pub left_parenthesis-kind : (kind : TokenKind) → is_left_parenthesis kind ≡ true → kind ≡ Mark LeftParenthesis

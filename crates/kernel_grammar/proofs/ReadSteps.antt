@@ -8,8 +8,8 @@ use Rattle.texts.specs.Reserved.{Reserved}
 use Rattle.texts.specs.Tokens as token
 use Rattle.texts.specs.Lexemes.{Lexeme, mark, word, name, number, prefix_of, kind_of}
 use Rattle.texts.specs.Surface.{Expression, PrefixSign, Number, Name, Element, Call, Prefix, Cast}
-use Rattle.parser.specs.Reader.{Gives, Then, front}
-use Rattle.parser.specs.Expressions.{is_left_parenthesis, is_right_parenthesis, is_left_bracket, is_right_bracket, expects, kind_at, whole, arguments, parenthesized, signed, inside, operand_reader, expression_reader}
+use Rattle.readers.specs.Reader.{Gives, Then, front}
+use Rattle.readers.specs.Expressions.{is_left_parenthesis, is_right_parenthesis, is_left_bracket, is_right_bracket, expects, kind_at, whole, arguments, parenthesized, signed, inside, operand_reader, expression_reader}
 use Rattle.kernel_grammar.proofs.Answers.{Answers, gives, refuses-deep, looks, passes, sure, if-false}
 use Rattle.kernel_grammar.proofs.Beginnings.{Ends}
 

@@ -11,8 +11,8 @@ use Rattle.texts.specs.Lexemes.{Lexeme, mark, word, name, infix_of, prefix_of, k
 use Rattle.texts.specs.ParseFaults.{Expected, TooDeep, TooMany}
 use Rattle.texts.specs.Surface.{Expression, Expressions, InfixSign, PrefixSign, Number, Name, Element, Call, Prefix, Cast, Infix, Conditional, nothing, also}
 use Rattle.texts.specs.Grammar.{IsExpression, plain, conditional, IsRank, operand, tighter, infixed, IsOperand, prefixed, cast, literal, variable, element, call, parentheses, IsArguments, empty, arguments as some_arguments, IsMore, last, more}
-use Rattle.parser.specs.Reader.{Reader, Gives, Fails, Looks, Passes, Then, Took, carry, front, behind, run}
-use Rattle.parser.specs.Expressions.{is_comma, is_question, is_colon, is_left_parenthesis, is_right_parenthesis, is_left_bracket, is_right_bracket, expects, of_rank, infix_at, goes_on, longer, chain, ranked, arms, whole, argument, more_arguments, arguments, Room, Full, Within, opened, kind_at, parenthesized, after_name, signed, operand_at, tower, inside, expression_reader}
+use Rattle.readers.specs.Reader.{Reader, Gives, Fails, Looks, Passes, Then, Took, carry, front, behind, run}
+use Rattle.readers.specs.Expressions.{is_comma, is_question, is_colon, is_left_parenthesis, is_right_parenthesis, is_left_bracket, is_right_bracket, expects, of_rank, infix_at, goes_on, longer, chain, ranked, arms, whole, argument, more_arguments, arguments, Room, Full, Within, opened, kind_at, parenthesized, after_name, signed, operand_at, tower, inside, expression_reader}
 use Rattle.kernel_grammar.proofs.Options.{none-some, same-some}
 use Rattle.kernel_grammar.proofs.Inversion.{not-taken, same-value, same-rest, Through, through, went, on-test, front-is, Passed, over, expected}
 use Rattle.kernel_grammar.proofs.Marks.{left_parenthesis, right_parenthesis, left_bracket, right_bracket, comma, question, colon}

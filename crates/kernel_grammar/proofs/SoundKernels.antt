@@ -17,10 +17,10 @@ use Rattle.texts.specs.ParseFaults.{Expected, TooMany}
 use Rattle.texts.specs.Surface.{Statements, Parameter, Buffer, Value, Kernel}
 use Rattle.texts.specs.KernelLimits.{IsLocalSize, AllArraysFit, statements_of}
 use Rattle.texts.specs.KernelGrammar.{IsParameter, buffer, constant_buffer, value, IsParameters, no_parameter, last_parameter, another_parameter, IsItems, IsKernel, kernel}
-use Rattle.parser.specs.Reader.{Reader, Gives, Fails, Looks, Passes, Then, Took, front, behind, run}
-use Rattle.parser.specs.Expressions.{is_right_parenthesis, is_comma, expects}
-use Rattle.parser.specs.Statements.{number_at}
-use Rattle.parser.specs.Kernels.{is_global, is_const, is_end, buffer_reader, value_reader, parameter_reader, one_parameter, more_parameters, parameters_reader, size_by, size_reader, sizes_reader, attribute_reader, ended, kernel_reader}
+use Rattle.readers.specs.Reader.{Reader, Gives, Fails, Looks, Passes, Then, Took, front, behind, run}
+use Rattle.readers.specs.Expressions.{is_right_parenthesis, is_comma, expects}
+use Rattle.readers.specs.Statements.{number_at}
+use Rattle.readers.specs.Kernels.{is_global, is_const, is_end, buffer_reader, value_reader, parameter_reader, one_parameter, more_parameters, parameters_reader, size_by, size_reader, sizes_reader, attribute_reader, ended, kernel_reader}
 use Rattle.kernel_grammar.proofs.Inversion.{not-taken, on-test, same-value}
 use Rattle.kernel_grammar.proofs.Marks.{right_parenthesis, comma}
 use Rattle.kernel_grammar.proofs.Taking.{Went, taking, settled, a-name, TypeWord, type_word, a-type}

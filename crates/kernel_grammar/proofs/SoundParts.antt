@@ -12,9 +12,9 @@ use Rattle.texts.specs.ParseFaults.{Expected, TooMany}
 use Rattle.texts.specs.Surface.{AssignSign, Expression, Declaration, Assignment, First, FirstDeclares, FirstAssigns}
 use Rattle.texts.specs.Grammar.{IsExpression}
 use Rattle.texts.specs.KernelGrammar.{IsAssignment, to_variable, to_element, IsDeclaration, declared, IsFirst, first_declares, first_assigns}
-use Rattle.parser.specs.Reader.{Reader, Gives, Fails, Passes, Then, Took, front, behind, run}
-use Rattle.parser.specs.Expressions.{is_left_parenthesis, is_right_parenthesis, is_left_bracket, is_right_bracket, expects, kind_at, expression_reader}
-use Rattle.parser.specs.Statements.{bracket, number_at, assigned_reader, index_reader, assignment_reader, declaration_reader, first_by, first_reader, tested, Head, parts_reader, head_reader, length_by, length_reader}
+use Rattle.readers.specs.Reader.{Reader, Gives, Fails, Passes, Then, Took, front, behind, run}
+use Rattle.readers.specs.Expressions.{is_left_parenthesis, is_right_parenthesis, is_left_bracket, is_right_bracket, expects, kind_at, expression_reader}
+use Rattle.readers.specs.Statements.{bracket, number_at, assigned_reader, index_reader, assignment_reader, declaration_reader, first_by, first_reader, tested, Head, parts_reader, head_reader, length_by, length_reader}
 use Rattle.kernel_grammar.proofs.Options.{none-some, same-some}
 use Rattle.kernel_grammar.proofs.Inversion.{not-taken, on-test, front-is}
 use Rattle.kernel_grammar.proofs.Marks.{left_parenthesis, left_bracket}

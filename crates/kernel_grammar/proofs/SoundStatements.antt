@@ -15,10 +15,10 @@ use Rattle.texts.specs.Surface.{Expression, Assignment, Statement, Declare, Decl
 use Rattle.texts.specs.KernelLimits.{ArraysFit, AllArraysFit}
 use Rattle.texts.specs.KernelGrammar as rules
 use Rattle.texts.specs.KernelGrammar.{IsAssignment, IsDeclaration, IsStatement, IsBody, IsItems, IsItem, is_else, no_else, is_block}
-use Rattle.parser.specs.Reader.{Reader, Gives, Fails, Looks, Passes, Then, Took, front, behind, run}
-use Rattle.parser.specs.Expressions.{is_left_bracket, is_right_bracket, expects, kind_at}
-use Rattle.parser.specs.Statements.{is_semicolon, is_left_brace, is_right_brace, is_local, bracket, block_reader, tested, Head, head_reader, assignment_reader, declaration_reader, items, most_items, else_reader, named, statement_by, counted, length_reader, array_reader, item_by, body_by, levels}
-use Rattle.parser.specs.Kernels.{is_end}
+use Rattle.readers.specs.Reader.{Reader, Gives, Fails, Looks, Passes, Then, Took, front, behind, run}
+use Rattle.readers.specs.Expressions.{is_left_bracket, is_right_bracket, expects, kind_at}
+use Rattle.readers.specs.Statements.{is_semicolon, is_left_brace, is_right_brace, is_local, bracket, block_reader, tested, Head, head_reader, assignment_reader, declaration_reader, items, most_items, else_reader, named, statement_by, counted, length_reader, array_reader, item_by, body_by, levels}
+use Rattle.readers.specs.Kernels.{is_end}
 use Rattle.kernel_grammar.proofs.Inversion.{not-taken, on-test, front-is, same-value, same-rest}
 use Rattle.kernel_grammar.proofs.Marks.{left_bracket}
 use Rattle.kernel_grammar.proofs.Taking.{taking, settled, within, opened-then, a-name, TypeWord, type_word, a-type}

@@ -11,9 +11,9 @@ use Rattle.texts.specs.Lexemes.{Lexeme, mark, name}
 use Rattle.texts.specs.Surface.{Statement, Statements, Assign, Barrier, none, one}
 use Rattle.texts.specs.KernelGrammar as rules
 use Rattle.texts.specs.KernelGrammar.{IsStatement, IsItem, is_else, no_else, is_block}
-use Rattle.parser.specs.Reader.{Reader, Gives, Passes, Then, Took, front, run}
-use Rattle.parser.specs.Expressions.{expects, kind_at}
-use Rattle.parser.specs.Statements.{is_semicolon, is_left_brace, is_right_brace, is_local, tested, assignment_reader, named, items, else_reader, statement_by, item_by, statement_reader, body_reader, block_reader, item_reader}
+use Rattle.readers.specs.Reader.{Reader, Gives, Passes, Then, Took, front, run}
+use Rattle.readers.specs.Expressions.{expects, kind_at}
+use Rattle.readers.specs.Statements.{is_semicolon, is_left_brace, is_right_brace, is_local, tested, assignment_reader, named, items, else_reader, statement_by, item_by, statement_reader, body_reader, block_reader, item_reader}
 use Rattle.kernel_grammar.proofs.Options.{none-some}
 use Rattle.kernel_grammar.proofs.Answers.{Answers, gives, refuses-deep, refuses-many, looks, passes, if-false, if-not}
 use Rattle.kernel_grammar.proofs.CompleteParts.{typed-front}

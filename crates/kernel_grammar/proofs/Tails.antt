@@ -6,8 +6,8 @@ use Rattle.texts.specs.Lexemes.{Lexeme, mark, infix_of}
 use Rattle.texts.specs.Surface.{Expression, InfixSign, Infix}
 use Rattle.texts.specs.Grammar as rules
 use Rattle.texts.specs.Grammar.{IsRank}
-use Rattle.parser.specs.Reader.{front, behind}
-use Rattle.parser.specs.Expressions.{infix_at}
+use Rattle.readers.specs.Reader.{front, behind}
+use Rattle.readers.specs.Expressions.{infix_at}
 use Rattle.kernel_grammar.proofs.Options.{not-some, same-some}
 use Rattle.kernel_grammar.proofs.Beginnings.{Stops, sign-stops, its-rank}
 

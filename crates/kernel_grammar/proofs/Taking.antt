@@ -9,10 +9,10 @@ use Rattle.texts.specs.Tokens.{TokenKind}
 use Rattle.texts.specs.Surface.{AssignSign}
 use Rattle.texts.specs.Lexemes.{Lexeme, mark, word, name, kind_of, assign_of}
 use Rattle.texts.specs.ParseFaults.{Expected, TooDeep}
-use Rattle.parser.specs.Reader.{Reader, Gives, Fails, Looks, Passes, Then, Took, front, behind, run}
-use Rattle.parser.specs.Expressions.{expects, kind_at}
-use Rattle.parser.specs.Statements.{takes, taken, name_at, assign_at, bracket, opens}
-use Rattle.parser.specs.Kernels.{is_end}
+use Rattle.readers.specs.Reader.{Reader, Gives, Fails, Looks, Passes, Then, Took, front, behind, run}
+use Rattle.readers.specs.Expressions.{expects, kind_at}
+use Rattle.readers.specs.Statements.{takes, taken, name_at, assign_at, bracket, opens}
+use Rattle.readers.specs.Kernels.{is_end}
 use Rattle.kernel_grammar.proofs.Options.{none-some, same-some}
 use Rattle.kernel_grammar.proofs.Inversion.{not-taken, same-value, same-rest, Through, through, went, front-is, Passed, over, expected}
 

@@ -8,11 +8,11 @@ use Rattle.texts.specs.Limits.{deep_statements, Counts, nothing_declared, next, 
 use Rattle.texts.specs.KernelLimits.{IsWithinLimits, IsKept}
 use Rattle.texts.specs.KernelGrammar.{IsKernel}
 use Rattle.texts.specs.Surface.{Kernel}
-use Rattle.parser.specs.Reader.{Outcome, Took, Refused, front, run}
-use Rattle.parser.specs.Kernels.{kernel_reader}
-use Rattle.parser.specs.Fronts.{Before, before}
+use Rattle.readers.specs.Reader.{Attempt, Took, Refused, front, run}
+use Rattle.readers.specs.Kernels.{kernel_reader}
+use Rattle.readers.specs.Fronts.{Before, before}
 use Rattle.parser.specs.Parsed.{Parsed, Gives, Says, judged, finished, parsed}
-use Rattle.parser.specs.View.{fault}
+use Rattle.readers.specs.View.{fault}
 use Rattle.parser.specs.declared.error.ParseError.{ParseError}
 use Rattle.parser.specs.declared.error.ParseError.TheVariants as errors
 use Rattle.syntax.specs.View.{kernel}
@@ -47,7 +47,7 @@ only ts rest k l room e (answers left (too_deep over none q)) = absurd (not-take
 only ts rest k l room e (answers left (too_many over none q)) = absurd (not-taken TooMany over rest k (sym q ∙ e))
 
 -- where reading stops, a limit is passed, or another lexeme is due
-fault-of : Outcome Kernel → ParseFault
+fault-of : Attempt Kernel → ParseFault
 fault-of (Took k rest) = Expected
 fault-of (Refused fault rest) = fault
 
@@ -82,7 +82,7 @@ pub parsed-truly : (ts : List Lexeme) (e : ParseFault × Site) (room : ℕ) (k :
 unfolding parsed within_limits error-of
 parsed-truly ts e room k h g kept = by (run kernel_reader ts) refl h
   where
-    by : (o : Outcome Kernel) → run kernel_reader ts ≡ o → finished o ≡ Err e → ⊥
+    by : (o : Attempt Kernel) → run kernel_reader ts ≡ o → finished o ≡ Err e → ⊥
     by (Refused fault rest) q h = not-kept ts rest fault room k q (kernel-complete g) (subst (λ f. IsKept f room ts k) (sym (ap error-of h)) kept)
     by (Took l rest) q h =
         judged-truly ts l e room (deep_statements 1 l.body) (next (count_parameters nothing_declared l.parameters) (λ c. count_statements c l.body)) refl refl h

@@ -7,8 +7,8 @@ use Rattle.texts.specs.Lexemes.{Lexeme, mark, prefix_of, kind_of}
 use Rattle.texts.specs.Surface.{Expression, Expressions, Element, Call, Prefix, Cast, Conditional, also}
 use Rattle.texts.specs.Grammar as rules
 use Rattle.texts.specs.Grammar.{IsExpression, IsRank, IsOperand, IsArguments, IsMore}
-use Rattle.parser.specs.Reader.{front, behind}
-use Rattle.parser.specs.Expressions.{is_question}
+use Rattle.readers.specs.Reader.{front, behind}
+use Rattle.readers.specs.Expressions.{is_question}
 use Rattle.kernel_grammar.proofs.Options.{same-some, some-none}
 use Rattle.kernel_grammar.proofs.Beginnings.{Ends, Stops, Closes, lower, sign-stops, expression-begins}
 use Rattle.kernel_grammar.proofs.CompleteExpressions.{parenthesis_closes, bracket_closes, colon_closes, question_stops, more-closes}

@@ -8,8 +8,8 @@ use Rattle.texts.specs.Lexemes.{Lexeme, mark, kind_of}
 use Rattle.texts.specs.Surface.{Statements, Parameter, Buffer, Value, Kernel}
 use Rattle.texts.specs.KernelGrammar as rules
 use Rattle.texts.specs.KernelGrammar.{IsParameter, IsParameters, IsItems, IsKernel}
-use Rattle.parser.specs.Reader.{front, behind}
-use Rattle.parser.specs.Expressions.{is_comma}
+use Rattle.readers.specs.Reader.{front, behind}
+use Rattle.readers.specs.Expressions.{is_comma}
 use Rattle.kernel_grammar.proofs.Options.{same-some}
 use Rattle.kernel_grammar.proofs.CompleteKernels.{parameter-begins}
 use Rattle.kernel_grammar.proofs.UniqueStatements.{items-unique}

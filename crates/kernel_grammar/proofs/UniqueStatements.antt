@@ -11,9 +11,9 @@ use Rattle.texts.specs.Surface.{Declaration, Assignment, First, FirstDeclares, F
 use Rattle.texts.specs.Grammar.{IsExpression}
 use Rattle.texts.specs.KernelGrammar as rules
 use Rattle.texts.specs.KernelGrammar.{IsAssignment, IsDeclaration, IsFirst, IsStatement, IsBody, IsItems, IsItem, no_else}
-use Rattle.parser.specs.Reader.{front, behind}
-use Rattle.parser.specs.Expressions.{kind_at}
-use Rattle.parser.specs.Statements.{assign_at}
+use Rattle.readers.specs.Reader.{front, behind}
+use Rattle.readers.specs.Expressions.{kind_at}
+use Rattle.readers.specs.Statements.{assign_at}
 use Rattle.kernel_grammar.proofs.Options.{same-some, some-none}
 use Rattle.kernel_grammar.proofs.Beginnings.{Closes}
 use Rattle.kernel_grammar.proofs.CompleteExpressions.{semicolon_closes, parenthesis_closes, bracket_closes}

@@ -10,13 +10,13 @@ ghost use Rattle.texts.specs.Lexemes.{Lexeme};
 ghost use Rattle.texts.specs.ParseFaults.{ParseFault};
 ghost use Rattle.texts.specs.Spelling.{AreSpelt, IsTextTree};
 ghost use Rattle.texts.specs.Surface.{Expression, Kernel};
-ghost use Rattle.parser.specs.Expressions.{expression_reader};
-ghost use Rattle.parser.specs.Fronts.{Before};
-ghost use Rattle.parser.specs.Kernels.{kernel_reader};
+ghost use Rattle.readers.specs.Expressions.{expression_reader};
+ghost use Rattle.readers.specs.Fronts.{Before};
+ghost use Rattle.readers.specs.Kernels.{kernel_reader};
 ghost use Rattle.parser.specs.Parsed.{Gives, Says, parsed};
 ghost use Rattle.parser.specs.declared.error.ParseError.{ParseError};
 ghost use Rattle.syntax.specs.declared.tree.Kernel as code;
-ghost use Rattle.parser.specs.Reader.{Took, Refused, run};
+ghost use Rattle.readers.specs.Reader.{Took, Refused, run};
 
 /// A refusal rests on the lexemes up to and with the one that it blames: whatever stands behind that, it is the same.
 pub fn a_refusal_rests_on_what_was_read()

@@ -6,7 +6,7 @@ use Rattle.std.proofs.lemmas.Bool.{cond-false}
 use Rattle.std.proofs.lemmas.Bool.Decides.{nat_tests}
 use Rattle.texts.specs.Surface.{Parameter}
 use Rattle.texts.specs.LaunchFaults.{cursor}
-use Rattle.texts.specs.LaunchReading.{Given, most_words, words_of, launch_limit, launch_at, launch_of}
+use Rattle.texts.specs.LaunchReading.{TypedLaunch, most_words, words_of, launch_limit, launch_at, launch_of}
 use Rattle.texts.specs.LaunchText as text
 use Rattle.launch_text.specs.Parameters.{IsGiven}
 use Rattle.launch_grammar.proofs.LinesForth.{head_forth, end_text_forth, groups_forth, fill_forth, arguments_forth, buffers_forth}
@@ -14,7 +14,7 @@ use Rattle.launch_grammar.proofs.LinesForth.{head_forth, end_text_forth, groups_
 groups_shape : (x y z others : List ℕ) → (codes "groups " ++ (x ++ (codes " " ++ (y ++ (codes " " ++ (z ++ 10 ∷ [])))))) ++ others ≡ codes "groups " ++ (x ++ (32 ∷ (y ++ (32 ∷ (z ++ (10 ∷ others))))))
 groups_shape x y z others = simp append_assoc
 
-lines_forth : (ps : List Parameter) (l : Given) → IsGiven ps l → launch_at ps (cursor 1 (text.launch_text ps l)) ≡ Ok l
+lines_forth : (ps : List Parameter) (l : TypedLaunch) → IsGiven ps l → launch_at ps (cursor 1 (text.launch_text ps l)) ≡ Ok l
 unfolding launch_at
 lines_forth ps l g =
     let last = text.fill_text l.fill in
@@ -35,7 +35,7 @@ lines_forth ps l g =
 pub not_above : (a b : ℕ) → b ≤ a → nat_lt a b ≡ false
 not_above a b h = grind (arith, nat_tests)
 
-pub launch_forth : (ps : List Parameter) (l : Given) → IsGiven ps l → length (text.launch_text ps l) ≤ launch_limit → launch_of ps (text.launch_text ps l) ≡ Ok l
+pub launch_forth : (ps : List Parameter) (l : TypedLaunch) → IsGiven ps l → length (text.launch_text ps l) ≤ launch_limit → launch_of ps (text.launch_text ps l) ≡ Ok l
 launch_forth ps l g h =
     let short : nat_lt launch_limit (length (text.launch_text ps l)) ≡ false = not_above launch_limit (length (text.launch_text ps l)) h in
     cond-false (nat_lt launch_limit (length (text.launch_text ps l))) _ _ short ∙ lines_forth ps l g

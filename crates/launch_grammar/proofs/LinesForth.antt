@@ -13,7 +13,7 @@ use Rattle.texts.specs.Surface.{Parameter, Buffer, Value}
 use Rattle.texts.specs.LaunchFaults.{Cursor, Step, cursor, then, expect, end_line}
 use Rattle.texts.specs.LaunchWords.{Launch, word_at, due, due_blank, due_parameter, head_line, go_on, each, end_text}
 use Rattle.texts.specs.LaunchReading as reading
-use Rattle.texts.specs.LaunchReading.{Given, groups_line, argument_line, argument_due, list_at, words_at, most_words, words_of, buffer_line, buffer_due, fill_line}
+use Rattle.texts.specs.LaunchReading.{TypedLaunch, groups_line, argument_line, argument_due, list_at, words_at, most_words, words_of, buffer_line, buffer_due, fill_line}
 use Rattle.texts.specs.LaunchText as text
 use Rattle.launch_text.specs.Parameters.{value_kind, buffer_kind, kinds, AreNamed, AreWords}
 use Rattle.launch_text.proofs.Lists.{words-push}

@@ -6,7 +6,7 @@ ghost use Rattle.texts.specs.Spelling.{SpellsParameters};
 ghost use Rattle.texts.specs.ConditionsReading.{Lined, meant, conditions_limit, conditions_of};
 ghost use Rattle.texts.specs.ConditionsText.{IsConditionsText};
 ghost use Rattle.texts.specs.LaunchReading as launches;
-ghost use Rattle.texts.specs.LaunchReading.{Given, launch_limit, launch_of};
+ghost use Rattle.texts.specs.LaunchReading.{TypedLaunch, launch_limit, launch_of};
 ghost use Rattle.texts.specs.LaunchSpelling.{IsLaunchText};
 ghost use Rattle.texts.specs.LaunchText.{launch_text};
 ghost use Rattle.launch_text.specs.Parameters.{IsGiven};
@@ -24,7 +24,7 @@ pub fn a_least_launch_fits()
 
 /// A launch is read of its text.
 pub fn a_launch_is_read_back()
-    ensures { (ps : List Parameter) (l : Given) → IsGiven ps l → length (launch_text ps l) ≤ launch_limit → launch_of ps (launch_text ps l) ≡ Ok l }
+    ensures { (ps : List Parameter) (l : TypedLaunch) → IsGiven ps l → length (launch_text ps l) ≤ launch_limit → launch_of ps (launch_text ps l) ≡ Ok l }
 {}
 
 /// What is read of a conditions text is what its text says, case by case.
@@ -44,12 +44,12 @@ pub fn a_conditions_text_says_one_thing()
 
 /// What is read of a launch text is what its text says, case by case.
 pub fn what_is_read_of_a_launch_is_its_text()
-    ensures { (ps : List Parameter) (text : List ℕ) (l : Given) → launch_of ps text ≡ Ok l → IsLaunchText ps text (launches.meant l) × (length text ≤ launch_limit) }
+    ensures { (ps : List Parameter) (text : List ℕ) (l : TypedLaunch) → launch_of ps text ≡ Ok l → IsLaunchText ps text (launches.meant l) × (length text ≤ launch_limit) }
 {}
 
 /// What a launch text says, case by case, is read of it, where the names are those of a kernel's text.
 pub fn a_launch_is_read_of_its_text()
-    ensures { (ps : List Parameter) (text : List ℕ) (l : Launch) → SpellsParameters ps → IsLaunchText ps text l → length text ≤ launch_limit → (x : Given) × (launch_of ps text ≡ Ok x) × (launches.meant x ≡ l) }
+    ensures { (ps : List Parameter) (text : List ℕ) (l : Launch) → SpellsParameters ps → IsLaunchText ps text l → length text ≤ launch_limit → (x : TypedLaunch) × (launch_of ps text ≡ Ok x) × (launches.meant x ≡ l) }
 {}
 
 /// So a text says one launch.

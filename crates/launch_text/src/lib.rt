@@ -17,6 +17,3 @@ mod writer;
 
 pub use reader::{read_conditions, read_launch};
 pub use writer::write_buffers;
-
-#[cfg(test)]
-mod tests;

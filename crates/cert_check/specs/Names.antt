@@ -2,7 +2,7 @@
 use Rattle.std.specs.Prelude.{ℕ, List, Bool, true, false, not, ◌||◌, bytes_eq}
 use Rattle.semantics.specs.Linear.{Weighted}
 use Rattle.texts.specs.Lines.{is_empty}
-use Rattle.texts.specs.Certificate.{Name, Variable, AtAnchor, Turns, Fresh, Argument, Length, Groups, Group, Local, Claim, Show, Positive, Negative, Quotient, Entry, Certificate}
+use Rattle.texts.specs.Certificate.{Name, Variable, AtAnchor, Turns, Fresh, Argument, Length, Groups, Group, Local, EntrySort, Show, Positive, Negative, Quotient, Entry, Certificate}
 use Rattle.texts.specs.CertificateRules.{all}
 use Rattle.texts.specs.Surface.{Parameter, Buffer, Value}
 
@@ -36,14 +36,14 @@ is_known ps (Local d) = true
 abbrev pub is_known_term : List Parameter → Weighted Name → Bool
 is_known_term ps t = is_known ps t.symbol
 
-abbrev pub is_known_claim : List Parameter → Claim → Bool
+abbrev pub is_known_claim : List Parameter → EntrySort → Bool
 is_known_claim ps (Quotient form) = all (is_known_term ps) form.terms
 is_known_claim ps Show = true
 is_known_claim ps Positive = true
 is_known_claim ps Negative = true
 
 abbrev pub is_known_entry : List Parameter → Entry → Bool
-is_known_entry ps e = is_known_claim ps e.claim
+is_known_entry ps e = is_known_claim ps e.sort
 
 -- it tells of a place, of how a loop ends, or of a quotient with a symbol that the kernel lacks
 abbrev pub is_for_others : List Parameter → Certificate → Bool

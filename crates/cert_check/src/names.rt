@@ -8,7 +8,7 @@ ghost use Rattle.texts.specs.CertificateRules.{all};
 ghost use Rattle.cert_check.specs.Names as names;
 
 use certificate::Certificate;
-use certificate::tree::{Claim, Entry, Name, Term};
+use certificate::tree::{Entry, EntrySort, Name, Term};
 use syntax::tree::Parameter;
 
 fn is_other_value(parameter: &Parameter, name: &str) -> bool
@@ -86,9 +86,9 @@ fn are_known_terms(parameters: &[Parameter], terms: &[Term]) -> bool
 fn is_known_entry(parameters: &[Parameter], entry: &Entry) -> bool
     ensures { result ≡ names.is_known_entry (map parameter_seen parameters.now) (view.entry entry.now) }
 {
-    match &entry.claim {
-        Claim::Quotient(form) => are_known_terms(parameters, form.terms.as_slice()),
-        Claim::Show | Claim::Positive | Claim::Negative => true,
+    match &entry.sort {
+        EntrySort::Quotient(form) => are_known_terms(parameters, form.terms.as_slice()),
+        EntrySort::Show | EntrySort::Positive | EntrySort::Negative => true,
     }
 }
 

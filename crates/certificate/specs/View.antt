@@ -17,8 +17,8 @@ use Rattle.certificate.specs.declared.tree.Place.{Place}
 use Rattle.certificate.specs.declared.tree.Descent.{Descent}
 use Rattle.certificate.specs.declared.tree.Descent.TheVariants as descents
 use Rattle.certificate.specs.declared.tree.Bound.{Bound}
-use Rattle.certificate.specs.declared.tree.Claim.{Claim}
-use Rattle.certificate.specs.declared.tree.Claim.TheVariants as claims
+use Rattle.certificate.specs.declared.tree.EntrySort.{EntrySort}
+use Rattle.certificate.specs.declared.tree.EntrySort.TheVariants as sorts
 use Rattle.certificate.specs.declared.tree.Scaled.{Scaled}
 use Rattle.certificate.specs.declared.tree.Step.{Step}
 use Rattle.certificate.specs.declared.tree.Step.TheVariants as steps
@@ -71,11 +71,11 @@ descent descents.Halve = certificate.Halve
 abbrev pub bound : Bound → certificate.Bound
 bound b = record { loop = b.number; descent = descent b.descent; most = b.most; form = form b.form }
 
-abbrev pub claim : Claim → certificate.Claim
-claim claims.Show = certificate.Show
-claim claims.Positive = certificate.Positive
-claim claims.Negative = certificate.Negative
-claim (claims.Quotient f) = certificate.Quotient (form f)
+abbrev pub sort : EntrySort → certificate.EntrySort
+sort sorts.Show = certificate.Show
+sort sorts.Positive = certificate.Positive
+sort sorts.Negative = certificate.Negative
+sort (sorts.Quotient f) = certificate.Quotient (form f)
 
 abbrev pub scaled : Scaled → certificate.Scaled
 scaled s = record { factor = s.factor; line = s.line }
@@ -86,4 +86,4 @@ step (steps.Sum parts) = certificate.Sum (map scaled parts.items)
 step (steps.Divide s) = certificate.Divide (scaled s)
 
 abbrev pub entry : Entry → certificate.Entry
-entry e = record { obligation = e.obligation; claim = claim e.claim; steps = map step e.steps.items }
+entry e = record { obligation = e.obligation; sort = sort e.sort; steps = map step e.steps.items }

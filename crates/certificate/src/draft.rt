@@ -10,7 +10,7 @@ ghost use Rattle.certificate.specs.Answers.{Means};
 
 use crate::error::LineError;
 use crate::item::Item;
-use crate::tree::{Anchor, Bound, Claim, Entry, Place, Spot, Step};
+use crate::tree::{Anchor, Bound, Entry, EntrySort, Place, Spot, Step};
 use std::alloc::Global;
 
 /// The parts that are settled.
@@ -214,8 +214,13 @@ fn add_bound(draft: Draft, bound: Bound) -> Result<Draft, LineError>
     })
 }
 
-fn add_entry(alloc: Global, draft: Draft, obligation: u64, claim: Claim) -> Result<Draft, LineError>
-    ensures { Means drafts.draft result (drafting.add_entry (drafts.draft draft) obligation (view.claim claim)) }
+fn add_entry(
+    alloc: Global,
+    draft: Draft,
+    obligation: u64,
+    sort: EntrySort,
+) -> Result<Draft, LineError>
+    ensures { Means drafts.draft result (drafting.add_entry (drafts.draft draft) obligation (view.sort sort)) }
 {
     let settled = settle(draft.settled, draft.opened)?;
     if !entry_fits(&settled, obligation) {
@@ -223,7 +228,7 @@ fn add_entry(alloc: Global, draft: Draft, obligation: u64, claim: Claim) -> Resu
     }
     let entry = Entry {
         obligation,
-        claim,
+        sort,
         steps: Vec::new(alloc),
     };
     Ok(Draft {
@@ -278,7 +283,7 @@ pub fn add(alloc: Global, draft: Draft, item: Item) -> Result<Draft, LineError>
     match item {
         Item::Place(spot) => add_place(alloc, draft, spot),
         Item::Bound(bound) => add_bound(draft, bound),
-        Item::Entry(obligation, claim) => add_entry(alloc, draft, obligation, claim),
+        Item::Entry(obligation, sort) => add_entry(alloc, draft, obligation, sort),
         Item::Step(step) => add_to_entry(draft, step),
         Item::End => add_end(draft),
         item => add_within(draft, item),

@@ -6,15 +6,15 @@ ghost use Rattle.texts.specs.CertificateRules as rules;
 ghost use Rattle.certificate.specs.View as view;
 
 use crate::proper::{is_form, is_integer, is_natural};
-use crate::tree::{Claim, Entry, Scaled, Step};
+use crate::tree::{Entry, EntrySort, Scaled, Step};
 use std::alloc::{AllocError, Global};
 
-fn is_claim(alloc: Global, claim: &Claim) -> Result<bool, AllocError>
-    ensures { IfOk result (λ b. b ≡ rules.is_claim (view.claim claim.now)) }
+fn is_sort(alloc: Global, sort: &EntrySort) -> Result<bool, AllocError>
+    ensures { IfOk result (λ b. b ≡ rules.is_sort (view.sort sort.now)) }
 {
-    match claim {
-        Claim::Show | Claim::Positive | Claim::Negative => Ok(true),
-        Claim::Quotient(form) => is_form(alloc, form),
+    match sort {
+        EntrySort::Show | EntrySort::Positive | EntrySort::Negative => Ok(true),
+        EntrySort::Quotient(form) => is_form(alloc, form),
     }
 }
 
@@ -84,9 +84,9 @@ fn are_steps(steps: &[Step]) -> bool
 fn is_entry(alloc: Global, entry: &Entry) -> Result<bool, AllocError>
     ensures { IfOk result (λ b. b ≡ rules.is_entry (view.entry entry.now)) }
 {
-    let claim = is_claim(alloc, &entry.claim)?;
+    let sort = is_sort(alloc, &entry.sort)?;
     let numbered = is_natural(entry.obligation) && 1 <= entry.obligation;
-    Ok(numbered && (claim && are_steps(entry.steps.as_slice())))
+    Ok(numbered && (sort && are_steps(entry.steps.as_slice())))
 }
 
 #[tactic(auto, using(crate::proofs::Rows::all_rows))]

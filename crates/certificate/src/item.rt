@@ -12,7 +12,7 @@ ghost use Rattle.certificate.specs.Answers.{Means};
 
 use crate::error::LineError;
 use crate::name::{form, identifier};
-use crate::tree::{Bound, Claim, Congruence, Form, Scaled, Spot, Step};
+use crate::tree::{Bound, Congruence, EntrySort, Form, Scaled, Spot, Step};
 use crate::word::{descent, integer, is, natural, natural_from, scaled, spot};
 use lines::pieces::Pieces;
 use std::alloc::Global;
@@ -25,7 +25,7 @@ pub enum Item {
     Fact(Form),
     Congruence(Congruence),
     Bound(Bound),
-    Entry(u64, Claim),
+    Entry(u64, EntrySort),
     Step(Step),
     End,
 }
@@ -75,33 +75,33 @@ fn bound(alloc: Global, words: Pieces<'_>) -> Result<Bound, LineError>
     })
 }
 
-fn plain_claim(word: &[u8]) -> Option<Claim>
-    ensures { option_map view.claim result ≡ meaning.plain_claim word.now }
+fn plain_sort(word: &[u8]) -> Option<EntrySort>
+    ensures { option_map view.sort result ≡ meaning.plain_sort word.now }
 {
     if is(word, "show") {
-        Some(Claim::Show)
+        Some(EntrySort::Show)
     } else if is(word, "pos") {
-        Some(Claim::Positive)
+        Some(EntrySort::Positive)
     } else if is(word, "neg") {
-        Some(Claim::Negative)
+        Some(EntrySort::Negative)
     } else {
         None
     }
 }
 
-fn claim(alloc: Global, word: &[u8], words: Pieces<'_>) -> Result<Claim, LineError>
-    ensures { Means view.claim result (meaning.claim_of word.now (left words.entry)) }
+fn sort(alloc: Global, word: &[u8], words: Pieces<'_>) -> Result<EntrySort, LineError>
+    ensures { Means view.sort result (meaning.sort_of word.now (left words.entry)) }
 {
     if is(word, "quot") {
-        return Ok(Claim::Quotient(form(alloc, words)?));
+        return Ok(EntrySort::Quotient(form(alloc, words)?));
     }
     if !words.is_over() {
         return Err(LineError::Bad);
     }
-    let Some(claim) = plain_claim(word) else {
+    let Some(sort) = plain_sort(word) else {
         return Err(LineError::Bad);
     };
-    Ok(claim)
+    Ok(sort)
 }
 
 #[tactic(auto, unfolding(texts::specs::CertificateLines::entry_of))]
@@ -117,8 +117,8 @@ fn entry(alloc: Global, words: Pieces<'_>) -> Result<Item, LineError>
     let Some((word, others)) = others.next() else {
         return Err(LineError::Bad);
     };
-    let claim = claim(alloc, word, others)?;
-    Ok(Item::Entry(obligation, claim))
+    let sort = sort(alloc, word, others)?;
+    Ok(Item::Entry(obligation, sort))
 }
 
 fn given(words: Pieces<'_>) -> Result<Step, LineError>

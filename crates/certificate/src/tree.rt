@@ -82,9 +82,9 @@ pub struct Bound {
     pub form: Form,
 }
 
-/// Which claim of an obligation is shown.
+/// What an entry shows of its obligation.
 #[derive(Drop)]
-pub enum Claim {
+pub enum EntrySort {
     Show,
     Positive,
     Negative,
@@ -110,6 +110,6 @@ pub enum Step {
 #[derive(Drop)]
 pub struct Entry {
     pub obligation: u64,
-    pub claim: Claim,
+    pub sort: EntrySort,
     pub steps: Vec<Step>,
 }

@@ -10,8 +10,8 @@ ghost use Rattle.certificate.specs.Certificates.{certificate};
 
 use crate::certificate::Certificate;
 use crate::tree::{
-    Anchor, Bound, Claim, Congruence, Descent, Dimension, Entry, Form, Name, Place, Scaled, Spot,
-    Step, Term,
+    Anchor, Bound, Congruence, Descent, Dimension, Entry, EntrySort, Form, Name, Place, Scaled,
+    Spot, Step, Term,
 };
 use std::alloc::{AllocError, Global};
 
@@ -195,14 +195,14 @@ fn push_bounds(out: &mut String, bounds: &[Bound]) -> Result<(), AllocError>
     Ok(())
 }
 
-fn push_claim(out: &mut String, claim: &Claim) -> Result<(), AllocError>
-    ensures { OnOk result (string_bytes out.new ≡ string_bytes out.old ++ text.claim_text (view.claim claim.now)) }
+fn push_sort(out: &mut String, sort: &EntrySort) -> Result<(), AllocError>
+    ensures { OnOk result (string_bytes out.new ≡ string_bytes out.old ++ text.sort_text (view.sort sort.now)) }
 {
-    match claim {
-        Claim::Show => out.push_str("show"),
-        Claim::Positive => out.push_str("pos"),
-        Claim::Negative => out.push_str("neg"),
-        Claim::Quotient(form) => {
+    match sort {
+        EntrySort::Show => out.push_str("show"),
+        EntrySort::Positive => out.push_str("pos"),
+        EntrySort::Negative => out.push_str("neg"),
+        EntrySort::Quotient(form) => {
             out.push_str("quot ")?;
             push_form(out, form)
         }
@@ -258,7 +258,7 @@ fn push_entry(out: &mut String, entry: &Entry) -> Result<(), AllocError>
 {
     let obligation = entry.obligation;
     write!(out, "ob {obligation} ")?;
-    push_claim(out, &entry.claim)?;
+    push_sort(out, &entry.sort)?;
     out.push_str("\n")?;
     push_steps(out, entry.steps.as_slice())
 }

@@ -1,6 +1,6 @@
 -- What the entries of a certificate say of obligations.
 use Rattle.std.specs.Prelude.{◌≡◌, ℕ, zero, suc, ℤ, pos, negsuc, List, [], ◌∷◌, map, Bool, true, false, cond, ◌&&◌, ◌||◌, nat_eq, nat_le, nat_lt, Option, None, Some, slice_index_or}
-use Rattle.texts.specs.Certificate.{Entry, Claim, Show, Positive, Negative, Quotient, Step, Given, Sum, Divide, Scaled}
+use Rattle.texts.specs.Certificate.{Entry, EntrySort, Show, Positive, Negative, Quotient, Step, Given, Sum, Divide, Scaled}
 use Rattle.cut_proof.specs.Derivations as derivations
 use Rattle.cut_proof.specs.Derivations.{Forms, Line, refutes_of}
 
@@ -18,7 +18,7 @@ line_of (Given fact) = derivations.Given (line_number fact)
 line_of (Sum parts) = derivations.Sum (map part_of parts)
 line_of (Divide by) = derivations.Divide by.factor (line_number by.line)
 
-abbrev pub is_show : Claim → Bool
+abbrev pub is_show : EntrySort → Bool
 is_show Show = true
 is_show Positive = false
 is_show Negative = false
@@ -26,7 +26,7 @@ is_show (Quotient form) = false
 
 -- an entry says `show`, and its derivation refutes the facts
 abbrev pub refutes_by : Entry → Forms → Bool
-refutes_by e facts = is_show e.claim && refutes_of facts (map line_of e.steps)
+refutes_by e facts = is_show e.sort && refutes_of facts (map line_of e.steps)
 
 -- an entry has this number; there are at most 65,536 obligations
 abbrev pub is_of : ℕ → Entry → Bool

@@ -7,7 +7,7 @@ ghost use Rattle.certificate.specs.View.{scaled as scaled_seen, step as step_see
 ghost use Rattle.cut_proof.specs.View.{line as line_seen};
 ghost use Rattle.entry_check.specs.Entries as entries;
 
-use certificate::tree::{Claim as Word, Entry, Scaled, Step};
+use certificate::tree::{Entry, EntrySort, Scaled, Step};
 use cut_proof::{Derivation, Line, refutes};
 use linear::Form;
 use std::alloc::{AllocError, Global};
@@ -66,8 +66,8 @@ pub fn is_refuted(alloc: Global, facts: &[Form], entry: &Entry) -> Result<bool, 
     ensures exact { IfOk result (λ b. b ≡ entries.refutes_by (entry_seen entry.now) (forms facts.now)) }
     ensures impossible { IfOk result (λ b. IsTrue b → IsImpossible (forms facts.now)) }
 {
-    match entry.claim {
-        Word::Show => {
+    match entry.sort {
+        EntrySort::Show => {
             let derivation = derivation_of(alloc, entry.steps.as_slice())?;
             refutes(alloc, facts, &derivation)
         }

@@ -10,7 +10,7 @@ use Rattle.semantics.specs.Launch.{Kernel, Three, IsCount, IsArgument, IsBuffer,
 use Rattle.texts.specs.Surface.{Parameter, Buffer, Value}
 use Rattle.texts.specs.LaunchFaults.{LimitPassed, Cursor, Step, cursor, refused, then, sees, past, expect, end_line}
 use Rattle.texts.specs.LaunchWords.{natural_at, word_at, head_line, end_text, due_blank, due_parameter}
-use Rattle.texts.specs.LaunchReading.{Given, number, meant, counts, groups_line, argument_line, argument_due, argument_lines, list_at, fill_at, words_at, most_words, words_of, buffer_line, buffer_due, buffer_lines, fill_line, given, launch_at, launch_of}
+use Rattle.texts.specs.LaunchReading.{TypedLaunch, number, meant, counts, groups_line, argument_line, argument_due, argument_lines, list_at, fill_at, words_at, most_words, words_of, buffer_line, buffer_due, buffer_lines, fill_line, given, launch_at, launch_of}
 use Rattle.launch_text.proofs.Back.{then_back, same_back, unless_back, natural_back, word_back}
 use Rattle.launch_text.specs.Parameters.{kinds, value_kind, buffer_kind}
 use Rattle.launch_text.proofs.Parameters.{Skips, Reads, each_back}
@@ -123,7 +123,7 @@ zip_map P f [] (y ∷ ys) h = absurd h
 zip_map P f (x ∷ xs) [] h = absurd h
 zip_map P f (x ∷ xs) (y ∷ ys) h = (h.0, zip_map P f xs ys h.1)
 
-lines_fit : (kernel : Kernel) (ps : List Parameter) → kernel.arguments ≡ kinds value_kind ps → kernel.buffers ≡ kinds buffer_kind ps → (c : Cursor) (x : Given) → launch_at ps c ≡ Ok x → Fits kernel (meant x)
+lines_fit : (kernel : Kernel) (ps : List Parameter) → kernel.arguments ≡ kinds value_kind ps → kernel.buffers ≡ kinds buffer_kind ps → (c : Cursor) (x : TypedLaunch) → launch_at ps c ≡ Ok x → Fits kernel (meant x)
 unfolding launch_at
 lines_fit kernel ps own shared c x e =
     let head = then_back (head_line _ _ c) _ x e in
@@ -135,7 +135,7 @@ lines_fit kernel ps own shared c x e =
     let counts = groups_fit head.0 groups.0 groups.1 in
     let words : AllZip IsArgument kernel.arguments arguments.0.0 = rw own (each_back (argument_due ps) value_kind IsArgument (argument_one ps) [] [] ps groups.0.1 arguments.0 tt arguments.1) in
     let lists : AllZip IsBufferOf kernel.buffers buffers.0.0 = rw shared (each_back (buffer_due ps) buffer_kind IsBufferOf (buffer_one ps) [] [] ps arguments.0.1 buffers.0 tt buffers.1) in
-    subst (λ (y : Given). Fits kernel (meant y)) (same_back (given groups.0.0 arguments.0.0 buffers.0.0 fill.0.0) x end.2) (record {
+    subst (λ (y : TypedLaunch). Fits kernel (meant y)) (same_back (given groups.0.0 arguments.0.0 buffers.0.0 fill.0.0) x end.2) (record {
       count_x = counts.0;
       count_y = counts.1;
       count_z = counts.2;
@@ -144,6 +144,6 @@ lines_fit kernel ps own shared c x e =
       fill = fill_small buffers.0.1 fill.0 fill.1;
     })
 
-pub launch_fits : (kernel : Kernel) (ps : List Parameter) → kernel.arguments ≡ kinds value_kind ps → kernel.buffers ≡ kinds buffer_kind ps → (text : List ℕ) (x : Given) → launch_of ps text ≡ Ok x → Fits kernel (meant x)
+pub launch_fits : (kernel : Kernel) (ps : List Parameter) → kernel.arguments ≡ kinds value_kind ps → kernel.buffers ≡ kinds buffer_kind ps → (text : List ℕ) (x : TypedLaunch) → launch_of ps text ≡ Ok x → Fits kernel (meant x)
 launch_fits kernel ps own shared text x e =
     lines_fit kernel ps own shared (cursor 1 text) x (unless_back (nat_lt 4194304 (length text)) (launch_at ps (cursor 1 text)) LimitPassed (cursor 1 text) x e).1

@@ -10,15 +10,3 @@ pub mod FitsRead
 pub mod ConditionsFit
 pub mod LaunchFit
 pub mod LeastFits
-pub mod Forth
-pub mod LinesForth
-pub mod LaunchForth
-pub mod Taken
-pub mod SumsTaken
-pub mod LinesTaken
-pub mod ConditionsTaken
-pub mod SumsForth
-pub mod RangesForth
-pub mod ConditionsForth
-pub mod LaunchTaken
-pub mod SpellingsForth

@@ -6,7 +6,7 @@ use Rattle.semantics.specs.Launch.{IsCount, IsArgument}
 use Rattle.texts.specs.CertificateForms.{is_identifier}
 use Rattle.texts.specs.Surface.{Parameter, Buffer, Value}
 use Rattle.texts.specs.LaunchWords.{name_of}
-use Rattle.texts.specs.LaunchReading.{Given, most_words, words_of}
+use Rattle.texts.specs.LaunchReading.{TypedLaunch, most_words, words_of}
 
 -- the kind of a value parameter
 abbrev pub value_kind : Parameter → Option Kind
@@ -38,7 +38,7 @@ AreWords k [] = Unit {0}
 AreWords k (w ∷ ws) = IsArgument k w × AreWords k ws
 
 -- a launch of a kernel with these parameters whose text gives at most 1,048,576 words
-pub record IsGiven (ps : List Parameter) (l : Given) : Type 0 where
+pub record IsGiven (ps : List Parameter) (l : TypedLaunch) : Type 0 where
   pub names : AreNamed ps
   pub count_x : IsCount l.groups.x
   pub count_y : IsCount l.groups.y

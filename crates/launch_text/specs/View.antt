@@ -53,5 +53,5 @@ buffers bs = map words bs.items
 abbrev pub given_counts : Counts → launches.Three ℕ
 given_counts c = given.counts c.x c.y c.z
 
-abbrev pub launch : Launch → given.Given
+abbrev pub launch : Launch → given.TypedLaunch
 launch l = given.given (given_counts l.groups) (words l.arguments) (buffers l.buffers.words) l.fill

@@ -1,5 +1,4 @@
-//! Section: Launch. Promises exactly the conditions, or the launch, that a text says of a kernel, and that this is what it says case by
-//! case; stands on `types`, `launch` and `lines`.
+//! Section: Launch. Promises exactly the conditions, or the launch, that a text says of a kernel; stands on `types`, `launch` and `lines`.
 //!
 //! The texts that say launch conditions and launches, read for a kernel, and the text of buffers. A reading gives exactly what the text
 //! says, or its first fault with its line; what is read fits the kernel.
@@ -10,7 +9,6 @@ mod cursor;
 pub mod error;
 mod keyword;
 mod launches;
-pub mod laws;
 mod name;
 mod number;
 mod reader;
@@ -19,6 +17,3 @@ mod writer;
 
 pub use reader::{read_conditions, read_launch};
 pub use writer::write_buffers;
-
-#[cfg(test)]
-mod tests;

@@ -3,15 +3,15 @@ use Rattle.std.proofs.Common.{◌≡◌, ℕ, suc, ◌+◌, ◌-◌, ◌<◌, �
 use Rattle.texts.specs.Lexemes.{Lexeme}
 use Rattle.texts.specs.ParseFaults.{Expected, TooMany}
 use Rattle.texts.specs.Surface.{Parameter}
-use Rattle.parser.specs.Reader.{Reader, Outcome, Took, Refused, Gives, Fails, Passes, Then, carry, front, behind, run}
-use Rattle.parser.specs.Expressions.{is_comma, is_right_parenthesis, expects}
-use Rattle.parser.proofs.Steps.{stops-carry}
-use Rattle.parser.specs.Kernels.{parameter_reader, one_parameter, more_parameters, parameters_reader}
+use Rattle.readers.specs.Reader.{Reader, Attempt, Took, Refused, Gives, Fails, Passes, Then, carry, front, behind, run}
+use Rattle.readers.specs.Expressions.{is_comma, is_right_parenthesis, expects}
+use Rattle.readers.proofs.Steps.{stops-carry}
+use Rattle.readers.specs.Kernels.{parameter_reader, one_parameter, more_parameters, parameters_reader}
 
-abbrev pub in_list : List Parameter → Outcome (List Parameter) → Outcome (List Parameter)
+abbrev pub in_list : List Parameter → Attempt (List Parameter) → Attempt (List Parameter)
 in_list front outcome = carry outcome (λ ps rest. Took (front ++ ps) rest)
 
-abbrev with_first : Parameter → Outcome (List Parameter) → Outcome (List Parameter)
+abbrev with_first : Parameter → Attempt (List Parameter) → Attempt (List Parameter)
 with_first p outcome = carry outcome (λ ps rest. Took (p ∷ ps) rest)
 
 abbrev closing-one : List Lexeme → Reader (List Parameter)
@@ -47,11 +47,11 @@ another list count ts lt h =
     ∙ ap (λ b. in_list list (run (cond b (Passes (one_parameter (more_parameters (80 - (count + 1))))) (closing-one ts)) ts)) h
     ∙ within (run parameter_reader (behind ts))
   where
-    shift : (p : Parameter) (o : Outcome (List Parameter)) → in_list list (with_first p o) ≡ in_list (list ++ p ∷ []) o
+    shift : (p : Parameter) (o : Attempt (List Parameter)) → in_list list (with_first p o) ≡ in_list (list ++ p ∷ []) o
     shift p (Took ps rest) = ap (λ l. Took l rest) (snoc list ps p)
     shift p (Refused fault rest) = refl
 
-    within : (o : Outcome Parameter) → in_list list (carry o (λ p rest. with_first p (run (more_parameters (80 - (count + 1))) rest))) ≡ carry o (λ p rest. in_list (list ++ p ∷ []) (run (more_parameters (80 - (count + 1))) rest))
+    within : (o : Attempt Parameter) → in_list list (carry o (λ p rest. with_first p (run (more_parameters (80 - (count + 1))) rest))) ≡ carry o (λ p rest. in_list (list ++ p ∷ []) (run (more_parameters (80 - (count + 1))) rest))
     within (Took p rest) = shift p (run (more_parameters (80 - (count + 1))) rest)
     within (Refused fault rest) = refl
 
@@ -63,7 +63,7 @@ closes list count ts lt h =
     ∙ ap (λ b. in_list list (run (cond b (Passes (one_parameter (more_parameters (80 - (count + 1))))) (closing-one ts)) ts)) h
     ∙ carried (run (cond (is_right_parenthesis (front ts).kind) (Passes (Gives (front ts).site)) (Fails Expected)) ts)
   where
-    carried : {A : Type 0} (o : Outcome A) → in_list list (carry o (λ closing rest. Took [] rest)) ≡ carry o (λ closing rest. Took list rest)
+    carried : {A : Type 0} (o : Attempt A) → in_list list (carry o (λ closing rest. Took [] rest)) ≡ carry o (λ closing rest. Took list rest)
     carried (Took a rest) = ap (λ l. Took l rest) (append-nil list)
     carried (Refused fault rest) = refl
 

@@ -1,9 +1,2 @@
-pub mod Reader
-pub mod Expressions
-pub mod View
-pub mod Statements
-pub mod Heads
-pub mod Kernels
-pub mod Counted
+pub mod Pieces
 pub mod Parsed
-pub mod Fronts

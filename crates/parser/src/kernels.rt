@@ -2,25 +2,29 @@
 
 ghost use Rattle.std.specs.Prelude.{◌≡◌, ◌≤◌, ◌*◌, ◌&&◌, nat_le, IfOk};
 ghost use Rattle.syntax.specs.View.{parameter as parameter_seen, kernel as kernel_seen};
-ghost use Rattle.parser.specs.Reader.{run};
-ghost use Rattle.parser.specs.View.{lexemes, Reads, parameters_seen, sizes_seen};
-ghost use Rattle.parser.specs.Kernels as reads;
+ghost use Rattle.readers.specs.Reader.{run};
+ghost use Rattle.core_code.specs.View.{site as site_of};
+ghost use Rattle.readers.specs.View.{lexemes, Reads, parameters_seen, sizes_seen, text_seen};
+ghost use Rattle.parser.specs.Pieces as pieces;
+ghost use Rattle.parser.specs.Pieces.{body_seen};
+ghost use Rattle.readers.specs.Kernels as reads;
 
-use crate::error::{ParseFault, Stop};
-use crate::front::{
+use core_code::tree::Site;
+use lexer::Token;
+use readers::error::{ParseFault, Stop};
+use readers::front::{
     behind, is_attribute, is_comma, is_const, is_end, is_global, is_kernel, is_left_brace,
     is_left_parenthesis, is_required_size, is_right_parenthesis, is_star, is_void, kind_at,
     kind_named, name_of, number_of, pass, site_at,
 };
-use crate::statements::block;
-use lexer::Token;
+use statement_parser::statements::block;
 use std::alloc::Global;
-use syntax::tree::{Kernel, Parameter};
+use syntax::tree::{Kernel, Parameter, Stmt};
 
 /// How many parameters are read after the first: a kernel has fewer.
 const MOST_PARAMETERS: u32 = 80;
 
-#[tactic(auto, using(crate::proofs::Steps::part_steps), unfolding(crate::specs::Kernels::buffer_reader))]
+#[tactic(auto, using(readers::proofs::Steps::part_steps), unfolding(readers::specs::Kernels::buffer_reader))]
 fn buffer<'a>(
     alloc: Global,
     constant: bool,
@@ -45,7 +49,7 @@ fn buffer<'a>(
     Ok((buffer, behind(rest)))
 }
 
-#[tactic(auto, using(crate::proofs::Steps::part_steps), unfolding(crate::specs::Kernels::value_reader))]
+#[tactic(auto, using(readers::proofs::Steps::part_steps), unfolding(readers::specs::Kernels::value_reader))]
 fn value<'a>(
     alloc: Global,
     tokens: &'a [Token<'a>],
@@ -67,7 +71,7 @@ fn value<'a>(
     Ok((value, behind(rest)))
 }
 
-#[tactic(auto, using(crate::proofs::Steps::part_steps), unfolding(crate::specs::Kernels::parameter_reader))]
+#[tactic(auto, using(readers::proofs::Steps::part_steps), unfolding(readers::specs::Kernels::parameter_reader))]
 fn parameter<'a>(
     alloc: Global,
     tokens: &'a [Token<'a>],
@@ -131,7 +135,7 @@ fn size<'a>(product: u32, tokens: &'a [Token<'a>]) -> Result<(u32, &'a [Token<'a
     }
 }
 
-#[tactic(auto, using(crate::proofs::Steps::part_steps), unfolding(crate::specs::Kernels::sizes_reader))]
+#[tactic(auto, using(readers::proofs::Steps::part_steps), unfolding(readers::specs::Kernels::sizes_reader))]
 fn sizes<'a>(tokens: &'a [Token<'a>]) -> Result<([u32; 3], &'a [Token<'a>]), Stop<'a>>
     ensures { Reads sizes_seen result (run reads.sizes_reader (lexemes tokens.now)) }
 {
@@ -143,26 +147,77 @@ fn sizes<'a>(tokens: &'a [Token<'a>]) -> Result<([u32; 3], &'a [Token<'a>]), Sto
     Ok(([x, y, z], rest))
 }
 
-// The attribute up to `void`.
-#[tactic(auto, using(crate::proofs::Steps::part_steps), unfolding(crate::specs::Kernels::attribute_reader))]
-fn attribute<'a>(tokens: &'a [Token<'a>]) -> Result<([u32; 3], &'a [Token<'a>]), Stop<'a>>
-    ensures { Reads sizes_seen result (run reads.attribute_reader (lexemes tokens.now)) }
+#[tactic(auto, using(readers::proofs::Steps::part_steps), unfolding(crate::specs::Pieces::attribute_opening))]
+fn attribute_opening<'a>(tokens: &'a [Token<'a>]) -> Result<(Site, &'a [Token<'a>]), Stop<'a>>
+    ensures { Reads site_of result (run pieces.attribute_opening (lexemes tokens.now)) }
 {
     let (_, rest) = pass(is_kernel(kind_at(tokens)), tokens)?;
     let (_, rest) = pass(is_attribute(kind_at(rest)), rest)?;
-    let (_, rest) = pass(is_left_parenthesis(kind_at(rest)), rest)?;
-    let (_, rest) = pass(is_left_parenthesis(kind_at(rest)), rest)?;
+    pass(is_left_parenthesis(kind_at(rest)), rest)
+}
+
+#[tactic(auto, using(readers::proofs::Steps::part_steps), unfolding(crate::specs::Pieces::attribute_name))]
+fn attribute_name<'a>(tokens: &'a [Token<'a>]) -> Result<(Site, &'a [Token<'a>]), Stop<'a>>
+    ensures { Reads site_of result (run pieces.attribute_name (lexemes tokens.now)) }
+{
+    let (_, rest) = pass(is_left_parenthesis(kind_at(tokens)), tokens)?;
     let (_, rest) = pass(is_required_size(kind_at(rest)), rest)?;
-    let (_, rest) = pass(is_left_parenthesis(kind_at(rest)), rest)?;
+    pass(is_left_parenthesis(kind_at(rest)), rest)
+}
+
+#[tactic(auto, using(readers::proofs::Steps::part_steps), unfolding(crate::specs::Pieces::attribute_end))]
+fn attribute_end<'a>(tokens: &'a [Token<'a>]) -> Result<(Site, &'a [Token<'a>]), Stop<'a>>
+    ensures { Reads site_of result (run pieces.attribute_end (lexemes tokens.now)) }
+{
+    let (_, rest) = pass(is_right_parenthesis(kind_at(tokens)), tokens)?;
+    let (_, rest) = pass(is_right_parenthesis(kind_at(rest)), rest)?;
+    pass(is_right_parenthesis(kind_at(rest)), rest)
+}
+
+// The attribute up to `void`.
+#[tactic(auto, using(crate::proofs::KernelSteps::attribute_steps))]
+fn attribute<'a>(tokens: &'a [Token<'a>]) -> Result<([u32; 3], &'a [Token<'a>]), Stop<'a>>
+    ensures { Reads sizes_seen result (run reads.attribute_reader (lexemes tokens.now)) }
+{
+    let (_, rest) = attribute_opening(tokens)?;
+    let (_, rest) = attribute_name(rest)?;
     let (sizes, rest) = sizes(rest)?;
-    let (_, rest) = pass(is_right_parenthesis(kind_at(rest)), rest)?;
-    let (_, rest) = pass(is_right_parenthesis(kind_at(rest)), rest)?;
-    let (_, rest) = pass(is_right_parenthesis(kind_at(rest)), rest)?;
+    let (_, rest) = attribute_end(rest)?;
     Ok((sizes, rest))
 }
 
+// The name, between `void` and the parenthesis that opens the parameters.
+#[tactic(auto, using(readers::proofs::Steps::part_steps), unfolding(crate::specs::Pieces::head_reader))]
+fn head<'a>(tokens: &'a [Token<'a>]) -> Result<(&'a str, &'a [Token<'a>]), Stop<'a>>
+    ensures { Reads text_seen result (run pieces.head_reader (lexemes tokens.now)) }
+{
+    let (_, rest) = pass(is_void(kind_at(tokens)), tokens)?;
+    let Some(name) = name_of(kind_at(rest)) else {
+        return Err(Stop::Refused(ParseFault::Expected, rest));
+    };
+    let rest = behind(rest);
+    let (_, rest) = pass(is_left_parenthesis(kind_at(rest)), rest)?;
+    Ok((name, rest))
+}
+
+// The body in braces, and then the end.
+#[tactic(auto, using(readers::proofs::Steps::part_steps), unfolding(crate::specs::Pieces::body_reader))]
+fn whole_body<'a>(
+    alloc: Global,
+    tokens: &'a [Token<'a>],
+) -> Result<(Vec<Stmt>, &'a [Token<'a>]), Stop<'a>>
+    ensures { Reads body_seen result (run pieces.body_reader (lexemes tokens.now)) }
+{
+    let (_, rest) = pass(is_left_brace(kind_at(tokens)), tokens)?;
+    let ((body, _), rest) = block(alloc, 63, 32, 1, rest)?;
+    if !is_end(kind_at(rest)) {
+        return Err(Stop::Refused(ParseFault::Expected, rest));
+    }
+    Ok((body, rest))
+}
+
 /// A kernel, and then the end.
-#[tactic(auto, using(crate::proofs::Steps::part_steps), unfolding(crate::specs::Kernels::kernel_reader))]
+#[tactic(auto, using(crate::proofs::KernelSteps::kernel_steps))]
 pub fn whole_kernel<'a>(
     alloc: Global,
     tokens: &'a [Token<'a>],
@@ -170,18 +225,9 @@ pub fn whole_kernel<'a>(
     ensures { Reads kernel_seen result (run reads.kernel_reader (lexemes tokens.now)) }
 {
     let (sizes, rest) = attribute(tokens)?;
-    let (_, rest) = pass(is_void(kind_at(rest)), rest)?;
-    let Some(name) = name_of(kind_at(rest)) else {
-        return Err(Stop::Refused(ParseFault::Expected, rest));
-    };
-    let rest = behind(rest);
-    let (_, rest) = pass(is_left_parenthesis(kind_at(rest)), rest)?;
+    let (name, rest) = head(rest)?;
     let (parameters, rest) = parameters(alloc, rest)?;
-    let (_, rest) = pass(is_left_brace(kind_at(rest)), rest)?;
-    let ((body, _), rest) = block(alloc, 63, 32, 1, rest)?;
-    if !is_end(kind_at(rest)) {
-        return Err(Stop::Refused(ParseFault::Expected, rest));
-    }
+    let (body, rest) = whole_body(alloc, rest)?;
     let kernel = Kernel {
         name: String::from_str(alloc, name)?,
         sizes,

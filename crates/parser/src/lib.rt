@@ -1,4 +1,5 @@
-//! Section: Kernel text. Promises exactly the kernel that the grammar has of tokens, or a true refusal; stands on `lexer` and `syntax`.
+//! Section: Kernel text. Promises exactly the kernel that the readers have of tokens, within the limits, or its first fault; stands on
+//! `statement_parser` and `tree_limits`.
 //!
 //! Tokens to trees. `parse` reads the whole language, without recursion deeper than the limits of brackets and levels allow; its answer is
 //! the tree that the definition in `specs/` reads, or the fault that it names at its place.
@@ -6,30 +7,24 @@
 
 ghost use Rattle.std.specs.Prelude.{IfOk};
 ghost use Rattle.syntax.specs.View.{kernel as kernel_seen};
-ghost use Rattle.parser.specs.View.{lexemes};
+ghost use Rattle.readers.specs.View.{lexemes};
 ghost use Rattle.parser.specs.Parsed.{parsed, Gives, Measures};
 ghost use Rattle.texts.specs.Declarations.{HasFewNames};
 ghost use Rattle.texts.specs.Limits.{within_limits};
 
-pub(crate) mod counts;
 pub mod error;
-pub(crate) mod expressions;
-pub(crate) mod front;
 pub(crate) mod kernels;
-pub mod laws;
-pub(crate) mod limits;
-pub(crate) mod parts;
-pub(crate) mod statements;
 
 use core_code::tree::Site;
-use counts::{Counts, count_parameters, count_statements};
-use error::{ParseError, ParseFault, Stop};
-use front::site_at;
+use error::ParseError;
 use kernels::whole_kernel;
 use lexer::Token;
-use limits::deep_statements;
+use readers::error::{ParseFault, Stop};
+use readers::front::site_at;
 use std::alloc::Global;
 use syntax::tree::Kernel;
+use tree_limits::counts::{Counts, count_parameters, count_statements};
+use tree_limits::depth::deep_statements;
 
 #[tactic(auto, unfolding(texts::specs::Limits::within_limits))]
 fn measure(kernel: &Kernel) -> Result<Counts, (ParseFault, Site)>

@@ -1,6 +1,6 @@
 // The certificate of a kernel without loops, written back; each kind of line; what is refused; and one made of parts.
 use certificate::error::CertError;
-use certificate::tree::{Anchor, Claim, Entry, Form, Name, Place, Scaled, Spot, Step, Term};
+use certificate::tree::{Anchor, Entry, EntrySort, Form, Name, Place, Scaled, Spot, Step, Term};
 use certificate::{Certificate, read, write};
 use std::alloc::{AllocError, Global};
 use std::test::Fail;
@@ -182,7 +182,7 @@ fn entry(alloc: Global) -> Result<Vec<Entry>, AllocError> {
     let mut entries = Vec::new(alloc);
     entries.push(Entry {
         obligation: 1,
-        claim: Claim::Show,
+        sort: EntrySort::Show,
         steps,
     })?;
     Ok(entries)

@@ -10,16 +10,18 @@ ghost use Rattle.reading.specs.Answers.{Gives};
 use lexer::{TextError, lex};
 use parser::error::ParseError;
 use parser::parse;
+use scopes::error::TypeError;
 use std::alloc::Global;
 use thiserror::Error;
 use types::check::check_types;
-use types::error::TypeError;
 use types::typed::Typed;
 
 #[cfg(test)]
 mod certificate_tests;
 #[cfg(test)]
 mod kernel_tests;
+#[cfg(test)]
+mod launch_tests;
 pub mod laws;
 #[cfg(test)]
 mod position_tests;

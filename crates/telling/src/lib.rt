@@ -15,10 +15,10 @@ mod refusal;
 use cert_check::check;
 use cert_check::error::{CheckError, Place};
 use executor::{RunError, run};
-use launch_text::error::LaunchTextError;
-use launch_text::laws::{
+use launch_grammar::laws::{
     what_is_read_of_a_launch_is_its_text, what_is_read_of_conditions_is_their_text,
 };
+use launch_text::error::LaunchTextError;
 use launch_text::{read_launch, write_buffers};
 use reading::laws::bytes_are_the_text_of_what_is_read;
 use refusal::Refusal;

@@ -9,13 +9,13 @@ use Rattle.std.proofs.lemmas.Fmt.{decimal_digit}
 use Rattle.std.proofs.lemmas.List.{append-nil}
 use Rattle.semantics.specs.Linear.{Weighted, Form}
 use Rattle.texts.specs.Lines.{integer_of, is_empty, follows, pieces, words, text_of_lines}
-use Rattle.texts.specs.Certificate.{Name, Anchor, KernelEntry, Barrier, Spot, Congruence, Place, Descent, Down, Halve, Bound, Claim, Show, Positive, Negative, Quotient, Scaled, Step, Given, Sum, Divide, Entry, Certificate}
-use Rattle.texts.specs.CertificateText.{name_text, term_text, form_text, anchor_text, head_text, place_line, same_line, fact_line, congruence_line, place_lines, descent_text, bound_line, claim_text, entry_line, scaled_text, step_line, entry_lines, body_lines, text_of}
+use Rattle.texts.specs.Certificate.{Name, Anchor, KernelEntry, Barrier, Spot, Congruence, Place, Descent, Down, Halve, Bound, EntrySort, Show, Positive, Negative, Quotient, Scaled, Step, Given, Sum, Divide, Entry, Certificate}
+use Rattle.texts.specs.CertificateText.{name_text, term_text, form_text, anchor_text, head_text, place_line, same_line, fact_line, congruence_line, place_lines, descent_text, bound_line, sort_text, entry_line, scaled_text, step_line, entry_lines, body_lines, text_of}
 use Rattle.texts.specs.CertificateForms.{then, when, number, is_identifier}
 use Rattle.texts.specs.CertificateLines.{Item, PlaceItem, SameItem, FactItem, CongruenceItem, BoundItem, EntryItem, StepItem, EndItem}
 use Rattle.texts.specs.CertificateDrafts.{bound_is_behind, entry_is_behind, Nothing, InPlace, InEntry, Ended, Draft, draft, certificate, nothing_yet, has_line, settle, place_fits, place_at, entry_at, add}
 use Rattle.texts.specs.CertificateReading.{add_line, finish, go_on, read_lines, unless, head_of_version, head_fault, read_text, certificate_limit, certificate_of}
-use Rattle.texts.specs.CertificateRules.{all, rises, is_natural, is_integer, is_name, is_term, is_form, is_anchor, is_head, is_spot, is_congruence, is_open_place, is_place, is_descent, is_bound, is_claim, is_scaled, is_step, is_entry, place_is_before, bound_is_before, entry_is_before, is_certificate}
+use Rattle.texts.specs.CertificateRules.{all, rises, is_natural, is_integer, is_name, is_term, is_form, is_anchor, is_head, is_spot, is_congruence, is_open_place, is_place, is_descent, is_bound, is_sort, is_scaled, is_step, is_entry, place_is_before, bound_is_before, entry_is_before, is_certificate}
 use Rattle.texts.proofs.Fits.{both}
 use Rattle.texts.proofs.Decimals.{integer_forth}
 use Rattle.texts.proofs.FormsWritten.{is_free, cut_at, all_append, plain_free, natural_plain, integer_plain, identifier_plain, name_plain, rises_follow, moved}
@@ -68,11 +68,11 @@ descent_line : (d : Descent) → is_descent d ≡ true → is_free 10 (descent_t
 descent_line (Down n) h = natural_line n (both (is_natural n) (nat_le 1 n) h).0
 descent_line Halve h = refl
 
-claim_line : (c : Claim) → is_claim c ≡ true → is_free 10 (claim_text c) ≡ true
-claim_line Show h = refl
-claim_line Positive h = refl
-claim_line Negative h = refl
-claim_line (Quotient f) h = form_line f h
+sort_line : (c : EntrySort) → is_sort c ≡ true → is_free 10 (sort_text c) ≡ true
+sort_line Show h = refl
+sort_line Positive h = refl
+sort_line Negative h = refl
+sort_line (Quotient f) h = form_line f h
 
 item_free : (i : Item) → is_item i ≡ true → is_free 10 (item_line i) ≡ true
 item_free (PlaceItem s) h = let p = both (is_anchor s.anchor) (is_head s.head) h in free_on (anchor_text s.anchor) (head_text s.head) (anchor_line s.anchor p.0) (head_line s.head p.1)
@@ -88,8 +88,8 @@ item_free (BoundItem b) h =
     let r = both (is_integer b.most) (is_form b.form) q.1 in
     free_on (decimal b.loop) _ (natural_line b.loop p.0) (free_on (descent_text b.descent) _ (descent_line b.descent q.0) (free_on (signed_decimal b.most) (codes " " ++ form_text b.form) (integer_line b.most r.0) (form_line b.form r.1)))
 item_free (EntryItem n c) h =
-    let p = both _ (is_claim c) h in
-    free_on (decimal n) (codes " " ++ claim_text c) (natural_line n (both (is_natural n) _ p.0).0) (claim_line c p.1)
+    let p = both _ (is_sort c) h in
+    free_on (decimal n) (codes " " ++ sort_text c) (natural_line n (both (is_natural n) _ p.0).0) (sort_line c p.1)
 item_free (StepItem (Given n)) h = integer_line n h
 item_free (StepItem (Sum ps)) h = parts_line ps (both (all is_scaled ps) _ h).0
 item_free (StepItem (Divide s)) h = scaled_line s h
@@ -148,13 +148,13 @@ add_bound_on : (d : Draft) (places : List Place) (done : List Bound) (b : Bound)
 unfolding add
 add_bound_on d places done b s f = rw (s, f) refl
 
-add_entry_on : (d : Draft) (places : List Place) (bounds : List Bound) (done : List Entry) (n : ℕ) (claim : Claim) → settle d.settled d.opened ≡ Some (certificate places bounds done) → follows entry_is_behind done n ≡ true → add d (EntryItem n claim) ≡ Some (draft (certificate places bounds done) (InEntry (entry_at n claim)))
+add_entry_on : (d : Draft) (places : List Place) (bounds : List Bound) (done : List Entry) (n : ℕ) (sort : EntrySort) → settle d.settled d.opened ≡ Some (certificate places bounds done) → follows entry_is_behind done n ≡ true → add d (EntryItem n sort) ≡ Some (draft (certificate places bounds done) (InEntry (entry_at n sort)))
 unfolding add
-add_entry_on d places bounds done n claim s f = rw (s, f) refl
+add_entry_on d places bounds done n sort s f = rw (s, f) refl
 
-add_step_on : (c : Certificate) (n : ℕ) (claim : Claim) (done : List Step) (x : Step) → add (draft c (InEntry (record { obligation = n; claim = claim; steps = done }))) (StepItem x) ≡ Some (draft c (InEntry (record { obligation = n; claim = claim; steps = done ++ x ∷ [] })))
+add_step_on : (c : Certificate) (n : ℕ) (sort : EntrySort) (done : List Step) (x : Step) → add (draft c (InEntry (record { obligation = n; sort = sort; steps = done }))) (StepItem x) ≡ Some (draft c (InEntry (record { obligation = n; sort = sort; steps = done ++ x ∷ [] })))
 unfolding add
-add_step_on c n claim done x = refl
+add_step_on c n sort done x = refl
 
 add_end_on : (d : Draft) (c : Certificate) → settle d.settled d.opened ≡ Some c → add d EndItem ≡ Some (draft c Ended)
 unfolding add
@@ -235,32 +235,32 @@ bounds_lead d places done (b ∷ bounds) s h up =
       settled = r.settled ∙ ap (λ bs. Some (certificate places bs [])) (sym (moved done b bounds));
     }
 
-abbrev in_entry : Certificate → ℕ → Claim → List Step → Draft
-in_entry c n claim steps = draft c (InEntry (record { obligation = n; claim = claim; steps = steps }))
+abbrev in_entry : Certificate → ℕ → EntrySort → List Step → Draft
+in_entry c n sort steps = draft c (InEntry (record { obligation = n; sort = sort; steps = steps }))
 
-steps_lead : (c : Certificate) (n : ℕ) (claim : Claim) (done steps : List Step) → all is_step steps ≡ true → Leads (in_entry c n claim done) (map step_line steps) (in_entry c n claim (done ++ steps))
-steps_lead c n claim done [] h = subst (λ ss. Leads (in_entry c n claim done) [] (in_entry c n claim ss)) (sym (append-nil done)) (stays (in_entry c n claim done))
-steps_lead c n claim done (x ∷ steps) h =
+steps_lead : (c : Certificate) (n : ℕ) (sort : EntrySort) (done steps : List Step) → all is_step steps ≡ true → Leads (in_entry c n sort done) (map step_line steps) (in_entry c n sort (done ++ steps))
+steps_lead c n sort done [] h = subst (λ ss. Leads (in_entry c n sort done) [] (in_entry c n sort ss)) (sym (append-nil done)) (stays (in_entry c n sort done))
+steps_lead c n sort done (x ∷ steps) h =
     let p = both (is_step x) (all is_step steps) h in
-    subst (λ ss. Leads (in_entry c n claim done) (map step_line (x ∷ steps)) (in_entry c n claim ss)) (sym (moved done x steps))
-    (leads_on (in_entry c n claim done) (in_entry c n claim (done ++ x ∷ [])) (in_entry c n claim ((done ++ x ∷ []) ++ steps)) (step_line x ∷ []) (map step_line steps)
-    (by_item (in_entry c n claim done) (StepItem x) (in_entry c n claim (done ++ x ∷ [])) p.0 (add_step_on c n claim done x))
-    (steps_lead c n claim (done ++ x ∷ []) steps p.1))
+    subst (λ ss. Leads (in_entry c n sort done) (map step_line (x ∷ steps)) (in_entry c n sort ss)) (sym (moved done x steps))
+    (leads_on (in_entry c n sort done) (in_entry c n sort (done ++ x ∷ [])) (in_entry c n sort ((done ++ x ∷ []) ++ steps)) (step_line x ∷ []) (map step_line steps)
+    (by_item (in_entry c n sort done) (StepItem x) (in_entry c n sort (done ++ x ∷ [])) p.0 (add_step_on c n sort done x))
+    (steps_lead c n sort (done ++ x ∷ []) steps p.1))
 
 entries_lead : (d : Draft) (places : List Place) (bounds : List Bound) (done entries : List Entry) → settle d.settled d.opened ≡ Some (certificate places bounds done) → all is_entry entries ≡ true → rises entry_is_before (done ++ entries) ≡ true → Settles d (flat_map entry_lines entries) (certificate places bounds (done ++ entries))
 entries_lead d places bounds done [] s h up = record { last = d; leads = stays d; settled = s ∙ ap (λ es. Some (certificate places bounds es)) (sym (append-nil done)) }
 entries_lead d places bounds done (x ∷ entries) s h up =
     let a = both (is_entry x) (all is_entry entries) h in
-    let b = both (is_natural x.obligation && nat_le 1 x.obligation) (is_claim x.claim && all is_step x.steps) a.0 in
-    let g = both (is_claim x.claim) (all is_step x.steps) b.1 in
+    let b = both (is_natural x.obligation && nat_le 1 x.obligation) (is_sort x.sort && all is_step x.steps) a.0 in
+    let g = both (is_sort x.sort) (all is_step x.steps) b.1 in
     let c = certificate places bounds done in
-    let zero = in_entry c x.obligation x.claim [] in
-    let e = in_entry c x.obligation x.claim x.steps in
+    let zero = in_entry c x.obligation x.sort [] in
+    let e = in_entry c x.obligation x.sort x.steps in
     let r = entries_lead e places bounds (done ++ x ∷ []) entries refl a.1 (ap (rises entry_is_before) (sym (moved done x entries)) ∙ up) in
-    let first = by_item d (EntryItem x.obligation x.claim) zero (andt (is_natural x.obligation && nat_le 1 x.obligation) (is_claim x.claim) b.0 g.0) (add_entry_on d places bounds done x.obligation x.claim s (entry_follows done x ∙ rises_follow entry_is_before done x entries up)) in
+    let first = by_item d (EntryItem x.obligation x.sort) zero (andt (is_natural x.obligation && nat_le 1 x.obligation) (is_sort x.sort) b.0 g.0) (add_entry_on d places bounds done x.obligation x.sort s (entry_follows done x ∙ rises_follow entry_is_before done x entries up)) in
     record {
       last = r.last;
-      leads = leads_on d e r.last (entry_lines x) (flat_map entry_lines entries) (leads_on d zero e (entry_line x.obligation x.claim ∷ []) (map step_line x.steps) first (steps_lead c x.obligation x.claim [] x.steps g.1)) r.leads;
+      leads = leads_on d e r.last (entry_lines x) (flat_map entry_lines entries) (leads_on d zero e (entry_line x.obligation x.sort ∷ []) (map step_line x.steps) first (steps_lead c x.obligation x.sort [] x.steps g.1)) r.leads;
       settled = r.settled ∙ ap (λ es. Some (certificate places bounds es)) (sym (moved done x entries));
     }
 

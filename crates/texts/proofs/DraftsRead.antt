@@ -5,13 +5,13 @@ use Rattle.std.specs.List.{flat_map}
 use Rattle.std.proofs.lemmas.Grind.{flat_map-append}
 use Rattle.std.proofs.lemmas.List.{append-nil, map_push}
 use Rattle.texts.specs.Lines.{is_empty, follows, words}
-use Rattle.texts.specs.Certificate.{Spot, Place, Bound, Step, Claim, Entry, Certificate}
+use Rattle.texts.specs.Certificate.{Spot, Place, Bound, Step, EntrySort, Entry, Certificate}
 use Rattle.texts.specs.CertificateText.{place_line, same_line, fact_line, congruence_line, place_lines, bound_line, entry_line, entry_lines, step_line, body_lines}
 use Rattle.texts.specs.CertificateForms.{then, when, number}
 use Rattle.texts.specs.CertificateLines.{Item, PlaceItem, SameItem, FactItem, CongruenceItem, BoundItem, EntryItem, StepItem, EndItem, item_of}
 use Rattle.texts.specs.CertificateDrafts.{place_is_behind, bound_is_behind, entry_is_behind, Open, Nothing, InPlace, InEntry, Ended, Draft, draft, certificate, has_line, settle, open_place, open_entry, place_fits, bound_fits, entry_fits, place_at, entry_at, add_to_place, add_place, add_bound, add_entry, add_to_entry, add_end, add_within, add}
 use Rattle.texts.specs.CertificateReading.{add_line}
-use Rattle.texts.specs.CertificateRules.{all, rises, is_form, is_spot, is_congruence, is_open_place, is_place, is_bound, is_claim, is_step, is_entry, place_is_before, bound_is_before, entry_is_before, is_certificate}
+use Rattle.texts.specs.CertificateRules.{all, rises, is_form, is_spot, is_congruence, is_open_place, is_place, is_bound, is_sort, is_step, is_entry, place_is_before, bound_is_before, entry_is_before, is_certificate}
 use Rattle.texts.specs.CertificateForms as names
 use Rattle.texts.proofs.Fits.{both}
 use Rattle.texts.proofs.Cuts.{then_back, when_back, all_push, rises_push}
@@ -116,14 +116,14 @@ add_bound_back d b e h g q =
     let made : IsDraft (draft next Nothing) = record { settled = andt _ _ parts.0 (andt _ _ row later.1); opened = tt } in
     (subst IsDraft w.1 made, ap draft_lines (sym w.1) ∙ append-nil (body_lines next) ∙ body_bound c.0.places c.0.bounds b c.0.entries (none_left c.0.entries fits.0) ∙ ap (λ t. t ++ bound_line b ∷ []) s.1)
 
-add_entry_back : (d : Draft) (n : ℕ) (claim : Claim) (e : Draft) → IsDraft d → is_item (EntryItem n claim) ≡ true → add_entry d n claim ≡ Some e → IsDraft e × (draft_lines e ≡ draft_lines d ++ item_line (EntryItem n claim) ∷ [])
-add_entry_back d n claim e h g q =
+add_entry_back : (d : Draft) (n : ℕ) (sort : EntrySort) (e : Draft) → IsDraft d → is_item (EntryItem n sort) ≡ true → add_entry d n sort ≡ Some e → IsDraft e × (draft_lines e ≡ draft_lines d ++ item_line (EntryItem n sort) ∷ [])
+add_entry_back d n sort e h g q =
     let c = then_back (settle d.settled d.opened) _ e q in
-    let w = when_back (entry_fits c.0 n) (draft c.0 (InEntry (entry_at n claim))) e c.2 in
+    let w = when_back (entry_fits c.0 n) (draft c.0 (InEntry (entry_at n sort))) e c.2 in
     let s = settle_back d.settled d.opened c.0 h.settled h.opened c.1 in
-    let p = both _ (is_claim claim) g in
-    let made : IsDraft (draft c.0 (InEntry (entry_at n claim))) = record { settled = s.0; opened = (w.0, andt _ (is_claim claim && true) p.0 (andt (is_claim claim) true p.1 refl)) } in
-    (subst IsDraft w.1 made, ap draft_lines (sym w.1) ∙ ap (λ t. t ++ item_line (EntryItem n claim) ∷ []) s.1)
+    let p = both _ (is_sort sort) g in
+    let made : IsDraft (draft c.0 (InEntry (entry_at n sort))) = record { settled = s.0; opened = (w.0, andt _ (is_sort sort && true) p.0 (andt (is_sort sort) true p.1 refl)) } in
+    (subst IsDraft w.1 made, ap draft_lines (sym w.1) ∙ ap (λ t. t ++ item_line (EntryItem n sort) ∷ []) s.1)
 
 entry_opened : (o : Open) (e : Entry) → open_entry o ≡ Some e → o ≡ InEntry e
 entry_opened Nothing e q = absurd cc
@@ -148,11 +148,11 @@ add_step_back d s e h g q =
     let o = entry_opened d.opened n.0 n.1 in
     let fits : OpenFits d.settled (InEntry n.0) = subst (OpenFits d.settled) o h.opened in
     let p = both _ _ fits.1 in
-    let r = both (is_claim n.0.claim) (all is_step n.0.steps) p.1 in
-    let good : is_entry next ≡ true = andt _ _ p.0 (andt (is_claim n.0.claim) (all is_step (n.0.steps ++ s ∷ [])) r.0 (all_push is_step n.0.steps s r.1 g)) in
+    let r = both (is_sort n.0.sort) (all is_step n.0.steps) p.1 in
+    let good : is_entry next ≡ true = andt _ _ p.0 (andt (is_sort n.0.sort) (all is_step (n.0.steps ++ s ∷ [])) r.0 (all_push is_step n.0.steps s r.1 g)) in
     let made : IsDraft (draft d.settled (InEntry next)) = record { settled = h.settled; opened = (fits.0, good) } in
     let w = same (draft d.settled (InEntry next)) e n.2 in
-    (subst IsDraft w made, ap draft_lines (sym w) ∙ grown d.settled d.opened (InEntry next) (entry_lines n.0) (step_line s) (ap open_lines o) (ap (λ t. entry_line n.0.obligation n.0.claim ∷ t) (map_push step_line n.0.steps s)))
+    (subst IsDraft w made, ap draft_lines (sym w) ∙ grown d.settled d.opened (InEntry next) (entry_lines n.0) (step_line s) (ap open_lines o) (ap (λ t. entry_line n.0.obligation n.0.sort ∷ t) (map_push step_line n.0.steps s)))
 
 add_end_back : (d e : Draft) → IsDraft d → add_end d ≡ Some e → IsDraft e × (draft_lines e ≡ draft_lines d ++ item_line EndItem ∷ [])
 add_end_back d e h q =
@@ -235,7 +235,7 @@ pub add_back : (d : Draft) (i : Item) (e : Draft) → IsDraft d → is_item i �
 unfolding add
 add_back d (PlaceItem s) e h g q = add_place_back d s e h g q
 add_back d (BoundItem b) e h g q = add_bound_back d b e h g q
-add_back d (EntryItem n claim) e h g q = add_entry_back d n claim e h g q
+add_back d (EntryItem n sort) e h g q = add_entry_back d n sort e h g q
 add_back d (StepItem s) e h g q = add_step_back d s e h g q
 add_back d EndItem e h g q = add_end_back d e h q
 add_back d (SameItem n) e h g q = add_within_back d (SameItem n) e h g q

@@ -8,11 +8,11 @@ use Rattle.std.proofs.lemmas.List.{append-nil}
 use Rattle.std.proofs.lemmas.Grind.{flat_map-append}
 use Rattle.semantics.specs.Linear.{Form}
 use Rattle.texts.specs.Lines.{is_empty, pieces, words, first, sole, two, natural_of, integer_of, follows}
-use Rattle.texts.specs.Certificate.{Name, Anchor, KernelEntry, Barrier, Spot, Congruence, Descent, Down, Halve, Bound, Claim, Show, Positive, Negative, Quotient, Scaled, Step, Given, Sum, Divide}
-use Rattle.texts.specs.CertificateText.{form_text, anchor_text, head_text, place_line, same_line, fact_line, congruence_line, descent_text, bound_line, claim_text, entry_line, scaled_text, step_line}
+use Rattle.texts.specs.Certificate.{Name, Anchor, KernelEntry, Barrier, Spot, Congruence, Descent, Down, Halve, Bound, EntrySort, Show, Positive, Negative, Quotient, Scaled, Step, Given, Sum, Divide}
+use Rattle.texts.specs.CertificateText.{form_text, anchor_text, head_text, place_line, same_line, fact_line, congruence_line, descent_text, bound_line, sort_text, entry_line, scaled_text, step_line}
 use Rattle.texts.specs.CertificateForms.{then, when, number, identifier_of, form_of}
-use Rattle.texts.specs.CertificateLines.{Item, PlaceItem, SameItem, FactItem, CongruenceItem, BoundItem, EntryItem, StepItem, EndItem, at_least, anchor_of, head_of, spot_of, congruence_of, descent_of, bound_of, plain_claim, claim_of, entry_of, scaled_of, line_is_before, sum_of, given_of, divide_of, place_item, step_item, item_of}
-use Rattle.texts.specs.CertificateRules.{all, rises, is_natural, is_integer, is_form, is_anchor, is_head, is_spot, is_congruence, is_descent, is_bound, is_claim, is_scaled, is_step}
+use Rattle.texts.specs.CertificateLines.{Item, PlaceItem, SameItem, FactItem, CongruenceItem, BoundItem, EntryItem, StepItem, EndItem, at_least, anchor_of, head_of, spot_of, congruence_of, descent_of, bound_of, plain_sort, sort_of, entry_of, scaled_of, line_is_before, sum_of, given_of, divide_of, place_item, step_item, item_of}
+use Rattle.texts.specs.CertificateRules.{all, rises, is_natural, is_integer, is_form, is_anchor, is_head, is_spot, is_congruence, is_descent, is_bound, is_sort, is_scaled, is_step}
 use Rattle.texts.proofs.Decimals.{natural_back, integer_back}
 use Rattle.texts.proofs.Cuts.{parted, spaced, pieces_back, then_back, map_back, when_back, cond_back, number_back, first_back, sole_back, two_back, by_word, by_front, all_push, rises_push}
 use Rattle.texts.proofs.FormsRead.{identifier_back, form_back, three}
@@ -25,7 +25,7 @@ item_line (SameItem name) = same_line name
 item_line (FactItem f) = fact_line f
 item_line (CongruenceItem c) = congruence_line c
 item_line (BoundItem b) = bound_line b
-item_line (EntryItem n claim) = entry_line n claim
+item_line (EntryItem n sort) = entry_line n sort
 item_line (StepItem s) = step_line s
 item_line EndItem = codes "end"
 
@@ -35,7 +35,7 @@ is_item (SameItem name) = names.is_identifier name
 is_item (FactItem f) = is_form f
 is_item (CongruenceItem c) = is_congruence c
 is_item (BoundItem b) = is_bound b
-is_item (EntryItem n claim) = (is_natural n && nat_le 1 n) && is_claim claim
+is_item (EntryItem n sort) = (is_natural n && nat_le 1 n) && is_sort sort
 is_item (StepItem s) = is_step s
 is_item EndItem = true
 
@@ -147,13 +147,13 @@ bound_back ws b e =
       ap is_bound (sym q) ∙ andt (is_natural n.0) _ nb.1 (three (is_descent d.0.0) (is_integer m.0) (is_form f.0) db.1 mb.1 fb.1),
     )
 
-plain_back : (w : List ℕ) (c : Claim) → plain_claim w ≡ Some c → (claim_text c ≡ w) × (is_claim c ≡ true)
+plain_back : (w : List ℕ) (c : EntrySort) → plain_sort w ≡ Some c → (sort_text c ≡ w) × (is_sort c ≡ true)
 plain_back w c e = elim (by_word w (codes "show") _ _ c e) [
-  | inl h ↦ let q : Show ≡ c = cc in (ap claim_text (sym q) ∙ sym h.0, ap is_claim (sym q))
+  | inl h ↦ let q : Show ≡ c = cc in (ap sort_text (sym q) ∙ sym h.0, ap is_sort (sym q))
   | inr f ↦ elim (by_word w (codes "pos") _ _ c f) [
-    | inl h ↦ let q : Positive ≡ c = cc in (ap claim_text (sym q) ∙ sym h.0, ap is_claim (sym q))
+    | inl h ↦ let q : Positive ≡ c = cc in (ap sort_text (sym q) ∙ sym h.0, ap is_sort (sym q))
     | inr g ↦ elim (by_word w (codes "neg") _ _ c g) [
-      | inl h ↦ let q : Negative ≡ c = cc in (ap claim_text (sym q) ∙ sym h.0, ap is_claim (sym q))
+      | inl h ↦ let q : Negative ≡ c = cc in (ap sort_text (sym q) ∙ sym h.0, ap is_sort (sym q))
       | inr k ↦ absurd cc
     ]
   ]
@@ -163,12 +163,12 @@ pub none_left : {A : Type 0} (ws : List A) → is_empty ws ≡ true → ws ≡ [
 none_left [] e = refl
 none_left (w ∷ ws) e = absurd cc
 
-claim_back : (w : List ℕ) (ws : List (List ℕ)) (c : Claim) → claim_of w ws ≡ Some c → (w ++ spaced ws ≡ claim_text c) × (is_claim c ≡ true)
-claim_back w ws c e = elim (by_word w (codes "quot") _ _ c e) [
+sort_back : (w : List ℕ) (ws : List (List ℕ)) (c : EntrySort) → sort_of w ws ≡ Some c → (w ++ spaced ws ≡ sort_text c) × (is_sort c ≡ true)
+sort_back w ws c e = elim (by_word w (codes "quot") _ _ c e) [
   | inl h ↦ let m = map_back Quotient (form_of [] None ws) c h.1 in
       let f = whole_back ws m.0 m.1 in
-      (ap (λ t. t ++ spaced ws) h.0 ∙ ap (λ t. codes "quot" ++ t) f.0 ∙ ap claim_text m.2, ap is_claim (sym m.2) ∙ f.1)
-  | inr g ↦ let p = cond_back (is_empty ws) (plain_claim w) c g in
+      (ap (λ t. t ++ spaced ws) h.0 ∙ ap (λ t. codes "quot" ++ t) f.0 ∙ ap sort_text m.2, ap is_sort (sym m.2) ∙ f.1)
+  | inr g ↦ let p = cond_back (is_empty ws) (plain_sort w) c g in
       let b = plain_back w c p.1 in
       (ap (λ t. w ++ spaced t) (none_left ws p.0) ∙ append-nil w ∙ sym b.0, b.1)
 ]
@@ -179,13 +179,13 @@ entry_back ws i e =
     let a = then_back (first ws) _ i e in
     let n = then_back (at_least 1 (natural_of a.0.0)) _ i a.2 in
     let b = then_back (first a.0.1) _ i n.2 in
-    let c = then_back (claim_of b.0.0 b.0.1) _ i b.2 in
+    let c = then_back (sort_of b.0.0 b.0.1) _ i b.2 in
     let made : Item = EntryItem n.0 c.0 in
     let q : made ≡ i = same made i c.2 in
     let nb = least_back 1 a.0.0 n.0 n.1 in
-    let cb = claim_back b.0.0 b.0.1 c.0 c.1 in (
-      ap (λ t. codes "ob" ++ t) (word_front ws a.0.0 a.0.1 (decimal n.0) (32 ∷ claim_text c.0) (first_back ws a.0 a.1) nb.0 (ap spaced (first_back a.0.1 b.0 b.1) ∙ ap (λ t. 32 ∷ t) cb.0)) ∙ ap item_line q,
-      ap is_item (sym q) ∙ andt _ (is_claim c.0) (andt (is_natural n.0) (nat_le 1 n.0) nb.1 nb.2) cb.1,
+    let cb = sort_back b.0.0 b.0.1 c.0 c.1 in (
+      ap (λ t. codes "ob" ++ t) (word_front ws a.0.0 a.0.1 (decimal n.0) (32 ∷ sort_text c.0) (first_back ws a.0 a.1) nb.0 (ap spaced (first_back a.0.1 b.0 b.1) ∙ ap (λ t. 32 ∷ t) cb.0)) ∙ ap item_line q,
+      ap is_item (sym q) ∙ andt _ (is_sort c.0) (andt (is_natural n.0) (nat_le 1 n.0) nb.1 nb.2) cb.1,
     )
 
 scaled_back : (f l : List ℕ) (s : Scaled) → scaled_of f l ≡ Some s → (signed_decimal s.factor ≡ f) × (signed_decimal s.line ≡ l) × (is_scaled s ≡ true)

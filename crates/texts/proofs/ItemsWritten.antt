@@ -8,11 +8,11 @@ use Rattle.std.proofs.lemmas.Bool.{cond-true}
 use Rattle.std.proofs.lemmas.List.{append-nil}
 use Rattle.semantics.specs.Linear.{Form}
 use Rattle.texts.specs.Lines.{is_empty, pieces, words, sole, natural_of, integer_of, follows}
-use Rattle.texts.specs.Certificate.{Name, Anchor, KernelEntry, Barrier, Spot, Congruence, Descent, Down, Halve, Bound, Claim, Show, Positive, Negative, Quotient, Scaled, Step, Given, Sum, Divide}
-use Rattle.texts.specs.CertificateText.{form_text, anchor_text, head_text, place_line, congruence_line, descent_text, bound_line, claim_text, entry_line, scaled_text, step_line}
+use Rattle.texts.specs.Certificate.{Name, Anchor, KernelEntry, Barrier, Spot, Congruence, Descent, Down, Halve, Bound, EntrySort, Show, Positive, Negative, Quotient, Scaled, Step, Given, Sum, Divide}
+use Rattle.texts.specs.CertificateText.{form_text, anchor_text, head_text, place_line, congruence_line, descent_text, bound_line, sort_text, entry_line, scaled_text, step_line}
 use Rattle.texts.specs.CertificateForms.{then, when, number, identifier_of, form_of}
-use Rattle.texts.specs.CertificateLines.{Item, PlaceItem, SameItem, FactItem, CongruenceItem, BoundItem, EntryItem, StepItem, EndItem, at_least, anchor_of, spot_of, congruence_of, descent_of, bound_of, claim_of, entry_of, scaled_of, line_is_before, sum_of, given_of, item_of}
-use Rattle.texts.specs.CertificateRules.{all, rises, is_natural, is_integer, is_form, is_anchor, is_head, is_spot, is_congruence, is_descent, is_bound, is_claim, is_scaled, is_step}
+use Rattle.texts.specs.CertificateLines.{Item, PlaceItem, SameItem, FactItem, CongruenceItem, BoundItem, EntryItem, StepItem, EndItem, at_least, anchor_of, spot_of, congruence_of, descent_of, bound_of, sort_of, entry_of, scaled_of, line_is_before, sum_of, given_of, item_of}
+use Rattle.texts.specs.CertificateRules.{all, rises, is_natural, is_integer, is_form, is_anchor, is_head, is_spot, is_congruence, is_descent, is_bound, is_sort, is_scaled, is_step}
 use Rattle.texts.proofs.Fits.{both}
 use Rattle.texts.proofs.Decimals.{natural_forth, integer_forth}
 use Rattle.texts.proofs.FormsWritten.{is_free, is_plain, cut_one, cut_at, all_append, plain_free, natural_plain, integer_plain, identifier_plain, identifier_forth, form_forth, rises_follow, moved}
@@ -106,23 +106,23 @@ bound_forth b h =
     let split = natural_word b.loop (descent_text b.descent ++ (32 ∷ tail)) p.0 ∙ ap (λ ws. decimal b.loop ∷ ws) d.2 in
     ap (option_map BoundItem) (bound_read (pieces 32 (decimal b.loop ++ (32 ∷ (descent_text b.descent ++ (32 ∷ tail))))) b d.0 d.1 (pieces 32 (form_text b.form)) p.0 r.0 split (d.3 ∙ ap (λ ws. Some (b.descent, ws)) (integer_word b.most (form_text b.form) r.0)) (form_forth b.form r.1))
 
-claim_forth : (c : Claim) → is_claim c ≡ true → (w : List ℕ) × (ws : List (List ℕ)) × (pieces 32 (claim_text c) ≡ w ∷ ws) × (claim_of w ws ≡ Some c)
-claim_forth Show h = (codes "show", [], refl, refl)
-claim_forth Positive h = (codes "pos", [], refl, refl)
-claim_forth Negative h = (codes "neg", [], refl, refl)
-claim_forth (Quotient f) h = (codes "quot", pieces 32 (form_text f), refl, ap (option_map Quotient) (form_forth f h))
+sort_forth : (c : EntrySort) → is_sort c ≡ true → (w : List ℕ) × (ws : List (List ℕ)) × (pieces 32 (sort_text c) ≡ w ∷ ws) × (sort_of w ws ≡ Some c)
+sort_forth Show h = (codes "show", [], refl, refl)
+sort_forth Positive h = (codes "pos", [], refl, refl)
+sort_forth Negative h = (codes "neg", [], refl, refl)
+sort_forth (Quotient f) h = (codes "quot", pieces 32 (form_text f), refl, ap (option_map Quotient) (form_forth f h))
 
-entry_read : (ws : List (List ℕ)) (n : ℕ) (c : Claim) (w : List ℕ) (vs : List (List ℕ)) → is_natural n ≡ true → nat_le 1 n ≡ true → ws ≡ decimal n ∷ w ∷ vs → claim_of w vs ≡ Some c → entry_of ws ≡ Some (EntryItem n c)
+entry_read : (ws : List (List ℕ)) (n : ℕ) (c : EntrySort) (w : List ℕ) (vs : List (List ℕ)) → is_natural n ≡ true → nat_le 1 n ≡ true → ws ≡ decimal n ∷ w ∷ vs → sort_of w vs ≡ Some c → entry_of ws ≡ Some (EntryItem n c)
 unfolding entry_of
 entry_read ws n c w vs h l e d = rw (e, least_read 1 n h l, d) refl
 
-entry_forth : (n : ℕ) (c : Claim) → is_item (EntryItem n c) ≡ true → item_of (words (entry_line n c)) ≡ Some (EntryItem n c)
+entry_forth : (n : ℕ) (c : EntrySort) → is_item (EntryItem n c) ≡ true → item_of (words (entry_line n c)) ≡ Some (EntryItem n c)
 unfolding item_of
 entry_forth n c h =
-    let p = both (is_natural n && nat_le 1 n) (is_claim c) h in
+    let p = both (is_natural n && nat_le 1 n) (is_sort c) h in
     let q = both (is_natural n) (nat_le 1 n) p.0 in
-    let d = claim_forth c p.1 in
-    entry_read (pieces 32 (decimal n ++ (32 ∷ claim_text c))) n c d.0 d.1 q.0 q.1 (natural_word n (claim_text c) q.0 ∙ ap (λ ws. decimal n ∷ ws) d.2) d.3
+    let d = sort_forth c p.1 in
+    entry_read (pieces 32 (decimal n ++ (32 ∷ sort_text c))) n c d.0 d.1 q.0 q.1 (natural_word n (sort_text c) q.0 ∙ ap (λ ws. decimal n ∷ ws) d.2) d.3
 
 scaled_read : (s : Scaled) → is_scaled s ≡ true → scaled_of (signed_decimal s.factor) (signed_decimal s.line) ≡ Some s
 scaled_read s h = let p = both (is_integer s.factor) (is_integer s.line) h in rw (integer_read s.factor p.0, integer_read s.line p.1) refl
@@ -176,6 +176,6 @@ item_forth (SameItem name) h = same_forth name h
 item_forth (FactItem f) h = fact_forth f h
 item_forth (CongruenceItem c) h = congruence_forth c h
 item_forth (BoundItem b) h = bound_forth b h
-item_forth (EntryItem n claim) h = entry_forth n claim h
+item_forth (EntryItem n sort) h = entry_forth n sort h
 item_forth (StepItem s) h = step_forth s h
 item_forth EndItem h = refl

@@ -12,7 +12,7 @@ use Rattle.texts.specs.Numbers.{Literal, is_decimal_digit, number_of}
 use Rattle.texts.specs.Reserved.{Reserved, reserved_words}
 use Rattle.texts.specs.Signs.{Sign, signs}
 use Rattle.texts.specs.Tokens.{TokenKind, End, tokens_of, first_site, Mark, Token, Lexed, Piece, Gap, Has, Bad, piece, next, tokens, token_at, in_front, begins_with, is_blank, is_letter, is_word_byte, is_line_feed, comment_end, comment_piece, comment_gap, gap_without, first_place, joins_lines, leaves_line, goes_on, number_before, number_piece, word_kind, sign_piece}
-use Rattle.texts.specs.Reading.{IsRun, IsWord, IsWithout, IsGap, blank, line_comment, comment, IsText, Reads, ends, gap, token}
+use Rattle.texts.specs.Reading.{IsLongestRun, IsWord, IsWithout, IsGap, blank, line_comment, comment, IsText, Reads, ends, gap, token}
 use Rattle.texts.proofs.Fits.{Fits, IsCount, begins, both, word, comment_within, line_within, piece_fits}
 
 -- the bytes of a piece, and what follows
@@ -28,10 +28,10 @@ by_parts P all p q count e l h =
     subst (λ xs. P xs (drop count all)) t (subst (P p) d h)
 
 -- the longest front that passes
-pub run : (p : ℕ → Bool) (xs : List ℕ) → IsRun p (take (prefix_len p xs) xs) (drop (prefix_len p xs) xs)
+pub run : (p : ℕ → Bool) (xs : List ℕ) → IsLongestRun p (take (prefix_len p xs) xs) (drop (prefix_len p xs) xs)
 run p [] = (refl, refl)
 run p (x ∷ xs) =
-    cond_both (p x) (1 + prefix_len p xs) 0 (λ n. IsRun p (take n (x ∷ xs)) (drop n (x ∷ xs)))
+    cond_both (p x) (1 + prefix_len p xs) 0 (λ n. IsLongestRun p (take n (x ∷ xs)) (drop n (x ∷ xs)))
     (λ h.
     let h' : cond (p x) (1 + prefix_len p (take (prefix_len p xs) xs)) 0 ≡ 1 + prefix_len p (take (prefix_len p xs) xs) = rw h refl in
     let e : 1 + prefix_len p xs ≡ suc (prefix_len p xs) = omega arith in

@@ -11,7 +11,7 @@ use Rattle.texts.specs.Numbers.{is_decimal_digit}
 use Rattle.texts.specs.Reserved.{Reserved, reserved_words}
 use Rattle.texts.specs.Signs.{Sign, signs}
 use Rattle.texts.specs.Tokens.{TokenKind, Name, End, Word, Number, Mark, Token, Piece, Gap, Has, piece, next, tokens, tokens_of, token_at, in_front, begins_with, is_blank, is_letter, is_word_byte, is_line_feed, comment_end, comment_piece, comment_gap, gap_without, first_place, joins_lines, leaves_line, goes_on, number_before, number_piece, word_kind, sign_piece}
-use Rattle.texts.specs.Reading.{IsRun, IsWord, IsGap, blank, line_comment, comment, IsText, Reads, ends, gap, token}
+use Rattle.texts.specs.Reading.{IsLongestRun, IsWord, IsGap, blank, line_comment, comment, IsText, Reads, ends, gap, token}
 use Rattle.texts.proofs.Fits.{begins, both}
 use Rattle.texts.proofs.Reading.{same_two, found, not_found, one_of, longest, signs_fall, after}
 use Rattle.texts.proofs.Order.{text_written}
@@ -20,7 +20,7 @@ one_more : (b : Bool) (m n k : ℕ) → cond b (1 + m) 0 ≡ suc k → (m ≡ k 
 one_more true m n k h f = let e : n ≡ k = f (omega arith) in omega arith
 one_more false m n k h f = absurd (omega arith)
 
-run_back : (p : ℕ → Bool) (bytes rest : List ℕ) → IsRun p bytes rest → prefix_len p (bytes ++ rest) ≡ length bytes
+run_back : (p : ℕ → Bool) (bytes rest : List ℕ) → IsLongestRun p bytes rest → prefix_len p (bytes ++ rest) ≡ length bytes
 run_back p [] rest h = h.1
 run_back p (x ∷ xs) rest h = one_more (p x) (prefix_len p xs) (prefix_len p (xs ++ rest)) (length xs) h.0 (λ e. run_back p xs rest (e, h.1))
 

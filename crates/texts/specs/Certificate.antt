@@ -51,10 +51,10 @@ pub record Bound : Type 0 where
   pub most : ℤ
   pub form : Form Name
 
--- which claim of an obligation is shown
-pub data Claim : Type 0 where
-  Show Positive Negative : Claim
-  Quotient : (form : Form Name) → Claim
+-- what an entry shows of its obligation
+pub data EntrySort : Type 0 where
+  Show Positive Negative : EntrySort
+  Quotient : (form : Form Name) → EntrySort
 
 -- a line of a derivation, and what it is multiplied or divided by
 pub record Scaled : Type 0 where
@@ -69,7 +69,7 @@ pub data Step : Type 0 where
 
 pub record Entry : Type 0 where
   pub obligation : ℕ
-  pub claim : Claim
+  pub sort : EntrySort
   pub steps : List Step
 
 pub record Certificate : Type 0 where

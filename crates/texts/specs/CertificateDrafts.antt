@@ -1,7 +1,7 @@
 -- A certificate of which some lines are read, and what may stand behind them.
 use Rattle.std.specs.Prelude.{ℕ, List, [], ◌∷◌, ◌++◌, Bool, true, false, not, nat_lt, ◌&&◌, ◌||◌, Option, None, Some}
 use Rattle.texts.specs.Lines.{is_empty, follows}
-use Rattle.texts.specs.Certificate.{Anchor, KernelEntry, Barrier, Spot, Place, Bound, Entry, Step, Claim, Certificate}
+use Rattle.texts.specs.Certificate.{Anchor, KernelEntry, Barrier, Spot, Place, Bound, Entry, Step, EntrySort, Certificate}
 use Rattle.texts.specs.CertificateLines.{Item, PlaceItem, SameItem, FactItem, CongruenceItem, BoundItem, EntryItem, StepItem, EndItem}
 use Rattle.texts.specs.CertificateForms.{then, when}
 
@@ -84,8 +84,8 @@ entry_fits c obligation = follows entry_is_behind c.entries obligation
 abbrev pub place_at : Spot → Place
 place_at spot = record { spot = spot; same = []; facts = []; congruences = [] }
 
-abbrev pub entry_at : ℕ → Claim → Entry
-entry_at obligation claim = record { obligation = obligation; claim = claim; steps = [] }
+abbrev pub entry_at : ℕ → EntrySort → Entry
+entry_at obligation sort = record { obligation = obligation; sort = sort; steps = [] }
 
 -- in a place `same` lines come first, then `fact` lines, then `mod` lines
 abbrev pub add_to_place : Place → Item → Option Place
@@ -103,8 +103,8 @@ add_place d spot = then (settle d.settled d.opened) (λ c. when (place_fits c sp
 abbrev pub add_bound : Draft → Bound → Option Draft
 add_bound d b = then (settle d.settled d.opened) (λ c. when (bound_fits c b) (draft (record c { bounds = c.bounds ++ b ∷ [] }) Nothing))
 
-abbrev pub add_entry : Draft → ℕ → Claim → Option Draft
-add_entry d n claim = then (settle d.settled d.opened) (λ c. when (entry_fits c n) (draft c (InEntry (entry_at n claim))))
+abbrev pub add_entry : Draft → ℕ → EntrySort → Option Draft
+add_entry d n sort = then (settle d.settled d.opened) (λ c. when (entry_fits c n) (draft c (InEntry (entry_at n sort))))
 
 abbrev pub add_to_entry : Draft → Step → Option Draft
 add_to_entry d s = then (open_entry d.opened) (λ e. then (with_step e s) (λ f. Some (draft d.settled (InEntry f))))
@@ -119,7 +119,7 @@ add_within d item = then (open_place d.opened) (λ p. then (add_to_place p item)
 unfoldable pub add : Draft → Item → Option Draft
 add d (PlaceItem spot) = add_place d spot
 add d (BoundItem b) = add_bound d b
-add d (EntryItem n claim) = add_entry d n claim
+add d (EntryItem n sort) = add_entry d n sort
 add d (StepItem s) = add_to_entry d s
 add d EndItem = add_end d
 add d item = add_within d item

@@ -4,7 +4,7 @@ use Rattle.std.specs.Option.{option_map}
 use Rattle.std.specs.Int.Signed.{lt_z}
 use Rattle.semantics.specs.Linear.{Form}
 use Rattle.texts.specs.Lines.{NumberFault, pieces, is_empty, follows, sole, two, first, natural_of, integer_of}
-use Rattle.texts.specs.Certificate.{Name, Anchor, KernelEntry, Barrier, Spot, Congruence, Descent, Down, Halve, Bound, Claim, Show, Positive, Negative, Quotient, Scaled, Step, Given, Sum, Divide}
+use Rattle.texts.specs.Certificate.{Name, Anchor, KernelEntry, Barrier, Spot, Congruence, Descent, Down, Halve, Bound, EntrySort, Show, Positive, Negative, Quotient, Scaled, Step, Given, Sum, Divide}
 use Rattle.texts.specs.CertificateForms.{then, when, number, begins, identifier_of, form_of}
 
 -- what a line between the first and the last says
@@ -14,7 +14,7 @@ pub data Item : Type 0 where
   FactItem : (form : Form Name) → Item
   CongruenceItem : (congruence : Congruence) → Item
   BoundItem : (bound : Bound) → Item
-  EntryItem : (obligation : ℕ) (claim : Claim) → Item
+  EntryItem : (obligation : ℕ) (sort : EntrySort) → Item
   StepItem : (step : Step) → Item
   EndItem : Item
 
@@ -51,18 +51,18 @@ bound_of words =
     then (first descent.1) (λ c. then (number (integer_of c.0)) (λ most. then (form_of [] None c.1) (λ f.
     Some (record { loop = loop; descent = descent.0; most = most; form = f }))))))))
 
-abbrev pub plain_claim : List ℕ → Option Claim
-plain_claim word =
+abbrev pub plain_sort : List ℕ → Option EntrySort
+plain_sort word =
     cond (bytes_eq word (codes "show")) (Some Show) (cond (bytes_eq word (codes "pos")) (Some Positive) (cond (bytes_eq word (codes "neg")) (Some Negative) None))
 
-abbrev pub claim_of : List ℕ → List (List ℕ) → Option Claim
-claim_of word words =
-    cond (bytes_eq word (codes "quot")) (option_map Quotient (form_of [] None words)) (cond (is_empty words) (plain_claim word) None)
+abbrev pub sort_of : List ℕ → List (List ℕ) → Option EntrySort
+sort_of word words =
+    cond (bytes_eq word (codes "quot")) (option_map Quotient (form_of [] None words)) (cond (is_empty words) (plain_sort word) None)
 
 unfoldable pub entry_of : List (List ℕ) → Option Item
 entry_of words =
-    then (first words) (λ a. then (at_least 1 (natural_of a.0)) (λ obligation. then (first a.1) (λ b. then (claim_of b.0 b.1) (λ claim.
-    Some (EntryItem obligation claim)))))
+    then (first words) (λ a. then (at_least 1 (natural_of a.0)) (λ obligation. then (first a.1) (λ b. then (sort_of b.0 b.1) (λ sort.
+    Some (EntryItem obligation sort)))))
 
 abbrev pub scaled_of : (factor line : List ℕ) → Option Scaled
 scaled_of factor line =

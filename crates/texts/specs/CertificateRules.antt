@@ -3,7 +3,7 @@ use Rattle.std.specs.Prelude.{ℕ, ℤ, pos, negsuc, ◌^◌, List, [], ◌∷�
 use Rattle.std.specs.Ordering.{int_eq}
 use Rattle.semantics.specs.Linear.{Weighted, Form}
 use Rattle.texts.specs.Lines.{is_empty}
-use Rattle.texts.specs.Certificate.{Name, Variable, AtAnchor, Turns, Fresh, Argument, Length, Groups, Group, Local, Anchor, KernelEntry, Barrier, Spot, Congruence, Place, Descent, Down, Halve, Bound, Claim, Show, Positive, Negative, Quotient, Scaled, Step, Given, Sum, Divide, Entry, Certificate}
+use Rattle.texts.specs.Certificate.{Name, Variable, AtAnchor, Turns, Fresh, Argument, Length, Groups, Group, Local, Anchor, KernelEntry, Barrier, Spot, Congruence, Place, Descent, Down, Halve, Bound, EntrySort, Show, Positive, Negative, Quotient, Scaled, Step, Given, Sum, Divide, Entry, Certificate}
 use Rattle.texts.specs.CertificateText.{name_text}
 use Rattle.texts.specs.CertificateForms.{is_identifier, is_before}
 use Rattle.texts.specs.CertificateLines.{line_is_before}
@@ -76,11 +76,11 @@ is_descent Halve = true
 abbrev pub is_bound : Bound → Bool
 is_bound b = is_natural b.loop && (is_descent b.descent && (is_integer b.most && is_form b.form))
 
-abbrev pub is_claim : Claim → Bool
-is_claim Show = true
-is_claim Positive = true
-is_claim Negative = true
-is_claim (Quotient form) = is_form form
+abbrev pub is_sort : EntrySort → Bool
+is_sort Show = true
+is_sort Positive = true
+is_sort Negative = true
+is_sort (Quotient form) = is_form form
 
 abbrev pub is_scaled : Scaled → Bool
 is_scaled s = is_integer s.factor && is_integer s.line
@@ -92,7 +92,7 @@ is_step (Sum parts) = all is_scaled parts && (rises line_is_before parts && not 
 is_step (Divide quotient) = is_scaled quotient
 
 abbrev pub is_entry : Entry → Bool
-is_entry e = (is_natural e.obligation && nat_le 1 e.obligation) && (is_claim e.claim && all is_step e.steps)
+is_entry e = (is_natural e.obligation && nat_le 1 e.obligation) && (is_sort e.sort && all is_step e.steps)
 
 abbrev pub place_is_before : (left right : Place) → Bool
 place_is_before left right = spot_is_before left.spot right.spot

@@ -4,7 +4,7 @@ use Rattle.std.specs.List.{flat_map}
 use Rattle.std.specs.Fmt.{decimal, signed_decimal}
 use Rattle.semantics.specs.Linear.{Weighted, Form}
 use Rattle.texts.specs.Lines.{text_of_lines}
-use Rattle.texts.specs.Certificate.{Dimension, First, Second, Third, Name, Variable, AtAnchor, Turns, Fresh, Argument, Length, Groups, Group, Local, Anchor, KernelEntry, Barrier, Spot, Congruence, Place, Descent, Down, Halve, Bound, Claim, Show, Positive, Negative, Quotient, Scaled, Step, Given, Sum, Divide, Entry, Certificate}
+use Rattle.texts.specs.Certificate.{Dimension, First, Second, Third, Name, Variable, AtAnchor, Turns, Fresh, Argument, Length, Groups, Group, Local, Anchor, KernelEntry, Barrier, Spot, Congruence, Place, Descent, Down, Halve, Bound, EntrySort, Show, Positive, Negative, Quotient, Scaled, Step, Given, Sum, Divide, Entry, Certificate}
 
 abbrev pub dimension_text : Dimension → List ℕ
 dimension_text First = codes "0"
@@ -61,14 +61,14 @@ abbrev pub bound_line : Bound → List ℕ
 bound_line b =
     codes "loop " ++ (decimal b.loop ++ (codes " " ++ (descent_text b.descent ++ (codes " " ++ (signed_decimal b.most ++ (codes " " ++ form_text b.form))))))
 
-abbrev pub claim_text : Claim → List ℕ
-claim_text Show = codes "show"
-claim_text Positive = codes "pos"
-claim_text Negative = codes "neg"
-claim_text (Quotient form) = codes "quot " ++ form_text form
+abbrev pub sort_text : EntrySort → List ℕ
+sort_text Show = codes "show"
+sort_text Positive = codes "pos"
+sort_text Negative = codes "neg"
+sort_text (Quotient form) = codes "quot " ++ form_text form
 
-abbrev pub entry_line : (obligation : ℕ) → Claim → List ℕ
-entry_line obligation claim = codes "ob " ++ (decimal obligation ++ (codes " " ++ claim_text claim))
+abbrev pub entry_line : (obligation : ℕ) → EntrySort → List ℕ
+entry_line obligation sort = codes "ob " ++ (decimal obligation ++ (codes " " ++ sort_text sort))
 
 abbrev pub scaled_text : Scaled → List ℕ
 scaled_text s = codes " " ++ (signed_decimal s.factor ++ (codes " " ++ signed_decimal s.line))
@@ -79,7 +79,7 @@ step_line (Sum parts) = codes "s" ++ flat_map scaled_text parts
 step_line (Divide quotient) = codes "d" ++ scaled_text quotient
 
 abbrev pub entry_lines : Entry → List (List ℕ)
-entry_lines e = entry_line e.obligation e.claim ∷ map step_line e.steps
+entry_lines e = entry_line e.obligation e.sort ∷ map step_line e.steps
 
 -- between the first line and the last
 abbrev pub body_lines : Certificate → List (List ℕ)

@@ -8,7 +8,7 @@ use Rattle.texts.specs.LaunchFaults.{LimitPassed, Cursor, cursor, Step, refused,
 use Rattle.texts.specs.LaunchWords.{Launch, natural_at, word_at, due_blank, due_parameter, head_line, each, end_text}
 
 -- what a launch text says: the words of buffers with their kinds
-pub record Given : Type 0 where
+pub record TypedLaunch : Type 0 where
   pub groups : Three ℕ
   pub arguments : List Word
   pub buffers : List (List Word)
@@ -18,7 +18,7 @@ abbrev pub number : Word → ℤ
 number w = w.value
 
 -- the launch itself
-abbrev pub meant : Given → meaning.Launch
+abbrev pub meant : TypedLaunch → meaning.Launch
 meant l = record { groups = l.groups; arguments = l.arguments; buffers = map (map number) l.buffers; fill = l.fill }
 
 abbrev pub counts : (x y z : ℕ) → Three ℕ
@@ -78,11 +78,11 @@ buffer_lines ps c = each (buffer_due ps) [] ps c
 unfoldable pub fill_line : Cursor → Step (ℕ × Cursor)
 fill_line c = then (due_blank Launch (codes "fill") c) (λ a. then (natural_at 0 2147483647 a) (λ t. then (end_line t.1) (λ d. Ok (t.0, d))))
 
-abbrev pub given : Three ℕ → List Word → List (List Word) → (fill : ℕ) → Given
+abbrev pub given : Three ℕ → List Word → List (List Word) → (fill : ℕ) → TypedLaunch
 given groups arguments buffers fill = record { groups = groups; arguments = arguments; buffers = buffers; fill = fill }
 
 -- all lines
-unfoldable pub launch_at : List Parameter → Cursor → Step Given
+unfoldable pub launch_at : List Parameter → Cursor → Step TypedLaunch
 launch_at ps c =
     then (head_line Launch (codes "launch") c) (λ a. then (groups_line a) (λ groups. then (argument_lines ps groups.1) (λ arguments.
     then (buffer_lines ps arguments.1) (λ buffers. then (fill_line buffers.1) (λ fill.
@@ -93,5 +93,5 @@ abbrev pub launch_limit : ℕ
 launch_limit = 4194304
 
 -- what a text says of a kernel with these parameters, or its first fault and the number of the line
-abbrev pub launch_of : List Parameter → List ℕ → Step Given
+abbrev pub launch_of : List Parameter → List ℕ → Step TypedLaunch
 launch_of ps text = cond (nat_lt launch_limit (length text)) (Err (LimitPassed, 1)) (launch_at ps (cursor 1 text))

@@ -5,7 +5,7 @@ use Rattle.std.specs.Fmt.{decimal, signed_decimal}
 use Rattle.semantics.specs.Word.{Word}
 use Rattle.texts.specs.Lines.{line_feed}
 use Rattle.texts.specs.Surface.{Parameter, Buffer, Value}
-use Rattle.texts.specs.LaunchReading.{Given}
+use Rattle.texts.specs.LaunchReading.{TypedLaunch}
 
 abbrev pub word_text : Word → List ℕ
 word_text w = codes " " ++ signed_decimal w.value
@@ -31,13 +31,13 @@ arguments_text (Buffer constant k site name ∷ ps) arguments = arguments_text p
 arguments_text (Value k site name ∷ ps) [] = []
 arguments_text (Value k site name ∷ ps) (w ∷ ws) = argument_text name w ++ arguments_text ps ws
 
-abbrev pub groups_text : Given → List ℕ
+abbrev pub groups_text : TypedLaunch → List ℕ
 groups_text l =
     codes "groups " ++ (decimal l.groups.x ++ (codes " " ++ (decimal l.groups.y ++ (codes " " ++ (decimal l.groups.z ++ line_feed ∷ [])))))
 
 abbrev pub fill_text : ℕ → List ℕ
 fill_text n = codes "fill " ++ (decimal n ++ line_feed ∷ [])
 
-abbrev pub launch_text : List Parameter → Given → List ℕ
+abbrev pub launch_text : List Parameter → TypedLaunch → List ℕ
 launch_text ps l =
     (codes "launch 1" ++ line_feed ∷ []) ++ (groups_text l ++ (arguments_text ps l.arguments ++ (buffers_text ps l.buffers ++ fill_text l.fill)))

@@ -8,8 +8,8 @@ use Rattle.texts.specs.Numbers.{is_decimal_digit, number_of}
 use Rattle.texts.specs.Tokens.{TokenKind, Name, End, Word, Number, Mark, Token, token_at, site_of, is_blank, is_letter, is_line_feed, is_word_byte, begins_with, comment_end, joins_lines, leaves_line, goes_on}
 
 -- all bytes pass, and the first of the rest, where there is one, does not: no longer front passes
-abbrev pub IsRun : (test : ℕ → Bool) → (bytes rest : List ℕ) → Type 0
-IsRun test bytes rest = (prefix_len test bytes ≡ length bytes) × (prefix_len test rest ≡ 0)
+abbrev pub IsLongestRun : (test : ℕ → Bool) → (bytes rest : List ℕ) → Type 0
+IsLongestRun test bytes rest = (prefix_len test bytes ≡ length bytes) × (prefix_len test rest ≡ 0)
 
 -- at none of these bytes do the bytes from there on pass
 abbrev pub IsWithout : (test : List ℕ → Bool) → (bytes rest : List ℕ) → Type 0
@@ -19,12 +19,12 @@ IsWithout test bytes rest = (k : ℕ) → k < length bytes → test (drop k (byt
 -- no lines are joined
 pub data IsGap : (bytes rest : List ℕ) → Type 0 where
   blank : (b : ℕ) (rest : List ℕ) → is_blank b ≡ true → IsGap (b ∷ []) rest
-  line_comment : (line rest : List ℕ) → IsRun (λ b. not (is_line_feed b)) line rest → IsWithout leaves_line (codes "//" ++ line) rest → IsGap (codes "//" ++ line) rest
+  line_comment : (line rest : List ℕ) → IsLongestRun (λ b. not (is_line_feed b)) line rest → IsWithout leaves_line (codes "//" ++ line) rest → IsGap (codes "//" ++ line) rest
   comment : (body rest : List ℕ) → comment_end 0 (body ++ codes "*/") ≡ Some (length body + 2) → IsWithout joins_lines (codes "/*" ++ body ++ codes "*/") rest → IsGap (codes "/*" ++ body ++ codes "*/") rest
 
 -- word bytes, as many as there are, the first of which passes
 abbrev pub IsWord : (first : ℕ → Bool) → (bytes rest : List ℕ) → Type 0
-IsWord first bytes rest = IsRun is_word_byte bytes rest × (first (slice_index_or bytes 0 0) ≡ true)
+IsWord first bytes rest = IsLongestRun is_word_byte bytes rest × (first (slice_index_or bytes 0 0) ≡ true)
 
 -- the bytes of a token: a word or number has all word bytes that follow, and no sign behind a number is part of it; a sign is
 -- the longest that stands here, and no comment begins here

@@ -8,11 +8,11 @@ use Rattle.texts.specs.Scope.{Scope, leave_block}
 use Rattle.texts.specs.Typing.{TypedTerm, type_of}
 use Rattle.texts.specs.Elaboration.{Elaborated, elaborated, single, join, elaborate_first, elaborate_assignment, elaborate_statement, elaborate_all}
 use Rattle.core_code.specs.View.{statement, statements}
-use Rattle.types.specs.Blocks.{behind, block, repeated, otherwise}
-use Rattle.types.specs.Answers.{Gives, Refuses}
+use Rattle.types.specs.Blocks.{behind, block, repeated, turn, otherwise}
+use Rattle.scopes.specs.Answers.{Gives, Refuses}
 use Rattle.core_code.specs.declared.tree.Statement.{Statement}
-use Rattle.types.specs.declared.error.TypeError.{TypeError}
-use Rattle.types.specs.declared.error.TypeError.TheVariants as errors
+use Rattle.scopes.specs.declared.error.TypeError.{TypeError}
+use Rattle.scopes.specs.declared.error.TypeError.TheVariants as errors
 use Rattle.syntax.specs.View.{statement as stmt, statements as stmts}
 use Rattle.syntax.specs.declared.tree.Stmt.{Stmt}
 use Rattle.core_code.proofs.Rows.{seen_if, seen_loop}
@@ -95,8 +95,8 @@ otherwise-done sc n test taken skipped x h = rw (sym (behind-none (block sc skip
 pub while-done : (top : Bool) (sc : Scope) (n : ℕ) (s : core.Site) (e : surface.Expression) (body : surface.Statements) (t : TypedTerm) (x : Elaborated) → type_of sc.visible e ≡ Ok t → behind core.none (block sc body) ≡ Ok x → elaborate_statement top sc (surface.While n s e body) ≡ Ok (elaborated (single (core.Loop n t.term x.statements core.none)) x.scope)
 while-done top sc n s e body t x p q = block-while top sc n s e body ∙ rw (p, sym (behind-none (block sc body)) ∙ q) refl
 
-pub repeated-done : (sc : Scope) (n : ℕ) (e : surface.Expression) (update : surface.Assignment) (body : surface.Statements) (t : TypedTerm) (u : core.Statement) (x : Elaborated) → type_of sc.visible e ≡ Ok t → elaborate_assignment sc update ≡ Ok u → behind core.none (block sc body) ≡ Ok x → repeated sc n e update body ≡ Ok (elaborated (single (core.Loop n t.term x.statements (single u))) x.scope)
-repeated-done sc n e update body t u x p q r = rw (p, q, sym (behind-none (block sc body)) ∙ r) refl
+pub repeated-done : (sc : Scope) (n : ℕ) (e : surface.Expression) (update : surface.Assignment) (body : surface.Statements) (u : core.Term × core.Statement) (x : Elaborated) → turn sc e update ≡ Ok u → behind core.none (block sc body) ≡ Ok x → repeated sc n e update body ≡ Ok (elaborated (single (core.Loop n u.0 x.statements (single u.1))) x.scope)
+repeated-done sc n e update body u x q r = rw (q, sym (behind-none (block sc body)) ∙ r) refl
 
 pub for-done : (top : Bool) (sc : Scope) (n : ℕ) (s : core.Site) (first : surface.First) (e : surface.Expression) (update : surface.Assignment) (body : surface.Statements) (f x : Elaborated) → elaborate_first sc first ≡ Ok f → repeated f.scope n e update body ≡ Ok x → elaborate_statement top sc (surface.For n s first e update body) ≡ Ok (elaborated (join f.statements x.statements) (leave_block sc x.scope))
 for-done top sc n s first e update body f x p q = block-for top sc n s first e update body ∙ rw (p, q) refl

@@ -15,11 +15,14 @@ behind before answer = then answer (λ e. Ok (elaborated (join before e.statemen
 abbrev pub block : Scope → surface.Statements → Checked Elaborated
 block outer body = then (elaborate_all false outer body) (λ b. Ok (elaborated b.statements (leave_block outer b.scope)))
 
+-- the test and the update of a loop
+abbrev pub turn : Scope → surface.Expression → surface.Assignment → Checked (core.Term × core.Statement)
+turn scope test update = then (type_of scope.visible test) (λ t. then (elaborate_assignment scope update) (λ u. Ok (t.term, u)))
+
 -- a loop with an update, its scope that of its first part
 abbrev pub repeated : Scope → ℕ → surface.Expression → surface.Assignment → surface.Statements → Checked Elaborated
 repeated scope n test update body =
-    then (type_of scope.visible test) (λ t. then (elaborate_assignment scope update) (λ u. then (block scope body) (λ x.
-    Ok (elaborated (single (core.Loop n t.term x.statements (single u))) x.scope))))
+    then (turn scope test update) (λ u. then (block scope body) (λ x. Ok (elaborated (single (core.Loop n u.0 x.statements (single u.1))) x.scope)))
 
 -- the second part of an `if`, after its first
 abbrev pub otherwise : Scope → ℕ → core.Term → core.Statements → surface.Statements → Checked Elaborated

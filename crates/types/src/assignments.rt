@@ -11,51 +11,19 @@ ghost use Rattle.words.specs.View.{kind as kind_of};
 ghost use Rattle.syntax.specs.View.{expression, assign_sign, assignment};
 ghost use Rattle.core_code.specs.View.{site};
 ghost use Rattle.core_code.specs.View.{array as array_of, statement, term};
-ghost use Rattle.types.specs.Names.{names, meaning_seen, scope_seen};
-ghost use Rattle.types.specs.Answers.{typed_term, Gives, IsTyped, IsArrayOf};
+ghost use Rattle.scopes.specs.Names.{names, meaning_seen, scope_seen};
+ghost use Rattle.scopes.specs.Answers.{typed_term, Gives, IsTyped, IsArrayOf};
 
-use crate::error::{TypeError, TypeFault};
 use crate::loads::first_load;
-use crate::scope::{Binding, Meaning, Scope, meaning_of};
-use crate::typing::{TypedTerm, bring, infix_term, type_of};
+use crate::typing::{infix_term, type_of};
 use core_code::tree::{Array, Site, Statement, Term};
+use scopes::conversions::{TypedTerm, bring};
+use scopes::error::{TypeError, TypeFault};
+use scopes::scope::{Binding, Scope, meaning_of};
+use scopes::targets::{target_array, target_slot};
 use std::alloc::Global;
 use syntax::tree::{AssignSign, Assignment, Expr, InfixSign};
 use words::Kind;
-
-fn target_array(at: Site, meaning: Option<Meaning>) -> Result<(Array, Kind), TypeError>
-    ensures { IsArrayOf result (rules.then (rules.found (option_map meaning_seen meaning) rules.UnknownName (site at)) (elaboration.target_array (site at))) }
-{
-    let fault = match meaning {
-        Some(
-            Meaning::Array {
-                array,
-                kind,
-                writable: true,
-            },
-        ) => return Ok((array, kind)),
-        Some(Meaning::Array { .. }) => TypeFault::WriteToConst,
-        Some(Meaning::Variable { .. }) => TypeFault::WrongType,
-        None => TypeFault::UnknownName,
-    };
-    Err(TypeError::At { fault, site: at })
-}
-
-fn target_slot(at: Site, meaning: Option<Meaning>) -> Result<(u32, Kind), TypeError>
-    ensures { Gives (λ x. (x.0, kind_of x.1)) result (rules.then (rules.found (option_map meaning_seen meaning) rules.UnknownName (site at)) (elaboration.target_slot (site at))) }
-{
-    match meaning {
-        Some(Meaning::Variable { slot, kind }) => Ok((slot, kind)),
-        Some(Meaning::Array { .. }) => Err(TypeError::At {
-            fault: TypeFault::WrongType,
-            site: at,
-        }),
-        None => Err(TypeError::At {
-            fault: TypeFault::UnknownName,
-            site: at,
-        }),
-    }
-}
 
 // The value of `x op= e`, which is that of `x op (e)`.
 fn assigned(

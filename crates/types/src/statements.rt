@@ -9,18 +9,18 @@ ghost use Rattle.texts.specs.Scope as scoping;
 ghost use Rattle.texts.specs.TypeFaults.{Checked};
 ghost use Rattle.syntax.specs.View.{expression, assignment, first as first_of, statement as stmt, statements as stmts};
 ghost use Rattle.core_code.specs.View.{term, statement, statements};
-ghost use Rattle.types.specs.Blocks.{behind, block, otherwise, repeated};
-ghost use Rattle.types.specs.Names.{scope_seen, one_seen, all_seen};
-ghost use Rattle.types.specs.Answers.{Gives};
-ghost use Rattle.types.specs.Rooms.{HasRoom};
+ghost use Rattle.types.specs.Blocks.{behind, block, otherwise, repeated, turn};
+ghost use Rattle.scopes.specs.Names.{scope_seen, one_seen, all_seen};
+ghost use Rattle.scopes.specs.Answers.{Gives};
+ghost use Rattle.scopes.specs.Rooms.{HasRoom};
 
 use crate::assignments::elaborate_assignment;
 use crate::barriers::barrier_of;
 use crate::declared::{declare_local, elaborate_declaration, elaborate_first};
-use crate::error::TypeError;
-use crate::scope::Scope;
 use crate::typing::type_of;
 use core_code::tree::{Statement, Term};
+use scopes::error::TypeError;
+use scopes::scope::Scope;
 use std::alloc::Global;
 use syntax::tree::{Assignment, Expr, First, Stmt};
 
@@ -125,6 +125,20 @@ fn loop_with(
     })
 }
 
+// The test and the update of a `for`.
+fn turn_of(
+    alloc: Global,
+    scope: &Scope,
+    test: &Expr,
+    update: &Assignment,
+) -> Result<(Term, Statement), TypeError>
+    ensures { Gives (λ x. (term x.0, statement x.1)) result (turn (scope_seen scope.now) (expression test.now) (assignment update.now)) }
+{
+    let test = type_of(alloc, &scope.visible, test)?;
+    let update = elaborate_assignment(alloc, scope, update)?;
+    Ok((test.term, update))
+}
+
 // What a `for` repeats, after its first part.
 #[cycle(statements)]
 #[tactic(auto, using(crate::proofs::Blocks::alone))]
@@ -139,11 +153,10 @@ fn elaborate_repeated<'a>(
     requires { HasRoom (scope_seen scope.old) (declared_by (stmts body.now)) }
     ensures { Gives (one_seen scope.new) result (repeated (scope_seen scope.old) number (expression test.now) (assignment update.now) (stmts body.now)) }
 {
-    let test = type_of(alloc, &scope.visible, test)?;
-    let update = elaborate_assignment(alloc, scope, update)?;
+    let (test, update) = turn_of(alloc, scope, test, update)?;
     let mut inside = Vec::new(alloc);
     elaborate_block(alloc, scope, body, &mut inside)?;
-    loop_with(alloc, number, test.term, inside, update)
+    loop_with(alloc, number, test, inside, update)
 }
 
 #[cycle(statements)]

@@ -12,47 +12,17 @@ ghost use Rattle.syntax.specs.View.{expression, expressions, infix_sign, prefix_
 ghost use Rattle.core_code.specs.View.{site};
 ghost use Rattle.core_code.specs.View.{term, array as array_seen, unary_operator, function as function_of};
 ghost use Rattle.types.specs.Functions.{pick as pick_of};
-ghost use Rattle.types.specs.Names.{names, meaning_seen};
-ghost use Rattle.types.specs.Answers.{typed_term, IsTyped, IsArrayOf};
+ghost use Rattle.scopes.specs.Names.{names, meaning_seen};
+ghost use Rattle.scopes.specs.Answers.{typed_term, IsTyped, IsArrayOf};
 
 use crate::calls::{Pick, function_named, is_left_out, pick_named};
-use crate::error::{TypeError, TypeFault};
-use crate::scope::{Binding, Meaning, meaning_of};
 use core_code::tree::{Array, Function, Site, Term, UnaryOperator};
+use scopes::conversions::{TypedTerm, bring, common};
+use scopes::error::{TypeError, TypeFault};
+use scopes::scope::{Binding, Meaning, meaning_of};
 use std::alloc::{AllocError, Global};
 use syntax::tree::{Expr, InfixSign, PrefixSign};
 use words::Kind;
-
-/// A term with its kind.
-#[derive(Drop)]
-pub struct TypedTerm {
-    pub kind: Kind,
-    pub term: Term,
-}
-
-/// The kind to which two operands are brought (C99 6.3.1.8).
-pub fn common(left: Kind, right: Kind) -> Kind
-    ensures { kind result ≡ typing.common (kind left) (kind right) }
-{
-    match left {
-        Kind::Uint => Kind::Uint,
-        Kind::Int => right,
-    }
-}
-
-/// The term brought to a kind: itself where it has that kind.
-pub fn bring(alloc: Global, to: Kind, at: Site, from: TypedTerm) -> Result<Term, AllocError>
-    ensures { IfOk result (λ t. term t ≡ typing.bring (kind to) (site at) (typed_term from)) }
-{
-    match (from.kind, to) {
-        (Kind::Int, Kind::Int) | (Kind::Uint, Kind::Uint) => Ok(from.term),
-        (Kind::Int, Kind::Uint) | (Kind::Uint, Kind::Int) => Ok(Term::Convert {
-            kind: to,
-            site: at,
-            of: Box::new(alloc, from.term)?,
-        }),
-    }
-}
 
 fn prefix_term(
     alloc: Global,

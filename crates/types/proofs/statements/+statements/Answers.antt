@@ -8,9 +8,9 @@ use Rattle.texts.specs.Elaboration.{elaborated, single, elaborate_statement, ela
 use Rattle.syntax.proofs.Rows.{seen_if, seen_while, seen_for, seen_block}
 use Rattle.syntax.specs.View.{statement as stmt, statements as stmts, first as first_of, assignment, expression}
 use Rattle.core_code.specs.View.{site as site_of}
-use Rattle.types.specs.Names.{scope_seen, one_seen, all_seen}
+use Rattle.scopes.specs.Names.{scope_seen, one_seen, all_seen}
 use Rattle.core_code.specs.View.{term, statement, statements}
-use Rattle.types.specs.Answers.{typed_term}
+use Rattle.scopes.specs.Answers.{typed_term}
 use Rattle.types.proofs.Blocks.{all-done, all-step, gives-behind, gives-alone, if-taken, if-refused, otherwise-done, while-done, repeated-done, for-done, for-first, for-repeated, behind-two, block-done}
 use Rattle.types.proofs.Rooms.{statement-grown, first-grown, block-grown, next-room, if-declares, while-declares, for-declares, block-declares}
 use Rattle.types.proofs.Names.{names-left, for-left, names-kept}
@@ -145,10 +145,10 @@ elaborate_while-returns t c = λ top at.
 pub elaborate_repeated-returns : goal.elaborate_repeated-returns
 elaborate_repeated-returns t c =
     let after = c.elaborate_block.new in
-    let p = rw c.deref.ensures.value at c.in_ok-test.ensures in
+    let u = c.in_ok-test in
     let q = rw c.new-inside.ensures.items at c.in_ok-elaborate_block.ensures in
-    let x = Loop c.args.number (term c.in_ok-test.test.term) (statements after.out.items) (single (statement c.in_ok-update.update)) in
-    rw (repeated-done (scope_seen c.args.scope.now) c.args.number (expression c.args.test.now) (assignment c.args.update.now) (stmts c.args.body.now) (typed_term c.in_ok-test.test) (statement c.in_ok-update.update) (all_seen after.out.items after.scope) p c.in_ok-update.ensures q)
+    let x = Loop c.args.number (term u.test) (statements after.out.items) (single (statement u.update)) in
+    rw (repeated-done (scope_seen c.args.scope.now) c.args.number (expression c.args.test.now) (assignment c.args.update.now) (stmts c.args.body.now) (term u.test, statement u.update) (all_seen after.out.items after.scope) u.ensures q)
     (gives-alone c.loop_with.result (Ok x) (scope_seen after.scope) c.loop_with.ensures)
 
 pub elaborate_for-elaborate_repeated-requires : goal.elaborate_for-elaborate_repeated-requires

@@ -1,0 +1,12 @@
+pub mod Forth
+pub mod LinesForth
+pub mod LaunchForth
+pub mod Taken
+pub mod SumsTaken
+pub mod LinesTaken
+pub mod ConditionsTaken
+pub mod SumsForth
+pub mod RangesForth
+pub mod ConditionsForth
+pub mod LaunchTaken
+pub mod SpellingsForth

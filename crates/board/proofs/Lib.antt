@@ -1,0 +1,5 @@
+pub mod Steps
+pub mod Opening
+pub mod Readings
+pub mod Counting
+pub mod Passes

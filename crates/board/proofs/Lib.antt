@@ -3,3 +3,4 @@ pub mod Opening
 pub mod Readings
 pub mod Counting
 pub mod Passes
+pub mod Masks

@@ -1,9 +1,8 @@
 -- Steps on one word keep the rule.
-use Rattle.std.proofs.Common.{◌≡◌, ℕ, ◌-◌, ◌*◌, ◌/◌, ◌%◌, ◌^◌, ◌<◌, ◌≢◌, ◌==◌, Bool, true, false, List, [], ◌∷◌, ◌++◌, length, set, get_or, bit_and, w64, refl, sym, ap, ◌∙◌, subst, ⊎_elim, length-set, arith}
-use Rattle.std.specs.Int.{bit_at, bit_not}
-use Rattle.std.proofs.lemmas.Nat.{one_shl}
-use Rattle.std.proofs.lemmas.Nat.Bits.{bit_at_and, bit_at_not, bit_at-lt, bit_at-pow_other, bit_at_clear_same}
-use Rattle.std.proofs.lemmas.Bool.{cases_eq, eq-eqb, eqb-true, false≢true, false_from_ne_true, cases_Bool}
+use Rattle.std.proofs.Common.{◌≡◌, ℕ, ◌/◌, ◌%◌, ◌<◌, ◌≢◌, ◌==◌, Bool, true, false, List, [], ◌∷◌, ◌++◌, length, set, get_or, bit_and, refl, sym, ap, ◌∙◌, subst, ⊎_elim, length-set, arith}
+use Rattle.std.specs.Int.{bit_at}
+use Rattle.std.proofs.lemmas.Nat.Bits.{bit_at_and, bit_at-lt}
+use Rattle.std.proofs.lemmas.Bool.{cases_eq, eq-eqb, eqb-true, ne_eqb, false≢true, false_from_ne_true, cases_Bool}
 use mathlib.Core.Option.{Option, some, none}
 use lib.ListN.{get_elem?}
 use Rattle.atomic_table.proofs.Lists.{at_set, at_snoc, set_again}
@@ -157,27 +156,15 @@ drops supports slots i m id me s lt mask rule at =
       learned supports i y s.words s.homes s.views id me.0 rule at lt inside has slots (step slots i m 0 none) me.1 refl,
     )
 
--- the mask that leaves out one candidate
-abbrev pub but : ℕ → ℕ
-but k = bit_not w64 (1 * 2 ^ (k % 64) % 2 ^ 64)
+-- a mask that leaves out one candidate alone holds each of the greatest set that stands in that word
+pub but_others : (supports : Supports) (k m : ℕ) → ((b : ℕ) → b < 64 → b ≢ k % 64 → bit_at m b ≡ 1) → ¬ (IsInGreatest supports k) → (c : ℕ) → c / 64 ≡ k / 64 → IsInGreatest supports c → bit_at m (c % 64) ≡ 1
+but_others supports k m others out c e g = others (c % 64) (omega arith) (λ b. out (subst (IsInGreatest supports) (same_place c k e b) g))
 
--- it holds each other candidate of that word
-pub but_others : (supports : Supports) (k : ℕ) → ¬ (IsInGreatest supports k) → (c : ℕ) → c / 64 ≡ k / 64 → IsInGreatest supports c → bit_at (but k) (c % 64) ≡ 1
-but_others supports k out c e g =
-    let other : c % 64 ≢ k % 64 = λ b. out (subst (IsInGreatest supports) (same_place c k e b) g) in
-    let small : k % 64 < 64 = omega arith in
-    let low : c % 64 < 64 = omega arith in
-    let p : ℕ = 1 * 2 ^ (k % 64) % 2 ^ 64 in
-    let fits : p < 2 ^ 64 = omega arith in
-    let zero_bit : bit_at p (c % 64) ≡ 0 = ap (λ n. bit_at n (c % 64)) (one_shl (k % 64) 64 small) ∙ bit_at-pow_other (k % 64) (c % 64) other in
-    bit_at_not w64 p (c % 64) fits low ∙ ap (λ n. 1 - n) zero_bit
-
--- it lacks that candidate
-pub but_lacks : (left : List ℕ) (x k : ℕ) → length left ≡ 8 → k < 512 → members (set left (k / 64) (bit_and x (but k))) k ≡ false
-but_lacks left x k eight lt =
+-- what is written by it lacks that candidate
+pub but_lacks : (left : List ℕ) (x k m : ℕ) → length left ≡ 8 → k < 512 → bit_at m (k % 64) ≡ 0 → members (set left (k / 64) (bit_and x m)) k ≡ false
+but_lacks left x k m eight lt lacks =
     let long : k / 64 < length left = omega arith in
-    let small : k % 64 < 64 = omega arith in
-    members_written left (k / 64) (bit_and x (but k)) k long refl ∙ ap (λ n. n == 1) (bit_at_clear_same w64 x (k % 64) small)
+    members_written left (k / 64) (bit_and x m) k long refl ∙ ne_eqb (bit_at (bit_and x m) (k % 64)) 1 (λ one. let two = bit_at_and x m (k % 64) in omega (arith, one, lacks, two))
 
 -- a seat is split into two that have seen the same
 pub parted : (supports : Supports) (words : List ℕ) (homes : List (Option (Unit {0}))) (views : List View) (id : ℕ) (v : View) → Holds supports (record { words = words; homes = homes; views = views }) → get_elem? views id ≡ some v → Holds supports (record { words = words; homes = homes; views = set views id v ++ v ∷ [] })

@@ -1,6 +1,7 @@
 //! Reading a board, and the examination of one candidate.
 
-ghost use Rattle.std.specs.Prelude.{◌≡◌, ℕ, ◌<◌, length, slice_set, List};
+ghost use Rattle.std.specs.Prelude.{◌≡◌, ◌≢◌, ℕ, ◌<◌, ◌%◌, length, slice_set, List};
+ghost use Rattle.std.specs.Int.{bit_at};
 ghost use Rattle.semantics.specs.Candidates.{IsInGreatest};
 ghost use Rattle.supports.specs.Sets.{members, HoldsGreatest};
 ghost use Rattle.board.specs.Rule.{Seen};
@@ -11,6 +12,15 @@ use crate::answers::Examined;
 use crate::board::Board;
 use crate::{Dropped, Looked, Seat};
 use supports::Set;
+
+/// All bits but the candidate's.
+#[tactic(auto, using(crate::proofs::Masks::mask_rows))]
+fn all_but(candidate: u32) -> u64
+    ensures lacks { bit_at result (candidate % 64) ≡ 0 }
+    ensures others { (b : ℕ) → b < 64 → b ≢ candidate % 64 → bit_at result b ≡ 1 }
+{
+    !(1u64 << (candidate % 64))
+}
 
 impl Board {
     fn read(&self, seat: &mut Seat, word: usize) -> u64
@@ -31,7 +41,7 @@ impl Board {
         ensures more { (c : ℕ) → Seen seat.old.me.0 c → Seen seat.new.me.0 c }
         ensures seen { Seen seat.new.me.0 candidate }
     {
-        let mask = !(1u64 << (candidate % 64));
+        let mask = all_but(candidate);
         self.table
             .shared
             .fetch_and::<Dropped>(seat, (candidate / 64) as usize, mask);

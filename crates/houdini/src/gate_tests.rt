@@ -2,9 +2,10 @@
 
 use crate::tables::{CHAIN, ONE_STANDS, THREE_STAND, members, supports};
 use crate::{SettleError, settle};
+use board::BoardError;
 use std::sync::atomic::{AtomicBool, AtomicU32, AtomicU64, Ordering};
 use std::test::Fail;
-use supports::Set;
+use supports::{Set, SupportError};
 use words::{Gate, Moment, Open};
 
 #[test]
@@ -32,8 +33,17 @@ fn too_few_or_many_workers_are_refused(rt: HostRuntime) -> Result<(), Fail> {
             }
         }
     }
-    assert_eq!(rt; SettleError::Memory.number(), 90);
     Ok(())
+}
+
+#[test]
+fn want_of_memory_is_90(rt: HostRuntime) {
+    let numbers = [
+        SupportError::Memory.number(),
+        BoardError::Memory.number(),
+        SettleError::Memory.number(),
+    ];
+    assert_eq!(rt; numbers, [90; 3]);
 }
 
 /// Holds workers 1 and 2 at their first candidate until both have come to it.

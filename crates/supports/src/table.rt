@@ -15,11 +15,12 @@ use std::sync::Arc;
 /// Of each candidate its obligations, of each obligation the sets of candidates that suffice for it.
 #[derive(Drop)]
 pub struct Supports {
+    count: u32,
     lists: Arc<Vec<Vec<Vec<Vec<u32>>>>>,
 }
 
 impl Model for Supports {
-    ghost use Rattle.std.specs.Prelude.{ℕ, ◌≤◌, List, length};
+    ghost use Rattle.std.specs.Prelude.{◌≡◌, ℕ, ◌≤◌, List, length};
     ghost use Rattle.std.specs.Arc.{arc_value};
     ghost use Rattle.supports.specs.View.{supports};
 
@@ -27,7 +28,7 @@ impl Model for Supports {
 
     ghost view = { λ s. supports (arc_value s.lists).items };
 
-    ghost invariant = { λ s. length (arc_value s.lists).items ≤ 512 };
+    ghost invariant = { λ s. (s.count ≤ 512) × (length (arc_value s.lists).items ≡ s.count) };
 }
 
 #[tactic(auto, using(crate::proofs::Rows::all_rows))]
@@ -71,13 +72,14 @@ impl Supports {
     /// set of candidates.
     pub fn of(
         alloc: Global,
-        n: u32,
+        count: u32,
         lists: Vec<Vec<Vec<Vec<u32>>>>,
     ) -> Result<Supports, SupportError>
-        requires { (n ≤ 512) × (length lists.items ≡ n) }
+        requires { (count ≤ 512) × (length lists.items ≡ count) }
         ensures { IfOk result (λ s. s ≡ supports lists.items) }
     {
         Ok(Supports {
+            count,
             lists: Arc::new(alloc, lists)?,
         })
     }
@@ -87,6 +89,7 @@ impl Supports {
         ensures { IfOk result (λ s. s ≡ self.now) }
     {
         Ok(Supports {
+            count: self.count,
             lists: Arc::try_clone(&self.lists)?,
         })
     }
@@ -95,7 +98,7 @@ impl Supports {
     pub fn count(&self) -> u32
         ensures { (result ≡ length self.now) × (result ≤ 512) }
     {
-        self.lists.len() as u32
+        self.count
     }
 
     /// Whether each obligation of the candidate has a listed set that lies in the set.

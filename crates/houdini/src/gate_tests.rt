@@ -1,0 +1,186 @@
+//! Workers that settle, watched and held by gates.
+
+use crate::tables::{CHAIN, ONE_STANDS, THREE_STAND, members, supports};
+use crate::{SettleError, settle};
+use board::BoardError;
+use std::sync::atomic::{AtomicBool, AtomicU32, AtomicU64, Ordering};
+use std::test::Fail;
+use supports::{Set, SupportError};
+use words::{Gate, Moment, Open};
+
+#[test]
+fn each_number_of_workers_settles_one_set(rt: HostRuntime) -> Result<(), Fail> {
+    let three = supports(rt.alloc(), THREE_STAND)?;
+    let one = supports(rt.alloc(), ONE_STANDS)?;
+    for workers in [1, 2, 64] {
+        let set = settle(&rt, rt.alloc(), &three, workers, &Open)?;
+        assert_eq!(rt; members(&set), [true, true, false, true, false]);
+        let set = settle(&rt, rt.alloc(), &one, workers, &Open)?;
+        assert_eq!(rt; members(&set), [true, false, false, false, false]);
+    }
+    Ok(())
+}
+
+#[test]
+fn too_few_or_many_workers_are_refused(rt: HostRuntime) -> Result<(), Fail> {
+    let table = supports(rt.alloc(), THREE_STAND)?;
+    for workers in [0, 65] {
+        match settle(&rt, rt.alloc(), &table, workers, &Open) {
+            Ok(_) => return Err(Fail::new("a set of too few or too many workers")),
+            Err(error) => {
+                assert_eq!(rt; error.number(), 70);
+                assert_eq!(rt; format!(in rt.alloc(); "{error}")?.as_str(), "70");
+            }
+        }
+    }
+    Ok(())
+}
+
+#[test]
+fn want_of_memory_is_90(rt: HostRuntime) {
+    let numbers = [
+        SupportError::Memory.number(),
+        BoardError::Memory.number(),
+        SettleError::Memory.number(),
+    ];
+    assert_eq!(rt; numbers, [90; 3]);
+}
+
+/// Holds workers 1 and 2 at their first candidate until both have come to it.
+#[derive(Drop)]
+struct Meeting {
+    first: AtomicBool,
+    second: AtomicBool,
+    missed: AtomicBool,
+}
+
+impl Meeting {
+    fn await_other(&self, mine: &AtomicBool, other: &AtomicBool) {
+        mine.store(true, Ordering::SeqCst);
+        for _ in 0..1_000_000_000u32 {
+            if other.load(Ordering::SeqCst) {
+                return;
+            }
+        }
+        self.missed.store(true, Ordering::SeqCst);
+    }
+}
+
+impl Gate for Meeting {
+    fn at(&self, worker: u32, moment: Moment) {
+        let Moment::Examine(_) = moment else {
+            return;
+        };
+        match worker {
+            1 => self.await_other(&self.first, &self.second),
+            2 => self.await_other(&self.second, &self.first),
+            _ => {}
+        }
+    }
+}
+
+#[test]
+fn two_workers_meet(rt: HostRuntime) -> Result<(), Fail> {
+    let table = supports(rt.alloc(), ONE_STANDS)?;
+    let gate = Meeting {
+        first: AtomicBool::new(false),
+        second: AtomicBool::new(false),
+        missed: AtomicBool::new(false),
+    };
+    let set = settle(&rt, rt.alloc(), &table, 2, &gate)?;
+    assert_eq!(rt; members(&set), [true, false, false, false, false]);
+    assert!(rt; !gate.missed.load(Ordering::SeqCst));
+    Ok(())
+}
+
+/// Holds worker 1 at one of its moments until worker 2 has ended, or for 1,000,000 turns.
+#[derive(Drop)]
+struct Holding {
+    at: u32,
+    told: AtomicU32,
+    ended: AtomicBool,
+}
+
+impl Holding {
+    fn hold(&self) {
+        for _ in 0..1_000_000u32 {
+            if self.ended.load(Ordering::SeqCst) {
+                return;
+            }
+        }
+    }
+}
+
+impl Gate for Holding {
+    fn at(&self, worker: u32, moment: Moment) {
+        if worker == 2 && moment == Moment::Ended {
+            self.ended.store(true, Ordering::SeqCst);
+        }
+        if worker == 1 && self.told.fetch_add(1, Ordering::SeqCst) == self.at {
+            self.hold();
+        }
+    }
+}
+
+#[test]
+fn a_worker_is_held_at_each_moment(rt: HostRuntime) -> Result<(), Fail> {
+    let chain = supports(rt.alloc(), CHAIN)?;
+    for at in 0..50 {
+        for workers in [2, 3] {
+            let gate = Holding {
+                at,
+                told: AtomicU32::new(0),
+                ended: AtomicBool::new(false),
+            };
+            let set = settle(&rt, rt.alloc(), &chain, workers, &gate)?;
+            assert_eq!(rt; set, Set::empty(), "chain, {workers} workers, held at {at}");
+        }
+    }
+    Ok(())
+}
+
+/// Notes which workers have ended, how many moments were told, and whether one was told behind its worker's end.
+#[derive(Drop)]
+struct Watching {
+    moments: AtomicU32,
+    ended: AtomicU64,
+    late: AtomicBool,
+}
+
+impl Watching {
+    fn new() -> Watching {
+        Watching {
+            moments: AtomicU32::new(0),
+            ended: AtomicU64::new(0),
+            late: AtomicBool::new(false),
+        }
+    }
+}
+
+impl Gate for Watching {
+    fn at(&self, worker: u32, moment: Moment) {
+        let mine = 1u64 << (worker.wrapping_sub(1) % 64);
+        let _before = self.moments.fetch_add(1, Ordering::SeqCst);
+        let ended = if moment == Moment::Ended {
+            self.ended.fetch_or(mine, Ordering::SeqCst)
+        } else {
+            self.ended.load(Ordering::SeqCst)
+        };
+        if ended & mine != 0 {
+            self.late.store(true, Ordering::SeqCst);
+        }
+    }
+}
+
+#[test]
+fn each_worker_ends_last(rt: HostRuntime) -> Result<(), Fail> {
+    let chain = supports(rt.alloc(), CHAIN)?;
+    let gate = Watching::new();
+    let _set = settle(&rt, rt.alloc(), &chain, 64, &gate)?;
+    assert_eq!(rt; gate.ended.load(Ordering::SeqCst), u64::MAX);
+    assert!(rt; !gate.late.load(Ordering::SeqCst));
+    let alone = Watching::new();
+    let _set = settle(&rt, rt.alloc(), &chain, 1, &alone)?;
+    assert_eq!(rt; alone.moments.load(Ordering::SeqCst), 49);
+    Ok(())
+}

@@ -1,0 +1,86 @@
+//! Section: Search. Promises nothing: it is measured; stands on `houdini`.
+//!
+//! Settles 512 candidates with 128 obligations each, by so many workers, and prints how many are left. An obligation of a candidate has
+//! one set, which has the next candidate alone. Of `stand` the last candidate rests on the first one, so all are left; of `fall` it has
+//! no set, so none is, and a pass finds one or two of them. `bench/settle.py` measures it.
+#![tactic(auto)]
+
+use houdini::settle;
+use std::alloc::Global;
+use std::{env, io};
+use supports::{Set, SupportError, Supports};
+use words::Open;
+
+const CANDIDATES: u32 = 512;
+
+const OBLIGATIONS: u32 = 128;
+
+fn sets(alloc: Global, member: Option<u32>) -> Result<Vec<Vec<u32>>, SupportError> {
+    let mut made = Vec::new(alloc);
+    if let Some(member) = member {
+        made.push(vec![in alloc; member]?)?;
+    }
+    Ok(made)
+}
+
+fn obligations(alloc: Global, member: Option<u32>) -> Result<Vec<Vec<Vec<u32>>>, SupportError> {
+    let mut made = Vec::new(alloc);
+    for _ in 0..OBLIGATIONS {
+        made.push(sets(alloc, member)?)?;
+    }
+    Ok(made)
+}
+
+/// What a candidate rests on, if on anything.
+fn rests_on(candidate: u32, all_stand: bool) -> Option<u32> {
+    if candidate < CANDIDATES - 1 {
+        Some(candidate + 1)
+    } else if all_stand {
+        Some(0)
+    } else {
+        None
+    }
+}
+
+fn table(alloc: Global, all_stand: bool) -> Result<Supports, SupportError> {
+    let mut made = Vec::new(alloc);
+    for candidate in 0..CANDIDATES {
+        made.push(obligations(alloc, rests_on(candidate, all_stand))?)?;
+    }
+    let count = made.len();
+    if count > 512 {
+        return Err(SupportError::Memory);
+    }
+    Supports::of(alloc, count as u32, made)
+}
+
+fn members(set: &Set) -> u32 {
+    let mut count = 0u32;
+    for candidate in 0..CANDIDATES {
+        if set.contains(candidate) {
+            count = count.wrapping_add(1);
+        }
+    }
+    count
+}
+
+fn main(rt: HostRuntime) -> io::Result<()> {
+    let mut words = env::args(&rt)?;
+    let _program = words.next();
+    let (Some(kind), Some(workers)) = (words.next(), words.next()) else {
+        return println!(rt; "usage: houdini_bench stand|fall WORKERS");
+    };
+    let Ok(workers) = workers.as_str().parse::<u32>() else {
+        return println!(rt; "no number of workers");
+    };
+    let Ok(supports) = table(rt.alloc(), kind.as_str() == "stand") else {
+        return println!(rt; "out of memory");
+    };
+    match settle(&rt, rt.alloc(), &supports, workers, &Open) {
+        Ok(set) => {
+            let count = members(&set);
+            println!(rt; "{count} left")
+        }
+        Err(error) => println!(rt; "refused {error}"),
+    }
+}

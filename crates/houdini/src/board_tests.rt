@@ -75,24 +75,18 @@ fn a_lone_seat_settles_in_five_passes(rt: HostRuntime) -> Result<(), Fail> {
 }
 
 /// What a caller's thread finds of one candidate: the answer, whether it reads it as left, and what it settles.
-#[derive(Clone, Copy, Debug, PartialEq, Eq)]
-struct Finding {
-    examined: Option<Examined>,
-    is_left: bool,
-    settled: [bool; 5],
-}
+type Finding = (Option<Examined>, bool, [bool; 5]);
 
 fn find(board: &Board, mut seat: Seat, candidate: u32) -> Finding
     requires { IsSeatOf board.now seat }
 {
     let examined = examined(board, &mut seat, candidate);
     let is_left = board.alive(&mut seat).contains(candidate);
-    let settled = settled_members(settled_in(board, seat, 5));
-    Finding {
+    (
         examined,
         is_left,
-        settled,
-    }
+        settled_members(settled_in(board, seat, 5)),
+    )
 }
 
 #[test]
@@ -100,11 +94,11 @@ fn two_callers_settle_one_set(rt: HostRuntime) -> Result<(), Fail> {
     let (board, seat) = opened(rt.alloc(), TWO_FALL)?;
     let (first, second) = board.split(seat);
     let (one, other) = join(&rt, || find(&board, first, 1), || find(&board, second, 2));
-    let wanted = Finding {
-        examined: Some(Examined::Refuted),
-        is_left: false,
-        settled: [true, false, false, false, false],
-    };
+    let wanted = (
+        Some(Examined::Refuted),
+        false,
+        [true, false, false, false, false],
+    );
     assert_eq!(rt; [one, other], [wanted; 2]);
     Ok(())
 }

@@ -1,49 +1,70 @@
 //! Workers that settle, watched and held by gates.
 
-use crate::tables::{CHAIN, ONE_STANDS, THREE_STAND, members, supports};
+use crate::tables::{CHAIN, ONE_STANDS, THREE_STAND, Table, members, supports};
 use crate::{SettleError, settle};
 use board::BoardError;
+use std::alloc::Global;
 use std::sync::atomic::{AtomicBool, AtomicU32, AtomicU64, Ordering};
 use std::test::Fail;
-use supports::{Set, SupportError};
+use std::thread::Threads;
+use supports::SupportError;
 use words::{Gate, Moment, Open};
+
+/// Which of the first five candidates are settled.
+fn settled<R: Threads + Sync, G: Gate>(
+    rt: &R,
+    alloc: Global,
+    table: Table,
+    workers: u32,
+    gate: &G,
+) -> Result<[bool; 5], Fail> {
+    let supports = supports(alloc, table)?;
+    let set = settle(rt, alloc, &supports, workers, gate)?;
+    Ok(members(&set))
+}
 
 #[test]
 fn each_number_of_workers_settles_one_set(rt: HostRuntime) -> Result<(), Fail> {
-    let three = supports(rt.alloc(), THREE_STAND)?;
-    let one = supports(rt.alloc(), ONE_STANDS)?;
     for workers in [1, 2, 64] {
-        let set = settle(&rt, rt.alloc(), &three, workers, &Open)?;
-        assert_eq!(rt; members(&set), [true, true, false, true, false]);
-        let set = settle(&rt, rt.alloc(), &one, workers, &Open)?;
-        assert_eq!(rt; members(&set), [true, false, false, false, false]);
+        let three = settled(&rt, rt.alloc(), THREE_STAND, workers, &Open)?;
+        let one = settled(&rt, rt.alloc(), ONE_STANDS, workers, &Open)?;
+        let wanted = [
+            [true, true, false, true, false],
+            [true, false, false, false, false],
+        ];
+        assert_eq!(rt; [three, one], wanted, "{workers} workers");
     }
     Ok(())
+}
+
+/// The number under which so many workers are refused, and 0 where they are not.
+fn refusal<R: Threads + Sync>(rt: &R, alloc: Global, workers: u32) -> Result<u8, Fail> {
+    let supports = supports(alloc, THREE_STAND)?;
+    match settle(rt, alloc, &supports, workers, &Open) {
+        Ok(_) => Ok(0),
+        Err(error) => Ok(error.number()),
+    }
 }
 
 #[test]
 fn too_few_or_many_workers_are_refused(rt: HostRuntime) -> Result<(), Fail> {
-    let table = supports(rt.alloc(), THREE_STAND)?;
-    for workers in [0, 65] {
-        match settle(&rt, rt.alloc(), &table, workers, &Open) {
-            Ok(_) => return Err(Fail::new("a set of too few or too many workers")),
-            Err(error) => {
-                assert_eq!(rt; error.number(), 70);
-                assert_eq!(rt; format!(in rt.alloc(); "{error}")?.as_str(), "70");
-            }
-        }
-    }
+    let none = refusal(&rt, rt.alloc(), 0)?;
+    let many = refusal(&rt, rt.alloc(), 65)?;
+    assert_eq!(rt; [none, many], [70; 2]);
     Ok(())
 }
 
 #[test]
-fn want_of_memory_is_90(rt: HostRuntime) {
+fn errors_are_printed_as_their_numbers(rt: HostRuntime) -> Result<(), Fail> {
     let numbers = [
         SupportError::Memory.number(),
         BoardError::Memory.number(),
         SettleError::Memory.number(),
     ];
+    let printed = format!(in rt.alloc(); "{} {}", SettleError::Workers, SettleError::Memory)?;
     assert_eq!(rt; numbers, [90; 3]);
+    assert_eq!(rt; printed.as_str(), "70 90");
+    Ok(())
 }
 
 /// Holds workers 1 and 2 at their first candidate until both have come to it.
@@ -81,14 +102,13 @@ impl Gate for Meeting {
 
 #[test]
 fn two_workers_meet(rt: HostRuntime) -> Result<(), Fail> {
-    let table = supports(rt.alloc(), ONE_STANDS)?;
     let gate = Meeting {
         first: AtomicBool::new(false),
         second: AtomicBool::new(false),
         missed: AtomicBool::new(false),
     };
-    let set = settle(&rt, rt.alloc(), &table, 2, &gate)?;
-    assert_eq!(rt; members(&set), [true, false, false, false, false]);
+    let set = settled(&rt, rt.alloc(), ONE_STANDS, 2, &gate)?;
+    assert_eq!(rt; set, [true, false, false, false, false]);
     assert!(rt; !gate.missed.load(Ordering::SeqCst));
     Ok(())
 }
@@ -124,7 +144,6 @@ impl Gate for Holding {
 
 #[test]
 fn a_worker_is_held_at_each_moment(rt: HostRuntime) -> Result<(), Fail> {
-    let chain = supports(rt.alloc(), CHAIN)?;
     for at in 0..50 {
         for workers in [2, 3] {
             let gate = Holding {
@@ -132,8 +151,8 @@ fn a_worker_is_held_at_each_moment(rt: HostRuntime) -> Result<(), Fail> {
                 told: AtomicU32::new(0),
                 ended: AtomicBool::new(false),
             };
-            let set = settle(&rt, rt.alloc(), &chain, workers, &gate)?;
-            assert_eq!(rt; set, Set::empty(), "chain, {workers} workers, held at {at}");
+            let set = settled(&rt, rt.alloc(), CHAIN, workers, &gate)?;
+            assert_eq!(rt; set, [false; 5], "{workers} workers, held at {at}");
         }
     }
     Ok(())
@@ -174,13 +193,13 @@ impl Gate for Watching {
 
 #[test]
 fn each_worker_ends_last(rt: HostRuntime) -> Result<(), Fail> {
-    let chain = supports(rt.alloc(), CHAIN)?;
     let gate = Watching::new();
-    let _set = settle(&rt, rt.alloc(), &chain, 64, &gate)?;
+    let all = settled(&rt, rt.alloc(), CHAIN, 64, &gate)?;
+    let alone = Watching::new();
+    let one = settled(&rt, rt.alloc(), CHAIN, 1, &alone)?;
+    assert_eq!(rt; [all, one], [[false; 5]; 2]);
     assert_eq!(rt; gate.ended.load(Ordering::SeqCst), u64::MAX);
     assert!(rt; !gate.late.load(Ordering::SeqCst));
-    let alone = Watching::new();
-    let _set = settle(&rt, rt.alloc(), &chain, 1, &alone)?;
     assert_eq!(rt; alone.moments.load(Ordering::SeqCst), 49);
     Ok(())
 }

@@ -1,0 +1,21 @@
+//! Section: Search. Promises derivations that refute, and points that meet the facts; stands on `linear`, `cut_proof`.
+//!
+//! Searches for a derivation that refutes linear facts, or for whole numbers that meet them all.
+//!
+//! The exact simplex method finds a sum of facts that is below 0, or a point of fractions that meets them; cuts (Gomory
+//! 1958) then part that point from the whole ones. The search ends by counts of its steps, so one list has one answer.
+//! Nothing believes it: what it finds is checked by `refutes`.
+#![tactic(auto)]
+
+mod numbers;
+mod point;
+mod row;
+mod searching;
+mod stop;
+mod tableau;
+#[cfg(test)]
+mod tests;
+mod writing;
+
+pub use point::Point;
+pub use searching::{Answer, find, search};

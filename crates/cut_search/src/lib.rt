@@ -7,6 +7,7 @@
 //! Nothing believes it: what it finds is checked by `refutes`.
 #![tactic(auto)]
 
+mod cuts;
 mod numbers;
 mod point;
 mod row;

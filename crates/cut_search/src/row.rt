@@ -131,7 +131,7 @@ fn blend_entries(
 }
 
 /// The coefficient of a variable, 0 where it has no entry.
-pub fn coefficient_of(entries: &[Entry], variable: Variable) -> i64 {
+fn coefficient_of(entries: &[Entry], variable: Variable) -> i64 {
     for entry in entries {
         if entry.variable == variable {
             return entry.coefficient;
@@ -150,6 +150,45 @@ impl Row {
             constant: self.constant,
             entries,
         })
+    }
+
+    /// A slack of which nothing is said yet.
+    pub fn empty(alloc: Global, slack: u32) -> Row {
+        Row {
+            basic: Variable::Slack(slack),
+            denominator: 1,
+            constant: 0,
+            entries: Vec::new(alloc),
+        }
+    }
+
+    /// The coefficient of a variable, 0 where it has no entry.
+    pub fn coefficient(&self, variable: Variable) -> i64 {
+        coefficient_of(self.entries.as_slice(), variable)
+    }
+
+    /// Adds a row so many times, both of denominator 1.
+    pub fn add_times(
+        &mut self,
+        other: &Row,
+        weight: i64,
+        scratch: &mut Vec<Entry>,
+    ) -> Result<(), Stop> {
+        scratch.clear();
+        blend_entries(
+            scratch,
+            self.entries.as_slice(),
+            1,
+            self.basic,
+            other.entries.as_slice(),
+            weight,
+        )?;
+        swap(&mut self.entries, scratch);
+        let Some(constant) = blend(self.constant, 1, other.constant, weight) else {
+            return Err(Stop::GivenUp);
+        };
+        self.constant = constant;
+        Ok(())
     }
 
     /// A slack as a fact says it, divided by the greatest divisor of its coefficients, which is answered too.

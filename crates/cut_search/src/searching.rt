@@ -6,7 +6,7 @@ ghost use Rattle.cut_proof.specs.Derivations.{refutes_of};
 
 use super::point::{Point, meets, point_of};
 use super::stop::Stop;
-use super::tableau::Tableau;
+use super::tableau::{Part, Tableau};
 use super::writing::{derive, derive_given};
 use cut_proof::{Derivation, refutes};
 use linear::Fact;
@@ -70,11 +70,37 @@ fn decide(alloc: Global, facts: &[Fact]) -> Result<Answer, Stop> {
             return Ok(Answer::Proof(derive_given(alloc, number)?));
         }
     }
-    if let Some(parts) = tableau.solve(alloc)? {
-        return Ok(Answer::Proof(derive(alloc, tableau.origins.as_slice(), parts.as_slice())?));
+    conclude(alloc, facts, tableau)
+}
+
+/// How often the tableau is solved, cuts made between.
+const ROUNDS: u32 = 40;
+
+fn conclude(alloc: Global, facts: &[Fact], start: Tableau) -> Result<Answer, Stop> {
+    let mut tableau = start;
+    for _ in 0..ROUNDS {
+        if let Some(parts) = tableau.solve(alloc)? {
+            return proof(alloc, &tableau, parts.as_slice());
+        }
+        if let Some(point) = point_of(alloc, tableau.solved.as_slice())? {
+            return Ok(model(facts, point));
+        }
+        if let Some(parts) = tableau.cut(alloc, facts)? {
+            return proof(alloc, &tableau, parts.as_slice());
+        }
     }
-    match point_of(alloc, tableau.solved.as_slice())? {
-        Some(point) if meets(facts, point.as_slice()) => Ok(Answer::Model(point)),
-        _ => Ok(Answer::Undecided),
+    Ok(Answer::Undecided)
+}
+
+fn proof(alloc: Global, tableau: &Tableau, parts: &[Part]) -> Result<Answer, Stop> {
+    let derivation = derive(alloc, tableau.origins.as_slice(), parts)?;
+    Ok(Answer::Proof(derivation))
+}
+
+fn model(facts: &[Fact], point: Point) -> Answer {
+    if meets(facts, point.as_slice()) {
+        Answer::Model(point)
+    } else {
+        Answer::Undecided
     }
 }

@@ -1,5 +1,5 @@
 // Tableaus: the rows of all slacks and symbols that are a sum of others, and the steps of the simplex method.
-use super::row::{Entry, Row, Variable, coefficient_of};
+use super::row::{Entry, Row, Variable};
 use super::stop::Stop;
 use linear::Fact;
 use std::alloc::{AllocError, Global};
@@ -11,7 +11,7 @@ pub const PIVOTS: u32 = 3_000;
 const ORDERLY: u32 = 400;
 
 /// A slack with a weight.
-#[derive(Clone, Copy, Debug)]
+#[derive(Clone, Copy, Debug, PartialEq, Eq)]
 pub struct Part {
     pub weight: i64,
     pub slack: u32,
@@ -55,7 +55,7 @@ fn can_enter(entry: &Entry) -> bool {
 /// In how many rows a variable is.
 fn uses_of(rows: &[Row], variable: Variable) -> usize {
     rows.iter()
-        .filter(|row| coefficient_of(row.entries.as_slice(), variable) != 0)
+        .filter(|row| row.coefficient(variable) != 0)
         .count()
 }
 

@@ -7,6 +7,7 @@
 //! Nothing believes it: what it finds is checked by `refutes`.
 #![tactic(auto)]
 
+mod answer;
 mod cuts;
 mod numbers;
 mod point;
@@ -18,5 +19,5 @@ mod tableau;
 mod tests;
 mod writing;
 
-pub use point::Point;
-pub use searching::{Answer, find, search};
+pub use answer::{Answer, Point};
+pub use searching::{Start, find, search};

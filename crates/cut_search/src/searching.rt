@@ -1,10 +1,13 @@
-// The search.
+// The search, and its beginning with facts that several lists have in common.
 ghost use Rattle.std.specs.Prelude.{◌≡◌, true, IfOk, IfSome, map};
+ghost use Rattle.semantics.specs.Linear.{IsImpossible};
 ghost use Rattle.linear.specs.Forms.{forms};
 ghost use Rattle.cut_proof.specs.View.{line as line_seen};
 ghost use Rattle.cut_proof.specs.Derivations.{refutes_of};
+ghost use Rattle.cut_search.specs.Answers.{IsAnswer};
 
-use super::point::{Point, meets, point_of};
+use super::answer::{Answer, Point};
+use super::point::{meets, point_of};
 use super::stop::Stop;
 use super::tableau::{Part, Tableau};
 use super::writing::{derive, derive_given};
@@ -12,70 +15,138 @@ use cut_proof::{Derivation, refutes};
 use linear::Fact;
 use std::alloc::{AllocError, Global};
 
-/// What a search answers.
+/// How often the tableau is solved, cuts made between.
+const ROUNDS: u32 = 40;
+
+/// Facts that several lists begin with, taken in and solved. It is as large as those facts.
 #[derive(Debug, Drop)]
-pub enum Answer {
-    /// A derivation that refutes the facts.
-    Proof(Derivation),
-    /// Whole numbers that meet all facts.
-    Model(Point),
-    /// The search gave up.
-    Undecided,
+pub struct Start {
+    tableau: Tableau,
+    count: usize,
+}
+
+impl Start {
+    /// Nothing in common.
+    pub fn new(alloc: Global) -> Start {
+        Start {
+            tableau: Tableau::new(alloc),
+            count: 0,
+        }
+    }
+
+    /// The facts in common.
+    pub fn prepare(alloc: Global, facts: &[Fact]) -> Result<Start, AllocError> {
+        match prepared(alloc, facts) {
+            Ok(tableau) => Ok(Start {
+                tableau,
+                count: facts.len(),
+            }),
+            Err(Stop::GivenUp) => Ok(Start::new(alloc)),
+            Err(Stop::Memory) => Err(AllocError),
+        }
+    }
+
+    /// Searches a list that begins with the facts in common. Of a list that does not, less may be found.
+    pub fn search(&self, alloc: Global, facts: &[Fact]) -> Result<Answer, AllocError>
+        ensures { IfOk result (λ a. IsAnswer (forms facts.now) a) }
+    {
+        match self.decide(alloc, facts) {
+            Ok(answer) => checked(alloc, facts, answer),
+            Err(Stop::GivenUp) => Ok(Answer::Undecided),
+            Err(Stop::Memory) => Err(AllocError),
+        }
+    }
+
+    fn decide(&self, alloc: Global, facts: &[Fact]) -> Result<Answer, Stop> {
+        let mut tableau = self.tableau.copy(alloc)?;
+        match enter_all(alloc, &mut tableau, facts, self.count)? {
+            Some(number) => Ok(Answer::Proof(derive_given(alloc, number)?)),
+            None => conclude(alloc, facts, tableau),
+        }
+    }
+}
+
+/// Searches for a derivation that refutes the facts, or whole numbers that meet them.
+pub fn search(alloc: Global, facts: &[Fact]) -> Result<Answer, AllocError>
+    ensures { IfOk result (λ a. IsAnswer (forms facts.now) a) }
+{
+    Start::new(alloc).search(alloc, facts)
 }
 
 /// A derivation that refutes the facts, if one is found.
 pub fn find(alloc: Global, facts: &[Fact]) -> Result<Option<Derivation>, AllocError>
-    ensures { IfOk result (λ r. IfSome r (λ d. refutes_of (forms facts.now) (map line_seen d.lines.items) ≡ true)) }
+    ensures refuted { IfOk result (λ r. IfSome r (λ d. refutes_of (forms facts.now) (map line_seen d.lines.items) ≡ true)) }
+    ensures impossible { IfOk result (λ r. IfSome r (λ d. IsImpossible (forms facts.now))) }
 {
     match search(alloc, facts)? {
-        Answer::Proof(derivation) => checked(alloc, facts, derivation),
+        Answer::Proof(derivation) => Ok(Some(derivation)),
         _ => Ok(None),
     }
 }
 
-/// The derivation, if it refutes the facts.
-fn checked(
+/// The answer, if it is true of the facts.
+fn checked(alloc: Global, facts: &[Fact], answer: Answer) -> Result<Answer, AllocError>
+    ensures { IfOk result (λ a. IsAnswer (forms facts.now) a) }
+{
+    match answer {
+        Answer::Proof(derivation) => checked_proof(alloc, facts, derivation),
+        Answer::Model(point) => Ok(checked_model(facts, point)),
+        Answer::Undecided => Ok(Answer::Undecided),
+    }
+}
+
+fn checked_proof(
     alloc: Global,
     facts: &[Fact],
     derivation: Derivation,
-) -> Result<Option<Derivation>, AllocError>
-    ensures { IfOk result (λ r. IfSome r (λ d. refutes_of (forms facts.now) (map line_seen d.lines.items) ≡ true)) }
+) -> Result<Answer, AllocError>
+    ensures { IfOk result (λ a. IsAnswer (forms facts.now) a) }
 {
     if refutes(alloc, facts, &derivation)? {
-        Ok(Some(derivation))
+        Ok(Answer::Proof(derivation))
     } else {
-        Ok(None)
+        Ok(Answer::Undecided)
     }
 }
 
-pub fn search(alloc: Global, facts: &[Fact]) -> Result<Answer, AllocError> {
-    match decide(alloc, facts) {
-        Ok(answer) => Ok(answer),
-        Err(Stop::GivenUp) => Ok(Answer::Undecided),
-        Err(Stop::Memory) => Err(AllocError),
+fn checked_model(facts: &[Fact], point: Point) -> Answer
+    ensures { IsAnswer (forms facts.now) result }
+{
+    if meets(facts, point.as_slice()) {
+        Answer::Model(point)
+    } else {
+        Answer::Undecided
     }
 }
 
-fn decide(alloc: Global, facts: &[Fact]) -> Result<Answer, Stop> {
+fn prepared(alloc: Global, facts: &[Fact]) -> Result<Tableau, Stop> {
     let mut tableau = Tableau::new(alloc);
-    let mut number = 0u32;
-    for fact in facts {
-        let Some(next) = number.checked_add(1) else {
+    let _constant = enter_all(alloc, &mut tableau, facts, 0)?;
+    let _parts = tableau.solve(alloc)?;
+    Ok(tableau)
+}
+
+/// Takes in the facts behind the first `count`, or answers the number of one that is a constant below 0.
+fn enter_all(
+    alloc: Global,
+    tableau: &mut Tableau,
+    facts: &[Fact],
+    count: usize,
+) -> Result<Option<u32>, Stop> {
+    for (place, fact) in facts.iter().enumerate().skip(count) {
+        let Ok(number) = u32::try_from(place.saturating_add(1)) else {
             return Err(Stop::GivenUp);
         };
-        number = next;
         if !fact.terms().is_empty() {
             tableau.enter_fact(alloc, number, fact)?;
         } else if fact.constant_part() < 0 {
-            return Ok(Answer::Proof(derive_given(alloc, number)?));
+            return Ok(Some(number));
         }
     }
-    conclude(alloc, facts, tableau)
+    Ok(None)
 }
 
-/// How often the tableau is solved, cuts made between.
-const ROUNDS: u32 = 40;
-
+/// Solves the tableau, and makes cuts while its point is not whole.
 fn conclude(alloc: Global, facts: &[Fact], start: Tableau) -> Result<Answer, Stop> {
     let mut tableau = start;
     for _ in 0..ROUNDS {
@@ -83,24 +154,16 @@ fn conclude(alloc: Global, facts: &[Fact], start: Tableau) -> Result<Answer, Sto
             return proof(alloc, &tableau, parts.as_slice());
         }
         if let Some(point) = point_of(alloc, tableau.solved.as_slice())? {
-            return Ok(model(facts, point));
+            return Ok(Answer::Model(point));
         }
         if let Some(parts) = tableau.cut(alloc, facts)? {
             return proof(alloc, &tableau, parts.as_slice());
         }
     }
-    Ok(Answer::Undecided)
+    Err(Stop::GivenUp)
 }
 
 fn proof(alloc: Global, tableau: &Tableau, parts: &[Part]) -> Result<Answer, Stop> {
     let derivation = derive(alloc, tableau.origins.as_slice(), parts)?;
     Ok(Answer::Proof(derivation))
-}
-
-fn model(facts: &[Fact], point: Point) -> Answer {
-    if meets(facts, point.as_slice()) {
-        Answer::Model(point)
-    } else {
-        Answer::Undecided
-    }
 }

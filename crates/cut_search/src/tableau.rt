@@ -87,6 +87,37 @@ fn take_row(rows: &mut Vec<Row>, place: usize) -> Result<Row, Stop> {
     }
 }
 
+fn copy_rows(alloc: Global, rows: &[Row]) -> Result<Vec<Row>, AllocError> {
+    let mut copies = Vec::with_capacity(alloc, rows.len())?;
+    for row in rows {
+        copies.push(row.copy(alloc)?)?;
+    }
+    Ok(copies)
+}
+
+fn copy_origins(alloc: Global, origins: &[Origin]) -> Result<Vec<Origin>, AllocError> {
+    let mut copies = Vec::with_capacity(alloc, origins.len())?;
+    for origin in origins {
+        copies.push(origin.copy(alloc)?)?;
+    }
+    Ok(copies)
+}
+
+impl Origin {
+    fn copy(&self, alloc: Global) -> Result<Origin, AllocError> {
+        match self {
+            Origin::Given(number, divisor) => Ok(Origin::Given(*number, *divisor)),
+            Origin::Cut(parts, divisor, form) => copy_cut(alloc, parts.as_slice(), *divisor, form),
+        }
+    }
+}
+
+fn copy_cut(alloc: Global, parts: &[Part], divisor: i64, form: &Row) -> Result<Origin, AllocError> {
+    let parts = Vec::from_slice(alloc, parts)?;
+    let form = form.copy(alloc)?;
+    Ok(Origin::Cut(parts, divisor, form))
+}
+
 impl Tableau {
     pub fn new(alloc: Global) -> Tableau {
         Tableau {
@@ -96,6 +127,20 @@ impl Tableau {
             pivots: 0,
             scratch: Vec::new(alloc),
         }
+    }
+
+    /// The same tableau again, no step counted.
+    pub fn copy(&self, alloc: Global) -> Result<Tableau, AllocError> {
+        let rows = copy_rows(alloc, self.rows.as_slice())?;
+        let solved = copy_rows(alloc, self.solved.as_slice())?;
+        let origins = copy_origins(alloc, self.origins.as_slice())?;
+        Ok(Tableau {
+            rows,
+            solved,
+            origins,
+            pivots: 0,
+            scratch: Vec::new(alloc),
+        })
     }
 
     /// The number of the next slack.

@@ -8,6 +8,17 @@ use std::alloc::Global;
 /// How many cuts are made before the tableau is solved again.
 const CUTS: usize = 4;
 
+/// What came of cutting.
+#[derive(Debug, Drop)]
+pub enum Cuts {
+    /// There are new slacks.
+    Made,
+    /// The parts of a sum that is below 0.
+    Refuting(Vec<Part>),
+    /// No row can be cut by.
+    Exhausted,
+}
+
 /// A row to cut by: those of small denominators and few entries come first.
 #[derive(Clone, Copy, Debug, PartialEq, Eq, PartialOrd, Ord)]
 struct Source {
@@ -96,8 +107,8 @@ fn cut_parts(alloc: Global, row: &Row, sign: i64) -> Result<Vec<Part>, Stop> {
 /// Whether one of the cuts has these parts.
 fn has_parts(origins: &[Origin], parts: &[Part]) -> bool {
     origins.iter().any(|origin| match origin {
-        Origin::Given(_, _) => false,
         Origin::Cut(other, _, _) => other.as_slice() == parts,
+        _ => false,
     })
 }
 
@@ -113,7 +124,7 @@ impl Tableau {
                 Ok(row)
             }
             Some(Origin::Cut(_, _, form)) => Ok(form.copy(alloc)?),
-            None => Err(Stop::GivenUp),
+            _ => Err(Stop::GivenUp),
         }
     }
 
@@ -231,23 +242,24 @@ impl Tableau {
         Ok(None)
     }
 
-    /// Makes some cuts, or answers the parts of one that is below 0.
-    pub fn cut(&mut self, alloc: Global, facts: &[Fact]) -> Result<Option<Vec<Part>>, Stop> {
+    /// Makes some cuts.
+    pub fn cut(&mut self, alloc: Global, facts: &[Fact]) -> Result<Cuts, Stop> {
         self.settle()?;
         let since = self.origins.len();
         let sources = self.sources(alloc)?;
         for source in sources.iter() {
             if let Some(found) = self.cut_by(alloc, facts, source, since)? {
-                return Ok(Some(found));
+                return Ok(Cuts::Refuting(found));
             }
             if self.origins.len() >= since.saturating_add(CUTS) {
                 break;
             }
         }
         if self.origins.len() == since {
-            return Err(Stop::GivenUp);
+            Ok(Cuts::Exhausted)
+        } else {
+            Ok(Cuts::Made)
         }
-        Ok(None)
     }
 }
 

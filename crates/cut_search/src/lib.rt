@@ -9,6 +9,7 @@
 
 mod answer;
 mod cuts;
+mod dive;
 mod numbers;
 mod point;
 mod row;

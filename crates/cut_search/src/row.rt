@@ -162,6 +162,23 @@ impl Row {
         }
     }
 
+    /// A slack that is so many times a symbol, and a constant.
+    pub fn of_symbol(
+        alloc: Global,
+        slack: u32,
+        symbol: Symbol,
+        coefficient: i64,
+        constant: i64,
+    ) -> Result<Row, Stop> {
+        let mut row = Row::empty(alloc, slack);
+        row.constant = constant;
+        row.entries.push(Entry {
+            variable: Variable::Free(symbol),
+            coefficient,
+        })?;
+        Ok(row)
+    }
+
     /// The coefficient of a variable, 0 where it has no entry.
     pub fn coefficient(&self, variable: Variable) -> i64 {
         coefficient_of(self.entries.as_slice(), variable)

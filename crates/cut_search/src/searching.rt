@@ -7,9 +7,10 @@ ghost use Rattle.cut_proof.specs.Derivations.{refutes_of};
 ghost use Rattle.cut_search.specs.Answers.{IsAnswer};
 
 use super::answer::{Answer, Point};
+use super::cuts::Cuts;
 use super::point::{meets, point_of};
 use super::stop::Stop;
-use super::tableau::{Part, Tableau};
+use super::tableau::{PIVOTS, Part, Tableau};
 use super::writing::{derive, derive_given};
 use cut_proof::{Derivation, refutes};
 use linear::Fact;
@@ -58,7 +59,7 @@ impl Start {
     }
 
     fn decide(&self, alloc: Global, facts: &[Fact]) -> Result<Answer, Stop> {
-        let mut tableau = self.tableau.copy(alloc)?;
+        let mut tableau = self.tableau.copy(alloc, PIVOTS)?;
         match enter_all(alloc, &mut tableau, facts, self.count)? {
             Some(number) => Ok(Answer::Proof(derive_given(alloc, number)?)),
             None => conclude(alloc, facts, tableau),
@@ -146,21 +147,44 @@ fn enter_all(
     Ok(None)
 }
 
+/// Whether a dive is made in this round.
+fn dives(round: u32) -> bool {
+    matches!(round, 1 | 4 | 12)
+}
+
+/// A whole point: the tableau's own, or in some rounds one near it.
+fn whole_point(alloc: Global, tableau: &Tableau, round: u32) -> Result<Option<Point>, Stop> {
+    let own = point_of(alloc, tableau.solved.as_slice())?;
+    if own.is_some() || !dives(round) {
+        return Ok(own);
+    }
+    tableau.dive(alloc)
+}
+
 /// Solves the tableau, and makes cuts while its point is not whole.
 fn conclude(alloc: Global, facts: &[Fact], start: Tableau) -> Result<Answer, Stop> {
     let mut tableau = start;
-    for _ in 0..ROUNDS {
+    for round in 0..ROUNDS {
         if let Some(parts) = tableau.solve(alloc)? {
             return proof(alloc, &tableau, parts.as_slice());
         }
-        if let Some(point) = point_of(alloc, tableau.solved.as_slice())? {
+        if let Some(point) = whole_point(alloc, &tableau, round)? {
             return Ok(Answer::Model(point));
         }
-        if let Some(parts) = tableau.cut(alloc, facts)? {
-            return proof(alloc, &tableau, parts.as_slice());
+        match tableau.cut(alloc, facts)? {
+            Cuts::Made => {}
+            Cuts::Refuting(parts) => return proof(alloc, &tableau, parts.as_slice()),
+            Cuts::Exhausted => return dive(alloc, &tableau),
         }
     }
     Err(Stop::GivenUp)
+}
+
+fn dive(alloc: Global, tableau: &Tableau) -> Result<Answer, Stop> {
+    match tableau.dive(alloc)? {
+        Some(point) => Ok(Answer::Model(point)),
+        None => Err(Stop::GivenUp),
+    }
 }
 
 fn proof(alloc: Global, tableau: &Tableau, parts: &[Part]) -> Result<Answer, Stop> {

@@ -24,6 +24,8 @@ pub enum Origin {
     Given(u32, i64),
     /// A sum of earlier slacks, divided, and the form that it makes.
     Cut(Vec<Part>, i64, Row),
+    /// A bound that is tried. No derivation stands on it.
+    Guess,
 }
 
 /// Rows of slacks, at least 0, and of symbols, over the variables that have no row. Those are 0 at the tableau's point.
@@ -32,7 +34,8 @@ pub struct Tableau {
     pub rows: Vec<Row>,
     pub solved: Vec<Row>,
     pub origins: Vec<Origin>,
-    pub pivots: u32,
+    pivots: u32,
+    most: u32,
     scratch: Vec<Entry>,
 }
 
@@ -108,6 +111,7 @@ impl Origin {
         match self {
             Origin::Given(number, divisor) => Ok(Origin::Given(*number, *divisor)),
             Origin::Cut(parts, divisor, form) => copy_cut(alloc, parts.as_slice(), *divisor, form),
+            Origin::Guess => Ok(Origin::Guess),
         }
     }
 }
@@ -125,12 +129,13 @@ impl Tableau {
             solved: Vec::new(alloc),
             origins: Vec::new(alloc),
             pivots: 0,
+            most: PIVOTS,
             scratch: Vec::new(alloc),
         }
     }
 
-    /// The same tableau again, no step counted.
-    pub fn copy(&self, alloc: Global) -> Result<Tableau, AllocError> {
+    /// The same tableau again, with so many steps at most.
+    pub fn copy(&self, alloc: Global, most: u32) -> Result<Tableau, AllocError> {
         let rows = copy_rows(alloc, self.rows.as_slice())?;
         let solved = copy_rows(alloc, self.solved.as_slice())?;
         let origins = copy_origins(alloc, self.origins.as_slice())?;
@@ -139,6 +144,7 @@ impl Tableau {
             solved,
             origins,
             pivots: 0,
+            most,
             scratch: Vec::new(alloc),
         })
     }
@@ -211,7 +217,7 @@ impl Tableau {
 
     /// Lets a variable in for the slack of a row.
     pub fn pivot(&mut self, leaving: usize, entering: Variable) -> Result<(), Stop> {
-        if self.pivots >= PIVOTS {
+        if self.pivots >= self.most {
             return Err(Stop::GivenUp);
         }
         self.pivots += 1;

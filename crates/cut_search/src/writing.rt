@@ -74,6 +74,7 @@ fn write_slack(
             lines.push(Line::Sum(weights))?;
             divide_last(lines, *divisor)
         }
+        Origin::Guess => Err(Stop::GivenUp),
     }
 }
 

@@ -132,12 +132,10 @@ fn blend_entries(
 
 /// The coefficient of a variable, 0 where it has no entry.
 fn coefficient_of(entries: &[Entry], variable: Variable) -> i64 {
-    for entry in entries {
-        if entry.variable == variable {
-            return entry.coefficient;
-        }
+    match entries.binary_search_by(|entry| entry.variable.cmp(&variable)) {
+        Ok(place) => entries.get(place).map_or(0, |entry| entry.coefficient),
+        Err(_) => 0,
     }
-    0
 }
 
 impl Row {

@@ -149,7 +149,7 @@ fn enter_all(
 
 /// Whether a dive is made in this round.
 fn dives(round: u32) -> bool {
-    matches!(round, 1 | 4 | 12)
+    matches!(round, 8 | 24)
 }
 
 /// A whole point: the tableau's own, or in some rounds one near it.

@@ -1,7 +1,7 @@
 // Tableaus: the rows of all slacks and symbols that are a sum of others, and the steps of the simplex method.
 use super::row::{Entry, Row, Variable};
 use super::stop::Stop;
-use linear::Fact;
+use linear::{Fact, Symbol};
 use std::alloc::{AllocError, Global};
 
 /// How often variables change places in one search, at most.
@@ -37,13 +37,25 @@ pub struct Tableau {
     pivots: u32,
     most: u32,
     scratch: Vec<Entry>,
+    uses: Vec<u32>,
+}
+
+/// What to do next.
+#[derive(Clone, Copy)]
+enum Step {
+    /// No slack is below 0.
+    Done,
+    /// The slack of this row is below 0, and nothing can be let in for it.
+    Stuck(usize),
+    /// Lets a variable in for the slack of a row.
+    Pivot(usize, Variable),
 }
 
 /// What a row offers for a step: a variable, and how good that is, less being better.
 #[derive(Clone, Copy)]
 struct Offer {
     variable: Variable,
-    uses: usize,
+    uses: u32,
 }
 
 fn is_free(variable: Variable) -> bool {
@@ -55,11 +67,28 @@ fn can_enter(entry: &Entry) -> bool {
     is_free(entry.variable) || entry.coefficient > 0
 }
 
-/// In how many rows a variable is.
-fn uses_of(rows: &[Row], variable: Variable) -> usize {
-    rows.iter()
-        .filter(|row| row.coefficient(variable) != 0)
-        .count()
+/// Counts of each slack in how many rows it is.
+fn count_uses(uses: &mut Vec<u32>, rows: &[Row]) {
+    for row in rows {
+        for entry in row.entries.iter() {
+            if let Variable::Slack(slack) = entry.variable {
+                if let Some(count) = uses.get_mut(slack as usize) {
+                    *count = count.saturating_add(1);
+                }
+            }
+        }
+    }
+}
+
+/// In how many rows a symbol is.
+fn uses_of_symbol(rows: &[Row], symbol: Symbol) -> u32 {
+    let mut uses = 0u32;
+    for row in rows {
+        if row.coefficient(Variable::Free(symbol)) != 0 {
+            uses = uses.saturating_add(1);
+        }
+    }
+    uses
 }
 
 fn is_better(offer: &Offer, than: &Option<Offer>) -> bool {
@@ -131,6 +160,7 @@ impl Tableau {
             pivots: 0,
             most: PIVOTS,
             scratch: Vec::new(alloc),
+            uses: Vec::new(alloc),
         }
     }
 
@@ -146,6 +176,7 @@ impl Tableau {
             pivots: 0,
             most,
             scratch: Vec::new(alloc),
+            uses: Vec::new(alloc),
         })
     }
 
@@ -198,6 +229,14 @@ impl Tableau {
         best.map(|found| found.0)
     }
 
+    /// In how many rows a variable is, of slacks by the last count.
+    fn uses_of(&self, variable: Variable) -> u32 {
+        match variable {
+            Variable::Free(symbol) => uses_of_symbol(self.rows.as_slice(), symbol),
+            Variable::Slack(slack) => self.uses.get(slack as usize).copied().unwrap_or(0),
+        }
+    }
+
     /// The variable to let in for a row below 0: a symbol, else what the fewest rows have.
     fn entering(&self, row: &Row) -> Option<Variable> {
         let mut best: Option<Offer> = None;
@@ -205,7 +244,7 @@ impl Tableau {
             if can_enter(entry) {
                 let offer = Offer {
                     variable: entry.variable,
-                    uses: uses_of(self.rows.as_slice(), entry.variable),
+                    uses: self.uses_of(entry.variable),
                 };
                 if is_better(&offer, &best) {
                     best = Some(offer);
@@ -213,6 +252,14 @@ impl Tableau {
             }
         }
         best.map(|offer| offer.variable)
+    }
+
+    /// Counts the uses of slacks anew.
+    fn count(&mut self) -> Result<(), Stop> {
+        self.uses.clear();
+        self.uses.resize(self.origins.len(), 0)?;
+        count_uses(&mut self.uses, self.rows.as_slice());
+        Ok(())
     }
 
     /// Lets a variable in for the slack of a row.
@@ -233,36 +280,73 @@ impl Tableau {
         Ok(())
     }
 
+    /// The next step by the first row and variable.
+    fn orderly_step(&self) -> Step {
+        let Some(place) = self.first_violated() else {
+            return Step::Done;
+        };
+        match self.rows.get(place).and_then(first_to_enter) {
+            Some(variable) => Step::Pivot(place, variable),
+            None => Step::Stuck(place),
+        }
+    }
+
+    /// The next step by the shortest row and the variable that the fewest rows have.
+    fn short_step(&mut self) -> Result<Step, Stop> {
+        let Some(place) = self.violated() else {
+            return Ok(Step::Done);
+        };
+        if self.rows.get(place).is_some_and(|row| !starts_free(row)) {
+            self.count()?;
+        }
+        match self.rows.get(place).and_then(|row| self.entering(row)) {
+            Some(variable) => Ok(Step::Pivot(place, variable)),
+            None => Ok(Step::Stuck(place)),
+        }
+    }
+
+    fn step(&mut self) -> Result<Step, Stop> {
+        if self.pivots > ORDERLY {
+            Ok(self.orderly_step())
+        } else {
+            self.short_step()
+        }
+    }
+
     /// Moves to a point where no slack is below 0, or answers the parts of a sum that is below 0.
     pub fn solve(&mut self, alloc: Global) -> Result<Option<Vec<Part>>, Stop> {
         for _ in 0..PIVOTS {
-            let orderly = self.pivots > ORDERLY;
-            let found = if orderly {
-                self.first_violated()
-            } else {
-                self.violated()
-            };
-            let Some(place) = found else {
-                return Ok(None);
-            };
-            let Some(row) = self.rows.get(place) else {
-                return Err(Stop::GivenUp);
-            };
-            let entering = if orderly {
-                row.entries
-                    .iter()
-                    .find(|entry| can_enter(entry))
-                    .map(|entry| entry.variable)
-            } else {
-                self.entering(row)
-            };
-            match entering {
-                Some(variable) => self.pivot(place, variable)?,
-                None => return Ok(Some(parts_of(alloc, row)?)),
+            match self.step()? {
+                Step::Done => return Ok(None),
+                Step::Stuck(place) => return self.parts_of(alloc, place),
+                Step::Pivot(place, variable) => self.pivot(place, variable)?,
             }
         }
         Err(Stop::GivenUp)
     }
+
+    /// The parts of the sum that a row says to be below 0.
+    fn parts_of(&self, alloc: Global, place: usize) -> Result<Option<Vec<Part>>, Stop> {
+        match self.rows.get(place) {
+            Some(row) => Ok(Some(parts_of(alloc, row)?)),
+            None => Err(Stop::GivenUp),
+        }
+    }
+}
+
+fn starts_free(row: &Row) -> bool {
+    row.entries
+        .first()
+        .is_some_and(|entry| is_free(entry.variable))
+}
+
+fn first_to_enter(row: &Row) -> Option<Variable> {
+    for entry in row.entries.iter() {
+        if can_enter(entry) {
+            return Some(entry.variable);
+        }
+    }
+    None
 }
 
 /// The parts of the sum that a row says to be below 0.

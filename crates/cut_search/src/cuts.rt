@@ -1,8 +1,6 @@
 // Cuts: sums of slacks whose coefficients divide and whose constants do not (Gomory 1958).
-use super::row::{Entry, Row, Variable};
-use super::stop::Stop;
-use super::tableau::{Origin, Part, Tableau};
 use linear::{Fact, Symbol};
+use simplex::{Entry, Origin, Part, Row, Stop, Tableau, Variable};
 use std::alloc::Global;
 
 /// How many cuts are made before the tableau is solved again.
@@ -112,154 +110,165 @@ fn has_parts(origins: &[Origin], parts: &[Part]) -> bool {
     })
 }
 
-impl Tableau {
-    /// What a slack says of symbols, over the denominator 1.
-    fn form_of(&self, alloc: Global, facts: &[Fact], slack: u32) -> Result<Row, Stop> {
-        match self.origins.get(slack as usize) {
-            Some(Origin::Given(number, _)) => {
-                let Some(fact) = facts.get((*number as usize).saturating_sub(1)) else {
-                    return Err(Stop::GivenUp);
-                };
-                let (row, _) = Row::of_fact(alloc, slack, fact)?;
-                Ok(row)
-            }
-            Some(Origin::Cut(_, _, form)) => Ok(form.copy(alloc)?),
-            _ => Err(Stop::GivenUp),
+/// What a slack says of symbols, over the denominator 1.
+fn form_of(alloc: Global, tableau: &Tableau, facts: &[Fact], slack: u32) -> Result<Row, Stop> {
+    match tableau.origins.get(slack as usize) {
+        Some(Origin::Given(number, _)) => {
+            let Some(fact) = facts.get((*number as usize).saturating_sub(1)) else {
+                return Err(Stop::GivenUp);
+            };
+            let (row, _) = Row::of_fact(alloc, slack, fact)?;
+            Ok(row)
+        }
+        Some(Origin::Cut(_, _, form)) => Ok(form.copy(alloc)?),
+        _ => Err(Stop::GivenUp),
+    }
+}
+
+/// The sum of the parts.
+fn sum_of(alloc: Global, tableau: &Tableau, facts: &[Fact], parts: &[Part]) -> Result<Row, Stop> {
+    let mut scratch: Vec<Entry> = Vec::new(alloc);
+    let mut sum = Row::empty(alloc, tableau.next_slack()?);
+    for part in parts {
+        let form = form_of(alloc, tableau, facts, part.slack)?;
+        sum.add_times(&form, part.weight, &mut scratch)?;
+    }
+    Ok(sum)
+}
+
+/// Takes in the cut of these parts, or answers them where their sum is below 0.
+fn enter_cut(
+    alloc: Global,
+    tableau: &mut Tableau,
+    facts: &[Fact],
+    parts: Vec<Part>,
+) -> Result<Option<Vec<Part>>, Stop> {
+    let mut form = sum_of(alloc, tableau, facts, parts.as_slice())?;
+    if form.entries.is_empty() {
+        return Ok(if form.constant < 0 { Some(parts) } else { None });
+    }
+    let divisor = form.round();
+    let row = form.copy(alloc)?;
+    tableau.enter(row, Origin::Cut(parts, divisor, form))?;
+    Ok(None)
+}
+
+/// Takes in a cut as `enter_cut` does, and drops it where a number leaves `i64`.
+fn try_cut(
+    alloc: Global,
+    tableau: &mut Tableau,
+    facts: &[Fact],
+    parts: Vec<Part>,
+) -> Result<Option<Vec<Part>>, Stop> {
+    match enter_cut(alloc, tableau, facts, parts) {
+        Err(Stop::GivenUp) => Ok(None),
+        outcome => outcome,
+    }
+}
+
+/// The row of a slack that a symbol's growth or fall brings to 0 first.
+fn tightest(tableau: &Tableau, symbol: Symbol) -> Option<usize> {
+    let mut best: Option<(usize, i64, i64)> = None;
+    for (place, row) in tableau.rows.iter().enumerate() {
+        let coefficient = row.coefficient(Variable::Free(symbol)).saturating_abs();
+        if coefficient > 0
+            && best.is_none_or(|old| is_less(row.constant, coefficient, old.1, old.2))
+        {
+            best = Some((place, row.constant, coefficient));
         }
     }
+    best.map(|found| found.0)
+}
 
-    /// The sum of the parts.
-    fn sum_of(&self, alloc: Global, facts: &[Fact], parts: &[Part]) -> Result<Row, Stop> {
-        let mut scratch: Vec<Entry> = Vec::new(alloc);
-        let mut sum = Row::empty(alloc, self.next_slack()?);
-        for part in parts {
-            let form = self.form_of(alloc, facts, part.slack)?;
-            sum.add_times(&form, part.weight, &mut scratch)?;
-        }
-        Ok(sum)
+/// Lets in the symbols that keep fractional rows from being cut by.
+fn settle(tableau: &mut Tableau) -> Result<(), Stop> {
+    for _ in 0..tableau.rows.len() {
+        let found = match loose_in(tableau.solved.as_slice()) {
+            Some(symbol) => Some(symbol),
+            None => loose_in(tableau.rows.as_slice()),
+        };
+        let Some(symbol) = found else {
+            return Ok(());
+        };
+        let Some(place) = tightest(tableau, symbol) else {
+            return Ok(());
+        };
+        tableau.pivot(place, Variable::Free(symbol))?;
     }
+    Ok(())
+}
 
-    /// Takes in the cut of these parts, or answers them where their sum is below 0.
-    fn enter_cut(
-        &mut self,
-        alloc: Global,
-        facts: &[Fact],
-        parts: Vec<Part>,
-    ) -> Result<Option<Vec<Part>>, Stop> {
-        let mut form = self.sum_of(alloc, facts, parts.as_slice())?;
-        if form.entries.is_empty() {
-            return Ok(if form.constant < 0 { Some(parts) } else { None });
-        }
-        let divisor = form.round();
-        let row = form.copy(alloc)?;
-        self.enter(row, Origin::Cut(parts, divisor, form))?;
+/// The parts of the cut by a row, unless they were taken since.
+fn parts_by(
+    alloc: Global,
+    tableau: &Tableau,
+    source: &Source,
+    sign: i64,
+    since: usize,
+) -> Result<Option<Vec<Part>>, Stop> {
+    let rows = if source.is_solved {
+        tableau.solved.as_slice()
+    } else {
+        tableau.rows.as_slice()
+    };
+    let Some(row) = rows.get(source.place) else {
+        return Err(Stop::GivenUp);
+    };
+    let parts = cut_parts(alloc, row, sign)?;
+    let Some(taken) = tableau.origins.get(since..) else {
+        return Err(Stop::GivenUp);
+    };
+    if parts.is_empty() || has_parts(taken, parts.as_slice()) {
         Ok(None)
+    } else {
+        Ok(Some(parts))
     }
+}
 
-    /// The row of a slack that a symbol's growth or fall brings to 0 first.
-    fn tightest(&self, symbol: Symbol) -> Option<usize> {
-        let mut best: Option<(usize, i64, i64)> = None;
-        for (place, row) in self.rows.iter().enumerate() {
-            let coefficient = row.coefficient(Variable::Free(symbol)).saturating_abs();
-            if coefficient > 0
-                && best.is_none_or(|old| is_less(row.constant, coefficient, old.1, old.2))
-            {
-                best = Some((place, row.constant, coefficient));
+/// The rows that can be cut by, the best first.
+fn sources_of(alloc: Global, tableau: &Tableau) -> Result<Vec<Source>, Stop> {
+    let mut sources = Vec::new(alloc);
+    add_sources(&mut sources, tableau.solved.as_slice(), true)?;
+    add_sources(&mut sources, tableau.rows.as_slice(), false)?;
+    sources.sort_unstable();
+    Ok(sources)
+}
+
+/// Makes the two cuts by a row.
+fn cut_by(
+    alloc: Global,
+    tableau: &mut Tableau,
+    facts: &[Fact],
+    source: &Source,
+    since: usize,
+) -> Result<Option<Vec<Part>>, Stop> {
+    for sign in [1, -1] {
+        if let Some(parts) = parts_by(alloc, tableau, source, sign, since)? {
+            if let Some(found) = try_cut(alloc, tableau, facts, parts)? {
+                return Ok(Some(found));
             }
         }
-        best.map(|found| found.0)
     }
+    Ok(None)
+}
 
-    /// Lets in the symbols that keep fractional rows from being cut by.
-    fn settle(&mut self) -> Result<(), Stop> {
-        for _ in 0..self.rows.len() {
-            let found = match loose_in(self.solved.as_slice()) {
-                Some(symbol) => Some(symbol),
-                None => loose_in(self.rows.as_slice()),
-            };
-            let Some(symbol) = found else {
-                return Ok(());
-            };
-            let Some(place) = self.tightest(symbol) else {
-                return Ok(());
-            };
-            self.pivot(place, Variable::Free(symbol))?;
+/// Makes some cuts.
+pub fn cut(alloc: Global, tableau: &mut Tableau, facts: &[Fact]) -> Result<Cuts, Stop> {
+    settle(tableau)?;
+    let since = tableau.origins.len();
+    let sources = sources_of(alloc, tableau)?;
+    for source in sources.iter() {
+        if let Some(found) = cut_by(alloc, tableau, facts, source, since)? {
+            return Ok(Cuts::Refuting(found));
         }
-        Ok(())
-    }
-
-    /// The parts of the cut by a row, unless they were taken since.
-    fn parts_by(
-        &self,
-        alloc: Global,
-        source: &Source,
-        sign: i64,
-        since: usize,
-    ) -> Result<Option<Vec<Part>>, Stop> {
-        let rows = if source.is_solved {
-            self.solved.as_slice()
-        } else {
-            self.rows.as_slice()
-        };
-        let Some(row) = rows.get(source.place) else {
-            return Err(Stop::GivenUp);
-        };
-        let parts = cut_parts(alloc, row, sign)?;
-        let Some(taken) = self.origins.get(since..) else {
-            return Err(Stop::GivenUp);
-        };
-        if parts.is_empty() || has_parts(taken, parts.as_slice()) {
-            Ok(None)
-        } else {
-            Ok(Some(parts))
+        if tableau.origins.len() >= since.saturating_add(CUTS) {
+            break;
         }
     }
-
-    /// The rows that can be cut by, the best first.
-    fn sources(&self, alloc: Global) -> Result<Vec<Source>, Stop> {
-        let mut sources = Vec::new(alloc);
-        add_sources(&mut sources, self.solved.as_slice(), true)?;
-        add_sources(&mut sources, self.rows.as_slice(), false)?;
-        sources.sort_unstable();
-        Ok(sources)
-    }
-
-    /// Makes the two cuts by a row.
-    fn cut_by(
-        &mut self,
-        alloc: Global,
-        facts: &[Fact],
-        source: &Source,
-        since: usize,
-    ) -> Result<Option<Vec<Part>>, Stop> {
-        for sign in [1, -1] {
-            if let Some(parts) = self.parts_by(alloc, source, sign, since)? {
-                if let Some(found) = self.enter_cut(alloc, facts, parts)? {
-                    return Ok(Some(found));
-                }
-            }
-        }
-        Ok(None)
-    }
-
-    /// Makes some cuts.
-    pub fn cut(&mut self, alloc: Global, facts: &[Fact]) -> Result<Cuts, Stop> {
-        self.settle()?;
-        let since = self.origins.len();
-        let sources = self.sources(alloc)?;
-        for source in sources.iter() {
-            if let Some(found) = self.cut_by(alloc, facts, source, since)? {
-                return Ok(Cuts::Refuting(found));
-            }
-            if self.origins.len() >= since.saturating_add(CUTS) {
-                break;
-            }
-        }
-        if self.origins.len() == since {
-            Ok(Cuts::Exhausted)
-        } else {
-            Ok(Cuts::Made)
-        }
+    if tableau.origins.len() == since {
+        Ok(Cuts::Exhausted)
+    } else {
+        Ok(Cuts::Made)
     }
 }
 

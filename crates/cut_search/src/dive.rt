@@ -1,10 +1,8 @@
 // Dives: whole points that are sought by bounding one symbol after the other.
 use super::answer::Point;
 use super::point::point_of;
-use super::row::{Row, Variable};
-use super::stop::Stop;
-use super::tableau::{Origin, Tableau};
 use linear::Symbol;
+use simplex::{Origin, Row, Stop, Tableau, Variable};
 use std::alloc::Global;
 
 /// How many symbols are bounded, at most.
@@ -74,50 +72,48 @@ fn bound(alloc: Global, slack: u32, choice: &Choice, is_above: bool) -> Result<R
     Row::of_symbol(alloc, slack, choice.symbol, coefficient, constant)
 }
 
-impl Tableau {
-    /// The tableau with a symbol bounded and solved, if that is possible.
-    fn bounded(
-        &self,
-        alloc: Global,
-        choice: &Choice,
-        is_above: bool,
-    ) -> Result<Option<Tableau>, Stop> {
-        let mut tableau = self.copy(alloc, PIVOTS)?;
-        let row = bound(alloc, tableau.next_slack()?, choice, is_above)?;
-        tableau.enter(row, Origin::Guess)?;
-        match tableau.solve(alloc)? {
-            Some(_) => Ok(None),
-            None => Ok(Some(tableau)),
-        }
+/// The tableau with a symbol bounded and solved, if that is possible.
+fn bounded(
+    alloc: Global,
+    start: &Tableau,
+    choice: &Choice,
+    is_above: bool,
+) -> Result<Option<Tableau>, Stop> {
+    let mut tableau = start.copy(alloc, PIVOTS)?;
+    let row = bound(alloc, tableau.next_slack()?, choice, is_above)?;
+    tableau.enter(row, Origin::Guess)?;
+    match tableau.solve(alloc)? {
+        Some(_) => Ok(None),
+        None => Ok(Some(tableau)),
     }
+}
 
-    /// The tableau with a symbol bounded on its nearer side, or else on the other one.
-    fn narrowed(&self, alloc: Global, choice: &Choice) -> Result<Option<Tableau>, Stop> {
-        match self.bounded(alloc, choice, choice.is_nearer_above)? {
-            Some(tableau) => Ok(Some(tableau)),
-            None => self.bounded(alloc, choice, !choice.is_nearer_above),
-        }
+/// The tableau with a symbol bounded on its nearer side, or else on the other one.
+fn narrowed(alloc: Global, tableau: &Tableau, choice: &Choice) -> Result<Option<Tableau>, Stop> {
+    match bounded(alloc, tableau, choice, choice.is_nearer_above)? {
+        Some(tableau) => Ok(Some(tableau)),
+        None => bounded(alloc, tableau, choice, !choice.is_nearer_above),
     }
+}
 
-    fn dive_down(&self, alloc: Global) -> Result<Option<Point>, Stop> {
-        let mut tableau = self.copy(alloc, 0)?;
-        for _ in 0..DEPTH {
-            let Some(choice) = choose(tableau.solved.as_slice()) else {
-                return point_of(alloc, tableau.solved.as_slice());
-            };
-            let Some(next) = tableau.narrowed(alloc, &choice)? else {
-                return Ok(None);
-            };
-            tableau = next;
-        }
-        Ok(None)
+fn dive_down(alloc: Global, start: &Tableau) -> Result<Option<Point>, Stop> {
+    let mut tableau = start.copy(alloc, 0)?;
+    for _ in 0..DEPTH {
+        let Some(choice) = choose(tableau.solved.as_slice()) else {
+            return point_of(alloc, tableau.solved.as_slice());
+        };
+        let Some(next) = narrowed(alloc, &tableau, &choice)? else {
+            return Ok(None);
+        };
+        tableau = next;
     }
+    Ok(None)
+}
 
-    /// A whole point near the tableau's own, if one is found soon.
-    pub fn dive(&self, alloc: Global) -> Result<Option<Point>, Stop> {
-        match self.dive_down(alloc) {
-            Err(Stop::GivenUp) => Ok(None),
-            outcome => outcome,
-        }
+/// A whole point near the tableau's own, if one is found soon.
+pub fn dive(alloc: Global, tableau: &Tableau) -> Result<Option<Point>, Stop> {
+    match dive_down(alloc, tableau) {
+        Err(Stop::GivenUp) => Ok(None),
+        outcome => outcome,
     }
 }

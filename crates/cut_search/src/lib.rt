@@ -1,4 +1,4 @@
-//! Section: Search. Promises derivations that refute, and points that meet the facts; stands on `linear`, `cut_proof`.
+//! Section: Search. Promises derivations that refute, and points that meet the facts; stands on `cut_proof`, `simplex`.
 //!
 //! Searches for a derivation that refutes linear facts, or for whole numbers that meet them all.
 //!
@@ -10,14 +10,8 @@
 mod answer;
 mod cuts;
 mod dive;
-mod numbers;
 mod point;
-mod row;
 mod searching;
-mod stop;
-mod tableau;
-#[cfg(test)]
-mod tests;
 mod writing;
 
 pub use answer::{Answer, Point};

@@ -6,9 +6,8 @@ ghost use Rattle.linear.specs.Forms.{form, forms};
 ghost use Rattle.cut_search.specs.Answers.{value_at};
 
 use super::answer::Point;
-use super::row::{Row, Variable};
-use super::stop::Stop;
 use linear::{Fact, Symbol, Term};
+use simplex::{Row, Stop, Variable};
 use std::alloc::Global;
 
 /// The point of a tableau, where all symbols of it are whole.

@@ -7,13 +7,13 @@ ghost use Rattle.cut_proof.specs.Derivations.{refutes_of};
 ghost use Rattle.cut_search.specs.Answers.{IsAnswer};
 
 use super::answer::{Answer, Point};
-use super::cuts::Cuts;
+use super::cuts::{Cuts, cut};
+use super::dive::dive;
 use super::point::{meets, point_of};
-use super::stop::Stop;
-use super::tableau::{PIVOTS, Part, Tableau};
 use super::writing::{derive, derive_given};
 use cut_proof::{Derivation, refutes};
 use linear::Fact;
+use simplex::{PIVOTS, Part, Stop, Tableau};
 use std::alloc::{AllocError, Global};
 
 /// How often the tableau is solved, cuts made between.
@@ -158,7 +158,7 @@ fn whole_point(alloc: Global, tableau: &Tableau, round: u32) -> Result<Option<Po
     if own.is_some() || !dives(round) {
         return Ok(own);
     }
-    tableau.dive(alloc)
+    dive(alloc, tableau)
 }
 
 /// Solves the tableau, and makes cuts while its point is not whole.
@@ -171,17 +171,17 @@ fn conclude(alloc: Global, facts: &[Fact], start: Tableau) -> Result<Answer, Sto
         if let Some(point) = whole_point(alloc, &tableau, round)? {
             return Ok(Answer::Model(point));
         }
-        match tableau.cut(alloc, facts)? {
+        match cut(alloc, &mut tableau, facts)? {
             Cuts::Made => {}
             Cuts::Refuting(parts) => return proof(alloc, &tableau, parts.as_slice()),
-            Cuts::Exhausted => return dive(alloc, &tableau),
+            Cuts::Exhausted => return last_dive(alloc, &tableau),
         }
     }
     Err(Stop::GivenUp)
 }
 
-fn dive(alloc: Global, tableau: &Tableau) -> Result<Answer, Stop> {
-    match tableau.dive(alloc)? {
+fn last_dive(alloc: Global, tableau: &Tableau) -> Result<Answer, Stop> {
+    match dive(alloc, tableau)? {
         Some(point) => Ok(Answer::Model(point)),
         None => Err(Stop::GivenUp),
     }

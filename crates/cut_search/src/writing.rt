@@ -1,7 +1,6 @@
 // The derivation of a sum of slacks: the lines of the slacks that it needs, and its own.
-use super::stop::Stop;
-use super::tableau::{Origin, Part};
 use cut_proof::{Derivation, Line};
+use simplex::{Origin, Part, Stop};
 use std::alloc::Global;
 
 /// Marks the slacks of the parts.

@@ -1,6 +1,6 @@
 // Lists of real kernels, lists that are possible, lists that only divisions refute, and lists at random.
-use super::*;
 use cut_proof::{Line, refutes};
+use cut_search::{Answer, Start, find, search};
 use linear::{Fact, Form, LinearError, Symbol};
 use std::alloc::{AllocError, Global};
 use std::test::Fail;

@@ -52,18 +52,50 @@ impl Start {
         ensures { IfOk result (λ a. IsAnswer (forms facts.now) a) }
     {
         match self.decide(alloc, facts) {
-            Ok(answer) => checked(alloc, facts, answer),
-            Err(Stop::GivenUp) => Ok(Answer::Undecided),
-            Err(Stop::Memory) => Err(AllocError),
+            Err(Stop::GivenUp) => again(alloc, facts),
+            outcome => settled(alloc, facts, outcome),
         }
     }
 
     fn decide(&self, alloc: Global, facts: &[Fact]) -> Result<Answer, Stop> {
-        let mut tableau = self.tableau.copy(alloc, PIVOTS)?;
-        match enter_all(alloc, &mut tableau, facts, self.count)? {
-            Some(number) => Ok(Answer::Proof(derive_given(alloc, number)?)),
-            None => conclude(alloc, facts, tableau),
-        }
+        let tableau = self.tableau.copy(alloc, PIVOTS)?;
+        decide_from(alloc, tableau, facts, self.count)
+    }
+}
+
+/// A second search, with other steps.
+fn again(alloc: Global, facts: &[Fact]) -> Result<Answer, AllocError>
+    ensures { IfOk result (λ a. IsAnswer (forms facts.now) a) }
+{
+    let outcome = decide_from(alloc, Tableau::orderly(alloc), facts, 0);
+    settled(alloc, facts, outcome)
+}
+
+fn settled(
+    alloc: Global,
+    facts: &[Fact],
+    outcome: Result<Answer, Stop>,
+) -> Result<Answer, AllocError>
+    ensures { IfOk result (λ a. IsAnswer (forms facts.now) a) }
+{
+    match outcome {
+        Ok(answer) => checked(alloc, facts, answer),
+        Err(Stop::GivenUp) => Ok(Answer::Undecided),
+        Err(Stop::Memory) => Err(AllocError),
+    }
+}
+
+/// Takes in the facts behind the first `count`, and decides.
+fn decide_from(
+    alloc: Global,
+    start: Tableau,
+    facts: &[Fact],
+    count: usize,
+) -> Result<Answer, Stop> {
+    let mut tableau = start;
+    match enter_all(alloc, &mut tableau, facts, count)? {
+        Some(number) => Ok(Answer::Proof(derive_given(alloc, number)?)),
+        None => conclude(alloc, facts, tableau),
     }
 }
 
@@ -122,7 +154,9 @@ fn checked_model(facts: &[Fact], point: Point) -> Answer
 
 fn prepared(alloc: Global, facts: &[Fact]) -> Result<Tableau, Stop> {
     let mut tableau = Tableau::new(alloc);
-    let _constant = enter_all(alloc, &mut tableau, facts, 0)?;
+    if enter_all(alloc, &mut tableau, facts, 0)?.is_some() {
+        return Err(Stop::GivenUp);
+    }
     let _parts = tableau.solve(alloc)?;
     Ok(tableau)
 }

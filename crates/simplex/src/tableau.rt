@@ -7,8 +7,8 @@ use std::alloc::{AllocError, Global};
 /// How often variables change places in one search, at most.
 pub const PIVOTS: u32 = 3_000;
 
-/// From this step on the first row and variable are taken, so that no step comes again.
-const ORDERLY: u32 = 400;
+/// So many steps take short rows, as long as that leads on.
+const SHORT: u32 = 400;
 
 /// A slack with a weight.
 #[derive(Clone, Copy, Debug, PartialEq, Eq)]
@@ -36,6 +36,7 @@ pub struct Tableau {
     pub origins: Vec<Origin>,
     pivots: u32,
     most: u32,
+    short: u32,
     scratch: Vec<Entry>,
     uses: Vec<u32>,
 }
@@ -152,13 +153,24 @@ fn copy_cut(alloc: Global, parts: &[Part], divisor: i64, form: &Row) -> Result<O
 }
 
 impl Tableau {
+    /// No rows yet. Steps take short rows first, and later the first row and variable, so that none comes again.
     pub fn new(alloc: Global) -> Tableau {
+        Tableau::with_short_steps(alloc, SHORT)
+    }
+
+    /// No rows yet. Each step takes the first row and variable.
+    pub fn orderly(alloc: Global) -> Tableau {
+        Tableau::with_short_steps(alloc, 0)
+    }
+
+    fn with_short_steps(alloc: Global, short: u32) -> Tableau {
         Tableau {
             rows: Vec::new(alloc),
             solved: Vec::new(alloc),
             origins: Vec::new(alloc),
             pivots: 0,
             most: PIVOTS,
+            short,
             scratch: Vec::new(alloc),
             uses: Vec::new(alloc),
         }
@@ -175,6 +187,7 @@ impl Tableau {
             origins,
             pivots: 0,
             most,
+            short: self.short,
             scratch: Vec::new(alloc),
             uses: Vec::new(alloc),
         })
@@ -306,7 +319,7 @@ impl Tableau {
     }
 
     fn step(&mut self) -> Result<Step, Stop> {
-        if self.pivots > ORDERLY {
+        if self.pivots >= self.short {
             Ok(self.orderly_step())
         } else {
             self.short_step()

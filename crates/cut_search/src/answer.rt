@@ -6,7 +6,7 @@ use linear::Symbol;
 pub type Point = Vec<(Symbol, i64)>;
 
 /// What a search answers.
-#[derive(Debug, Drop)]
+#[derive(Drop)]
 pub enum Answer {
     /// A derivation that refutes the facts.
     Proof(Derivation),

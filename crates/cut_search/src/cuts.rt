@@ -7,7 +7,7 @@ use std::alloc::Global;
 const CUTS: usize = 4;
 
 /// What came of cutting.
-#[derive(Debug, Drop)]
+#[derive(Drop)]
 pub enum Cuts {
     /// There are new slacks.
     Made,
@@ -18,7 +18,7 @@ pub enum Cuts {
 }
 
 /// A row to cut by: those of small denominators and few entries come first.
-#[derive(Clone, Copy, Debug, PartialEq, Eq, PartialOrd, Ord)]
+#[derive(Clone, Copy, PartialEq, Eq, PartialOrd, Ord)]
 struct Source {
     denominator: i64,
     length: usize,

@@ -20,7 +20,7 @@ use std::alloc::{AllocError, Global};
 const ROUNDS: u32 = 40;
 
 /// Facts that several lists begin with, taken in and solved. It is as large as those facts.
-#[derive(Debug, Drop)]
+#[derive(Drop)]
 pub struct Start {
     tableau: Tableau,
     count: usize,

@@ -8,7 +8,7 @@ use std::alloc::{AllocError, Global};
 use std::mem::swap;
 
 /// A variable of a tableau.
-#[derive(Clone, Copy, Debug, PartialEq, Eq, PartialOrd, Ord)]
+#[derive(Clone, Copy, PartialEq, Eq, PartialOrd, Ord)]
 pub enum Variable {
     /// A symbol of the facts, of any value.
     Free(Symbol),
@@ -17,7 +17,7 @@ pub enum Variable {
 }
 
 /// A variable with its coefficient, which is not 0.
-#[derive(Clone, Copy, Debug)]
+#[derive(Clone, Copy)]
 pub struct Entry {
     pub variable: Variable,
     pub coefficient: i64,
@@ -25,7 +25,7 @@ pub struct Entry {
 
 /// `denominator * basic = constant + entries`, in whole numbers without a common divisor, the denominator at least 1 and
 /// the entries rising by their variables.
-#[derive(Debug, Drop)]
+#[derive(Drop)]
 pub struct Row {
     pub basic: Variable,
     pub denominator: i64,

@@ -2,7 +2,7 @@
 use std::alloc::{AllocError, AllocFailed};
 
 /// Why a search ends without an answer.
-#[derive(Debug, Drop)]
+#[derive(Drop)]
 pub enum Stop {
     /// A number leaves `i64`, or a limit is reached.
     GivenUp,

@@ -11,14 +11,14 @@ pub const PIVOTS: u32 = 3_000;
 const SHORT: u32 = 400;
 
 /// A slack with a weight.
-#[derive(Clone, Copy, Debug, PartialEq, Eq)]
+#[derive(Clone, Copy, PartialEq, Eq)]
 pub struct Part {
     pub weight: i64,
     pub slack: u32,
 }
 
 /// Where a slack comes from.
-#[derive(Debug, Drop)]
+#[derive(Drop)]
 pub enum Origin {
     /// A fact, counted from 1, divided.
     Given(u32, i64),
@@ -29,7 +29,7 @@ pub enum Origin {
 }
 
 /// Rows of slacks, at least 0, and of symbols, over the variables that have no row. Those are 0 at the tableau's point.
-#[derive(Debug, Drop)]
+#[derive(Drop)]
 pub struct Tableau {
     pub rows: Vec<Row>,
     pub solved: Vec<Row>,

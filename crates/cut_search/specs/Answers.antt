@@ -1,0 +1,20 @@
+-- What an answer says of the facts that were searched.
+use Rattle.std.specs.Prelude.{ℕ, ℤ, pos, true, cond, nat_eq, ◌≡◌, List, [], ◌∷◌, map}
+use Rattle.std.specs.List.{All}
+use Rattle.semantics.specs.Linear.{Form, IsMet, IsImpossible}
+use Rattle.linear.specs.declared.term.Symbol.{Symbol}
+use Rattle.cut_proof.specs.Derivations.{refutes_of}
+use Rattle.cut_proof.specs.View.{line}
+use Rattle.cut_search.specs.declared.answer.Answer.{Answer}
+use Rattle.cut_search.specs.declared.answer.Answer.TheVariants.{Proof, Model, Undecided}
+
+-- the value of a symbol at a point, 0 where it has none
+abbrev pub value_at : List (Symbol × ℤ) → ℕ → ℤ
+value_at [] n = pos 0
+value_at (e ∷ es) n = cond (nat_eq e.0.number n) e.1 (value_at es n)
+
+-- a derivation refutes the facts, so nothing meets them; a point meets them all
+abbrev pub IsAnswer : List (Form ℕ) → Answer → Type 0
+IsAnswer facts (Proof d) = (refutes_of facts (map line d.lines.items) ≡ true) × IsImpossible facts
+IsAnswer facts (Model p) = All (IsMet (value_at p.items)) facts
+IsAnswer facts Undecided = Unit {0}

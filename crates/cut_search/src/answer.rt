@@ -1,0 +1,17 @@
+// What a search answers.
+use cut_proof::Derivation;
+use linear::Symbol;
+
+/// Symbols with their values; all others are 0.
+pub type Point = Vec<(Symbol, i64)>;
+
+/// What a search answers.
+#[derive(Drop)]
+pub enum Answer {
+    /// A derivation that refutes the facts.
+    Proof(Derivation),
+    /// Whole numbers that meet all facts.
+    Model(Point),
+    /// Neither was found.
+    Undecided,
+}

@@ -9,8 +9,6 @@ mod checking;
 pub mod error;
 mod keeping;
 mod names;
-#[cfg(test)]
-mod tests;
 
 pub use accepted::Accepted;
 pub use checking::check;

@@ -14,9 +14,6 @@ ghost use Rattle.linear.specs.Forms.{form, forms};
 ghost use Rattle.cut_proof.specs.View.{seen, line as line_seen};
 ghost use Rattle.cut_proof.specs.Derivations.{entry, within_i64, add_part, sum_line, divided_line, line_form, is_contradiction, refutes_of};
 
-#[cfg(test)]
-mod tests;
-
 use linear::{Fact, Form, LinearError};
 use std::alloc::{AllocError, Global};
 

@@ -5,6 +5,8 @@
 //! output that fails, 4 out of memory.
 #![tactic(auto)]
 
+#[cfg(test)]
+mod check_tests;
 mod disk;
 #[cfg(test)]
 mod tests;

@@ -11,6 +11,4 @@ pub mod meets;
 pub mod number;
 pub mod probe;
 pub mod sums;
-#[cfg(test)]
-mod tests;
 pub mod values;

@@ -10,8 +10,6 @@
 mod form;
 mod merge;
 mod term;
-#[cfg(test)]
-mod tests;
 
 pub use form::{Fact, Form, LinearError};
 pub use term::{Symbol, Term};

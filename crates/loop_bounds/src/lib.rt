@@ -8,8 +8,6 @@ mod bound;
 mod counting;
 mod error;
 pub mod laws;
-#[cfg(test)]
-mod tests;
 mod turning;
 
 pub use bound::{Bound, LoopBound, Step};

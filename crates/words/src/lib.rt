@@ -8,8 +8,6 @@
 #![tactic(auto)]
 
 mod gate;
-#[cfg(test)]
-mod tests;
 mod word;
 
 pub use gate::{Gate, Moment, Open};

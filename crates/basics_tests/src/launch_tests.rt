@@ -1,12 +1,12 @@
 // One buffer `a` of `uint` and a parameter `n` of `uint`: `length a >= n`, `require n >= 1`.
 
-use crate::conditions::{
+use launch::conditions::{
     ArgumentRange, Conditions, CountRange, CountRanges, Length, Requirement, Sum, Summand,
 };
-use crate::launches::{Buffers, Counts, Launch};
-use crate::meets::meets;
-use crate::number::Number;
-use crate::probe::probe;
+use launch::launches::{Buffers, Counts, Launch};
+use launch::meets::meets;
+use launch::number::Number;
+use launch::probe::probe;
 use std::alloc::{AllocError, Global};
 use std::test::Fail;
 use words::{Kind, Word};

@@ -1,6 +1,8 @@
 // A derivation with a division, and the same with a negative weight.
-use super::*;
-use linear::Symbol;
+
+use cut_proof::{Derivation, Line, refutes};
+use linear::{Form, LinearError, Symbol};
+use std::alloc::{AllocError, Global};
 use std::test::Fail;
 
 fn fact(alloc: Global, coefficient: i64, constant: i64) -> Result<Form, LinearError> {

@@ -1,5 +1,6 @@
 // Sums, multiples and substitutions at the ends of i64.
-use super::*;
+
+use linear::{Form, LinearError, Symbol};
 use std::alloc::Global;
 use std::test::Fail;
 

@@ -2,9 +2,12 @@
 ghost use Rattle.std.specs.Prelude.{◌≡◌};
 ghost use Rattle.words.specs.View.{kind_of};
 
-use super::*;
 use std::fmt::Write;
 use std::test::Fail;
+use words::{
+    Fault, Gate, Kind, Moment, Open, Word, add, bit_and, bit_or, bit_xor, convert, div, less, mul,
+    neg, not, rem, shl, shr, sub,
+};
 
 // `a b: ` and what `+ - * / % & | ^ <` give.
 const INT_PAIRS: &str = "

@@ -1,6 +1,6 @@
 // The check of three texts.
 
-use crate::check;
+use cert_check::check;
 use std::alloc::Global;
 use std::test::Fail;
 

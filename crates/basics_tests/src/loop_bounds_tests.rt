@@ -1,7 +1,8 @@
 // Turns, and the counts of small kernels.
-use super::*;
+
 use core_code::tree::{Array, Core, Site, Space, Statement, Term};
 use linear::Form;
+use loop_bounds::{Bound, LoopBound, Step, cost, turns};
 use std::alloc::{AllocError, Global};
 use std::test::Fail;
 use words::Kind;

@@ -1,0 +1,22 @@
+//! Section: Runs and program. Promises nothing; it holds tests of crates of other sections, and nothing stands on it.
+//!
+//! The tests of `words`, `launch`, `linear`, `cut_proof`, `interval`, `congruence`, `product` and `loop_bounds`, so that none of these is
+//! proved twice.
+#![tactic(auto)]
+
+#[cfg(test)]
+mod congruence_tests;
+#[cfg(test)]
+mod cut_proof_tests;
+#[cfg(test)]
+mod interval_tests;
+#[cfg(test)]
+mod launch_tests;
+#[cfg(test)]
+mod linear_tests;
+#[cfg(test)]
+mod loop_bounds_tests;
+#[cfg(test)]
+mod product_tests;
+#[cfg(test)]
+mod words_tests;

@@ -1,0 +1,30 @@
+// The product of intervals and congruences.
+
+use congruence::Congruence;
+use domain::{Domain, Residue};
+use interval::Interval;
+use product::Product;
+
+// Three times the members that leave 1 by 4, plus 1.
+fn image(first: Interval) -> Product<Interval, Congruence> {
+    let class = Product {
+        first,
+        second: Congruence::of(1).join(Congruence::of(5)),
+    };
+    class.mul(Product::of(3)).add(Product::of(1))
+}
+
+#[test]
+fn interval_and_congruence(rt: HostRuntime) {
+    let range = Interval::top().at_most(9).at_least(-2);
+    let ends = Interval::top().at_least(-5).at_most(28);
+    assert_eq!(rt; image(range).bounds(), ends.bounds());
+    let residue = image(range).residue();
+    assert_eq!(rt;
+        residue,
+        Residue {
+            modulus: 12,
+            remainder: 4
+        }
+    );
+}

@@ -4,7 +4,5 @@
 #![tactic(auto)]
 
 mod log;
-#[cfg(test)]
-mod tests;
 
 pub use log::{WriteLog, apply};

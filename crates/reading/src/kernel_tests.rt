@@ -1,7 +1,7 @@
 // Texts to trees and to typed kernels.
 
 use crate::read_kernel;
-use core_code::tree::{Operator, Site, Statement, Term};
+use core_code::tree::{Core, Operator, Site, Statement, Term};
 use lexer::lex;
 use parser::parse;
 use std::alloc::Global;
@@ -234,6 +234,18 @@ fn repeated(statement: Option<&Statement>) -> (&[Statement], &[Statement]) {
 }
 
 // `x` has the slot 1, and its value is converted; the first part of the `for` stands before the loop.
+fn is_its_core(core: &Core) -> bool {
+    let (body, update) = repeated(core.body.get(2));
+    core.arrays.len() == 1
+        && core.body.len() == 3
+        && sets(core.body.first(), 2, 1)
+        && converts(core.body.first())
+        && sets(core.body.get(1), 4, 1)
+        && !converts(core.body.get(1))
+        && is_local_barrier(body.first())
+        && sets(update.first(), 5, 1)
+}
+
 #[test]
 fn a_kernel_has_its_core(rt: HostRuntime) -> Result<(), Fail> {
     let alloc = rt.alloc();
@@ -245,12 +257,6 @@ fn a_kernel_has_its_core(rt: HostRuntime) -> Result<(), Fail> {
     let Ok(typed) = read_kernel(alloc, text.as_bytes()) else {
         return Err(Fail::new(format_args!("a kernel is due")));
     };
-    let core = typed.core();
-    assert_eq!(rt; core.arrays.len(), 1);
-    assert_eq!(rt; core.body.len(), 3);
-    assert!(rt; sets(core.body.first(), 2, 1) && converts(core.body.first()));
-    assert!(rt; sets(core.body.get(1), 4, 1) && !converts(core.body.get(1)));
-    let (body, update) = repeated(core.body.get(2));
-    assert!(rt; is_local_barrier(body.first()) && sets(update.first(), 5, 1));
+    assert!(rt; is_its_core(typed.core()));
     Ok(())
 }

@@ -1,50 +1,20 @@
 // All lines, and what is refused, for a kernel of `__global uint *a, uint n, __global const int *b, int i`.
-use core_code::tree::Site;
+use crate::read_kernel;
 use launch::meets::meets;
 use launch_text::error::LaunchTextError;
 use launch_text::{read_conditions, read_launch, write_buffers};
-use std::alloc::{AllocError, Global};
+use std::alloc::Global;
 use std::test::Fail;
-use syntax::tree::{Kernel, Parameter};
-use types::check::check_types;
 use types::typed::Typed;
 use words::{Kind, Word};
 
-const SITE: Site = Site { line: 1, column: 1 };
-
-fn buffer(alloc: Global, kind: Kind, name: &str) -> Result<Parameter, AllocError> {
-    Ok(Parameter::Buffer {
-        constant: false,
-        kind,
-        name_site: SITE,
-        name: String::from_str(alloc, name)?,
-    })
-}
-
-fn value(alloc: Global, kind: Kind, name: &str) -> Result<Parameter, AllocError> {
-    Ok(Parameter::Value {
-        kind,
-        name_site: SITE,
-        name: String::from_str(alloc, name)?,
-    })
-}
+const KERNEL: &str =
+    "__kernel __attribute__((reqd_work_group_size(1, 1, 1))) void k(__global uint *a, uint n, __global const int *b, int i) { }";
 
 fn kernel(alloc: Global) -> Result<Typed, Fail> {
-    let parameters = vec![in alloc;
-        buffer(alloc, Kind::Uint, "a")?,
-        value(alloc, Kind::Uint, "n")?,
-        buffer(alloc, Kind::Int, "b")?,
-        value(alloc, Kind::Int, "i")?,
-    ]?;
-    let tree = Kernel {
-        name: String::from_str(alloc, "k")?,
-        sizes: [1, 1, 1],
-        parameters,
-        body: Vec::new(alloc),
-    };
-    match check_types(alloc, tree) {
+    match read_kernel(alloc, KERNEL.as_bytes()) {
         Ok(typed) => Ok(typed),
-        Err(_) => Err(Fail::from("the kernel is well typed")),
+        Err(_) => Err(Fail::from("the kernel is read")),
     }
 }
 
@@ -226,7 +196,14 @@ fn launches_are_read(rt: HostRuntime) -> Result<(), Fail> {
         written.as_slice(),
         b"buffer a list\nbuffer b list -7 -7 -7\n".as_slice()
     );
-    // What is required is not met: `n` is 0.
+    Ok(())
+}
+
+// What is required is not met: `n` is 0.
+#[test]
+fn an_unmet_requirement_is_named(rt: HostRuntime) -> Result<(), Fail> {
+    let alloc = rt.alloc();
+    let typed = kernel(alloc)?;
     let mut text = String::from_str(alloc, HEAD)?;
     text.push_str("require n >= 1\nbudget 1\n")?;
     let Ok(conditions) = read_conditions(alloc, &typed, text.as_bytes()) else {

@@ -34,3 +34,4 @@ pub mod LaunchReading
 pub mod LaunchText
 pub mod LaunchSpelling
 pub mod Spelling
+pub mod Canonical

@@ -35,3 +35,4 @@ pub mod LaunchText
 pub mod LaunchSpelling
 pub mod Spelling
 pub mod Canonical
+pub mod CanonicalTokens

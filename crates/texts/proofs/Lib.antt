@@ -22,3 +22,4 @@ pub mod CanonicalNames
 pub mod CanonicalExpressions
 pub mod CanonicalStatements
 pub mod CanonicalText
+pub mod CanonicalGrammar

@@ -36,3 +36,5 @@ pub mod LaunchSpelling
 pub mod Spelling
 pub mod Canonical
 pub mod CanonicalTokens
+pub mod Bare
+pub mod Brackets

@@ -1,11 +1,15 @@
 //! Canonical texts: what they say is the tree that they are of.
 
-ghost use Rattle.std.specs.Prelude.{◌≡◌, ◌≤◌, List, length, map, Ok};
+ghost use Rattle.std.specs.Prelude.{◌≡◌, ℕ, ◌≤◌, List, length, map, Ok};
 ghost use Rattle.texts.specs.Canonical.{canonical};
-ghost use Rattle.texts.specs.CanonicalTokens.{IsPrintableKernel, kernel_tokens};
+ghost use Rattle.texts.specs.Bare.{bare_expression};
+ghost use Rattle.texts.specs.Brackets.{Opens};
+ghost use Rattle.texts.specs.CanonicalTokens.{IsPrintableKernel, expression_tokens, kernel_tokens};
+ghost use Rattle.texts.specs.Grammar.{IsExpression};
+ghost use Rattle.texts.specs.Lexemes.{Lexeme};
 ghost use Rattle.texts.specs.Reading.{Reads};
-ghost use Rattle.texts.specs.Surface.{Kernel};
-ghost use Rattle.texts.specs.Tokens.{Token, tokens_of};
+ghost use Rattle.texts.specs.Surface.{Expression, Kernel};
+ghost use Rattle.texts.specs.Tokens.{Token, TokenKind, tokens_of};
 
 /// The tokens of a canonical text are those of its tree, its length aside.
 #[tactic(auto, using(crate::proofs::CanonicalText::text_read))]
@@ -17,4 +21,10 @@ pub fn canonical_text_has_the_tokens_of_its_tree()
 #[tactic(auto, using(crate::proofs::CanonicalText::tokens_read_of))]
 pub fn tokens_of_a_canonical_text_are_those_of_its_tree()
     ensures { (k : Kernel) → IsPrintableKernel k → length (canonical k) ≤ 65536 → (ts : List Token) × (tokens_of (canonical k) ≡ Ok ts) × (map (λ t. t.kind) ts ≡ kernel_tokens k) }
+{}
+
+/// The grammar relates the tokens of an expression to that expression, positions aside, where there is room for its brackets.
+#[tactic(auto, using(crate::proofs::CanonicalGrammar::expression_related))]
+pub fn tokens_of_an_expression_stand_for_it()
+    ensures { (e : Expression) (room : ℕ) (after : List TokenKind) (ts : List Lexeme) → Opens room e → map (λ t. t.kind) ts ≡ expression_tokens e after → (tree : Expression) × (rest : List Lexeme) × IsExpression room ts tree rest × (map (λ t. t.kind) rest ≡ after) × (bare_expression tree ≡ bare_expression e) }
 {}

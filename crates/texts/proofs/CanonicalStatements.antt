@@ -163,7 +163,7 @@ mutual
   lex_statement pad (DeclareArray n site kind name_site x length) rest ks p h go =
       lex_line pad (array_text kind x length ++ codes ";") _ p (moved (append_assoc (array_text kind x length) (codes ";") (10 ∷ rest)) (lex_array kind x length h.0 h.1 (semicolon (feed go))))
   lex_statement pad (Assign a) rest ks p h go =
-      lex_line pad (assignment_text a ++ codes ";") _ p (moved (append_assoc (assignment_text a) (codes ";") (10 ∷ rest)) (lex_assignment a h refl (semicolon (feed go))))
+      lex_line pad (assignment_text a ++ codes ";") _ p (moved (append_assoc (assignment_text a) (codes ";") (10 ∷ rest)) (lex_assignment a h.0 refl (semicolon (feed go))))
   lex_statement pad (If n site test a b) rest ks p h go =
       moved (in_turn_four (line pad (codes "if (" ++ (expression_text test ++ codes ") {"))) (statements_text (deeper pad) a) (else_text pad b) (line pad (codes "}")) rest)
       (lex_line pad (codes "if (" ++ (expression_text test ++ codes ") {")) _ p (if_word (lex_test test h.0 (lex_statements (deeper pad) a _ _ (deeper_pad pad p) h.1

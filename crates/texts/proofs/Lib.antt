@@ -23,3 +23,4 @@ pub mod CanonicalExpressions
 pub mod CanonicalStatements
 pub mod CanonicalText
 pub mod CanonicalGrammar
+pub mod CanonicalKernel

@@ -1,5 +1,5 @@
 -- The tokens of a kernel's canonical text: those of a tree in front of those `after` it.
-use Rattle.std.specs.Prelude.{◌≡◌, ℕ, pos, List, [], ◌∷◌, Bool, true, false, Option, Some, None, codes}
+use Rattle.std.specs.Prelude.{◌≡◌, ◌≢◌, ℕ, pos, List, [], ◌∷◌, Bool, true, false, Option, Some, None, codes}
 use Rattle.std.specs.List.{find}
 use Rattle.std.specs.Str.{bytes_eq}
 use Rattle.semantics.specs.Word.{Kind, Int, Uint, Operator, Add, Subtract, Multiply, Divide, Remainder, BitAnd, BitOr, BitXor, Relation, Less, AtMost, More, AtLeast, Equal, Unequal, in_kind}
@@ -203,7 +203,7 @@ abbrev mutual
   pub IsPrintableStatement : Statement → Type 0
   IsPrintableStatement (Declare d) = IsPrintableDeclaration d
   IsPrintableStatement (DeclareArray n site kind name_site x length) = IsName x × IsSize length
-  IsPrintableStatement (Assign a) = IsPrintableAssignment a
+  IsPrintableStatement (Assign a) = IsPrintableAssignment a × (a.name ≢ codes "barrier")
   IsPrintableStatement (If n site test a b) = IsPrintable test × ArePrintableStatements a × ArePrintableStatements b
   IsPrintableStatement (While n site test body) = IsPrintable test × ArePrintableStatements body
   IsPrintableStatement (For n site first test update body) = IsPrintableFirst first × IsPrintable test × IsPrintableAssignment update × ArePrintableStatements body

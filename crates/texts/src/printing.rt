@@ -1,13 +1,15 @@
 //! Canonical texts: what they say is the tree that they are of.
 
-ghost use Rattle.std.specs.Prelude.{◌≡◌, ℕ, ◌≤◌, List, length, map, Ok};
+ghost use Rattle.std.specs.Prelude.{◌≡◌, ℕ, suc, ◌≤◌, List, length, map, Ok};
 ghost use Rattle.texts.specs.Canonical.{canonical};
-ghost use Rattle.texts.specs.Bare.{bare_expression};
-ghost use Rattle.texts.specs.Brackets.{Opens};
+ghost use Rattle.texts.specs.Bare.{bare_expression, bare_kernel};
+ghost use Rattle.texts.specs.Brackets.{AllOpenStatements, Opens};
 ghost use Rattle.texts.specs.CanonicalTokens.{IsPrintableKernel, expression_tokens, kernel_tokens};
 ghost use Rattle.texts.specs.Grammar.{IsExpression};
+ghost use Rattle.texts.specs.KernelGrammar.{IsKernel};
 ghost use Rattle.texts.specs.Lexemes.{Lexeme};
 ghost use Rattle.texts.specs.Reading.{Reads};
+ghost use Rattle.texts.specs.Spelling.{AreNumbered};
 ghost use Rattle.texts.specs.Surface.{Expression, Kernel};
 ghost use Rattle.texts.specs.Tokens.{Token, TokenKind, tokens_of};
 
@@ -27,4 +29,10 @@ pub fn tokens_of_a_canonical_text_are_those_of_its_tree()
 #[tactic(auto, using(crate::proofs::CanonicalGrammar::expression_related))]
 pub fn tokens_of_an_expression_stand_for_it()
     ensures { (e : Expression) (room : ℕ) (after : List TokenKind) (ts : List Lexeme) → Opens room e → map (λ t. t.kind) ts ≡ expression_tokens e after → (tree : Expression) × (rest : List Lexeme) × IsExpression room ts tree rest × (map (λ t. t.kind) rest ≡ after) × (bare_expression tree ≡ bare_expression e) }
+{}
+
+/// The grammar relates the tokens of a kernel to that kernel, positions aside, where there is room for its brackets.
+#[tactic(auto, using(crate::proofs::CanonicalKernel::kernel_related))]
+pub fn tokens_of_a_kernel_stand_for_it()
+    ensures { (k : Kernel) (room : ℕ) (ts : List Lexeme) → IsPrintableKernel k → AreNumbered 1 k.body → AllOpenStatements (suc (suc room)) k.body → map (λ t. t.kind) ts ≡ kernel_tokens k → (tree : Kernel) × IsKernel (suc (suc (suc room))) ts tree × (bare_kernel tree ≡ bare_kernel k) }
 {}

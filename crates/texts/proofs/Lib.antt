@@ -16,3 +16,11 @@ pub mod CertificateWritten
 pub mod Endings
 pub mod Spellings
 pub mod Declarations
+pub mod CanonicalPieces
+pub mod CanonicalSigns
+pub mod CanonicalNames
+pub mod CanonicalExpressions
+pub mod CanonicalStatements
+pub mod CanonicalText
+pub mod CanonicalGrammar
+pub mod CanonicalKernel

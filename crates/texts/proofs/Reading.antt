@@ -221,7 +221,7 @@ step n text shorter at b bytes ts l (Has kind count) fits means e =
     (shorter (at + count) (drop count (b ∷ bytes)) r.0 (omega (arith, fits.0, fits.1, length-drop count (b ∷ bytes))) (sym (after text count at b bytes fits) ∙ r.1)))
 step n text shorter at b bytes ts l (Bad fault before) fits means e = cc
 
-reads : (n : ℕ) (text : List ℕ) (at : ℕ) (bytes : List ℕ) (ts : List Token) → length bytes ≤ n → tokens text 0 at bytes ≡ Ok ts → Reads text at bytes ts
+pub reads : (n : ℕ) (text : List ℕ) (at : ℕ) (bytes : List ℕ) (ts : List Token) → length bytes ≤ n → tokens text 0 at bytes ≡ Ok ts → Reads text at bytes ts
 reads n text at [] ts l e = let k : token_at text End at 0 ∷ [] ≡ ts = cc in subst (Reads text at []) k (ends at)
 reads zero text at (b ∷ bytes) ts l e = absurd (omega arith)
 reads (suc n) text at (b ∷ bytes) ts l e = step n text (reads n text) at b bytes ts (omega arith) (piece b (b ∷ bytes)) (piece_fits b bytes) (piece_means b bytes) e

@@ -34,3 +34,7 @@ pub mod LaunchReading
 pub mod LaunchText
 pub mod LaunchSpelling
 pub mod Spelling
+pub mod Canonical
+pub mod CanonicalTokens
+pub mod Bare
+pub mod Brackets

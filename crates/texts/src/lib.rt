@@ -6,3 +6,4 @@
 
 pub mod certificates;
 pub mod laws;
+pub mod printing;

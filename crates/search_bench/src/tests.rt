@@ -289,7 +289,6 @@ fn is_possible(facts: &[Fact]) -> bool {
 #[test]
 fn boxes(rt: HostRuntime) -> Result<(), Fail> {
     let mut state = 1u64;
-    let mut possible = 0u32;
     for _ in 0..10_000 {
         let facts = random_list(rt.alloc(), &mut state)?;
         let expected = is_possible(facts.as_slice());
@@ -299,10 +298,9 @@ fn boxes(rt: HostRuntime) -> Result<(), Fail> {
                 assert!(rt; !expected);
                 assert!(rt; refutes(rt.alloc(), facts.as_slice(), derivation)?);
             }
-            Answer::Model(_) => possible = possible.saturating_add(1),
+            Answer::Model(_) => assert!(rt; expected),
             Answer::Undecided => assert!(rt; false),
         }
     }
-    println!(rt; "{possible} of 10000 are possible")?;
     Ok(())
 }

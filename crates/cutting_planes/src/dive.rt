@@ -1,6 +1,6 @@
 // Dives: whole points that are sought by bounding one symbol after the other.
 use super::answer::Point;
-use super::point::point_of;
+use super::whole::point_of;
 use linear::Symbol;
 use simplex::{Origin, Row, Stop, Tableau, Variable};
 use std::alloc::Global;

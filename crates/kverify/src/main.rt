@@ -9,6 +9,8 @@
 mod check_tests;
 mod disk;
 #[cfg(test)]
+mod print_tests;
+#[cfg(test)]
 mod tests;
 
 use disk::Disk;

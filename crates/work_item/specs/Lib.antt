@@ -1,0 +1,2 @@
+pub mod Proper
+pub mod View

@@ -1,2 +1,5 @@
 pub mod Proper
 pub mod View
+pub mod Left
+pub mod Items
+

@@ -7,5 +7,7 @@
 pub mod dimension;
 pub mod evaluation;
 mod ids;
+pub mod item;
+pub mod left;
 pub mod operations;
 

@@ -1,0 +1,164 @@
+//! How a work-item stands, and how it goes on.
+
+ghost use Rattle.std.specs.Prelude.{◌≡◌, ◌+◌, ◌<◌, ◌^◌, ℕ, [], Some, slice_set, IfOk, OnOk, OnErr};
+ghost use Rattle.semantics.specs.Item as meaning;
+ghost use Rattle.words.specs.View.{word as word_seen};
+ghost use Rattle.core_code.specs.View.{statements as statements_seen};
+ghost use Rattle.work_item.specs.Left.{behind, turned};
+ghost use Rattle.work_item.specs.Items.{item, status as status_seen};
+
+use crate::left::Left;
+use core_code::tree::{Site, Statement};
+use std::alloc::AllocError;
+use words::{Fault, Word};
+
+/// How a work-item stands.
+#[derive(Clone, Copy)]
+pub enum Status {
+    Running,
+    /// At a barrier.
+    Waiting,
+    Ended,
+    /// By a fault, told at a site.
+    Stopped {
+        fault: Fault,
+        site: Site,
+    },
+}
+
+/// A work-item: what is left of its statements, its private variables, the answers to the loads of the statement in front, how many
+/// barriers it has passed with each flag, and how many steps it has taken.
+#[derive(Drop)]
+pub struct Item<'a> {
+    pub left: Left<'a>,
+    pub variables: Vec<Word>,
+    pub answers: Vec<Word>,
+    pub local_epoch: u64,
+    pub global_epoch: u64,
+    pub steps: u64,
+    pub status: Status,
+}
+
+/// One more; past 64 bits there is no memory for it.
+fn next(count: u64) -> Result<u64, AllocError>
+    ensures { IfOk result (λ n. n ≡ count + 1) }
+{
+    count.checked_add(1).ok_or(AllocError)
+}
+
+impl<'a> Item<'a> {
+    /// Running, unless nothing is left.
+    fn standing(&self) -> Status
+        ensures { status_seen result ≡ meaning.status_of (item self.now).left }
+    {
+        match self.left.front {
+            Some(_) => Status::Running,
+            None => Status::Ended,
+        }
+    }
+
+    /// The statement in front is done.
+    fn finish(&mut self, steps: u64)
+        requires { steps ≡ self.old.steps + 1 }
+        ensures { item self.new ≡ meaning.finished (item self.old) (item self.old).left (item self.old).variables }
+    {
+        self.answers.clear();
+        self.steps = steps;
+        self.status = self.standing();
+    }
+
+    /// A load has its answer.
+    pub fn answer(&mut self, word: Word) -> Result<(), AllocError>
+        ensures done { OnOk result (item self.new ≡ meaning.answered_by (item self.old) (word_seen word)) }
+        ensures unchanged { OnErr result (item self.new ≡ item self.old) }
+    {
+        let steps = next(self.steps)?;
+        self.answers.push(word)?;
+        self.steps = steps;
+        Ok(())
+    }
+
+    /// Waits at its barrier, or is stopped by a fault.
+    pub fn stand(&mut self, status: Status) -> Result<(), AllocError>
+        ensures done { OnOk result (item self.new ≡ meaning.stands (item self.old) (status_seen status)) }
+        ensures unchanged { OnErr result (item self.new ≡ item self.old) }
+    {
+        self.steps = next(self.steps)?;
+        self.status = status;
+        Ok(())
+    }
+
+    /// Past the statement in front.
+    pub fn pass_by(&mut self) -> Result<(), AllocError>
+        ensures done { OnOk result (item self.new ≡ meaning.finished (item self.old) (behind (item self.old).left) (item self.old).variables) }
+        ensures unchanged { OnErr result (item self.new ≡ item self.old) }
+    {
+        let steps = next(self.steps)?;
+        self.left.advance();
+        self.finish(steps);
+        Ok(())
+    }
+
+    /// A private variable is set.
+    pub fn set(&mut self, slot: u32, word: Word) -> Result<(), AllocError>
+        ensures done { OnOk result (item self.new ≡ meaning.finished (item self.old) (behind (item self.old).left) (slice_set (item self.old).variables slot (word_seen word))) }
+        ensures unchanged { OnErr result (item self.new ≡ item self.old) }
+    {
+        let steps = next(self.steps)?;
+        if let Some(variable) = self.variables.get_mut(slot as usize) {
+            *variable = word;
+        }
+        self.left.advance();
+        self.finish(steps);
+        Ok(())
+    }
+
+    /// Into a block, past the statement in front.
+    pub fn take(&mut self, block: &'a [Statement]) -> Result<(), AllocError>
+        ensures done { OnOk result (item self.new ≡ meaning.finished (item self.old) (meaning.enter (statements_seen block.now) (behind (item self.old).left)) (item self.old).variables) }
+        ensures unchanged { OnErr result (item self.new ≡ item self.old) }
+    {
+        let steps = next(self.steps)?;
+        self.left.make_room()?;
+        self.left.advance();
+        self.left.enter(block);
+        self.finish(steps);
+        Ok(())
+    }
+
+    /// Nothing is left.
+    pub fn end(&mut self) -> Result<(), AllocError>
+        ensures done { OnOk result (item self.new ≡ meaning.finished (item self.old) [] (item self.old).variables) }
+        ensures unchanged { OnErr result (item self.new ≡ item self.old) }
+    {
+        let steps = next(self.steps)?;
+        self.left.clear();
+        self.finish(steps);
+        Ok(())
+    }
+
+    /// Past the loop of that number.
+    pub fn leave(&mut self, number: u32) -> Result<(), AllocError>
+        ensures done { OnOk result (item self.new ≡ meaning.finished (item self.old) (meaning.leave number (behind (item self.old).left)) (item self.old).variables) }
+        ensures unchanged { OnErr result (item self.new ≡ item self.old) }
+    {
+        let steps = next(self.steps)?;
+        self.left.advance();
+        self.left.leave(number);
+        self.finish(steps);
+        Ok(())
+    }
+
+    /// At the update of the loop of that number, then at its test.
+    pub fn resume(&mut self, number: u32) -> Result<(), AllocError>
+        ensures done { OnOk result (item self.new ≡ meaning.finished (item self.old) (meaning.resume number (behind (item self.old).left)) (item self.old).variables) }
+        ensures unchanged { OnErr result (item self.new ≡ item self.old) }
+    {
+        let steps = next(self.steps)?;
+        self.left.make_room()?;
+        self.left.advance();
+        self.left.resume(number);
+        self.finish(steps);
+        Ok(())
+    }
+}

@@ -1,2 +1,4 @@
 pub mod Powers
 pub mod Stacks
+pub mod Slots
+pub mod Acting

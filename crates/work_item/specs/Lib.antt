@@ -2,4 +2,4 @@ pub mod Proper
 pub mod View
 pub mod Left
 pub mod Items
-
+pub mod Asks

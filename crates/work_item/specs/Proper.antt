@@ -1,9 +1,10 @@
 -- Proper kernels: each value of a term is a word of 32 bits, and all work-items of a launch have numbers of 64 bits. Those that are
 -- read from a text within its limits are.
-use Rattle.std.specs.Prelude.{ℕ, Bool, true, false, ◌&&◌, nat_le}
+use Rattle.std.specs.Prelude.{ℕ, List, [], ◌∷◌, Bool, true, false, ◌&&◌, nat_le}
 use Rattle.semantics.specs.Word.{Kind, Int, Uint, UnaryOperator, Negate, Complement, ShiftLeft, ShiftRight, in_kind}
 use Rattle.semantics.specs.Core.{Term, Literal, Variable, Id, Load, Unary, Binary, Convert, Compare, Not, And, Or, Select, Minimum, Maximum, Statement, Set, Store, If, Loop, Barrier, Return, Break, Continue, Statements, none, one}
 use Rattle.semantics.specs.Launch.{Three, product, Kernel}
+use Rattle.semantics.specs.Item.{Entry}
 
 -- a shift is one of `uint`, by 0 to 31
 abbrev pub is_shift : Kind → ℕ → Bool
@@ -53,3 +54,8 @@ are_sizes t = nat_le t.x 1024 && (nat_le t.y 1024 && (nat_le t.z 1024 && nat_le 
 
 abbrev pub is_proper : Kernel → Bool
 is_proper k = are_sizes k.sizes && are_proper k.body
+
+-- all statements that are left
+abbrev pub is_proper_left : List Entry → Bool
+is_proper_left [] = true
+is_proper_left (e ∷ rest) = is_proper_statement e.statement && is_proper_left rest

@@ -52,6 +52,7 @@ pub record IsItem (it : Identity) (i : ℕ) : Type 0 where
   pub x : ids it.x ≡ ids_of (setup_at it) i 0
   pub y : ids it.y ≡ ids_of (setup_at it) i 1
   pub z : ids it.z ≡ ids_of (setup_at it) i 2
+  pub group : it.group ≡ setup.group_of (setup_at it) i
 
 -- a value with the answers that were not used, the first load that has none, or a fault
 abbrev pub outcome : Result Value Stop → Outcome

@@ -24,6 +24,8 @@ pub struct Identity<'a> {
     pub x: Dimension,
     pub y: Dimension,
     pub z: Dimension,
+    /// The number of its work-group.
+    pub group: u64,
 }
 
 /// A value, with the answers to loads that were not used.
@@ -97,7 +99,7 @@ impl<'a> Identity<'a> {
     }
 
     /// How many elements an array has.
-    fn extent(&self, array: Array) -> usize
+    pub fn extent(&self, array: Array) -> usize
         ensures { result ≡ extent (setup_at self.now) (array_seen array) }
     {
         match array.space {

@@ -1,11 +1,12 @@
 //! How a work-item stands, and how it goes on.
 
-ghost use Rattle.std.specs.Prelude.{◌≡◌, ◌+◌, ◌<◌, ◌^◌, ℕ, [], Some, slice_set, IfOk, OnOk, OnErr};
+ghost use Rattle.std.specs.Prelude.{◌≡◌, ◌+◌, ◌<◌, ◌^◌, ℕ, [], Some, map, slice_set, IfOk, OnOk, OnErr};
 ghost use Rattle.semantics.specs.Item as meaning;
 ghost use Rattle.words.specs.View.{word as word_seen};
 ghost use Rattle.core_code.specs.View.{statements as statements_seen};
 ghost use Rattle.work_item.specs.Left.{behind, turned};
 ghost use Rattle.work_item.specs.Items.{item, status as status_seen};
+ghost use Rattle.work_item.specs.declared.left.Frame.{Frame};
 
 use crate::left::Left;
 use core_code::tree::{Site, Statement};
@@ -20,10 +21,7 @@ pub enum Status {
     Waiting,
     Ended,
     /// By a fault, told at a site.
-    Stopped {
-        fault: Fault,
-        site: Site,
-    },
+    Stopped { fault: Fault, site: Site },
 }
 
 /// A work-item: what is left of its statements, its private variables, the answers to the loads of the statement in front, how many
@@ -44,6 +42,16 @@ fn next(count: u64) -> Result<u64, AllocError>
     ensures { IfOk result (λ n. n ≡ count + 1) }
 {
     count.checked_add(1).ok_or(AllocError)
+}
+
+/// A private variable is set; one that there is not stays so.
+#[tactic(auto, using(crate::proofs::Slots::set_seen, crate::proofs::Slots::set_beyond))]
+fn assign(variables: &mut Vec<Word>, slot: u32, word: Word)
+    ensures { map word_seen variables.new.items ≡ slice_set (map word_seen variables.old.items) slot (word_seen word) }
+{
+    if (slot as usize) < variables.len() {
+        variables[slot as usize] = word;
+    }
 }
 
 impl<'a> Item<'a> {
@@ -105,9 +113,7 @@ impl<'a> Item<'a> {
         ensures unchanged { OnErr result (item self.new ≡ item self.old) }
     {
         let steps = next(self.steps)?;
-        if let Some(variable) = self.variables.get_mut(slot as usize) {
-            *variable = word;
-        }
+        assign(&mut self.variables, slot, word);
         self.left.advance();
         self.finish(steps);
         Ok(())
@@ -158,6 +164,35 @@ impl<'a> Item<'a> {
         self.left.make_room()?;
         self.left.advance();
         self.left.resume(number);
+        self.finish(steps);
+        Ok(())
+    }
+
+    // The turns of the loop in front, and one more.
+    fn next_turn(&self) -> Result<u64, AllocError>
+        ensures { IfOk result (λ n. (f : Frame) → self.now.left.front ≡ Some f → n ≡ f.turns + 1) }
+    {
+        match self.left.front {
+            Some(frame) => next(frame.turns),
+            None => Ok(0),
+        }
+    }
+
+    /// A turn of the loop in front: into its body, and behind that into its update.
+    pub fn repeat(
+        &mut self,
+        body: &'a [Statement],
+        update: &'a [Statement],
+    ) -> Result<(), AllocError>
+        ensures done { OnOk result (item self.new ≡ meaning.finished (item self.old) (meaning.enter (statements_seen body.now) (meaning.enter (statements_seen update.now) (turned (item self.old).left))) (item self.old).variables) }
+        ensures unchanged { OnErr result (item self.new ≡ item self.old) }
+    {
+        let steps = next(self.steps)?;
+        let turns = self.next_turn()?;
+        self.left.make_room()?;
+        self.left.turn(turns);
+        self.left.enter(update);
+        self.left.enter(body);
         self.finish(steps);
         Ok(())
     }

@@ -4,10 +4,10 @@
 //! be proper: its literals are numbers of their kinds, no shift is by more than 31, and a group has at most 1,024 items.
 #![tactic(auto)]
 
+pub mod ask;
 pub mod dimension;
 pub mod evaluation;
 mod ids;
 pub mod item;
 pub mod left;
 pub mod operations;
-

@@ -1,5 +1,5 @@
 -- Work-items of the code as those of the definitions.
-use Rattle.std.specs.Prelude.{map}
+use Rattle.std.specs.Prelude.{◌+◌, ◌<◌, ◌^◌, map}
 use Rattle.semantics.specs.Item as meaning
 use Rattle.words.specs.View.{word, fault}
 use Rattle.core_code.specs.View.{site}
@@ -24,3 +24,7 @@ item it = record {
   steps = it.steps;
   status = status it.status;
 }
+
+-- epochs of 64 bits have room for one more
+abbrev pub HasEpochs : meaning.Item → Type 0
+HasEpochs it = (it.local_epoch + 1 < 2 ^ 64) × (it.global_epoch + 1 < 2 ^ 64)

@@ -1,5 +1,6 @@
 -- What is left of a work-item in the code, as the definitions have it.
 use Rattle.std.specs.Prelude.{◌≡◌, ◌≤◌, ◌+◌, ℕ, List, [], ◌∷◌, Option, Some, None, vec_len, vec_capacity}
+use Rattle.semantics.specs.Core.{Statement}
 use Rattle.semantics.specs.Item.{Entry, enter}
 use Rattle.core_code.specs.View.{statement, statements}
 use Rattle.work_item.specs.declared.left.Frame.{Frame}
@@ -32,3 +33,8 @@ turned (e ∷ rest) = record { statement = e.statement; turns = e.turns + 1 } �
 
 abbrev pub HasRoom : Left → ℕ → Type 0
 HasRoom l n = vec_len l.around + n ≤ vec_capacity l.around
+
+-- a flag of the statement in front
+abbrev pub front_flag : (Statement → ℕ) → List Entry → ℕ
+front_flag flag [] = 0
+front_flag flag (e ∷ rest) = flag e.statement

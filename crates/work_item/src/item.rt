@@ -1,14 +1,19 @@
 //! How a work-item stands, and how it goes on.
 
-ghost use Rattle.std.specs.Prelude.{◌≡◌, ◌+◌, ◌<◌, ◌^◌, ℕ, [], Some, map, slice_set, IfOk, OnOk, OnErr};
+ghost use Rattle.std.specs.Prelude.{◌≡◌, ◌+◌, ◌<◌, ◌≤◌, ◌^◌, ◌↔◌, IsTrue, ℕ, [], Some, map, slice_set, IfOk, OnOk, OnErr};
 ghost use Rattle.semantics.specs.Item as meaning;
-ghost use Rattle.words.specs.View.{word as word_seen};
+ghost use Rattle.semantics.specs.Ask as asks;
+ghost use Rattle.semantics.specs.Solo.{moved};
+ghost use Rattle.words.specs.View.{word as word_seen, value_of};
 ghost use Rattle.core_code.specs.View.{statements as statements_seen};
-ghost use Rattle.work_item.specs.Left.{behind, turned};
-ghost use Rattle.work_item.specs.Items.{item, status as status_seen};
+ghost use Rattle.work_item.specs.Left.{behind, turned, front_flag};
+ghost use Rattle.work_item.specs.Asks.{asked as asked_seen};
+ghost use Rattle.work_item.specs.Items.{item, status as status_seen, HasEpochs};
 ghost use Rattle.work_item.specs.declared.left.Frame.{Frame};
 
-use crate::left::Left;
+use crate::ask::Ask;
+use crate::left::{Frame, Left};
+use crate::operations::read_as;
 use core_code::tree::{Site, Statement};
 use std::alloc::AllocError;
 use words::{Fault, Word};
@@ -194,6 +199,90 @@ impl<'a> Item<'a> {
         self.left.enter(update);
         self.left.enter(body);
         self.finish(steps);
+        Ok(())
+    }
+
+    // Whether the barrier in front has the local flag: 1, else 0.
+    fn local_flag(&self) -> u64
+        ensures value { result ≡ front_flag meaning.local_flag (item self.now).left }
+        ensures small { result ≤ 1 }
+    {
+        match self.left.front {
+            Some(
+                Frame {
+                    statement: Statement::Barrier { local, .. },
+                    ..
+                },
+            ) => *local as u64,
+            _ => 0,
+        }
+    }
+
+    // Whether the barrier in front has the global flag: 1, else 0.
+    fn global_flag(&self) -> u64
+        ensures value { result ≡ front_flag meaning.global_flag (item self.now).left }
+        ensures small { result ≤ 1 }
+    {
+        match self.left.front {
+            Some(
+                Frame {
+                    statement: Statement::Barrier { global, .. },
+                    ..
+                },
+            ) => *global as u64,
+            _ => 0,
+        }
+    }
+
+    /// Whether its epochs have room for one more, as they have until 64 bits are full.
+    pub fn can_pass(&self) -> bool
+        ensures { IsTrue result ↔ HasEpochs (item self.now) }
+    {
+        self.local_epoch < u64::MAX && self.global_epoch < u64::MAX
+    }
+
+    /// Past the barrier in front.
+    #[tactic(auto, using(crate::proofs::Passing::passed))]
+    pub fn pass(&mut self)
+        requires { HasEpochs (item self.old) }
+        ensures { asks.passes (item self.old) (item self.old).left ≡ asks.Waits (item self.new) }
+    {
+        self.local_epoch += self.local_flag();
+        self.global_epoch += self.global_flag();
+        self.left.advance();
+        self.answers.clear();
+        self.status = self.standing();
+    }
+
+    /// What the item asked for is done; a load is answered by a word, read as its element's kind.
+    pub fn perform(&mut self, asked: Ask<'a>, loaded: Word) -> Result<(), AllocError>
+        ensures done { OnOk result (item self.new ≡ moved (item self.old) (asked_seen asked.entry (item self.old)) (value_of loaded)) }
+        ensures unchanged { OnErr result (item self.new ≡ item self.old) }
+    {
+        match asked {
+            Ask::Loads { kind, .. } => self.answer(read_as(loaded, kind)),
+            Ask::Stores { .. } | Ask::PassesBy => self.pass_by(),
+            Ask::Faults { fault, site } => self.stand(Status::Stopped { fault, site }),
+            Ask::Sets { slot, value } => self.set(slot, value),
+            Ask::Takes { block } => self.take(block),
+            Ask::Repeats { body, update } => self.repeat(body, update),
+            Ask::Arrives => self.stand(Status::Waiting),
+            Ask::Ends => self.end(),
+            Ask::Leaves { number } => self.leave(number),
+            Ask::Resumes { number } => self.resume(number),
+            Ask::Waits => self.pass_where_there_is_room(),
+            Ask::Rests => Ok(()),
+        }
+    }
+
+    fn pass_where_there_is_room(&mut self) -> Result<(), AllocError>
+        ensures done { OnOk result (asks.passes (item self.old) (item self.old).left ≡ asks.Waits (item self.new)) }
+        ensures unchanged { OnErr result (item self.new ≡ item self.old) }
+    {
+        if !self.can_pass() {
+            return Err(AllocError);
+        }
+        self.pass();
         Ok(())
     }
 }

@@ -7,7 +7,9 @@
 pub mod ask;
 pub mod dimension;
 pub mod evaluation;
+pub mod identity;
 mod ids;
 pub mod item;
 pub mod left;
-pub mod operations;
+mod operations;
+pub mod proper;

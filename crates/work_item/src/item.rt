@@ -1,11 +1,13 @@
 //! How a work-item stands, and how it goes on.
 
-ghost use Rattle.std.specs.Prelude.{◌≡◌, ◌+◌, ◌<◌, ◌≤◌, ◌^◌, ◌↔◌, IsTrue, ℕ, [], Some, map, slice_set, IfOk, OnOk, OnErr};
+ghost use Rattle.std.specs.Prelude.{◌≡◌, ◌+◌, ◌<◌, ◌≤◌, ◌^◌, ◌↔◌, ◌++◌, pos, IsTrue, ℕ, [], Some, map, slice_set, IfOk, OnOk, OnErr};
 ghost use Rattle.semantics.specs.Item as meaning;
 ghost use Rattle.semantics.specs.Ask as asks;
-ghost use Rattle.semantics.specs.Solo.{moved};
-ghost use Rattle.words.specs.View.{word as word_seen, value_of};
+ghost use Rattle.semantics.specs.Solo.{moved, opening};
+ghost use Rattle.semantics.specs.Word as word;
+ghost use Rattle.words.specs.View.{word as word_seen, kind as kind_seen, value_of};
 ghost use Rattle.core_code.specs.View.{statements as statements_seen};
+ghost use Rattle.work_item.specs.View.{setup_of};
 ghost use Rattle.work_item.specs.Left.{behind, turned, front_flag};
 ghost use Rattle.work_item.specs.Asks.{asked as asked_seen};
 ghost use Rattle.work_item.specs.Items.{item, status as status_seen, HasEpochs};
@@ -14,9 +16,10 @@ ghost use Rattle.work_item.specs.declared.left.Frame.{Frame};
 use crate::ask::Ask;
 use crate::left::{Frame, Left};
 use crate::operations::read_as;
-use core_code::tree::{Site, Statement};
-use std::alloc::AllocError;
-use words::{Fault, Word};
+use core_code::tree::{Core, Site, Statement};
+use launch::launches::Launch;
+use std::alloc::{AllocError, Global};
+use words::{Fault, Kind, Word};
 
 /// How a work-item stands.
 #[derive(Clone, Copy)]
@@ -49,6 +52,27 @@ fn next(count: u64) -> Result<u64, AllocError>
     count.checked_add(1).ok_or(AllocError)
 }
 
+/// The word of a kind that is 0.
+fn zero(kind: Kind) -> Word
+    ensures { word_seen result ≡ word.word (kind_seen kind) (pos 0) }
+{
+    match kind {
+        Kind::Int => Word::Int(0),
+        Kind::Uint => Word::Uint(0),
+    }
+}
+
+/// The private variables as an item begins: arguments in their slots, then zeros.
+fn opening_variables(alloc: Global, core: &Core, launch: &Launch) -> Result<Vec<Word>, AllocError>
+    ensures { IfOk result (λ v. map word_seen v.items ≡ map word_seen launch.now.arguments.items ++ map (λ k. word.word k (pos 0)) (map kind_seen core.now.variables.items)) }
+{
+    let mut words = Vec::from_slice(alloc, launch.arguments.as_slice())?;
+    for kind in &core.variables {
+        words.push(zero(*kind))?;
+    }
+    Ok(words)
+}
+
 /// A private variable is set; one that there is not stays so.
 #[tactic(auto, using(crate::proofs::Slots::set_seen, crate::proofs::Slots::set_beyond))]
 fn assign(variables: &mut Vec<Word>, slot: u32, word: Word)
@@ -60,6 +84,27 @@ fn assign(variables: &mut Vec<Word>, slot: u32, word: Word)
 }
 
 impl<'a> Item<'a> {
+    /// As an item of a kernel begins.
+    #[tactic(auto, unfolding(semantics::specs::Solo::opening))]
+    pub fn open(alloc: Global, core: &'a Core, launch: &Launch) -> Result<Item<'a>, AllocError>
+        ensures { IfOk result (λ it. (i : ℕ) → item it ≡ opening (setup_of core.now launch.now) i) }
+    {
+        let mut left = Left::new(alloc);
+        left.make_room()?;
+        left.enter(core.body.as_slice());
+        let mut opened = Item {
+            left,
+            variables: opening_variables(alloc, core, launch)?,
+            answers: Vec::new(alloc),
+            local_epoch: 0,
+            global_epoch: 0,
+            steps: 0,
+            status: Status::Running,
+        };
+        opened.status = opened.standing();
+        Ok(opened)
+    }
+
     /// Running, unless nothing is left.
     fn standing(&self) -> Status
         ensures { status_seen result ≡ meaning.status_of (item self.now).left }

@@ -1,6 +1,6 @@
 -- Proper kernels: each value of a term is a word of 32 bits, and all work-items of a launch have numbers of 64 bits. Those that are
 -- read from a text within its limits are.
-use Rattle.std.specs.Prelude.{ℕ, List, [], ◌∷◌, Bool, true, false, ◌&&◌, nat_le}
+use Rattle.std.specs.Prelude.{ℕ, List, [], ◌∷◌, Bool, true, false, ◌&&◌, nat_le, nat_lt}
 use Rattle.semantics.specs.Word.{Kind, Int, Uint, UnaryOperator, Negate, Complement, ShiftLeft, ShiftRight, in_kind}
 use Rattle.semantics.specs.Core.{Term, Literal, Variable, Id, Load, Unary, Binary, Convert, Compare, Not, And, Or, Select, Minimum, Maximum, Statement, Set, Store, If, Loop, Barrier, Return, Break, Continue, Statements, none, one}
 use Rattle.semantics.specs.Launch.{Three, product, Kernel}
@@ -48,9 +48,9 @@ abbrev mutual
   are_proper none = true
   are_proper (one s ss) = is_proper_statement s && are_proper ss
 
--- local sizes as a device has them (OpenCL 1.2, 4.2 lets it choose; ours are at most 1,024 together)
+-- local sizes as a device has them (OpenCL 1.2, 4.2 lets it choose; ours are 1 to 1,024 work-items together)
 abbrev pub are_sizes : Three ℕ → Bool
-are_sizes t = nat_le t.x 1024 && (nat_le t.y 1024 && (nat_le t.z 1024 && nat_le (product t) 1024))
+are_sizes t = nat_le t.x 1024 && (nat_le t.y 1024 && (nat_le t.z 1024 && (nat_lt 0 (product t) && nat_le (product t) 1024)))
 
 abbrev pub is_proper : Kernel → Bool
 is_proper k = are_sizes k.sizes && are_proper k.body

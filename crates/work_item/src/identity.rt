@@ -40,6 +40,7 @@ pub fn group_size(core: &Core) -> u64
     requires { are_sizes (kernel_seen core.now).sizes ≡ true }
     ensures value { (l : launches.Launch) → result ≡ setup.group_size (record { kernel = kernel_seen core.now; launch = l }) }
     ensures small { result ≤ 1024 }
+    ensures some { 0 < result }
 {
     product_of(sizes_of(core))
 }

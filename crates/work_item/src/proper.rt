@@ -112,11 +112,11 @@ fn are_sizes(sizes: &[u32; 3]) -> bool
     ensures { result ≡ specs.are_sizes (record { x = slice_index sizes.now 0; y = slice_index sizes.now 1; z = slice_index sizes.now 2 }) }
 {
     let [x, y, z] = *sizes;
-    x <= 1024 && y <= 1024 && z <= 1024 && x * y * z <= 1024
+    x <= 1024 && y <= 1024 && z <= 1024 && 0 < x * y * z && x * y * z <= 1024
 }
 
-/// Whether a kernel is proper: each literal is a number of its kind, no shift is by more than 31 or of an `int`, and a group has at
-/// most 1,024 work-items.
+/// Whether a kernel is proper: each literal is a number of its kind, no shift is by more than 31 or of an `int`, and a group has 1 to
+/// 1,024 work-items.
 pub fn is_proper(core: &Core) -> bool
     ensures { result ≡ specs.is_proper (kernel_seen core.now) }
 {

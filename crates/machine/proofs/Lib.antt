@@ -1,2 +1,6 @@
 pub mod Puts
 pub mod Openings
+pub mod Steps
+pub mod Insides
+pub mod Moves
+pub mod Beginnings

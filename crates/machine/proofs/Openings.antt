@@ -10,7 +10,7 @@ use Rattle.core_code.specs.View.{local_array}
 use Rattle.core_code.specs.declared.tree.LocalArray.{LocalArray}
 use Rattle.machine.specs.Memories.{element_or, arrays_in, past_of}
 
-same : {A : Type 0} (n i : ℕ) (v : A) → slice_index_or (replicate n v) i v ≡ v
+pub same : {A : Type 0} (n i : ℕ) (v : A) → slice_index_or (replicate n v) i v ≡ v
 same n i v = by (nat_lt i n) refl
   where
     by : (t : Bool) → nat_lt i n ≡ t → slice_index_or (replicate n v) i v ≡ v
@@ -50,6 +50,7 @@ of_all {A} f g xs n y z h e = both xs ∙ ap (map g) h ∙ each n
     both : (ys : List A) → map (λ x. g (f x)) ys ≡ map g (map f ys)
     both [] = refl
     both (x ∷ ys) = ap (λ zs. g (f x) ∷ zs) (both ys)
+
     each : (m : ℕ) → map g (replicate m y) ≡ replicate m z
     each zero = refl
     each (suc m) = ap (λ a. a ∷ map g (replicate m y)) e ∙ ap (λ zs. z ∷ zs) (each m)

@@ -146,12 +146,7 @@ impl Memory {
             Owner::Launch => put(&mut self.buffers, at.array, at.index, word),
             Owner::Group(group) => {
                 if (group as usize) < self.groups.len() {
-                    put(
-                        &mut self.groups[group as usize],
-                        at.array,
-                        at.index,
-                        word,
-                    );
+                    put(&mut self.groups[group as usize], at.array, at.index, word);
                 }
             }
         }

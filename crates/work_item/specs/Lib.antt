@@ -3,3 +3,4 @@ pub mod View
 pub mod Left
 pub mod Items
 pub mod Asks
+pub mod Rests

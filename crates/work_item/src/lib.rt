@@ -14,3 +14,4 @@ pub mod item;
 pub mod left;
 mod operations;
 pub mod proper;
+pub mod trail;

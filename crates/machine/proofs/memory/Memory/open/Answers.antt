@@ -17,6 +17,6 @@ returns-clause-shape c =
     let e = rw c.as_slice.ensures.value at c.in_ok-all_filled.ensures in record {
       buffers = ap (map length) c.in_ok-copy.ensures;
       groups = shapes words_of c.in_ok-all_filled.field-0.items c.args.groups c.args.core.now.arrays.items (pos c.args.launch.now.fill) e
-      ∙ ap (λ n. replicate n (map (λ a. a.length) (kernel c.args.core.now).arrays)) c.requires;
+          ∙ ap (λ n. replicate n (map (λ a. a.length) (kernel c.args.core.now).arrays)) c.requires;
       fill = refl;
     }

@@ -4,3 +4,4 @@ pub mod Steps
 pub mod Insides
 pub mod Moves
 pub mod Beginnings
+pub mod Blocks

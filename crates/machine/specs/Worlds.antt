@@ -1,12 +1,12 @@
 -- The code's world as the definitions' one, and what an event answers.
-use Rattle.std.specs.Prelude.{◌≡◌, ◌≢◌, ◌<◌, ℕ, ℤ, pos, List, true, false, Bool, length, map, slice_index_or, Option, Some, None}
+use Rattle.std.specs.Prelude.{◌≡◌, ◌≢◌, ◌<◌, ◌+◌, ◌&&◌, nat_le, nat_lt, bytes_eq, ℕ, ℤ, pos, List, true, false, Bool, length, map, slice_index_or, Option, Some, None}
 use Rattle.semantics.specs.Word as word
 use Rattle.semantics.specs.Core as core
 use Rattle.semantics.specs.Launch.{Fits}
 use Rattle.semantics.specs.Setup.{Setup, item_count}
 use Rattle.semantics.specs.Memory as memories
 use Rattle.semantics.specs.Item as items
-use Rattle.semantics.specs.Ask.{Ask, Loads, Stores, Goes, Waits, Rests}
+use Rattle.semantics.specs.Ask.{Ask, Loads, Stores, Goes, Waits, Rests, passes}
 use Rattle.semantics.specs.Solo as solo
 use Rattle.semantics.specs.World as meaning
 use Rattle.words.specs.View.{fault}
@@ -79,6 +79,18 @@ stepped w i a = record {
   items = meaning.put_item i (solo.moved (w.items i) a (answered a w.memory)) w.items;
   history = meaning.noted (solo.touch i (w.items i) a) w.history;
 }
+
+-- an item waits, with what is left of another
+abbrev pub is_alike : (ℕ → items.Item) → ℕ → ℕ → Bool
+is_alike all i j = meaning.waits (all i).status && bytes_eq (items.trail (all i).left) (items.trail (all j).left)
+
+-- an item past the barrier in front
+abbrev pub past_barrier : items.Item → items.Item
+past_barrier it = solo.moved it (passes it it.left) (pos 0)
+
+-- from one number on, so many
+abbrev pub is_among : (first count i : ℕ) → Bool
+is_among first count i = nat_le first i && nat_lt i (first + count)
 
 -- what is stored lies in an array
 abbrev pub StoresInside : Memory → asks.Ask → Type 0

@@ -4,4 +4,5 @@
 #![tactic(auto)]
 
 pub mod memory;
+mod release;
 pub mod world;

@@ -223,6 +223,22 @@ impl<'a> World<'a> {
         identity(self.core, self.launch, number as u64).ask(&self.items[number])
     }
 
+    /// One event, exactly as the definitions have it. `NotPossible`, and want of memory, leave the world as it was; a count of more than
+    /// 64 bits is want of memory too.
+    pub fn apply(&mut self, event: Event) -> Result<Applied, AllocError>
+        requires { IsSound self.old }
+        ensures answer { IfOk result (λ a. Answers (setup self.old) (event_seen event) (world self.old) (world self.new) a) }
+        ensures unchanged { OnErr result (world self.new ≡ world self.old) }
+        ensures sound { IsSound self.new }
+        ensures core { self.new.core.now ≡ self.old.core.now }
+        ensures launch { self.new.launch.now ≡ self.old.launch.now }
+    {
+        match event {
+            Event::Step(number) => self.step(number),
+            Event::Release(group) => self.release(group),
+        }
+    }
+
     // One step of an item.
     fn step(&mut self, number: u64) -> Result<Applied, AllocError>
         requires sound { IsSound self.old }

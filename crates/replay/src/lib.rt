@@ -4,3 +4,5 @@
 #![tactic(auto)]
 
 pub mod replay;
+#[cfg(test)]
+mod tests;

@@ -19,7 +19,7 @@ loop-applied-preserved c =
     let h = subst (λ s. happens s (world w) (event e) ≡ Some (world new)) inv.2
     (happened (setup w) (event e) (world w) (world new) c.in_ok-apply.field-0 (sym c.was_possible.ensures ∙ c.if-not-was_possible.false) c.in_ok-apply.ensures.answer) in (
       ap (λ es. run (setup start) es (world start)) (taken events i e l (c.event_at.ensures e))
-      ∙ run_more (setup start) (map event (take i events)) (event e) (world start) (world w) (world new) inv.0 h,
+          ∙ run_more (setup start) (map event (take i events)) (event e) (world start) (world w) (world new) inv.0 h,
       c.apply.ensures.sound,
       ap (λ x. setup_of x new.launch.now) c.apply.ensures.core ∙ ap (λ y. setup_of w.core.now y) c.apply.ensures.launch ∙ inv.2,
     )

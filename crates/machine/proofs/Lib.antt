@@ -5,3 +5,4 @@ pub mod Insides
 pub mod Moves
 pub mod Beginnings
 pub mod Blocks
+pub mod Apart

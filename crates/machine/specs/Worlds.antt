@@ -1,5 +1,5 @@
 -- The code's world as the definitions' one, and what an event answers.
-use Rattle.std.specs.Prelude.{◌≡◌, ◌≢◌, ◌<◌, ◌+◌, ◌&&◌, nat_le, nat_lt, bytes_eq, ℕ, ℤ, pos, List, true, false, Bool, length, map, slice_index_or, Option, Some, None}
+use Rattle.std.specs.Prelude.{◌≡◌, ◌≢◌, ◌<◌, ◌+◌, ◌&&◌, ◌||◌, not, nat_le, nat_lt, bytes_eq, ℕ, ℤ, pos, List, true, false, Bool, length, map, slice_index_or, Option, Some, None}
 use Rattle.semantics.specs.Word as word
 use Rattle.semantics.specs.Core as core
 use Rattle.semantics.specs.Launch.{Fits}
@@ -83,6 +83,10 @@ stepped w i a = record {
 -- an item waits, with what is left of another
 abbrev pub is_alike : (ℕ → items.Item) → ℕ → ℕ → Bool
 is_alike all i j = meaning.waits (all i).status && bytes_eq (items.trail (all i).left) (items.trail (all j).left)
+
+-- an item waits where another has ended, or waits with another list left
+abbrev pub is_apart : (ℕ → items.Item) → ℕ → ℕ → Bool
+is_apart all i j = meaning.waits (all i).status && (items.has_ended (all j).status || (meaning.waits (all j).status && not (bytes_eq (items.trail (all i).left) (items.trail (all j).left))))
 
 -- an item past the barrier in front
 abbrev pub past_barrier : items.Item → items.Item

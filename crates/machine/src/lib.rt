@@ -3,6 +3,7 @@
 //! The machine: all work-items of a launch over one memory, one event at a time.
 #![tactic(auto)]
 
+mod divergence;
 pub mod memory;
 mod release;
 pub mod world;

@@ -13,7 +13,8 @@ use work_item::identity::{group_size, product_of};
 use work_item::item::{Item, Status};
 use work_item::trail::same_left;
 
-fn waits(status: Status) -> bool
+/// At a barrier.
+pub fn waits(status: Status) -> bool
     ensures { result ≡ meaning.waits (status_seen status) }
 {
     matches!(status, Status::Waiting)

@@ -3,6 +3,8 @@
 ghost use Rattle.std.specs.Prelude.{◌≡◌, [], IfOk};
 ghost use Rattle.semantics.specs.Launch as launches;
 ghost use Rattle.launch.specs.View.{launch as launch_seen};
+ghost use Rattle.core_code.specs.View.{kernel as kernel_seen};
+ghost use Rattle.core_code.specs.declared.tree.Core.{Core};
 
 use crate::replay::replay;
 use core_code::tree::{
@@ -13,6 +15,7 @@ use machine::world::{Applied, Event, World};
 use std::alloc::{AllocError, Global};
 use std::test::Fail;
 use words::{Fault, Kind, Word};
+use work_item::ask::{Cell, Owner};
 use work_item::proper::is_proper;
 
 fn core(alloc: Global, items: u32, body: Vec<Statement>) -> Result<Core, AllocError>
@@ -37,7 +40,7 @@ fn core(alloc: Global, items: u32, body: Vec<Statement>) -> Result<Core, AllocEr
 }
 
 fn launch(alloc: Global) -> Launch
-    ensures { (k : launches.Kernel) → k.arguments ≡ [] → k.buffers ≡ [] → launches.Fits k (launch_seen result) }
+    ensures { (c : Core) → c.arguments.items ≡ [] → c.buffers.items ≡ [] → launches.Fits (kernel_seen c) (launch_seen result) }
 {
     Launch {
         groups: Counts { x: 1, y: 1, z: 1 },
@@ -133,13 +136,26 @@ fn only(alloc: Global, statement: Statement) -> Result<Vec<Statement>, AllocErro
     Ok(block)
 }
 
-fn guarded(alloc: Global, number: u32, test: Term) -> Result<Statement, AllocError> {
+fn guarded(
+    alloc: Global,
+    number: u32,
+    inner: u32,
+    test: Term,
+) -> Result<Statement, AllocError> {
     Ok(Statement::If {
         number,
         test,
-        taken: only(alloc, barrier(number + 1))?,
+        taken: only(alloc, barrier(inner))?,
         skipped: Vec::new(alloc),
     })
+}
+
+fn element(index: u32) -> Cell {
+    Cell {
+        owner: Owner::Group(0),
+        array: 0,
+        index,
+    }
 }
 
 // Half of the items wait at a barrier that the others miss.
@@ -147,7 +163,7 @@ fn guarded(alloc: Global, number: u32, test: Term) -> Result<Statement, AllocErr
 fn a_missed_barrier_is_not_released(rt: HostRuntime) -> Result<(), Fail> {
     let alloc = rt.alloc();
     let test = compare(alloc, Relation::Less, local_id(), number(32))?;
-    let body = only(alloc, guarded(alloc, 1, test)?)?;
+    let body = only(alloc, guarded(alloc, 1, 2, test)?)?;
     let core = core(alloc, 64, body)?;
     let launch = launch(alloc);
     if !is_proper(&core) {
@@ -184,7 +200,7 @@ fn items_in_different_turns_are_not_released(rt: HostRuntime) -> Result<(), Fail
     body.push(Statement::Loop {
         number: 2,
         test: compare(alloc, Relation::Less, turn(), number(2))?,
-        body: only(alloc, guarded(alloc, 3, test)?)?,
+        body: only(alloc, guarded(alloc, 3, 4, test)?)?,
         update: only(
             alloc,
             Statement::Set {
@@ -234,11 +250,14 @@ fn a_barrier_hands_over(rt: HostRuntime) -> Result<(), Fail> {
         Event::Step(1),
     ];
     assert_eq!(rt; replay(&mut world, &schedule)?, 9);
-    assert_eq!(rt; world.memory.groups[0].words[0][0], Word::Uint(6));
-    assert_eq!(rt; world.memory.groups[0].words[0][1], Word::Uint(6));
+    assert_eq!(rt; world.memory.read(element(0)), Word::Uint(6));
+    assert_eq!(rt; world.memory.read(element(1)), Word::Uint(6));
     assert_eq!(rt; world.history.len(), 6);
-    assert_eq!(rt; world.history[1].epoch, 0);
-    assert_eq!(rt; world.history[2].epoch, 1);
+    let mut last = 0;
+    for access in &world.history {
+        last = access.epoch;
+    }
+    assert_eq!(rt; last, 1);
     Ok(())
 }
 

@@ -136,12 +136,7 @@ fn only(alloc: Global, statement: Statement) -> Result<Vec<Statement>, AllocErro
     Ok(block)
 }
 
-fn guarded(
-    alloc: Global,
-    number: u32,
-    inner: u32,
-    test: Term,
-) -> Result<Statement, AllocError> {
+fn guarded(alloc: Global, number: u32, inner: u32, test: Term) -> Result<Statement, AllocError> {
     Ok(Statement::If {
         number,
         test,
@@ -177,6 +172,7 @@ fn a_missed_barrier_is_not_released(rt: HostRuntime) -> Result<(), Fail> {
         Event::Release(0),
     ];
     assert_eq!(rt; replay(&mut world, &schedule)?, 3);
+    assert!(rt; world.divergence() == Some((0, 32)));
     assert!(rt; matches!(world.apply(Event::Step(32))?, Applied::NotPossible));
     assert!(rt; matches!(world.apply(Event::Step(64))?, Applied::NotPossible));
     assert!(rt; matches!(world.apply(Event::Release(1))?, Applied::NotPossible));

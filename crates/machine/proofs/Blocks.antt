@@ -1,16 +1,16 @@
 -- The items of a group, and what its release leaves.
-use Rattle.std.proofs.Common.{◌≡◌, ◌<◌, ◌≤◌, ◌+◌, ◌*◌, ◌/◌, ◌%◌, ◌-◌, ◌&&◌, ℕ, zero, suc, Bool, true, false, cond, refl, sym, ap, ◌∙◌, subst, arith, inl, inr, nat_eq, nat_lt, ltb-true, lt-ltb}
+use Rattle.std.proofs.Common.{◌≡◌, ◌<◌, ◌≤◌, ◌+◌, ◌*◌, ◌/◌, ◌%◌, ◌-◌, ◌&&◌, ℕ, suc, Bool, true, false, cond, refl, sym, ap, ◌∙◌, subst, arith, inl, inr, nat_eq, nat_lt, lt-ltb}
 use Rattle.std.specs.Prelude.{Some, None, nat_le, pos}
 use Rattle.std.proofs.lemmas.Bool.{cases_eq}
 use Rattle.std.proofs.lemmas.Bool.Decides.{nat_tests}
 use Rattle.std.proofs.Math.Nat.{mul-le-mul_right}
 use Rattle.std.proofs.Math.Path.{fun_ext}
-use Rattle.semantics.specs.Setup.{Setup, group_of, group_size, group_count, item_count, member}
+use Rattle.semantics.specs.Setup.{Setup, group_of, group_size, group_count, member}
 use Rattle.semantics.specs.Item.{Item, Status, Running, Waiting, Ended, Stopped}
-use Rattle.semantics.specs.Ask.{ask, passes, by_status}
+use Rattle.semantics.specs.Ask.{ask, by_status}
 use Rattle.semantics.specs.Solo.{moved}
 use Rattle.semantics.specs.World.{World, Release, happens, released, may_go, guarded, every, waits, past}
-use Rattle.semantics.proofs.Groups.{group_of-member, every-at, every-by, both-true}
+use Rattle.semantics.proofs.Groups.{every-at, every-by, both-true}
 use Rattle.work_item.specs.Proper.{is_proper_left}
 use Rattle.work_item.proofs.Keeping.{keeps_proper}
 use Rattle.machine.specs.declared.world.Applied.TheVariants as answers

@@ -1,12 +1,12 @@
 -- What is stored lies in an array.
 use Rattle.std.proofs.Common.{◌≡◌, ◌<◌, ◌+◌, ℕ, zero, suc, ℤ, pos, negsuc, List, [], ◌∷◌, Bool, true, false, refl, sym, ap, ◌∙◌, subst, arith, nat_lt, length, map, ltb-true}
-use Rattle.std.specs.Prelude.{replicate, slice_index_or, cond}
+use Rattle.std.specs.Prelude.{slice_index_or, cond}
 use Rattle.std.proofs.Math.ListN as lists
-use Rattle.std.proofs.lemmas.List.{get_or-replicate, get_or-map}
-use Rattle.semantics.specs.Word.{Word, is_zero}
+use Rattle.std.proofs.lemmas.List.{get_or-replicate}
+use Rattle.semantics.specs.Word.{Word}
 use Rattle.semantics.specs.Core.{Array, Site, Space, Global, Local, Statement, Set, Store, If, Loop, Barrier, Return, Break, Continue}
 use Rattle.semantics.specs.Setup.{Setup, group_of, group_count, item_count}
-use Rattle.semantics.specs.Memory.{Cell, cell, owner_of, extent, extent_in, kind_at, no_array}
+use Rattle.semantics.specs.Memory.{cell, owner_of, extent, extent_in, no_array}
 use Rattle.semantics.specs.Evaluation.{Outcome, Gives, Needs, Faults, evaluate, Index, At, Outside, within}
 use Rattle.semantics.specs.Item.{Entry, Item, Status, Running, Waiting, Ended, Stopped}
 use Rattle.semantics.specs.Ask.{Ask, Loads, Stores, Goes, Waits, Rests, on_value, stores, act, front, passes, by_status, ask}
@@ -16,7 +16,7 @@ use Rattle.work_item.specs.declared.ask.Ask as code
 use Rattle.launch.specs.declared.launches.Buffers.{Buffers}
 use Rattle.work_item.specs.declared.ask.Ask.TheVariants as variants
 use Rattle.write_log.specs.Written.{words_of}
-use Rattle.machine.specs.Memories.{HasShape, Inside, arrays_of, group_shapes}
+use Rattle.machine.specs.Memories.{HasShape, Inside, arrays_of}
 use Rattle.machine.specs.Worlds.{StoresInside}
 use Rattle.machine.specs.declared.memory.Memory.{Memory}
 

@@ -1,21 +1,18 @@
 -- What the steps of work-items answer.
-use Rattle.std.proofs.Common.{◌≡◌, ◌<◌, ◌≤◌, ◌&&◌, ◌*◌, nat_eq, ℕ, zero, suc, ℤ, List, [], ◌∷◌, Bool, true, false, refl, sym, ap, ◌∙◌, subst, arith, nat_lt, length, lt-ltb}
-use Rattle.std.specs.Prelude.{Option, Some, None, nat_le, slice_index_or, map}
+use Rattle.std.proofs.Common.{◌≡◌, ◌<◌, ◌≤◌, nat_eq, ℕ, List, [], ◌∷◌, Bool, true, false, refl, sym, ap, ◌∙◌, arith, nat_lt, lt-ltb}
+use Rattle.std.specs.Prelude.{Some, None}
 use Rattle.std.proofs.lemmas.Bool.{and_parts}
 use Rattle.std.proofs.lemmas.Bool.Decides.{nat_tests}
-use Rattle.std.proofs.lemmas.List.{get_or-map}
 use Rattle.semantics.specs.Word.{Fault}
 use Rattle.semantics.specs.Core.{Site}
-use Rattle.semantics.specs.Launch.{Three, Kernel, Launch, product, Fits}
+use Rattle.semantics.specs.Launch.{Kernel, Launch, Fits}
 use Rattle.semantics.specs.Setup.{Setup, item_count}
-use Rattle.semantics.specs.Item.{Entry, Item, Status, Running, Waiting, Ended, Stopped, status_of, enter}
-use Rattle.semantics.specs.Ask.{Ask, Loads, Stores, Goes, Waits, Rests, ask, passes}
+use Rattle.semantics.specs.Item.{Entry, Item, Running, Waiting, Stopped, status_of}
+use Rattle.semantics.specs.Ask.{Ask, ask, passes}
 use Rattle.semantics.specs.Solo.{moved, opening}
 use Rattle.semantics.specs.World as meaning
 use Rattle.semantics.specs.World.{World, Step, happens, guarded, put_item}
 use Rattle.semantics.proofs.Events.{step-running}
-use Rattle.words.specs.View.{fault}
-use Rattle.core_code.specs.View.{site}
 use Rattle.work_item.specs.Proper.{is_proper, are_sizes, are_proper, is_proper_left}
 use Rattle.work_item.specs.View.{AreFew}
 use Rattle.work_item.specs.Asks.{asked}

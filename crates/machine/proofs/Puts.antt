@@ -1,8 +1,8 @@
 -- Elements written.
-use Rattle.std.proofs.Common.{◌≡◌, ◌≢◌, ◌<◌, ◌≤◌, ◌+◌, ℕ, zero, suc, List, [], ◌∷◌, Bool, true, false, ◌&&◌, cond, refl, sym, ap, ◌∙◌, subst, arith, nat_eq, nat_lt, length, map, slice_set, ltb-true}
-use Rattle.std.specs.Prelude.{ℤ, pos, slice_index_or}
+use Rattle.std.proofs.Common.{◌≡◌, ◌≢◌, ◌<◌, ◌≤◌, ◌+◌, ℕ, zero, suc, List, [], Bool, true, false, ◌&&◌, cond, refl, ap, ◌∙◌, subst, arith, nat_eq, nat_lt, length, map, slice_set, ltb-true}
+use Rattle.std.specs.Prelude.{ℤ, slice_index_or}
 use Rattle.std.proofs.lemmas.Bool.Decides.{nat_tests}
-use Rattle.std.proofs.lemmas.List.{map-set, get_or-map, get_or-set_same, get_or-set_other, length-set, set_past, get_or_past}
+use Rattle.std.proofs.lemmas.List.{get_or-set_same, get_or-set_other, length-set, set_past, get_or_past}
 use Rattle.std.proofs.Math.Seq.{map-set_same}
 use Rattle.write_log.specs.Written.{put_word}
 use Rattle.std.proofs.Math.Path.{fun_ext}

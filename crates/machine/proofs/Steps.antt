@@ -1,19 +1,18 @@
 -- What steps of work-items leave.
-use Rattle.std.proofs.Common.{◌≡◌, ◌<◌, ℕ, ℤ, pos, List, [], ◌∷◌, Bool, true, false, cond, refl, sym, ap, ◌∙◌, arith, nat_eq, length, map, slice_set}
-use Rattle.std.specs.Prelude.{Option, Some, None, Result, Ok, Err, OnOk, OnErr, slice_index_or}
+use Rattle.std.proofs.Common.{◌≡◌, ◌<◌, ℕ, ℤ, pos, List, [], ◌∷◌, Bool, true, false, cond, refl, ap, ◌∙◌, arith, nat_eq, length, map, slice_set}
+use Rattle.std.specs.Prelude.{None, Result, Ok, Err, OnOk, OnErr, slice_index_or}
 use Rattle.std.proofs.lemmas.Bool.Decides.{nat_tests}
 use Rattle.std.proofs.lemmas.List.{map-set, get_or-set_same, get_or-set_other, length-map}
 use Rattle.std.proofs.Math.Path.{fun_ext}
 use Rattle.semantics.specs.Memory.{Memory}
 use Rattle.semantics.specs.Item.{Entry, Item}
-use Rattle.semantics.specs.Ask.{Ask, Loads, Stores, Goes, Waits, Rests, passes, ask}
+use Rattle.semantics.specs.Ask.{Ask, passes, ask}
 use Rattle.semantics.specs.Solo.{Access, touch, moved}
-use Rattle.semantics.specs.World as meaning
 use Rattle.semantics.specs.World.{World, put_item}
 use Rattle.semantics.specs.Setup.{Setup}
 use Rattle.work_item.specs.Proper.{is_proper_left}
 use Rattle.work_item.proofs.Keeping.{keeps_proper}
-use Rattle.machine.specs.Worlds.{remembered, answered, stepped}
+use Rattle.machine.specs.Worlds.{remembered, answered}
 
 pub touches_nothing : (i : ℕ) (it : Item) (left : List Entry) → touch i it (passes it left) ≡ None
 touches_nothing i it [] = refl

@@ -1,5 +1,5 @@
 -- The first of all barrier divergences of a world, by the numbers of the two items.
-use Rattle.std.specs.Prelude.{◌≡◌, ◌<◌, ◌≤◌, ◌+◌, ◌⊎◌, ℕ, Option, Some, None, true, false}
+use Rattle.std.specs.Prelude.{◌≡◌, ◌<◌, ◌≤◌, ◌+◌, ◌⊎◌, ℕ, true}
 use Rattle.semantics.specs.Setup.{Setup, item_count}
 use Rattle.semantics.specs.Item.{Item}
 use Rattle.semantics.specs.World.{World}

@@ -1,9 +1,7 @@
 -- Memory of the code as that of the definitions.
 use Rattle.std.specs.Prelude.{◌≡◌, ◌<◌, ℕ, zero, suc, ℤ, pos, List, [], map, length, replicate, slice_index_or}
-use Rattle.semantics.specs.Launch as launches
 use Rattle.semantics.specs.Setup.{Setup, group_count}
 use Rattle.semantics.specs.Memory as meaning
-use Rattle.launch.specs.declared.launches.Buffers.{Buffers}
 use Rattle.write_log.specs.Written.{words_of}
 use Rattle.machine.specs.declared.memory.Memory.{Memory}
 

@@ -1,5 +1,5 @@
 -- The code's world as the definitions' one, and what an event answers.
-use Rattle.std.specs.Prelude.{◌≡◌, ◌≢◌, ◌<◌, ◌+◌, ◌&&◌, ◌||◌, not, nat_le, nat_lt, bytes_eq, ℕ, ℤ, pos, List, true, false, Bool, length, map, slice_index_or, Option, Some, None}
+use Rattle.std.specs.Prelude.{◌≡◌, ◌+◌, ◌&&◌, ◌||◌, not, nat_le, nat_lt, bytes_eq, ℕ, ℤ, pos, List, true, false, Bool, length, map, slice_index_or, Some, None}
 use Rattle.semantics.specs.Word as word
 use Rattle.semantics.specs.Core as core
 use Rattle.semantics.specs.Launch.{Fits}

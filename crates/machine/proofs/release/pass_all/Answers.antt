@@ -1,4 +1,4 @@
-use Rattle.std.proofs.Common.{rules, ℕ, ◌≡◌, ◌<◌, ◌≤◌, ◌+◌, ap, sym, ◌∙◌, subst, length, arith, cond}
+use Rattle.std.proofs.Common.{rules, ℕ, ◌<◌, ◌≤◌, ◌+◌, ap, sym, ◌∙◌, subst, length, arith, cond}
 use Rattle.std.specs.Prelude.{pos}
 use Rattle.std.proofs.lemmas.List.{get_or-map, length-set}
 use Rattle.semantics.specs.Item as meaning

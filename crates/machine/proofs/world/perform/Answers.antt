@@ -1,8 +1,6 @@
-use Rattle.std.proofs.Common.{rules, ◌<◌, ◌≡◌, ℕ, length, map, ap, sym, ◌∙◌, slice_set}
-use Rattle.std.specs.Prelude.{slice_index_or}
-use Rattle.std.proofs.lemmas.List.{get_or-map, map-set, length-set}
+use Rattle.std.proofs.Common.{◌≡◌, ap, sym, ◌∙◌}
+use Rattle.std.proofs.lemmas.List.{get_or-map}
 use Rattle.std.proofs.Math.Seq.{map-set_same}
-use Rattle.semantics.specs.Item as meaning
 use Rattle.semantics.specs.Solo.{moved}
 use Rattle.semantics.specs.World.{put_item}
 use Rattle.words.specs.View.{value_of}

@@ -1,7 +1,6 @@
-use Rattle.std.proofs.Common.{rules, ◌≡◌, length, map, ap, sym, ◌∙◌, refl}
+use Rattle.std.proofs.Common.{length, map, ap, ◌∙◌, refl}
 use Rattle.std.specs.Prelude.{pos, replicate}
 use Rattle.core_code.specs.View.{kernel}
-use Rattle.core_code.specs.declared.tree.LocalArray.{LocalArray}
 use Rattle.write_log.specs.Written.{words_of}
 use Rattle.work_item.specs.View.{setup_of}
 use Rattle.machine.proofs.Openings.{opens, shapes}

@@ -1,5 +1,5 @@
-use Rattle.std.proofs.Common.{rules, ◌<◌, ◌≡◌, [], length, map, ap, sym, ◌∙◌}
-use Rattle.std.specs.Prelude.{pos, slice_index_or}
+use Rattle.std.proofs.Common.{rules, ◌<◌, [], length, map, ap, sym, ◌∙◌}
+use Rattle.std.specs.Prelude.{pos}
 use Rattle.std.proofs.lemmas.List.{get_or-map}
 use Rattle.write_log.specs.Written.{words_of}
 use Rattle.work_item.specs.Asks.{owner}

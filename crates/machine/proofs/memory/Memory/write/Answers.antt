@@ -1,5 +1,5 @@
-use Rattle.std.proofs.Common.{rules, ◌<◌, ◌≡◌, [], length, map, ap, sym, ◌∙◌, slice_set, subst}
-use Rattle.std.specs.Prelude.{pos, slice_index_or}
+use Rattle.std.proofs.Common.{rules, ◌<◌, [], length, map, ap, sym, ◌∙◌, subst}
+use Rattle.std.specs.Prelude.{pos}
 use Rattle.std.proofs.lemmas.List.{get_or-map, map-set, length-map}
 use Rattle.std.proofs.Math.Seq.{map-set_same}
 use Rattle.semantics.specs.Memory.{Cell}

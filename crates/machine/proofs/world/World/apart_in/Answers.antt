@@ -1,5 +1,3 @@
-use Rattle.std.proofs.Common.{subst, sym}
-use Rattle.std.specs.Prelude.{MatchOption, None}
 use Rattle.machine.specs.Worlds.{items_of}
 use Rattle.machine.proofs.Apart.{together_by_none}
 use Rattle.machine.proofs.world.World.apart_in.Goals as goal

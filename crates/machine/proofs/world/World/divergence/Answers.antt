@@ -1,5 +1,5 @@
-use Rattle.std.proofs.Common.{rules, ◌<◌, ◌≤◌, ◌+◌, ◌*◌, ap, sym, ◌∙◌, subst, arith, length}
-use Rattle.semantics.specs.Setup.{group_count, group_size}
+use Rattle.std.proofs.Common.{◌<◌, ◌≤◌, ◌+◌, ◌∙◌, subst, arith, length}
+use Rattle.semantics.specs.Setup.{group_size}
 use Rattle.launch.specs.View.{launch}
 use Rattle.machine.specs.Worlds.{setup, world, items_of}
 use Rattle.machine.specs.Divergences.{AreTogether, AreFirst}

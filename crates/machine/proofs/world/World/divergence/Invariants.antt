@@ -1,4 +1,4 @@
-use Rattle.std.proofs.Common.{◌≡◌, ◌<◌, ℕ}
+use Rattle.std.proofs.Common.{◌<◌, ℕ}
 use Rattle.semantics.specs.Setup.{group_of, item_count}
 use Rattle.semantics.specs.Safety.{Divergent}
 use Rattle.machine.specs.Worlds.{setup, world}

@@ -1,4 +1,4 @@
-use Rattle.std.proofs.Common.{rules, ◌≡◌, ◌<◌, ◌+◌, ap, sym, ◌∙◌, subst, length, arith}
+use Rattle.std.proofs.Common.{rules, ◌<◌, ◌+◌, ap, sym, ◌∙◌, subst, length}
 use Rattle.std.proofs.lemmas.List.{get_or-map}
 use Rattle.work_item.specs.Items.{item, HasEpochs}
 use Rattle.machine.specs.Worlds.{items_in}

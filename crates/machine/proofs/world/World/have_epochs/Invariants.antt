@@ -1,4 +1,4 @@
-use Rattle.std.proofs.Common.{◌≡◌, ◌<◌, ◌≤◌, ◌+◌, ℕ}
+use Rattle.std.proofs.Common.{◌<◌, ◌≤◌, ◌+◌, ℕ}
 use Rattle.semantics.specs.Item as items
 use Rattle.work_item.specs.Items.{HasEpochs}
 use Rattle.machine.specs.Worlds.{items_in}

@@ -1,5 +1,4 @@
-use Rattle.std.proofs.Common.{rules, ◌≡◌, ◌<◌, sym, ◌∙◌, subst, arith}
-use Rattle.semantics.specs.Setup.{group_size}
+use Rattle.std.proofs.Common.{rules, ◌<◌, sym, ◌∙◌, subst, arith}
 use Rattle.launch.specs.View.{launch}
 use Rattle.machine.specs.Worlds.{items_of, setup}
 use Rattle.machine.proofs.Blocks.{one_does_not, all_wait}

@@ -1,9 +1,8 @@
-use Rattle.std.proofs.Common.{◌≡◌, ◌*◌, ap, sym, ◌∙◌, length}
+use Rattle.std.proofs.Common.{◌*◌, ap, ◌∙◌}
 use Rattle.semantics.specs.Setup.{group_count}
 use Rattle.core_code.specs.View.{kernel}
 use Rattle.launch.specs.View.{launch}
 use Rattle.work_item.specs.View.{setup_of}
-use Rattle.work_item.specs.Items.{item}
 use Rattle.machine.proofs.Moves.{body_of}
 use Rattle.machine.proofs.Beginnings.{count_of, opens_world, opens_count, opens_proper_left}
 use Rattle.machine.proofs.world.World.open.Goals as goal

@@ -1,11 +1,9 @@
-use Rattle.std.proofs.Common.{rules, ◌≡◌, ◌<◌, ◌≤◌, ap, sym, ◌∙◌, subst, refl, cond}
-use Rattle.semantics.specs.Setup.{group_count, group_size}
+use Rattle.std.proofs.Common.{◌<◌, ◌≤◌, ap, sym, ◌∙◌, subst, refl, cond}
 use Rattle.semantics.specs.Solo.{opening}
-use Rattle.semantics.specs.World.{Release}
 use Rattle.launch.specs.View.{launch}
 use Rattle.machine.specs.Worlds.{items_in, items_of, setup, world, is_among, past_barrier}
 use Rattle.machine.proofs.Beginnings.{count_of}
-use Rattle.machine.proofs.Blocks.{no_group, not_alike, release_answers, lets_go, released_proper}
+use Rattle.machine.proofs.Blocks.{no_group, not_alike, release_answers, lets_go}
 use Rattle.machine.proofs.world.World.release.Goals as goal
 
 pub returns-then-group-product_of-clause-answer : goal.returns-then-group-product_of-clause-answer

@@ -1,4 +1,4 @@
-use Rattle.std.proofs.Common.{rules, ◌≡◌, ◌<◌, ◌≤◌, ap, sym, ◌∙◌, subst, length, refl}
+use Rattle.std.proofs.Common.{rules, ◌<◌, ◌≤◌, sym, ◌∙◌, subst, length, refl}
 use Rattle.semantics.specs.World.{Step}
 use Rattle.machine.specs.Worlds.{setup, world, Answers}
 use Rattle.machine.proofs.Moves.{not_there, no_move, move_answers}

@@ -1,6 +1,5 @@
 use Rattle.std.proofs.Common.{◌∙◌}
 use Rattle.semantics.specs.Solo.{opening}
-use Rattle.work_item.specs.Asks.{asked}
 use Rattle.machine.specs.Worlds.{items_in, items_of, setup}
 use Rattle.machine.proofs.Steps.{put_proper}
 use Rattle.machine.proofs.world.World.take_step.Goals as goal

@@ -1,9 +1,9 @@
 -- What a statement in front asks for when its test is known.
 use Rattle.std.proofs.Common.{◌≡◌, ◌+◌, ℕ, List, ◌∷◌, refl, ap, sym, ◌∙◌}
 use Rattle.semantics.specs.Word.{Word, is_zero}
-use Rattle.semantics.specs.Core.{Term, Statement, If, Loop, Statements}
+use Rattle.semantics.specs.Core.{Term, If, Loop, Statements}
 use Rattle.semantics.specs.Setup.{Setup}
-use Rattle.semantics.specs.Evaluation.{Outcome, Gives, evaluate}
+use Rattle.semantics.specs.Evaluation.{Gives, evaluate}
 use Rattle.semantics.specs.Item.{Entry, Item, enter, finished}
 use Rattle.semantics.specs.Ask.{Ask, Goes, on_value, choose, act}
 use Rattle.work_item.specs.Left.{behind, turned}

@@ -1,6 +1,6 @@
 -- The places of work-items.
 use Rattle.std.proofs.Common.{◌≡◌, ◌<◌, ◌/◌, ◌%◌, ℕ, subst, sym}
-use Rattle.semantics.specs.Launch.{Kernel, Launch, product}
+use Rattle.semantics.specs.Launch.{product}
 use Rattle.semantics.specs.Setup.{Setup, group_size, group_count, item_count}
 use Rattle.semantics.proofs.Groups.{quotient-below, place-below, group_size-pos}
 

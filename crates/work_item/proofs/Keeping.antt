@@ -1,5 +1,5 @@
 -- What is left stays proper along all moves.
-use Rattle.std.proofs.Common.{◌≡◌, ◌+◌, ℕ, ℤ, Bool, true, false, ◌&&◌, cond, List, [], ◌∷◌, nat_eq, refl, ap, sym, ◌∙◌}
+use Rattle.std.proofs.Common.{◌≡◌, ◌+◌, ℕ, ℤ, Bool, true, false, ◌&&◌, cond, List, [], ◌∷◌, nat_eq, refl}
 use Rattle.std.proofs.lemmas.Bool.{and_parts}
 use Rattle.semantics.specs.Word.{Word, is_zero}
 use Rattle.semantics.specs.Core.{Array, Site, Statement, Set, Store, If, Loop, Barrier, Return, Break, Continue, Statements, none, one, number}
@@ -7,7 +7,7 @@ use Rattle.semantics.specs.Setup.{Setup}
 use Rattle.semantics.specs.Memory.{extent}
 use Rattle.semantics.specs.Evaluation.{Outcome, Gives, Needs, Faults, evaluate, Index, At, Outside, within}
 use Rattle.semantics.specs.Item.{Entry, Item, Status, Running, Waiting, Ended, Stopped, enter, leave, resume, update_of}
-use Rattle.semantics.specs.Ask.{Ask, Loads, Stores, Goes, Waits, Rests, on_value, stores, choose, act, front, passes, by_status, ask}
+use Rattle.semantics.specs.Ask.{Ask, on_value, stores, choose, act, front, passes, by_status, ask}
 use Rattle.semantics.specs.Solo.{moved}
 use Rattle.work_item.specs.Proper.{is_proper_term, is_proper_statement, are_proper, is_proper_left}
 

@@ -1,5 +1,5 @@
 -- Past a barrier.
-use Rattle.std.proofs.Common.{◌≡◌, ◌+◌, ℕ, List, [], ◌∷◌, refl, arith, ap, sym, ◌∙◌}
+use Rattle.std.proofs.Common.{◌≡◌, ◌+◌, List, [], ◌∷◌, refl, arith, ap, ◌∙◌}
 use Rattle.semantics.specs.Item.{Entry, Item, Ended, local_flag, global_flag, status_of}
 use Rattle.semantics.specs.Ask.{Waits, passes}
 use Rattle.work_item.specs.Left.{behind, front_flag}

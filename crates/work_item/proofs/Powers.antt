@@ -1,5 +1,5 @@
 -- Powers of 2 that are words.
-use Rattle.std.proofs.Common.{◌≡◌, ◌<◌, ◌≤◌, ◌^◌, ◌*◌, ◌%◌, ℕ, arith, ap, ◌∙◌, mod-eq_of_lt}
+use Rattle.std.proofs.Common.{◌≡◌, ◌≤◌, ◌^◌, ◌*◌, ◌%◌, ℕ, arith, ap, ◌∙◌, mod-eq_of_lt}
 use Rattle.std.proofs.Math.Pow.{pow_mono}
 
 pub small_power : (k : ℕ) → k ≤ 31 → 1 * 2 ^ k % 4294967296 ≡ 2 ^ k

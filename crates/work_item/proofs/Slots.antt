@@ -1,5 +1,5 @@
 -- Private variables set.
-use Rattle.std.proofs.Common.{◌≡◌, ◌≤◌, ℕ, List, length, map, slice_set, sym, ap, subst}
+use Rattle.std.proofs.Common.{◌≡◌, ◌≤◌, ℕ, List, length, map, slice_set, sym, subst}
 use Rattle.std.proofs.lemmas.List.{map-set, set_past, length-map}
 
 pub set_seen : {A B : Type 0} (f : A → B) (xs : List A) (i : ℕ) (x : A) → map f (slice_set xs i x) ≡ slice_set (map f xs) i (f x)

@@ -1,10 +1,10 @@
 -- Trails, entry by entry.
-use Rattle.std.proofs.Common.{◌≡◌, ℕ, List, [], ◌∷◌, ◌++◌, Bool, true, false, ◌&&◌, nat_eq, length, refl, ap, sym, ◌∙◌, arith}
-use Rattle.std.specs.Prelude.{Option, Some, None, bytes_eq}
+use Rattle.std.proofs.Common.{◌≡◌, List, [], ◌∷◌, ◌++◌, Bool, true, false, ◌&&◌, nat_eq, length, refl, ap, sym, ◌∙◌, arith}
+use Rattle.std.specs.Prelude.{Some, bytes_eq}
 use Rattle.semantics.specs.Core.{number}
 use Rattle.semantics.specs.Item.{Entry, trail, local_flag, global_flag}
 use Rattle.work_item.specs.declared.left.Frame.{Frame}
-use Rattle.work_item.specs.Left.{stacked, fronted, opened}
+use Rattle.work_item.specs.Left.{stacked, fronted}
 use Rattle.work_item.specs.Rests.{is_same_entry}
 use Rattle.work_item.proofs.Stacks.{stacked_more}
 

@@ -1,5 +1,5 @@
 -- What is left of a work-item in the code, as the definitions have it.
-use Rattle.std.specs.Prelude.{◌≡◌, ◌≤◌, ◌+◌, ℕ, List, [], ◌∷◌, Option, Some, None, vec_len, vec_capacity}
+use Rattle.std.specs.Prelude.{◌≤◌, ◌+◌, ℕ, List, [], ◌∷◌, Option, Some, None, vec_len, vec_capacity}
 use Rattle.semantics.specs.Core.{Statement}
 use Rattle.semantics.specs.Item.{Entry, enter}
 use Rattle.core_code.specs.View.{statement, statements}

@@ -1,5 +1,5 @@
 -- What is left of a work-item, gone over entry by entry.
-use Rattle.std.specs.Prelude.{ℕ, List, Bool, ◌&&◌, nat_eq}
+use Rattle.std.specs.Prelude.{List, Bool, ◌&&◌, nat_eq}
 use Rattle.semantics.specs.Core.{number}
 use Rattle.semantics.specs.Item.{Entry, local_flag, global_flag}
 use Rattle.core_code.specs.View.{statement}

@@ -2,7 +2,7 @@ use Rattle.std.proofs.Common.{◌<◌, ◌/◌, ◌%◌, ap, sym, ◌∙◌, sub
 use Rattle.semantics.specs.Launch.{product}
 use Rattle.semantics.specs.Setup as setup
 use Rattle.core_code.specs.View.{kernel}
-use Rattle.launch.specs.View.{launch, counts}
+use Rattle.launch.specs.View.{launch}
 use Rattle.work_item.specs.View.{setup_of}
 use Rattle.work_item.proofs.Identities.{group_place, local_place}
 use Rattle.work_item.proofs.identity.identity.Goals as goal

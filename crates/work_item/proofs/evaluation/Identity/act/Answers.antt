@@ -1,4 +1,4 @@
-use Rattle.std.proofs.Common.{◌≡◌, ap, sym, ◌∙◌, map, ◌∷◌, []}
+use Rattle.std.proofs.Common.{ap, sym, ◌∙◌, map, ◌∷◌, []}
 use Rattle.semantics.specs.Item as items
 use Rattle.semantics.specs.Ask as meaning
 use Rattle.semantics.specs.Evaluation.{evaluate}
@@ -6,7 +6,7 @@ use Rattle.words.specs.View.{word}
 use Rattle.core_code.specs.View.{term, statement, statements}
 use Rattle.core_code.proofs.Rows.{seen_if, seen_loop}
 use Rattle.work_item.specs.View.{setup_at, outcome}
-use Rattle.work_item.specs.Left.{left, behind, fronted, stacked}
+use Rattle.work_item.specs.Left.{behind, fronted, stacked}
 use Rattle.work_item.specs.Items.{item}
 use Rattle.work_item.proofs.Acting.{acts_if, acts_loop}
 use Rattle.work_item.proofs.evaluation.Identity.act.Goals as goal

@@ -15,7 +15,7 @@ ghost use Rattle.two_thread.specs.View.{scope as scope_seen, order as order_seen
 use crate::pairs::{Order, Pair, Scope};
 use domain::{Domain, Residue};
 use facts::{
-    Known, WalkError, Side, copy_all, element_of, less_number, number_less, once_group, once_local,
+    Known, Side, WalkError, copy_all, element_of, less_number, number_less, once_group, once_local,
 };
 use linear::Form;
 use std::alloc::Global;

@@ -22,7 +22,7 @@ use crate::clashing::{claim_facts, is_apart, pair_facts, try_denial, try_differe
 use crate::pairs::{Pair, all_pairs, spot_of};
 use core_code::tree::Core;
 use domain::Domain;
-use facts::{WalkError, Side, item_facts, known, launch_facts};
+use facts::{Side, WalkError, item_facts, known, launch_facts};
 use launch::conditions::Conditions;
 use linear::Form;
 use std::alloc::Global;

@@ -16,7 +16,7 @@ ghost use Rattle.walk.specs.View.{followed, setting as seen, sort as sort_seen, 
 use crate::path::{Path, Sort};
 use crate::setting::Setting;
 use domain::Domain;
-use facts::{WalkError, Side, between, is_settled, less_number, number_less, once_new};
+use facts::{Side, WalkError, between, is_settled, less_number, number_less, once_new};
 use linear::Form;
 use std::alloc::Global;
 use words::Kind;

@@ -18,7 +18,7 @@ use crate::ranges::{Value, brought, invent, ranged};
 use crate::setting::Setting;
 use core_code::tree::{Function, Operator, Site, Term};
 use domain::Domain;
-use facts::{WalkError, Side, element_of, once_given, once_group, once_groups, once_local};
+use facts::{Side, WalkError, element_of, once_given, once_group, once_groups, once_local};
 use linear::Form;
 use std::alloc::Global;
 use words::Kind;

@@ -15,7 +15,7 @@ use crate::setting::Setting;
 use crate::terms::walk_term;
 use core_code::tree::{Statement, Term};
 use domain::Domain;
-use facts::{WalkError, Side, less_number, once_length};
+use facts::{Side, WalkError, less_number, once_length};
 use linear::Form;
 use std::alloc::Global;
 

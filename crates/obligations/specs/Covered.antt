@@ -1,0 +1,55 @@
+-- The kernels that the walk covers: those without loops, barriers, local arrays and exits.
+use Rattle.std.specs.Prelude.{ℕ, Bool, true, false, ◌&&◌, nat_lt}
+use Rattle.semantics.specs.Word.{Kind, Int, Uint, in_kind, UnaryOperator, Negate, Complement, ShiftLeft, ShiftRight}
+use Rattle.semantics.specs.Core.{Space, Global, Local, Term, Literal, Variable, Id, Load, Unary, Binary, Convert, Compare, Not, And, Or, Select, Minimum, Maximum, Statement, Set, Store, If, Loop, Barrier, Return, Break, Continue, Statements, none, one}
+use Rattle.semantics.specs.Launch.{Kernel}
+use Rattle.facts.specs.Launching.{are_sizes}
+
+abbrev pub is_global : Space → Bool
+is_global Global = true
+is_global Local = false
+
+abbrev pub is_uint : Kind → Bool
+is_uint Int = false
+is_uint Uint = true
+
+-- a shift is by 0 to 31, and of a `uint`
+abbrev pub is_covered_unary : UnaryOperator → Kind → Bool
+is_covered_unary Negate k = true
+is_covered_unary Complement k = true
+is_covered_unary (ShiftLeft by) k = nat_lt by 32
+is_covered_unary (ShiftRight by) k = nat_lt by 32 && is_uint k
+
+abbrev pub is_covered_term : Term → Bool
+is_covered_term (Literal k z) = in_kind k z
+is_covered_term (Variable x) = true
+is_covered_term (Id f d) = true
+is_covered_term (Load a site i) = is_global a.space && is_covered_term i
+is_covered_term (Unary op k site e) = is_covered_unary op k && is_covered_term e
+is_covered_term (Binary op k site a b) = is_covered_term a && is_covered_term b
+is_covered_term (Convert k site e) = is_covered_term e
+is_covered_term (Compare r k a b) = is_covered_term a && is_covered_term b
+is_covered_term (Not e) = is_covered_term e
+is_covered_term (And a b) = is_covered_term a && is_covered_term b
+is_covered_term (Or a b) = is_covered_term a && is_covered_term b
+is_covered_term (Select t a b) = is_covered_term t && (is_covered_term a && is_covered_term b)
+is_covered_term (Minimum a b) = is_covered_term a && is_covered_term b
+is_covered_term (Maximum a b) = is_covered_term a && is_covered_term b
+
+abbrev mutual
+  pub is_covered_statement : Statement → Bool
+  is_covered_statement (Set n x e) = is_covered_term e
+  is_covered_statement (Store n a site index e) = is_global a.space && (is_covered_term index && is_covered_term e)
+  is_covered_statement (If n e t f) = is_covered_term e && (are_covered t && are_covered f)
+  is_covered_statement (Loop n e b u) = false
+  is_covered_statement (Barrier n l g) = false
+  is_covered_statement (Return n) = false
+  is_covered_statement (Break n k) = false
+  is_covered_statement (Continue n k) = false
+
+  pub are_covered : Statements → Bool
+  are_covered none = true
+  are_covered (one s rest) = is_covered_statement s && are_covered rest
+
+abbrev pub is_covered : Kernel → Bool
+is_covered k = are_sizes k.sizes && are_covered k.body

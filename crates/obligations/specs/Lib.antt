@@ -1,0 +1,11 @@
+pub mod Held
+pub mod Trees
+pub mod Walks
+pub mod Operators
+pub mod Tests
+pub mod Terms
+pub mod Statements
+pub mod Covered
+pub mod Seconds
+pub mod Pairs
+pub mod Shown

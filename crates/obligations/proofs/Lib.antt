@@ -5,3 +5,7 @@ pub mod Distinct
 pub mod PairLists
 pub mod TwoElements
 pub mod Meetings
+pub mod Plain
+pub mod Following
+pub mod SameWords
+pub mod Safe

@@ -6,6 +6,9 @@ use Rattle.obligations.proofs.Distinct.{locals-differ}
 use Rattle.obligations.proofs.PairLists.{pairs_in-has}
 use Rattle.obligations.proofs.TwoElements.{two-has}
 use Rattle.obligations.proofs.Meetings.{not-within}
+use Rattle.obligations.proofs.Plain.{sound}
+use Rattle.obligations.proofs.Following.{in_front}
+use Rattle.obligations.proofs.Safe.{pair_safe}
 use Rattle.obligations.proofs.laws.try_it.Goals as goal
 
 pub returns : goal.returns

@@ -9,3 +9,5 @@ pub mod Plain
 pub mod Following
 pub mod SameWords
 pub mod Safe
+pub mod OwnForms
+pub mod OwnTrees

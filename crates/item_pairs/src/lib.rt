@@ -8,6 +8,7 @@ mod looking;
 mod met;
 mod pairs;
 mod places;
+mod seconds;
 
 pub use met::Met;
 pub use pairs::{Order, Pair, Scope, all_pairs, spot_of};

@@ -3,3 +3,4 @@ pub mod Located
 pub mod Nth
 pub mod Growing
 pub mod Copies
+pub mod Showing

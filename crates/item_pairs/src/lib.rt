@@ -4,13 +4,17 @@
 //! impossible of each.
 #![tactic(auto)]
 
+mod claims;
 mod clashing;
 mod looking;
+mod manner;
 mod met;
 mod pairs;
 mod places;
 mod seconds;
 
+pub use claims::{claim_facts, is_needed, is_settled, sort_of, spot_of_claim, try_claim};
 pub use clashing::{lacks_zero, pair_facts, try_differences};
+pub use manner::Manner;
 pub use met::Met;
 pub use pairs::{Order, Pair, Scope, all_pairs, spot_of};

@@ -9,6 +9,7 @@ pub mod Basics
 pub mod Arrivals
 pub mod Events
 pub mod MoreAnswers
+pub mod LoadKinds
 pub mod Deciding
 pub mod MemoryKinds
 pub mod Places

@@ -16,7 +16,7 @@ gives-is v w r q h = (cc, cc)
 value-grows : (w : Word) → Grows (Gives w)
 value-grows w = record { by = λ answers rest more v h. let e = gives-is w v answers rest h in rw (e.0, e.1) refl }
 
-then-by : (o : Outcome) (go : Word → List Word → Outcome) (v : Word) (r : List Word) → and_then o go ≡ Gives v r → (a : Word) × (rest : List Word) × (o ≡ Gives a rest) × (go a rest ≡ Gives v r)
+pub then-by : (o : Outcome) (go : Word → List Word → Outcome) (v : Word) (r : List Word) → and_then o go ≡ Gives v r → (a : Word) × (rest : List Word) × (o ≡ Gives a rest) × (go a rest ≡ Gives v r)
 then-by (Gives a rest) go v r h = (a, rest, refl, h)
 then-by (Needs a k site) go v r h = cc
 then-by (Faults f site) go v r h = cc
@@ -36,13 +36,13 @@ decide-grows : (b : Bool) (f g : List Word → Outcome) → Grows f → Grows g 
 decide-grows true f g hf hg = record { by = hf.by }
 decide-grows false f g hf hg = record { by = hg.by }
 
-asks-gives : (a : Array) (k : Index) (site : Site) (v : Word) (r : List Word) → asks a k site ≡ Gives v r → ⊥
+pub asks-gives : (a : Array) (k : Index) (site : Site) (v : Word) (r : List Word) → asks a k site ≡ Gives v r → ⊥
 asks-gives a (At k) site v r h = cc
 asks-gives a Outside site v r h = cc
 
 load-by : (s : Setup) (a : Array) (site : Site) (z : ℤ) (answers rest more : List Word) (v : Word) → load s a site z answers ≡ Gives v rest → load s a site z (answers ++ more) ≡ Gives v (rest ++ more)
 load-by s a site z [] rest more v h = absurd (asks-gives a (within (extent s a) z) site v rest h)
-load-by s a site z (w ∷ answers) rest more v h = (value-grows w).by answers rest more v h
+load-by s a site z (w ∷ answers) rest more v h = (value-grows _).by answers rest more v h
 
 load-grows : (s : Setup) (a : Array) (site : Site) (z : ℤ) → Grows (load s a site z)
 load-grows s a site z = record { by = load-by s a site z }

@@ -3,7 +3,7 @@ use Rattle.std.specs.Prelude.{ℕ, ℤ, pos, negsuc, List, [], ◌∷◌, Bool, 
 use Rattle.semantics.specs.Word.{Word, word, zero_word, Fault, OutOfBounds, Uint, Kind, Operator, Relation, calculate, calculate_unary, convert, as_kind, holds, truth, is_zero, smaller, larger}
 use Rattle.semantics.specs.Core.{Site, Array, Term, Literal, Variable, Id, Load, Unary, Binary, Convert, Compare, Not, And, Or, Select, Minimum, Maximum}
 use Rattle.semantics.specs.Setup.{Setup, identity}
-use Rattle.semantics.specs.Memory.{extent}
+use Rattle.semantics.specs.Memory.{extent, element_kind}
 
 -- a value with the answers that were not used, the first load that has none, or the first fault before that load
 pub data Outcome : Type 0 where
@@ -34,10 +34,15 @@ abbrev pub asks : Array → Index → Site → Outcome
 asks a (At k) site = Needs a k site
 asks a Outside site = Faults OutOfBounds site
 
+-- an answer, read as a number of its array. In every run it is one already, and `as_kind` leaves such a number as it is; so the
+-- answers that no run gives add no value that a load cannot have
+abbrev pub read : Setup → Array → Word → Word
+read s a v = word (element_kind s a) (as_kind (element_kind s a) v.value)
+
 -- a load has an answer already, or asks for it
 abbrev pub load : Setup → Array → Site → ℤ → List Word → Outcome
 load s a site index [] = asks a (within (extent s a) index) site
-load s a site index (v ∷ rest) = Gives v rest
+load s a site index (v ∷ rest) = Gives (read s a v) rest
 
 abbrev pub decide : Bool → Outcome → Outcome → Outcome
 decide true if_true if_false = if_true

@@ -30,6 +30,14 @@ extent_in s Local a = (slice_index_or s.kernel.arrays a no_array).length
 abbrev pub extent : Setup → Array → ℕ
 extent s a = extent_in s a.space a.number
 
+-- the kind of an array's elements
+abbrev pub element_kind_in : Setup → Space → ℕ → Kind
+element_kind_in s Global a = slice_index_or s.kernel.buffers a Int
+element_kind_in s Local a = (slice_index_or s.kernel.arrays a no_array).kind
+
+abbrev pub element_kind : Setup → Array → Kind
+element_kind s a = element_kind_in s a.space a.number
+
 -- the kind of an owner's array
 abbrev pub kind_in : Setup → ℕ → ℕ → Kind
 kind_in s zero a = slice_index_or s.kernel.buffers a Int

@@ -102,22 +102,6 @@ impl Identity<'_> {
         }
     }
 
-    /// The kind of an array's elements.
-    pub fn kind_of(&self, array: Array) -> Kind
-        ensures { (i : ℕ) → kind_seen result ≡ kind_in (setup_at self.now) (owner_of (setup_at self.now) i (array_seen array).space) array.number }
-    {
-        match array.space {
-            Space::Global => match self.core.buffers.get(array.number as usize) {
-                Some(kind) => *kind,
-                None => Kind::Int,
-            },
-            Space::Local => match self.core.arrays.get(array.number as usize) {
-                Some(declared) => declared.kind,
-                None => Kind::Int,
-            },
-        }
-    }
-
     // Where a term has no value.
     fn stopped<'b>(&self, stop: Stop) -> Ask<'b>
         ensures { (i : ℕ) (it : items.Item) (go : word.Word → List word.Word → meaning.Ask) → IsItem self.now i → asked result it ≡ meaning.on_value (setup_at self.now) i it (outcome (Err stop)) go }

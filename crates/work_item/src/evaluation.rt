@@ -4,17 +4,19 @@ ghost use Rattle.std.specs.Prelude.{◌≡◌, ℕ, ℤ, [], true, map, length, 
 ghost use Rattle.semantics.specs.Word as meaning;
 ghost use Rattle.semantics.specs.Evaluation as evaluation;
 ghost use Rattle.semantics.specs.Evaluation.{within, At, Outside};
-ghost use Rattle.semantics.specs.Memory.{extent};
-ghost use Rattle.words.specs.View.{word as word_seen, value_of, seen};
+ghost use Rattle.semantics.specs.Memory.{extent, element_kind, owner_of, kind_in};
+ghost use Rattle.words.specs.View.{word as word_seen, kind as kind_seen, value_of, seen};
 ghost use Rattle.core_code.specs.View.{term as term_seen, array as array_seen, site as site_seen};
 ghost use Rattle.work_item.specs.Proper.{is_proper_term};
 ghost use Rattle.work_item.specs.View.{setup_at, ids, ids_of, IsItem, outcome};
 
 use crate::dimension::Dimension;
-use crate::operations::{compare, is_zero, larger, literal, operate, smaller, truth, unary};
+use crate::operations::{
+    compare, is_zero, larger, literal, operate, read_as, smaller, truth, unary,
+};
 use core_code::tree::{Array, Core, Site, Space, Term};
 use launch::launches::Launch;
-use words::{Fault, Word, convert};
+use words::{Fault, Kind, Word, convert};
 
 /// A work-item of a kernel at a launch: who it is, along each dimension.
 #[derive(Clone, Copy)]
@@ -114,13 +116,30 @@ impl<'a> Identity<'a> {
         }
     }
 
-    /// A load: its answer, or what it needs.
+    /// The kind of an array's elements.
+    pub fn kind_of(&self, array: Array) -> Kind
+        ensures array { kind_seen result ≡ element_kind (setup_at self.now) (array_seen array) }
+        ensures owner { (i : ℕ) → kind_seen result ≡ kind_in (setup_at self.now) (owner_of (setup_at self.now) i (array_seen array).space) array.number }
+    {
+        match array.space {
+            Space::Global => match self.core.buffers.get(array.number as usize) {
+                Some(kind) => *kind,
+                None => Kind::Int,
+            },
+            Space::Local => match self.core.arrays.get(array.number as usize) {
+                Some(declared) => declared.kind,
+                None => Kind::Int,
+            },
+        }
+    }
+
+    /// A load: its answer, read as the array's kind, or what it needs.
     fn load<'b>(&self, array: Array, site: Site, index: Value<'b>) -> Result<Value<'b>, Stop>
         ensures { outcome result ≡ evaluation.load (setup_at self.now) (array_seen array) (site_seen site) (value_of index.entry.word) (map word_seen index.entry.rest.now) }
     {
         if let Some((answer, rest)) = index.rest.split_first() {
             return Ok(Value {
-                word: *answer,
+                word: read_as(*answer, self.kind_of(array)),
                 rest,
             });
         }

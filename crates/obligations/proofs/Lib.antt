@@ -1,2 +1,4 @@
+pub mod KindEnds
 pub mod Holding
 pub mod Standing
+pub mod Ranges

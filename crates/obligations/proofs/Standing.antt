@@ -196,9 +196,12 @@ module _ {E : Type 0} (c : View E) (launch : List Fact) where
   pub onward : {A B : Type 0} {facts : List Fact} {n : ℕ} {tree : Tree E} {go : A → State E → Tree E} {onto : B → State E → Tree E} {news : List ℤ} {variables : List Value} {P : List ℤ → A → Type 0} {Q : List ℤ → B → Type 0} (a : Comes c launch facts n tree go news variables P) → Comes c launch a.path a.count (go a.arrived a.state) onto a.more a.state.variables Q → Comes c launch facts n tree onto news variables Q
   onward a b = record { more = b.more; arrived = b.arrived; path = b.path; count = b.count; state = b.state; same = b.same ∙ a.same; right = b.right; stands = b.stands; way = way_then a.way b.way }
 
-  -- something else is so of what arrives
-  pub restated : {A : Type 0} {facts : List Fact} {n : ℕ} {tree : Tree E} {go : A → State E → Tree E} {news : List ℤ} {variables : List Value} {P Q : List ℤ → A → Type 0} → ((more : List ℤ) (x : A) → P more x → Q more x) → Comes c launch facts n tree go news variables P → Comes c launch facts n tree go news variables Q
-  restated f p = record { more = p.more; arrived = p.arrived; path = p.path; count = p.count; state = p.state; same = p.same; right = f p.more p.arrived p.right; stands = p.stands; way = p.way }
+  -- something else is so of what arrives, and what goes on takes it as something else
+  pub arriving : {A B : Type 0} {facts : List Fact} {n : ℕ} {tree : Tree E} {news : List ℤ} {variables : List Value} {P : List ℤ → A → Type 0} (go : B → State E → Tree E) (h : A → B) (Q : List ℤ → B → Type 0) → ((more : List ℤ) (x : A) → ((v : ℕ → ℤ) → Agrees c more v → Agrees c news v) → P more x → Q more (h x)) → Comes c launch facts n tree (λ x st. go (h x) st) news variables P → Comes c launch facts n tree go news variables Q
+  arriving go h Q f p = record { more = p.more; arrived = h p.arrived; path = p.path; count = p.count; state = p.state; same = p.same; right = f p.more p.arrived p.way.kept p.right; stands = p.stands; way = p.way }
+
+  pub restated : {A : Type 0} {facts : List Fact} {n : ℕ} {tree : Tree E} {go : A → State E → Tree E} {news : List ℤ} {variables : List Value} {P Q : List ℤ → A → Type 0} → ((more : List ℤ) (x : A) → ((v : ℕ → ℤ) → Agrees c more v → Agrees c news v) → P more x → Q more x) → Comes c launch facts n tree go news variables P → Comes c launch facts n tree go news variables Q
+  restated f p = record { more = p.more; arrived = p.arrived; path = p.path; count = p.count; state = p.state; same = p.same; right = f p.more p.arrived p.way.kept p.right; stands = p.stands; way = p.way }
 
   pub goes_from : {A : Type 0} {facts path : List Fact} {n m : ℕ} {tree left : Tree E} {go : A → State E → Tree E} {news more : List ℤ} {variables : List Value} {P : Word → List ℤ → A → Type 0} {o : Outcome} → Way c facts n tree news path m left more → Goes c launch path m left go more variables P o → Goes c launch facts n tree go news variables P o
   goes_from w (gives v rest is right comes) = gives v rest is right (comes_from w comes)
@@ -239,5 +242,3 @@ module _ {E : Type 0} (c : View E) (launch : List Fact) where
       by Plainly h = absurd h
       by ByPositive h = inl (refuted f x s mf h)
       by ByNegative h = inr (refuted g y s mg h)
-
-pub ruleset tried = (has_left)

@@ -2,3 +2,4 @@ pub mod KindEnds
 pub mod Holding
 pub mod Standing
 pub mod Ranges
+pub mod Splits

@@ -160,4 +160,3 @@ module _ {E : Type 0} (c : View E) (launch : List Fact) where
       onward c launch u (arriving c launch (λ (p : Value × Value) st'. go p.0 p.1 st') (λ y'. (u.arrived, y')) (λ more p. IsValue c more (word k (as_kind k a.value)) p.0 × IsValue c more (word k (as_kind k b.value)) p.1)
       (λ more y' kept m. (value_kept c kept u.right, m)) w)
 
-pub ruleset tried = (form_kept)

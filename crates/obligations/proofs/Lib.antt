@@ -3,3 +3,4 @@ pub mod Holding
 pub mod Standing
 pub mod Ranges
 pub mod Splits
+pub mod Divisions

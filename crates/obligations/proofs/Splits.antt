@@ -20,7 +20,7 @@ use Rattle.obligations.proofs.Holding.{known_of}
 use Rattle.obligations.proofs.Standing.{walks, Stands, Way, Comes, way_then, over_fact, over_first, over_second, past_fact, narrowed, past_first, past_second, at_once, comes_from, onward, restated}
 use Rattle.obligations.proofs.Ranges.{IsForm, form_kept, form_constant, form-multiple, form-minus}
 
-alone : (ts : List (Weighted ℕ)) → is_none ts ≡ true → (v : ℕ → ℤ) → terms_value v ts ≡ pos 0
+pub alone : (ts : List (Weighted ℕ)) → is_none ts ≡ true → (v : ℕ → ℤ) → terms_value v ts ≡ pos 0
 alone [] h v = refl
 alone (t ∷ ts) h v = cc
 
@@ -33,7 +33,7 @@ int_le-not a b h = sym (omega (arith, ints))
 int_eq-same : (a b : ℤ) → a ≡ b → int_eq a b ≡ true
 int_eq-same a b h = (Decides-int_eq a b).1 h
 
-int_eq-not : (a b : ℤ) → (a ≡ b → ⊥) → int_eq a b ≡ false
+pub int_eq-not : (a b : ℤ) → (a ≡ b → ⊥) → int_eq a b ≡ false
 int_eq-not a b h = by (int_eq a b) (Decides-int_eq a b).0
   where
     by : (t : Bool) → (t ≡ true → a ≡ b) → t ≡ false
@@ -50,7 +50,7 @@ order : (a b : ℤ) → Order a b
 order a b = by_lt_z a b (λ l. IsBelow l) (λ l. by_lt_z b a (λ k. IsAbove k) (λ k. IsSame (omega (arith, ints, l, k))))
 
 module _ {E : Type 0} (c : View E) (launch : List Fact) where
-  value-known : {news : List ℤ} (f : Fact) (z : ℤ) → IsForm c news f z → is_number f ≡ true → f.constant ≡ z
+  pub value-known : {news : List ℤ} (f : Fact) (z : ℤ) → IsForm c news f z → is_number f ≡ true → f.constant ≡ z
   value-known {news = news} f z m e =
       let v = by_number (own c news) in
       omega (arith, ints, m.means v (agrees_itself c news), alone f.terms e v)
@@ -151,4 +151,3 @@ module _ {E : Type 0} (c : View E) (launch : List Fact) where
       | IsAbove l ↦ fork_first st first second go P s (λ u. restated c launch (λ more t kept e. e ∙ ap not (sym (int_eq-not z (pos 0) (λ q. omega (arith, ints, q, l))))) (know_sound (minus f (constant (pos 1))) (z -ℤ pos 1) st true go (form_from f (constant (pos 1)) z (pos 1) m (form_constant c news (pos 1))) (omega (arith, ints, l)) u))
       ]
 
-pub ruleset tried = (split_number_sound)

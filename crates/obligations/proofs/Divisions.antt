@@ -126,4 +126,3 @@ complement_uint-bits Int (pos n) h = let l : n < 2 ^ 31 = ltb-true n (2 ^ 31) h 
 complement_uint-bits Uint (pos n) h = let l : n < 2 ^ 32 = ltb-true n (2 ^ 32) h in let e : pos 4294967295 -ℤ pos n ≡ pos (4294967295 - n) = omega (arith, ints, l) in ap bits_of e ∙ omega (arith, l)
 complement_uint-bits k (negsuc n) h = let e : pos 4294967295 -ℤ negsuc n ≡ pos (n + 4294967296) = omega (arith, ints) in ap bits_of e ∙ omega arith
 
-pub ruleset tried = (settle_in)

@@ -4,3 +4,4 @@ pub mod Standing
 pub mod Ranges
 pub mod Splits
 pub mod Divisions
+pub mod Arithmetic

@@ -43,6 +43,10 @@ quotient-in Uint (pos a) (pos b) h j z s = let l = ltb-true a (2 ^ 32) h in let 
 quotient-in Uint (pos a) (negsuc b) h j z s = cc
 quotient-in Uint (negsuc a) y h j z s = cc
 
+pub uint-quotient : (x : ℤ) (n : ℕ) → in_kind Uint x ≡ true → in_kind Uint (int_div x (pos n)) ≡ true
+uint-quotient (pos a) n h = let l = ltb-true a (2 ^ 32) h in let d = div-le_self a n in lt-ltb (a / n) (2 ^ 32) (omega (arith, l, d))
+uint-quotient (negsuc a) n h = cc
+
 pub remainder-in : (k : Kind) (x y : ℤ) → in_kind k x ≡ true → in_kind k (int_rem x y) ≡ true
 remainder-in Int (pos a) y h = let l = ltb-true a (2 ^ 31) h in let d = mod-le a (unsigned_abs y) in lt-ltb (a % unsigned_abs y) (2 ^ 31) (omega (arith, l, d))
 remainder-in Int (negsuc a) y h = let l = ltb-true a (2 ^ 31) h in let d = mod-le (suc a) (unsigned_abs y) in negative-in (suc a % unsigned_abs y) (omega (arith, l, d))

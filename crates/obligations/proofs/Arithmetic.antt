@@ -261,4 +261,3 @@ module _ {E : Type 0} (c : View E) (launch : List Fact) where
   unary_sound (ShiftRight by) Int e w x st go h m s = let p = and_parts (nat_lt by 32) false e in cc
   unary_sound (ShiftRight by) Uint e w x st go h m s = shifted_sound x.kind x.form w.value by st go (subst (λ j. in_kind j w.value ≡ true) (sym m.kind) h) m.form s
 
-pub ruleset tried = (lacks-not)

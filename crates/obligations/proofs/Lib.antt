@@ -5,3 +5,4 @@ pub mod Ranges
 pub mod Splits
 pub mod Divisions
 pub mod Arithmetic
+pub mod Identities

@@ -3,7 +3,7 @@
 ghost use Rattle.std.specs.Prelude.{◌≡◌, ℕ};
 
 /// Try.
-#[tactic(auto, using(crate::proofs::Arithmetic::tried))]
+#[tactic(auto, using(crate::proofs::Identities::tried))]
 pub fn try_it()
     ensures { (k : ℕ) → k ≡ k }
 {}

@@ -58,7 +58,7 @@ lacks-not b y z h e q =
 
 module _ {E : Type 0} (c : View E) (launch : List Fact) where
   -- a settled result
-  settled_yields : {facts : List Fact} {n : ℕ} {tree : Tree E} {news : List ℤ} {variables : List Value} (k : Kind) (y : ℤ) (go : Onward E) → Settles c launch facts n tree k go news variables y → Yields c launch facts n tree go news variables (settle k y)
+  pub settled_yields : {facts : List Fact} {n : ℕ} {tree : Tree E} {news : List ℤ} {variables : List Value} (k : Kind) (y : ℤ) (go : Onward E) → Settles c launch facts n tree k go news variables y → Yields c launch facts n tree go news variables (settle k y)
   settled_yields k y go s = record { result = word k (as_kind k y); is = s.settles; right = as_kind-in_kind k y; comes = s.comes }
 
   -- a number of its kind, whose form arrives
@@ -260,4 +260,3 @@ module _ {E : Type 0} (c : View E) (launch : List Fact) where
   unary_sound (ShiftLeft by) k e w x st go h m s = settled_yields k (w.value *ℤ pos (2 ^ by)) go (ranged_sound c launch k (multiple (pos (2 ^ by)) x.form) st go (w.value *ℤ pos (2 ^ by)) s (form-is c (w.value *ℤ pos (2 ^ by)) (mul_comm (pos (2 ^ by)) w.value) (form-multiple c (pos (2 ^ by)) x.form w.value m.form)))
   unary_sound (ShiftRight by) Int e w x st go h m s = let p = and_parts (nat_lt by 32) false e in cc
   unary_sound (ShiftRight by) Uint e w x st go h m s = shifted_sound x.kind x.form w.value by st go (subst (λ j. in_kind j w.value ≡ true) (sym m.kind) h) m.form s
-

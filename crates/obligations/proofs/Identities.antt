@@ -95,4 +95,3 @@ form_id c news GlobalSize d =
 form_id c news LocalSize d = chosen c news d (nat_lt d 3) refl (constant (pos (along c.kernel.sizes d 1))) (constant (pos 1)) _ (form_constant c news _) (λ h. is_past c news _ 1 (along-past c.kernel.sizes d 1 h))
 form_id c news NumGroups d = chosen c news d (nat_lt d 3) refl (once (symbols.Groups d)) (constant (pos 1)) _ (form_once c news (symbols.Groups d) (pos (along c.launch.groups d 1)) (λ v a. a.groups d)) (λ h. is_past c news _ 1 (along-past c.launch.groups d 1 h))
 
-pub ruleset tried = (form_id)

@@ -6,3 +6,4 @@ pub mod Splits
 pub mod Divisions
 pub mod Arithmetic
 pub mod Identities
+pub mod Accesses

@@ -217,6 +217,16 @@ module _ {E : Type 0} (c : View E) (launch : List Fact) where
   goes_then {facts = facts} {n = n} {tree = tree} {onto = onto} {news = news} {variables = variables} {Q = Q} f (gives w rest is right p) later = subst (λ q. Goes c launch facts n tree onto news variables Q (and_then q f)) (sym is) (goes_on p (later w rest right p))
   goes_then f (asks a k site is seen) later = asks a k site (ap (λ q. and_then q f) is) seen
 
+  -- the item goes on from what arrived, or what goes on takes it as something else
+  pub goes_further : {A B : Type 0} {facts : List Fact} {n : ℕ} {tree : Tree E} {go : A → State E → Tree E} (onto : B → State E → Tree E) {news : List ℤ} {variables : List Value} {P : Word → List ℤ → A → Type 0} (Q : Word → List ℤ → B → Type 0) {o : Outcome} → Goes c launch facts n tree go news variables P o →
+      ((w : Word) → in_kind w.kind w.value ≡ true → (p : Comes c launch facts n tree go news variables (P w)) → Comes c launch p.path p.count (go p.arrived p.state) onto p.more p.state.variables (Q w)) → Goes c launch facts n tree onto news variables Q o
+  goes_further onto Q (gives w rest is right p) later = gives w rest is right (onward p (later w right p))
+  goes_further onto Q (asks a k site is seen) later = asks a k site is seen
+
+  pub goes_as : {A B : Type 0} {facts : List Fact} {n : ℕ} {tree : Tree E} {news : List ℤ} {variables : List Value} {P : Word → List ℤ → A → Type 0} (go : B → State E → Tree E) (h : A → B) (Q : Word → List ℤ → B → Type 0) {o : Outcome} → ((w : Word) (more : List ℤ) (x : A) → P w more x → Q w more (h x)) → Goes c launch facts n tree (λ x st. go (h x) st) news variables P o → Goes c launch facts n tree go news variables Q o
+  goes_as go h Q f (gives w rest is right p) = gives w rest is right (arriving go h (Q w) (λ more x kept m. f w more x m) p)
+  goes_as go h Q f (asks a k site is seen) = asks a k site is seen
+
   -- what a needed claim tells of forms whose values are settled
   told_shown : {facts : List Fact} {n : ℕ} {o : Demand} {settled : Bool} {g : Goal} {tree : Tree E} {news : List ℤ} {held : Held E} → Stands c launch facts n (Claim o true settled g tree) news held → (settled ≡ true) ⊎ ((m : Manner) × IsShownIn m (claimed launch facts o true settled g))
   told_shown {facts = facts} {n = n} {o = o} {settled = settled} {g = g} {tree = tree} s = All-head IsShown (claimed launch facts o true settled g) (claims launch facts (suc n) tree) s.shown refl

@@ -96,4 +96,3 @@ module _ {E : Type 0} (c : View E) (launch : List Fact) where
       let is : element_kind (setup c) a ≡ k = ap (λ p. element_kind_in (setup c) p a.number) global in
       gives (word k z) answers (ap (λ j. Gives (word j (as_kind j w.value)) answers) is) (as_kind-in_kind k w.value) (onward c launch i.comes (unknown_sound c launch k i.comes.state go z (as_kind-in_kind k w.value) i.comes.stands))
 
-pub ruleset tried = (is-global)

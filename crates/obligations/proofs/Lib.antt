@@ -7,3 +7,4 @@ pub mod Divisions
 pub mod Arithmetic
 pub mod Identities
 pub mod Accesses
+pub mod TermSound

@@ -8,3 +8,4 @@ pub mod Arithmetic
 pub mod Identities
 pub mod Accesses
 pub mod TermSound
+pub mod Fronts

@@ -245,4 +245,3 @@ module _ {E : Type 0} (c : View E) (launch : List Fact) (laws : DividesLawfully 
       pair_sound (walk (walks c) a) (walk (walks c) b) (evaluate (setup c) c.item a) (evaluate (setup c) c.item b) ta tb facts n news st (λ x y st2. pick (walks c) x y y x st2 go) go (ArrivesAsValue c) (λ u v r. Gives (larger u v) r) vars answers m
       (λ path j more st2 x y u v rest iu iv mx my s'. picked x.form y.form u v x y u.value v.value st2 go rest mx.form my.form iu iv mx my s') s)
 
-pub ruleset tried = (forms_kept)

@@ -41,7 +41,7 @@ pub record IsFine {E : Type 0} (c : View E) (all : List (Access E)) (it : Item) 
   pub runs : (answer : ℤ) (f : Fault) (site : Site) → (it.status ≡ Stopped f site → ⊥) → (moved it q answer).status ≡ Stopped f site → ⊥
   pub noted : (a : solo.Access) → touch c.item it q ≡ Some a → Noted c all a
 
-pub gives-value : (v w : Word) (r s : List Word) → Gives v r ≡ Gives w s → v ≡ w
+gives-value : (v w : Word) (r s : List Word) → Gives v r ≡ Gives w s → v ≡ w
 gives-value v w r s e = cc
 
 needs-not : (a : Array) (k : ℕ) (site : Site) (v : Word) (r : List Word) → Needs a k site ≡ Gives v r → ⊥
@@ -174,4 +174,3 @@ module _ {E : Type 0} (c : View E) (launch : List Fact) (laws : DividesLawfully 
       let at = ap (λ j. within j x.value) (extent-buffer (setup c) a global) ∙ within-at (length (slice_index_or c.launch.buffers a.number [])) i.index x.value i.same i.below in
       subst (λ j. IsFine c all it (stores (setup c) c.item it a site j v.value rest)) (sym at) (fine_store it a i.index site v.value rest (seen_in c (λ b k. s.touched b (u.way.touched b (w.way.touched b k))) i.seen))))
 
-pub ruleset tried = (gives-value)

@@ -9,3 +9,4 @@ pub mod Identities
 pub mod Accesses
 pub mod TermSound
 pub mod Fronts
+pub mod Opening

@@ -3,7 +3,7 @@
 ghost use Rattle.std.specs.Prelude.{◌≡◌, ℕ};
 
 /// Try.
-#[tactic(auto, using(crate::proofs::Fronts::tried))]
+#[tactic(auto, using(crate::proofs::Opening::tried))]
 pub fn try_it()
     ensures { (k : ℕ) → k ≡ k }
 {}

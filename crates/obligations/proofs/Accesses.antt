@@ -1,21 +1,21 @@
 -- An access is inside its buffer, and the tree has it. A load is asked for, or gives any number of its buffer's kind.
-use Rattle.std.proofs.Common.{◌≡◌, ℕ, zero, suc, ◌<◌, Bool, true, false, cond, List, [], ◌∷◌, length, slice_index_or, arith, refl, sym, ap, ◌∙◌, subst, inl, inr, lt-ltb}
+use Rattle.std.proofs.Common.{◌≡◌, ℕ, zero, suc, ◌<◌, Bool, true, false, cond, List, [], ◌∷◌, length, slice_index_or, arith, refl, ap, ◌∙◌, inl, lt-ltb}
 use Rattle.std.specs.Prelude.{ℤ, pos, negsuc, ◌-ℤ◌, ◌≤ℤ◌}
 use Rattle.std.proofs.lemmas.Int.{ints}
-use Rattle.semantics.specs.Word.{Kind, Int, Word, word, in_kind, as_kind}
+use Rattle.semantics.specs.Word.{Word, word, as_kind}
 use Rattle.semantics.specs.Core.{Site, Space, Global, Local, Array}
 use Rattle.semantics.specs.Setup.{Setup}
 use Rattle.semantics.specs.Memory.{extent, extent_in, element_kind, element_kind_in}
-use Rattle.semantics.specs.Evaluation.{Outcome, Gives, Needs, Index, At, Outside, within, asks as asked, read, load as loaded}
+use Rattle.semantics.specs.Evaluation.{Gives, At, Outside, within, asks as asked, load as loaded}
 use Rattle.semantics.proofs.Words.{as_kind-in_kind}
 use Rattle.facts.specs.Symbols.{Length, Fact, constant, once, minus}
 use Rattle.facts.proofs.Worlds.{View, setup, length_at}
 use Rattle.obligations.specs.Trees.{OfIndex, Tree, Touch, accesses}
 use Rattle.obligations.specs.Walks.{State, Value, Onward, claimed_once, at_site, claim_form, unknown}
-use Rattle.obligations.specs.Terms.{in_buffer, target_at, access, buffer_kind, load}
+use Rattle.obligations.specs.Terms.{target_at, access, buffer_kind, load}
 use Rattle.obligations.specs.Covered.{is_global}
 use Rattle.obligations.proofs.Holding.{fits_itself}
-use Rattle.obligations.proofs.Standing.{walks, Seen, Stands, Way, Comes, Goes, gives, asks, seen_in, way_then, over_claim, over_access, past_claim, past_access, at_once, comes_from, onward}
+use Rattle.obligations.proofs.Standing.{walks, Seen, Stands, Comes, Goes, gives, asks, way_then, over_claim, over_access, past_claim, past_access, at_once, comes_from, onward}
 use Rattle.obligations.proofs.Ranges.{IsForm, IsValue, form_once, form_constant, form-minus, unknown_sound, told_by}
 
 buffer-below : (bs : List (List ℤ)) (b k : ℕ) → k < length (slice_index_or bs b []) → b < length bs
@@ -95,4 +95,3 @@ module _ {E : Type 0} (c : View E) (launch : List Fact) where
       let z = as_kind k w.value in
       let is : element_kind (setup c) a ≡ k = ap (λ p. element_kind_in (setup c) p a.number) global in
       gives (word k z) answers (ap (λ j. Gives (word j (as_kind j w.value)) answers) is) (as_kind-in_kind k w.value) (onward c launch i.comes (unknown_sound c launch k i.comes.state go z (as_kind-in_kind k w.value) i.comes.stands))
-

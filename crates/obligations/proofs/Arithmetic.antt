@@ -1,14 +1,12 @@
 -- What the walk of an operator promises, once its operands are brought to one kind.
-use Rattle.std.proofs.Common.{◌≡◌, ℕ, ◌-◌, ◌^◌, ◌<◌, ◌&&◌, ◌||◌, Bool, true, false, cond, nat_lt, List, [], ◌∷◌, Option, Some, None, arith, refl, sym, ap, ◌∙◌, subst, inl, inr, ltb-true}
-use Rattle.std.specs.Prelude.{ℤ, pos, negsuc, neg_ℤ, ◌+ℤ◌, ◌-ℤ◌, ◌*ℤ◌, ◌≤ℤ◌, ◌<ℤ◌, ◌⊎◌, int_lt, int_div, int_rem, bit_and, bit_or, bit_xor, Result, Ok, Err}
-use Rattle.std.specs.Ordering.{int_eq}
+use Rattle.std.proofs.Common.{◌≡◌, ℕ, ◌^◌, ◌&&◌, Bool, true, false, cond, nat_lt, List, [], ◌∷◌, Option, Some, None, arith, refl, sym, ap, ◌∙◌, subst, inl, inr}
+use Rattle.std.specs.Prelude.{ℤ, pos, negsuc, neg_ℤ, ◌+ℤ◌, ◌-ℤ◌, ◌*ℤ◌, ◌≤ℤ◌, ◌<ℤ◌, int_lt, int_div, int_rem, bit_and, bit_or, bit_xor, Result, Ok, Err}
 use Rattle.std.proofs.lemmas.Int.{ints}
 use Rattle.std.proofs.lemmas.Nat.{pow_pos}
 use Rattle.std.proofs.lemmas.Bool.{and_parts, or_cases}
 use Rattle.semantics.specs.Word.{Kind, Int, Uint, Word, word, Fault, DivisionByZero, Overflow, Operator, Add, Subtract, Multiply, Divide, Remainder, BitAnd, BitOr, BitXor, UnaryOperator, Negate, Complement, ShiftLeft, ShiftRight, in_kind, bits_of, read_bits, as_kind, settle, calculate, calculate_unary}
-use Rattle.semantics.specs.Linear.{Weighted, terms_value}
 use Rattle.semantics.proofs.Integers.{mul_comm}
-use Rattle.semantics.proofs.Words.{as_kind-in_kind, as_kind-same}
+use Rattle.semantics.proofs.Words.{as_kind-in_kind}
 use Rattle.linear.specs.Exact.{Terms, sum, multiple}
 use Rattle.domain.specs.declared.Bounds.{Bounds}
 use Rattle.domain.specs.declared.Domain.{Ghosts}
@@ -17,17 +15,17 @@ use Rattle.facts.specs.Symbols.{Fact, constant, minus}
 use Rattle.facts.specs.Elements.{is_from_zero}
 use Rattle.facts.proofs.Integers.{le_test, lt_test}
 use Rattle.facts.proofs.Members.{between-has}
-use Rattle.facts.proofs.Worlds.{View, Agrees}
+use Rattle.facts.proofs.Worlds.{View}
 use Rattle.obligations.specs.Trees.{Tree, Know}
-use Rattle.obligations.specs.Walks.{State, Value, value, Onward, claimed_once, element_of, bounds_of, least, greatest, any_of, invent, unknown, is_number, ranged}
-use Rattle.obligations.specs.Operators.{product, is_over, is_under, lacks, divisor_goal, quotient_goal, claim_quotient, claim_divisor, left_over, quotient, is_exact, divided, remaining, is_power, is_mask, are_from_zero, masked_by, masked, binary, complement, shifted, unary}
-use Rattle.obligations.specs.Covered.{is_uint, is_covered_unary}
+use Rattle.obligations.specs.Walks.{State, Value, value, Onward, claimed_once, element_of, bounds_of, least, greatest, any_of, unknown, is_number, ranged}
+use Rattle.obligations.specs.Operators.{product, is_over, is_under, lacks, claim_quotient, claim_divisor, left_over, quotient, is_exact, divided, remaining, is_power, is_mask, are_from_zero, masked_by, masked, binary, complement, shifted, unary}
+use Rattle.obligations.specs.Covered.{is_covered_unary}
 use Rattle.obligations.proofs.KindEnds.{in_kind-ends}
 use Rattle.obligations.proofs.Holding.{form-has, held_settles}
-use Rattle.obligations.proofs.Standing.{walks, Stands, Way, Comes, way_then, over_claim, over_fact, past_claim, past_fact, at_once, comes_from, onward, arriving, restated, told_either}
+use Rattle.obligations.proofs.Standing.{walks, Stands, Comes, way_then, over_claim, over_fact, past_claim, past_fact, at_once, comes_from, onward, arriving, told_either}
 use Rattle.obligations.proofs.Ranges.{IsForm, IsValue, form_kept, form-is, form_constant, form-sum, form-multiple, form-minus, invent_sound, unknown_sound, Settles, ranged_sound}
-use Rattle.obligations.proofs.Splits.{alone, int_eq-not, value-known}
-use Rattle.obligations.proofs.Divisions.{settle_in, uint-quotient, IsSafe, quotient-in, remainder-in, safe-positive, not-zero, left-is, left-low, left-high, bits-in, and-below, or-below, xor-below, power_of, mask-left, and-plain, complement-bits, complement_uint-bits}
+use Rattle.obligations.proofs.Splits.{int_eq-not, value-known}
+use Rattle.obligations.proofs.Divisions.{settle_in, uint-quotient, IsSafe, quotient-in, remainder-in, left-is, left-low, left-high, bits-in, and-below, or-below, xor-below, power_of, mask-left, and-plain, complement-bits, complement_uint-bits}
 
 -- what the walk of operators asks of a domain besides
 pub record DividesLawfully {E : Type 0} (g : Ghosts E) : Type 0 where

@@ -1,5 +1,5 @@
 -- Quotients, remainders and bits of numbers of a kind.
-use Rattle.std.proofs.Common.{◌≡◌, ℕ, zero, suc, ◌+◌, ◌*◌, ◌-◌, ◌/◌, ◌%◌, ◌^◌, ◌<◌, ◌≤◌, ◌||◌, Bool, true, false, cond, nat_lt, arith, refl, sym, ap, ◌∙◌, subst, inl, inr, ltb-true, ltb-false, lt-ltb, mod-eq_of_lt}
+use Rattle.std.proofs.Common.{◌≡◌, ℕ, zero, suc, ◌+◌, ◌-◌, ◌/◌, ◌%◌, ◌^◌, ◌<◌, ◌≤◌, Bool, true, false, cond, nat_lt, arith, refl, sym, ap, ◌∙◌, inl, inr, ltb-true, ltb-false, lt-ltb, mod-eq_of_lt}
 use Rattle.std.specs.Prelude.{ℤ, pos, negsuc, neg_ℤ, ◌+ℤ◌, ◌-ℤ◌, ◌*ℤ◌, ◌≤ℤ◌, ◌<ℤ◌, ◌⊎◌, int_div, int_rem, bit_and, bit_or, bit_xor, Ok}
 use Rattle.std.specs.Ordering.{int_eq}
 use Rattle.std.specs.Int.RustNames.{unsigned_abs}
@@ -8,7 +8,7 @@ use Rattle.std.proofs.lemmas.Nat.{div_below, and_mask, and_le_l, or_lt, xor_lt}
 use Rattle.std.proofs.lemmas.Bool.{or_cases}
 use Rattle.std.proofs.lemmas.Bool.Decides.{Decides-int_eq}
 use Rattle.std.proofs.Math.Nat.{div-le_self, mod-le}
-use Rattle.semantics.specs.Word.{Kind, Int, Uint, word, in_kind, bits_of, read_bits, as_kind, settle}
+use Rattle.semantics.specs.Word.{Kind, Int, Uint, word, in_kind, bits_of, read_bits, settle}
 use Rattle.semantics.proofs.Words.{bits_of-below, read_bits-in_kind, as_kind-same}
 use Rattle.obligations.specs.Operators.{is_power}
 use Rattle.obligations.proofs.KindEnds.{settle-same}
@@ -129,4 +129,3 @@ pub complement_uint-bits : (k : Kind) (a : ℤ) → in_kind k a ≡ true → bit
 complement_uint-bits Int (pos n) h = let l : n < 2 ^ 31 = ltb-true n (2 ^ 31) h in let e : pos 4294967295 -ℤ pos n ≡ pos (4294967295 - n) = omega (arith, ints, l) in ap bits_of e ∙ omega (arith, l)
 complement_uint-bits Uint (pos n) h = let l : n < 2 ^ 32 = ltb-true n (2 ^ 32) h in let e : pos 4294967295 -ℤ pos n ≡ pos (4294967295 - n) = omega (arith, ints, l) in ap bits_of e ∙ omega (arith, l)
 complement_uint-bits k (negsuc n) h = let e : pos 4294967295 -ℤ negsuc n ≡ pos (n + 4294967296) = omega (arith, ints) in ap bits_of e ∙ omega arith
-

@@ -1,31 +1,31 @@
 -- What an item does with the statement in front: it is not stopped, each access is in the tree, and it stands before what is left of it.
-use Rattle.std.proofs.Common.{◌≡◌, ℕ, zero, suc, ◌<◌, ◌&&◌, Bool, true, false, not, List, [], ◌∷◌, length, slice_index_or, slice_set, Option, Some, None, arith, refl, sym, ap, ◌∙◌, subst, inl, inr}
+use Rattle.std.proofs.Common.{◌≡◌, ℕ, zero, suc, ◌&&◌, true, false, not, List, [], ◌∷◌, length, slice_index_or, slice_set, Some, None, arith, sym, ap, ◌∙◌, subst, inr}
 use Rattle.std.specs.Prelude.{ℤ}
 use Rattle.std.proofs.lemmas.Bool.{and_parts}
 use Rattle.std.proofs.lemmas.List.{length-set}
-use Rattle.semantics.specs.Word.{Kind, Word, Fault, zero_word, in_kind, as_kind, is_zero}
-use Rattle.semantics.specs.Core.{Site, Array, Term, Statement, Set, Store, If, Statements}
-use Rattle.semantics.specs.Memory.{Cell, cell, extent, kind_at}
-use Rattle.semantics.specs.Evaluation.{Outcome, Gives, Needs, evaluate, Index, At, within}
-use Rattle.semantics.specs.Item.{Item, Entry, Status, Running, Ended, Stopped, status_of, finished}
+use Rattle.semantics.specs.Word.{Word, Fault, zero_word, in_kind, is_zero}
+use Rattle.semantics.specs.Core.{Site, Array, Term, Set, Store, If, Statements}
+use Rattle.semantics.specs.Memory.{cell, extent}
+use Rattle.semantics.specs.Evaluation.{Outcome, Gives, Needs, evaluate, At, within}
+use Rattle.semantics.specs.Item.{Item, Entry, Stopped, status_of, finished}
 use Rattle.semantics.specs.Ask as ask
 use Rattle.semantics.specs.Ask.{Ask, Loads, Stores, on_value, loads, stores, act, choose}
 use Rattle.semantics.specs.Solo as solo
 use Rattle.semantics.specs.Solo.{moved, touch}
 use Rattle.facts.specs.Symbols.{Fact}
-use Rattle.facts.proofs.Worlds.{View, setup, Agrees}
+use Rattle.facts.proofs.Worlds.{View, setup}
 use Rattle.obligations.specs.Trees.{Spot, Tree, Access, accesses}
 use Rattle.obligations.specs.Walks.{State, Value, Onward, claimed_once, at_site, stand}
 use Rattle.obligations.specs.Tests.{Outcomes}
 use Rattle.obligations.specs.Terms.{no_value, access, walk}
 use Rattle.obligations.specs.Statements.{spot_of, assigned, walk_store}
-use Rattle.obligations.specs.Covered.{is_global, is_covered_term, is_covered_statement, are_covered}
+use Rattle.obligations.specs.Covered.{is_global, is_covered_term, is_covered_statement}
 use Rattle.obligations.proofs.Holding.{Has}
-use Rattle.obligations.proofs.Standing.{walks, Noted, noted, Seen, seen_in, Stands, Way, Comes, Goes, gives, asks, way_then, over_claim, over_access, past_claim, past_access}
+use Rattle.obligations.proofs.Standing.{walks, Noted, noted, Seen, seen_in, Stands, Comes, Goes, gives, asks, past_claim, past_access}
 use Rattle.obligations.proofs.Ranges.{IsValue, form_kept}
 use Rattle.obligations.proofs.Arithmetic.{DividesLawfully}
 use Rattle.obligations.proofs.Accesses.{is-global, within-at, extent-buffer, inside}
-use Rattle.obligations.proofs.TermSound.{AreForms, forms_kept, forms_same, ArrivesAsValue, ArrivesAsTest, term_sound}
+use Rattle.obligations.proofs.TermSound.{AreForms, forms_kept, forms_same, term_sound}
 
 -- an item stands before a tree, with these variables, and all accesses of the tree are among these
 pub record Stood {E : Type 0} (c : View E) (launch : List Fact) (all : List (Access E)) (tree : Tree E) (st : State E) (vars : List Word) : Type 0 where
@@ -99,19 +99,21 @@ module _ {E : Type 0} (c : View E) (launch : List Fact) (laws : DividesLawfully 
   set_stood e h {st = st} {vars = vars} slot go answers v rest s is =
       let k = known_comes v rest ((term_sound c launch laws e h).value s.facts s.count s.news st (λ x st'. go (assigned slot x st')) vars answers s.forms s.stands) is in
       let p = k.1 in
-      let t = forms_same c p.same (forms_kept c p.way.kept s.forms) in
-      (assigned slot p.arrived p.state, record {
-        facts = p.path;
-        count = p.count;
-        news = p.more;
-        stands = p.stands;
-        forms = record {
-          lengths = length-set vars slot v ∙ t.lengths ∙ sym (length-set p.state.variables slot p.arrived);
-          right = set-right (λ (w : Word). in_kind w.kind w.value ≡ true) vars zero_word slot v k.0 t.right;
-          each = set-each (IsValue c p.more) vars p.state.variables zero_word no_value slot v p.arrived t.lengths p.right t.each;
-        };
-        touched = λ a i. s.touched a (p.way.touched a i);
-      })
+      let t = forms_same c p.same (forms_kept c p.way.kept s.forms) in (
+        assigned slot p.arrived p.state,
+        record {
+          facts = p.path;
+          count = p.count;
+          news = p.more;
+          stands = p.stands;
+          forms = record {
+            lengths = length-set vars slot v ∙ t.lengths ∙ sym (length-set p.state.variables slot p.arrived);
+            right = set-right (λ (w : Word). in_kind w.kind w.value ≡ true) vars zero_word slot v k.0 t.right;
+            each = set-each (IsValue c p.more) vars p.state.variables zero_word no_value slot v p.arrived t.lengths p.right t.each;
+          };
+          touched = λ a i. s.touched a (p.way.touched a i);
+        },
+      )
 
   pub test_stood : (e : Term) → is_covered_term e ≡ true → {st : State E} {vars : List Word} (go : Outcomes E) (answers : List Word) (v : Word) (rest : List Word) → Stood c launch all ((walk (walks c) e).test st go) st vars → evaluate (setup c) c.item e vars answers ≡ Gives v rest → (st' : State E) × Stood c launch all (go (not (is_zero v.value)) st') st' vars
   test_stood e h {st = st} {vars = vars} go answers v rest s is =
@@ -119,15 +121,17 @@ module _ {E : Type 0} (c : View E) (launch : List Fact) (laws : DividesLawfully 
       (p.state, subst (λ b. Stood c launch all (go b p.state) p.state vars) p.right (came s p))
 
   pub store_stood : {st : State E} {vars : List Word} (a : Array) (site : Site) (f : Fact) (go : State E → Tree E) → Stood c launch all (access (walks c) true a site f st go) st vars → (st' : State E) × Stood c launch all (go st') st' vars
-  store_stood {st = st} a site f go s =
-      (claimed_once (claimed_once (at_site site st)), record {
-        facts = s.facts;
-        count = suc (suc s.count);
-        news = s.news;
-        stands = past_access c launch (past_claim c launch (past_claim c launch s.stands));
-        forms = s.forms;
-        touched = λ x h. s.touched x (inr h);
-      })
+  store_stood {st = st} a site f go s = (
+    claimed_once (claimed_once (at_site site st)),
+    record {
+      facts = s.facts;
+      count = suc (suc s.count);
+      news = s.news;
+      stands = past_access c launch (past_claim c launch (past_claim c launch s.stands));
+      forms = s.forms;
+      touched = λ x h. s.touched x (inr h);
+    },
+  )
 
   -- what is asked
   fine_done : (it : Item) (left : List Entry) (vars : List Word) → IsFine c all it (ask.Goes (finished it left vars))
@@ -173,4 +177,3 @@ module _ {E : Type 0} (c : View E) (launch : List Fact) (laws : DividesLawfully 
       let i = inside c launch true a site u.arrived.form x.value w.state go global (form_kept c w.way.kept u.right.form) w.stands in
       let at = ap (λ j. within j x.value) (extent-buffer (setup c) a global) ∙ within-at (length (slice_index_or c.launch.buffers a.number [])) i.index x.value i.same i.below in
       subst (λ j. IsFine c all it (stores (setup c) c.item it a site j v.value rest)) (sym at) (fine_store it a i.index site v.value rest (seen_in c (λ b k. s.touched b (u.way.touched b (w.way.touched b k))) i.seen))))
-

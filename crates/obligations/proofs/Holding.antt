@@ -272,4 +272,3 @@ news-terms g k f (t ∷ ts) h = news-terms g k f ts (narrow_one g k f t h) ∙ n
 
 pub news-narrow : {E : Type 0} (g : Ghosts E) (k : Known E) (f : Fact) (h : Held E) → (narrow g k f h).news ≡ h.news
 news-narrow g k f h = news-terms g k f f.terms h
-

@@ -1,20 +1,17 @@
 -- The forms of ids have their numbers, which a `uint` has.
-use Rattle.std.proofs.Common.{◌≡◌, ℕ, zero, suc, ◌+◌, ◌*◌, ◌-◌, ◌<◌, ◌≤◌, ◌^◌, ◌&&◌, Bool, true, false, cond, nat_lt, nat_le, List, [], ◌∷◌, length, slice_index_or, arith, refl, sym, ap, ◌∙◌, subst, ltb-true, ltb-false}
-use Rattle.std.specs.Prelude.{ℤ, pos, ◌+ℤ◌, ◌*ℤ◌}
-use Rattle.std.specs.List.{AllZip}
+use Rattle.std.proofs.Common.{◌≡◌, ℕ, zero, suc, ◌+◌, ◌*◌, ◌-◌, ◌<◌, ◌≤◌, ◌^◌, ◌&&◌, Bool, true, false, cond, nat_lt, nat_le, List, arith, refl, sym, ap, ◌∙◌, subst, ltb-true, ltb-false}
+use Rattle.std.specs.Prelude.{ℤ, pos, ◌*ℤ◌}
 use Rattle.std.proofs.lemmas.Int.{ints}
 use Rattle.std.proofs.lemmas.Bool.{and_parts, leb-true}
-use Rattle.semantics.specs.Word.{Kind, Int, Word, zero_word, in_kind}
 use Rattle.semantics.specs.Core.{Function, GlobalId, LocalId, GroupId, GlobalSize, LocalSize, NumGroups}
-use Rattle.semantics.specs.Launch.{Three, IsArgument, IsCount}
+use Rattle.semantics.specs.Launch.{Three, IsCount}
 use Rattle.semantics.specs.Setup.{along, local_id, group_id, identity}
 use Rattle.linear.specs.Exact.{sum, multiple}
 use Rattle.facts.specs.Symbols as symbols
 use Rattle.facts.specs.Symbols.{First, Local, Group, Fact, constant, once}
 use Rattle.facts.specs.Launching.{are_sizes}
 use Rattle.obligations.specs.Terms.{id_form}
-use Rattle.facts.proofs.Values.{value-sum, value-multiple, value-once}
-use Rattle.facts.proofs.Worlds.{View, setup, Means}
+use Rattle.facts.proofs.Worlds.{View, setup}
 use Rattle.obligations.proofs.Standing.{walks}
 use Rattle.facts.proofs.Launched.{local-below, group_id-below}
 use Rattle.obligations.proofs.Ranges.{IsForm, form-is, form_constant, form_once, form-sum, form-multiple}
@@ -94,4 +91,3 @@ form_id c news GlobalSize d =
     (λ h. is_past c news _ 1 (ap (λ m. along c.launch.groups d 1 * m) (along-past c.kernel.sizes d 1 h) ∙ ap (λ m. m * 1) (along-past c.launch.groups d 1 h)))
 form_id c news LocalSize d = chosen c news d (nat_lt d 3) refl (constant (pos (along c.kernel.sizes d 1))) (constant (pos 1)) _ (form_constant c news _) (λ h. is_past c news _ 1 (along-past c.kernel.sizes d 1 h))
 form_id c news NumGroups d = chosen c news d (nat_lt d 3) refl (once (symbols.Groups d)) (constant (pos 1)) _ (form_once c news (symbols.Groups d) (pos (along c.launch.groups d 1)) (λ v a. a.groups d)) (λ h. is_past c news _ 1 (along-past c.launch.groups d 1 h))
-

@@ -1,6 +1,6 @@
 -- An item as it begins stands before its kernel's tree.
 use Rattle.std.proofs.Common.{◌≡◌, ℕ, zero, suc, ◌+◌, ◌^◌, true, List, [], ◌∷◌, ◌++◌, map, length, slice_index_or, arith, refl, sym, ap, ◌∙◌, subst, lt-ltb}
-use Rattle.std.specs.Prelude.{ℤ, pos}
+use Rattle.std.specs.Prelude.{pos}
 use Rattle.std.specs.List.{All, AllZip}
 use Rattle.semantics.specs.Word.{Kind, Int, Uint, Word, word, zero_word, in_kind}
 use Rattle.semantics.specs.Launch.{IsArgument}
@@ -69,5 +69,3 @@ module _ {E : Type 0} (c : View E) where
     forms = opening_forms;
     touched = λ a h. h;
   }
-
-pub ruleset tried = (opening_stood)

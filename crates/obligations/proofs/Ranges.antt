@@ -13,17 +13,16 @@ use Rattle.linear.proofs.Merging.{IsRising, rising-merge, rising-multiples}
 use Rattle.domain.specs.declared.Bounds.{Bounds}
 use Rattle.domain.specs.Members.{is_above, is_below, is_within}
 use Rattle.facts.specs.Symbols.{First, New, Symbol, number, Fact, constant, once, minus}
-use Rattle.facts.specs.Elements.{between}
 use Rattle.facts.proofs.Integers.{le_test}
 use Rattle.facts.proofs.Values.{value-sum, value-multiple, value-minus, value-constant, value-once}
 use Rattle.facts.proofs.Members.{between-has}
 use Rattle.facts.proofs.Worlds.{View, Agrees, Means, agrees_new}
 use Rattle.obligations.specs.Held.{with_new}
 use Rattle.obligations.specs.Trees.{Sort, OfRange, Tree}
-use Rattle.obligations.specs.Walks.{State, Value, value, Onward, claimed_once, holding, claim_form, lower_fact, upper_fact, bound_facts, know_all, newest, invent, least, greatest, any_of, unknown, low_end, high_end, in_range, is_kept, kept_or_new, ranged, brought_from, brought, both_brought}
+use Rattle.obligations.specs.Walks.{State, Value, value, Onward, claimed_once, holding, claim_form, lower_fact, upper_fact, bound_facts, newest, invent, least, greatest, any_of, unknown, low_end, high_end, in_range, is_kept, kept_or_new, ranged, brought_from, brought, both_brought}
 use Rattle.obligations.proofs.KindEnds.{in_kind-between, in_kind-ends, settle-same}
 use Rattle.obligations.proofs.Holding.{held_settles}
-use Rattle.obligations.proofs.Standing.{walks, Stands, Way, Comes, way_then, over_claim, over_new, over_facts, past_claim, past_new, past_facts, at_once, comes_from, onward, arriving, gathered, told}
+use Rattle.obligations.proofs.Standing.{walks, Stands, Way, Comes, way_then, over_claim, over_new, over_facts, past_claim, past_new, past_facts, at_once, comes_from, onward, arriving, told}
 
 -- the form has that value, and its symbols rise
 pub record IsForm {E : Type 0} (c : View E) (news : List ℤ) (f : Fact) (z : ℤ) : Type 0 where
@@ -159,4 +158,3 @@ module _ {E : Type 0} (c : View E) (launch : List Fact) where
       let w = (brought_sound k b y u.state (λ y' st2. go u.arrived y' st2) hb (value_kept c u.way.kept my) u.stands).comes in
       onward c launch u (arriving c launch (λ (p : Value × Value) st'. go p.0 p.1 st') (λ y'. (u.arrived, y')) (λ more p. IsValue c more (word k (as_kind k a.value)) p.0 × IsValue c more (word k (as_kind k b.value)) p.1)
       (λ more y' kept m. (value_kept c kept u.right, m)) w)
-

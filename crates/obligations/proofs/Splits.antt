@@ -1,6 +1,6 @@
 -- Tests: the way of the outcome is gone along, its facts hold, and it is no dead one.
-use Rattle.std.proofs.Common.{◌≡◌, ℕ, Bool, true, false, not, cond, List, [], ◌∷◌, ◌++◌, arith, refl, sym, ap, ◌∙◌, subst}
-use Rattle.std.specs.Prelude.{ℤ, pos, negsuc, ◌+ℤ◌, ◌-ℤ◌, ◌*ℤ◌, ◌≤ℤ◌, ◌<ℤ◌, int_lt, int_le}
+use Rattle.std.proofs.Common.{◌≡◌, ℕ, Bool, true, false, not, List, [], ◌∷◌, arith, refl, sym, ap, ◌∙◌}
+use Rattle.std.specs.Prelude.{ℤ, pos, negsuc, ◌-ℤ◌, ◌*ℤ◌, ◌≤ℤ◌, ◌<ℤ◌, int_lt, int_le}
 use Rattle.std.specs.Ordering.{int_eq}
 use Rattle.std.proofs.lemmas.Int.{ints, by_lt_z}
 use Rattle.std.proofs.lemmas.Bool.{and_parts}
@@ -13,11 +13,11 @@ use Rattle.facts.proofs.Integers.{le_true, lt_true, lt_test}
 use Rattle.facts.proofs.Members.{by_number}
 use Rattle.facts.proofs.Worlds.{View, Agrees, own, agrees_itself}
 use Rattle.obligations.specs.Held.{narrow}
-use Rattle.obligations.specs.Trees.{Tree, Fork}
+use Rattle.obligations.specs.Trees.{Tree}
 use Rattle.obligations.specs.Walks.{State, counted, holding, fork, is_none, is_number, is_dead, unless_dead, know_test, know_two}
 use Rattle.obligations.specs.Tests.{Outcomes, below, split_below, split, split_number}
 use Rattle.obligations.proofs.Holding.{known_of}
-use Rattle.obligations.proofs.Standing.{walks, Stands, Way, Comes, way_then, over_fact, over_first, over_second, past_fact, narrowed, past_first, past_second, at_once, comes_from, onward, restated}
+use Rattle.obligations.proofs.Standing.{walks, Stands, Comes, over_fact, over_first, over_second, past_fact, narrowed, past_first, past_second, at_once, comes_from, onward, restated}
 use Rattle.obligations.proofs.Ranges.{IsForm, form_kept, form_constant, form-multiple, form-minus}
 
 pub alone : (ts : List (Weighted ℕ)) → is_none ts ≡ true → (v : ℕ → ℤ) → terms_value v ts ≡ pos 0
@@ -121,9 +121,9 @@ module _ {E : Type 0} (c : View E) (launch : List Fact) where
       let first : State E → Tree E = λ a. know_two (walks c) (minus f g) (minus g f) a (go true) in
       let second : State E → Tree E = λ a. split_below (walks c) false false (below f g) (below g f) a go in
       elim (order x y) [
-      | IsBelow l ↦ fork_second st first second go (λ more t. t ≡ int_eq x y) s (λ k u. restated c launch (λ more t kept e. e ∙ sym (int_eq-not x y (λ q. omega (arith, ints, q, l)))) (split_below_first false false (below f g) (below g f) ((y -ℤ x) -ℤ pos 1) (counted k st) go (form_below f g x y mf mg) (omega (arith, ints, l)) u))
-      | IsSame q ↦ fork_first st first second go (λ more t. t ≡ int_eq x y) s (λ u. restated c launch (λ more t kept e. e ∙ sym (int_eq-same x y q)) (know_two_sound (minus f g) (minus g f) (x -ℤ y) (y -ℤ x) st true go (form_from f g x y mf mg) (omega (arith, ints, q)) (form_from g f y x mg mf) (omega (arith, ints, q)) u))
-      | IsAbove l ↦ fork_second st first second go (λ more t. t ≡ int_eq x y) s (λ k u. restated c launch (λ more t kept e. e ∙ sym (int_eq-not x y (λ q. omega (arith, ints, q, l)))) (split_below_other false false (below f g) (below g f) ((x -ℤ y) -ℤ pos 1) (counted k st) go (form_below g f y x mg mf) (omega (arith, ints, l)) u))
+        | IsBelow l ↦ fork_second st first second go (λ more t. t ≡ int_eq x y) s (λ k u. restated c launch (λ more t kept e. e ∙ sym (int_eq-not x y (λ q. omega (arith, ints, q, l)))) (split_below_first false false (below f g) (below g f) ((y -ℤ x) -ℤ pos 1) (counted k st) go (form_below f g x y mf mg) (omega (arith, ints, l)) u))
+        | IsSame q ↦ fork_first st first second go (λ more t. t ≡ int_eq x y) s (λ u. restated c launch (λ more t kept e. e ∙ sym (int_eq-same x y q)) (know_two_sound (minus f g) (minus g f) (x -ℤ y) (y -ℤ x) st true go (form_from f g x y mf mg) (omega (arith, ints, q)) (form_from g f y x mg mf) (omega (arith, ints, q)) u))
+        | IsAbove l ↦ fork_second st first second go (λ more t. t ≡ int_eq x y) s (λ k u. restated c launch (λ more t kept e. e ∙ sym (int_eq-not x y (λ q. omega (arith, ints, q, l)))) (split_below_other false false (below f g) (below g f) ((x -ℤ y) -ℤ pos 1) (counted k st) go (form_below g f y x mg mf) (omega (arith, ints, l)) u))
       ]
   split_sound Unequal f g x y st go mf mg s =
       let late : State E → Tree E = λ b. know_two (walks c) (minus f g) (minus g f) b (go false) in
@@ -132,9 +132,9 @@ module _ {E : Type 0} (c : View E) (launch : List Fact) where
       let second : State E → Tree E = λ a. fork a above late in
       let P : List ℤ → Bool → Type 0 = λ more t. t ≡ not (int_eq x y) in
       elim (order x y) [
-      | IsBelow l ↦ fork_first st first second go P s (λ u. restated c launch (λ more t kept e. e ∙ ap not (sym (int_eq-not x y (λ q. omega (arith, ints, q, l))))) (know_sound (below f g) ((y -ℤ x) -ℤ pos 1) st true go (form_below f g x y mf mg) (omega (arith, ints, l)) u))
-      | IsSame q ↦ fork_second st first second go P s (λ k u. fork_second (counted k st) above late go P u (λ j w. restated c launch (λ more t kept e. e ∙ ap not (sym (int_eq-same x y q))) (know_two_sound (minus f g) (minus g f) (x -ℤ y) (y -ℤ x) (counted j (counted k st)) false go (form_from f g x y mf mg) (omega (arith, ints, q)) (form_from g f y x mg mf) (omega (arith, ints, q)) w)))
-      | IsAbove l ↦ fork_second st first second go P s (λ k u. fork_first (counted k st) above late go P u (λ w. restated c launch (λ more t kept e. e ∙ ap not (sym (int_eq-not x y (λ q. omega (arith, ints, q, l))))) (know_sound (below g f) ((x -ℤ y) -ℤ pos 1) (counted k st) true go (form_below g f y x mg mf) (omega (arith, ints, l)) w)))
+        | IsBelow l ↦ fork_first st first second go P s (λ u. restated c launch (λ more t kept e. e ∙ ap not (sym (int_eq-not x y (λ q. omega (arith, ints, q, l))))) (know_sound (below f g) ((y -ℤ x) -ℤ pos 1) st true go (form_below f g x y mf mg) (omega (arith, ints, l)) u))
+        | IsSame q ↦ fork_second st first second go P s (λ k u. fork_second (counted k st) above late go P u (λ j w. restated c launch (λ more t kept e. e ∙ ap not (sym (int_eq-same x y q))) (know_two_sound (minus f g) (minus g f) (x -ℤ y) (y -ℤ x) (counted j (counted k st)) false go (form_from f g x y mf mg) (omega (arith, ints, q)) (form_from g f y x mg mf) (omega (arith, ints, q)) w)))
+        | IsAbove l ↦ fork_second st first second go P s (λ k u. fork_first (counted k st) above late go P u (λ w. restated c launch (λ more t kept e. e ∙ ap not (sym (int_eq-not x y (λ q. omega (arith, ints, q, l))))) (know_sound (below g f) ((x -ℤ y) -ℤ pos 1) (counted k st) true go (form_below g f y x mg mf) (omega (arith, ints, l)) w)))
       ]
 
   -- a number as a test
@@ -146,8 +146,7 @@ module _ {E : Type 0} (c : View E) (launch : List Fact) where
       let second : State E → Tree E = λ a. fork a under late in
       let P : List ℤ → Bool → Type 0 = λ more t. t ≡ not (is_zero z) in
       elim (order z (pos 0)) [
-      | IsBelow l ↦ fork_second st first second go P s (λ k u. fork_first (counted k st) under late go P u (λ w. restated c launch (λ more t kept e. e ∙ ap not (sym (int_eq-not z (pos 0) (λ q. omega (arith, ints, q, l))))) (know_sound (minus (constant (negsuc 0)) f) (negsuc 0 -ℤ z) (counted k st) true go (form_from (constant (negsuc 0)) f (negsuc 0) z (form_constant c news (negsuc 0)) m) (omega (arith, ints, l)) w)))
-      | IsSame q ↦ fork_second st first second go P s (λ k u. fork_second (counted k st) under late go P u (λ j w. restated c launch (λ more t kept e. e ∙ ap not (sym (int_eq-same z (pos 0) q))) (know_two_sound f (multiple (negsuc 0) f) z (negsuc 0 *ℤ z) (counted j (counted k st)) false go m (omega (arith, ints, q)) (form-multiple c (negsuc 0) f z m) (omega (arith, ints, q)) w)))
-      | IsAbove l ↦ fork_first st first second go P s (λ u. restated c launch (λ more t kept e. e ∙ ap not (sym (int_eq-not z (pos 0) (λ q. omega (arith, ints, q, l))))) (know_sound (minus f (constant (pos 1))) (z -ℤ pos 1) st true go (form_from f (constant (pos 1)) z (pos 1) m (form_constant c news (pos 1))) (omega (arith, ints, l)) u))
+        | IsBelow l ↦ fork_second st first second go P s (λ k u. fork_first (counted k st) under late go P u (λ w. restated c launch (λ more t kept e. e ∙ ap not (sym (int_eq-not z (pos 0) (λ q. omega (arith, ints, q, l))))) (know_sound (minus (constant (negsuc 0)) f) (negsuc 0 -ℤ z) (counted k st) true go (form_from (constant (negsuc 0)) f (negsuc 0) z (form_constant c news (negsuc 0)) m) (omega (arith, ints, l)) w)))
+        | IsSame q ↦ fork_second st first second go P s (λ k u. fork_second (counted k st) under late go P u (λ j w. restated c launch (λ more t kept e. e ∙ ap not (sym (int_eq-same z (pos 0) q))) (know_two_sound f (multiple (negsuc 0) f) z (negsuc 0 *ℤ z) (counted j (counted k st)) false go m (omega (arith, ints, q)) (form-multiple c (negsuc 0) f z m) (omega (arith, ints, q)) w)))
+        | IsAbove l ↦ fork_first st first second go P s (λ u. restated c launch (λ more t kept e. e ∙ ap not (sym (int_eq-not z (pos 0) (λ q. omega (arith, ints, q, l))))) (know_sound (minus f (constant (pos 1))) (z -ℤ pos 1) st true go (form_from f (constant (pos 1)) z (pos 1) m (form_constant c news (pos 1))) (omega (arith, ints, l)) u))
       ]
-

@@ -1,5 +1,5 @@
 -- Where an item stands in a tree, and how it comes from there to a later place, along what it does.
-use Rattle.std.proofs.Common.{◌≡◌, ℕ, suc, ◌<◌, Bool, true, false, List, [], ◌∷◌, ◌++◌, length, Some, arith, refl, sym, ap, ◌∙◌, subst, inl, inr, length-append}
+use Rattle.std.proofs.Common.{◌≡◌, ℕ, suc, ◌<◌, Bool, true, false, List, [], ◌∷◌, ◌++◌, length, arith, refl, sym, ap, ◌∙◌, subst, inl, inr, length-append}
 use Rattle.std.specs.Prelude.{ℤ, pos, ◌≤ℤ◌, ◌⊎◌}
 use Rattle.std.specs.List.{All}
 use Rattle.std.proofs.lemmas.List.Elements.{All-append, All-cons, All-nil, All-head, All-tail}
@@ -15,12 +15,11 @@ use Rattle.facts.proofs.Values.{claimed as denied}
 use Rattle.facts.proofs.Members.{by_number}
 use Rattle.facts.proofs.Worlds.{View, setup, Agrees, Means, Knows, own, agrees_itself, agrees_before}
 use Rattle.obligations.specs.Held.{Held, with_new, narrow}
-use Rattle.obligations.specs.Trees as trees
-use Rattle.obligations.specs.Trees.{Demand, Goal, AtLeastZero, Either, Target, Tree, Claim, Know, Touch, Fork, after, Obligation, Access, claimed, claims, accesses, Manner, Plainly, ByPositive, ByNegative}
+use Rattle.obligations.specs.Trees.{Demand, Goal, AtLeastZero, Either, Target, Tree, Claim, Know, Touch, Fork, after, Access, claimed, claims, accesses, Manner, Plainly, ByPositive, ByNegative}
 use Rattle.obligations.specs.Walks.{Setting, State, Value, know_all}
 use Rattle.obligations.specs.Statements.{setting}
 use Rattle.obligations.specs.Shown.{IsShown, IsShownIn}
-use Rattle.obligations.proofs.Holding.{Has, known_of, IsHeld, Fits, fits_itself, held_anew, held_narrow, news-narrow}
+use Rattle.obligations.proofs.Holding.{Has, known_of, IsHeld, Fits, held_anew, held_narrow, news-narrow}
 
 -- the walk of a kernel under conditions
 abbrev pub walks : {E : Type 0} → View E → Setting E

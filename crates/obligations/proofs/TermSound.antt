@@ -2,8 +2,8 @@
 use Rattle.std.proofs.Common.{◌≡◌, ℕ, ◌^◌, ◌&&◌, Bool, true, false, not, cond, List, length, slice_index_or, arith, refl, sym, ap, ◌∙◌, subst, lt-ltb}
 use Rattle.std.specs.Prelude.{ℤ, pos, int_lt, Result}
 use Rattle.std.proofs.lemmas.Bool.{and_parts}
-use Rattle.semantics.specs.Word.{Kind, Int, Uint, Word, word, zero_word, Fault, Operator, UnaryOperator, Relation, Less, in_kind, as_kind, truth, is_zero, holds, smaller, larger, calculate, calculate_unary, convert}
-use Rattle.semantics.specs.Core.{Site, Array, Term, Literal, Variable, Id, Load, Unary, Binary, Convert, Compare, Not, And, Or, Select, Minimum, Maximum}
+use Rattle.semantics.specs.Word.{Uint, Word, word, zero_word, Fault, Less, in_kind, as_kind, truth, is_zero, smaller, larger, calculate_unary, convert}
+use Rattle.semantics.specs.Core.{Site, Term, Literal, Variable, Id, Load, Unary, Binary, Convert, Compare, Not, And, Or, Select, Minimum, Maximum}
 use Rattle.semantics.specs.Setup.{identity}
 use Rattle.semantics.specs.Evaluation.{Outcome, Gives, and_then, settled, decide, operate, compare, evaluate, load as loaded}
 use Rattle.semantics.proofs.Words.{as_kind-in_kind}
@@ -15,7 +15,7 @@ use Rattle.obligations.specs.Operators.{unary, binary}
 use Rattle.obligations.specs.Tests.{Outcomes, split, split_number}
 use Rattle.obligations.specs.Terms.{Walks, by_value, by_test, truth_value, no_value, variable, id_form, load, chosen, pick, walk}
 use Rattle.obligations.specs.Covered.{is_global, is_covered_unary, is_covered_term}
-use Rattle.obligations.proofs.Standing.{walks, Stands, Way, Comes, Goes, gives, asks, at_once, onward, arriving, restated, goes_then, goes_further, goes_as}
+use Rattle.obligations.proofs.Standing.{walks, Stands, Comes, Goes, gives, at_once, onward, arriving, restated, goes_then, goes_further, goes_as}
 use Rattle.obligations.proofs.Ranges.{IsForm, IsValue, value_kept, form_constant, brought_sound, both_sound}
 use Rattle.obligations.proofs.Splits.{split_sound, split_number_sound}
 use Rattle.obligations.proofs.Arithmetic.{DividesLawfully, Yields, settled_yields, binary_sound, unary_sound}
@@ -244,4 +244,3 @@ module _ {E : Type 0} (c : View E) (launch : List Fact) (laws : DividesLawfully 
       value_sound _ (evaluate (setup c) c.item (Maximum a b)) (λ facts n news st go vars answers m s.
       pair_sound (walk (walks c) a) (walk (walks c) b) (evaluate (setup c) c.item a) (evaluate (setup c) c.item b) ta tb facts n news st (λ x y st2. pick (walks c) x y y x st2 go) go (ArrivesAsValue c) (λ u v r. Gives (larger u v) r) vars answers m
       (λ path j more st2 x y u v rest iu iv mx my s'. picked x.form y.form u v x y u.value v.value st2 go rest mx.form my.form iu iv mx my s') s)
-

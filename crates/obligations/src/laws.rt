@@ -1,9 +1,15 @@
 //! Laws of the definitions, each the contract of a function that does nothing.
 
-ghost use Rattle.std.specs.Prelude.{◌≡◌, ℕ};
+ghost use Rattle.std.specs.Prelude.{◌≡◌, ℕ, Bool};
+ghost use Rattle.semantics.specs.Launch.{Kernel};
+ghost use Rattle.semantics.specs.Conditions.{Conditions};
+ghost use Rattle.obligations.specs.Trees.{Obligation};
+ghost use Rattle.obligations.specs.Shown.{obligations};
+
+use domain::Domain;
 
 /// Try.
-#[tactic(auto, using(crate::proofs::Opening::tried))]
-pub fn try_it()
-    ensures { (k : ℕ) → k ≡ k }
+#[tactic(auto, using(crate::proofs::Opening::opening_stood))]
+pub fn try_it<D: Domain>()
+    ensures { (k : Kernel) (c : Conditions) (has_entry : ℕ → Bool) → obligations D.Domain k c has_entry ≡ obligations D.Domain k c has_entry }
 {}

@@ -62,6 +62,15 @@ without s (t ∷ ts) = cond (nat_eq t.symbol s) (without s ts) (t ∷ without s 
 abbrev pub form_without : (symbol : ℕ) → Form ℕ → Form ℕ
 form_without s f = record { terms = without s f.terms; constant = f.constant }
 
+-- the same coefficients with other symbols
+abbrev pub over : (symbols : List ℕ) → Terms → Terms
+over ns [] = []
+over [] (t ∷ ts) = []
+over (n ∷ ns) (t ∷ ts) = record { coefficient = t.coefficient; symbol = n } ∷ over ns ts
+
+abbrev pub form_over : (symbols : List ℕ) → Form ℕ → Form ℕ
+form_over ns f = record { terms = over ns f.terms; constant = f.constant }
+
 -- a form with another one in place of a symbol
 abbrev pub substituted : (symbol : ℕ) → Form ℕ → Form ℕ → Form ℕ
 substituted s f g = sum (form_without s f) (multiple (coefficient_of s f.terms) g)

@@ -1,10 +1,10 @@
 // Forms, and their operations.
 ghost use Rattle.std.specs.Prelude.{◌≡◌, ℕ, ℤ, pos, negsuc, true, false, ◌+ℤ◌, ◌-ℤ◌, ◌*ℤ◌, ◌<ℤ◌, ◌&&◌, [], ◌∷◌, IfOk, OnOk, IsErrOf, IfSome, MatchOption, length, IsTrue, ◌↔◌};
 ghost use Rattle.semantics.specs.Linear.{value_of, IsMet};
-ghost use Rattle.linear.specs.Exact.{sum, multiple, form_without, coefficient_of, substituted, with_value, quotient, all_divide, fits, fits_i64};
-ghost use Rattle.linear.specs.Terms.{terms, are_rising, are_i64};
+ghost use Rattle.linear.specs.Exact.{sum, multiple, form_without, coefficient_of, substituted, with_value, quotient, all_divide, fits, fits_i64, is_rising, over, form_over};
+ghost use Rattle.linear.specs.Terms.{terms, numbers, are_rising, are_i64};
 
-use super::merge::{coefficient_at, combine_terms, divide_terms, without_symbol};
+use super::merge::{coefficient_at, combine_terms, divide_terms, with_symbols, without_symbol};
 use super::term::{Symbol, Term, TermList, combine};
 use std::alloc::{AllocError, AllocFailed, Global};
 use thiserror::Error;
@@ -174,6 +174,19 @@ impl Form {
         ensures { IfOk result (λ f. form f ≡ form_without symbol.number (form self.now)) }
     {
         let terms = without_symbol(alloc, self.terms.as_slice(), symbol)?;
+        Ok(Form {
+            terms,
+            constant: self.constant,
+        })
+    }
+
+    /// The form with other symbols, one for each term, which rise as well.
+    pub fn with_symbols(&self, alloc: Global, symbols: &[Symbol]) -> Result<Form, AllocError>
+        requires each { length symbols.now ≡ length self.now.terms.items }
+        requires rising { is_rising 0 (over (numbers symbols.now) (form self.now).terms) ≡ true }
+        ensures { IfOk result (λ f. form f ≡ form_over (numbers symbols.now) (form self.now)) }
+    {
+        let terms = with_symbols(alloc, self.terms.as_slice(), symbols)?;
         Ok(Form {
             terms,
             constant: self.constant,

@@ -1,7 +1,7 @@
 // Lists of terms: combined, divided, with a term left out.
-ghost use Rattle.std.specs.Prelude.{◌≡◌, pos, true, false, ◌<ℤ◌, Err, IfOk, IsErrOf, MatchOption};
-ghost use Rattle.linear.specs.Exact.{merge, multiples, without, coefficient_of, all_divide, quotients, fits_terms};
-ghost use Rattle.linear.specs.Terms.{terms, are_rising, are_i64};
+ghost use Rattle.std.specs.Prelude.{◌≡◌, pos, true, false, ◌<ℤ◌, Err, IfOk, IsErrOf, MatchOption, length};
+ghost use Rattle.linear.specs.Exact.{merge, multiples, without, over, coefficient_of, all_divide, quotients, fits_terms};
+ghost use Rattle.linear.specs.Terms.{terms, numbers, are_rising, are_i64};
 
 use super::form::LinearError;
 use super::term::{Symbol, Term, TermList, divide, keep, keep_multiple, keep_sum};
@@ -47,6 +47,29 @@ pub fn without_symbol(alloc: Global, a: &[Term], symbol: Symbol) -> Result<TermL
         if t.symbol.number != symbol.number {
             keep(&mut out, *t)?;
         }
+    }
+    Ok(out)
+}
+
+/// The coefficients with other symbols, one for each.
+pub fn with_symbols(
+    alloc: Global,
+    a: &[Term],
+    symbols: &[Symbol],
+) -> Result<TermList, AllocError>
+    requires { length symbols.now ≡ length a.now }
+    ensures exact { IfOk result (λ out. terms out.items ≡ over (numbers symbols.now) (terms a.now)) }
+    ensures fits { IfOk result (λ out. fits_terms (terms out.items) ≡ true) }
+{
+    let mut out = TermList::new(alloc);
+    for i in 0..a.len() {
+        let coefficient = a[i].coefficient;
+        let symbol = symbols[i];
+        let term = Term {
+            symbol,
+            coefficient,
+        };
+        keep(&mut out, term)?;
     }
     Ok(out)
 }

@@ -20,7 +20,7 @@ use Rattle.obligations.specs.Tests.{Outcomes}
 use Rattle.obligations.specs.Terms.{no_value, access, walk}
 use Rattle.obligations.specs.Statements.{spot_of, assigned, walk_store}
 use Rattle.obligations.specs.Covered.{is_global, is_covered_term, is_covered_statement}
-use Rattle.obligations.proofs.Holding.{Has}
+use Rattle.obligations.proofs.Each.{Has}
 use Rattle.obligations.proofs.Standing.{walks, Noted, noted, Seen, seen_in, Stands, Comes, Goes, gives, asks, past_claim, past_access}
 use Rattle.obligations.proofs.Ranges.{IsValue, form_kept}
 use Rattle.obligations.proofs.Arithmetic.{DividesLawfully}

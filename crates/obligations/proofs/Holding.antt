@@ -21,11 +21,8 @@ use Rattle.facts.proofs.Naming.{symbol_of-number}
 use Rattle.facts.proofs.Members.{Lawful, by_number}
 use Rattle.facts.proofs.Fitting.{members}
 use Rattle.facts.proofs.Worlds.{View, setup, Agrees, Means, own, agrees_itself, agrees_before, agrees_new}
+use Rattle.obligations.proofs.Each.{Has}
 use Rattle.obligations.specs.Held.{Narrowed, Held, no_held, with_new, with_narrowed, latest, element_held, terms_with, element_with, element_at, from_below, from_above, narrowed_by, narrow_one, narrow_terms, narrow, is_settled_at}
-
-abbrev pub Has : {A : Type 0} → A → List A → Type 0
-Has x [] = ⊥
-Has x (y ∷ ys) = (x ≡ y) ⊎ Has x ys
 
 -- a form with rising symbols is one of its terms and the form without its symbol
 same_number : (a b : ℕ) → a ≡ b → nat_eq a b ≡ true

@@ -1,3 +1,4 @@
+pub mod Each
 pub mod KindEnds
 pub mod Holding
 pub mod Standing
@@ -10,3 +11,15 @@ pub mod Accesses
 pub mod TermSound
 pub mod Fronts
 pub mod Opening
+pub mod Seconds
+pub mod Made
+pub mod Distinct
+pub mod PairLists
+pub mod TwoElements
+pub mod Meetings
+pub mod Plain
+pub mod Following
+pub mod SameWords
+pub mod Safe
+pub mod OwnForms
+pub mod OwnTrees

@@ -1,5 +1,5 @@
 -- Tests: the way of the outcome is gone along, its facts hold, and it is no dead one.
-use Rattle.std.proofs.Common.{◌≡◌, ℕ, Bool, true, false, not, List, [], ◌∷◌, arith, refl, sym, ap, ◌∙◌}
+use Rattle.std.proofs.Common.{◌≡◌, ℕ, Bool, true, false, not, ◌&&◌, List, [], ◌∷◌, arith, refl, sym, ap, ◌∙◌}
 use Rattle.std.specs.Prelude.{ℤ, pos, negsuc, ◌-ℤ◌, ◌*ℤ◌, ◌≤ℤ◌, ◌<ℤ◌, int_lt, int_le}
 use Rattle.std.specs.Ordering.{int_eq}
 use Rattle.std.proofs.lemmas.Int.{ints, by_lt_z}
@@ -7,7 +7,7 @@ use Rattle.std.proofs.lemmas.Bool.{and_parts}
 use Rattle.std.proofs.lemmas.Bool.Decides.{Decides-int_eq}
 use Rattle.semantics.specs.Word.{Relation, Less, AtMost, More, AtLeast, Equal, Unequal, holds, is_zero}
 use Rattle.semantics.specs.Linear.{Weighted, terms_value, value_of}
-use Rattle.linear.specs.Exact.{multiple}
+use Rattle.linear.specs.Exact.{multiple, fits_i64}
 use Rattle.facts.specs.Symbols.{Fact, constant, minus}
 use Rattle.facts.proofs.Integers.{le_true, lt_true, lt_test}
 use Rattle.facts.proofs.Members.{by_number}
@@ -57,9 +57,10 @@ module _ {E : Type 0} (c : View E) (launch : List Fact) where
 
   is_alive : {news : List ℤ} (f : Fact) (z : ℤ) → IsForm c news f z → pos 0 ≤ℤ z → is_dead f ≡ true → ⊥
   is_alive f z m h e =
-      let p = and_parts (is_number f) (int_lt f.constant (pos 0)) e in
+      let p = and_parts (is_number f) (fits_i64 f.constant && int_lt f.constant (pos 0)) e in
+      let q = and_parts (fits_i64 f.constant) (int_lt f.constant (pos 0)) p.1 in
       let k = value-known f z m p.0 in
-      let l = lt_test f.constant (pos 0) p.1 in
+      let l = lt_test f.constant (pos 0) q.1 in
       omega (arith, ints, k, l, h)
 
   -- a fact of a test that holds

@@ -19,7 +19,8 @@ use Rattle.obligations.specs.Trees.{Demand, Goal, AtLeastZero, Either, Target, T
 use Rattle.obligations.specs.Walks.{Setting, State, Value, know_all}
 use Rattle.obligations.specs.Statements.{setting}
 use Rattle.obligations.specs.Shown.{IsShown, IsShownIn}
-use Rattle.obligations.proofs.Holding.{Has, known_of, IsHeld, Fits, held_anew, held_narrow, news-narrow}
+use Rattle.obligations.proofs.Each.{Has}
+use Rattle.obligations.proofs.Holding.{known_of, IsHeld, Fits, held_anew, held_narrow, news-narrow}
 
 -- the walk of a kernel under conditions
 abbrev pub walks : {E : Type 0} → View E → Setting E

@@ -20,6 +20,6 @@ second_form f = record { terms = second_terms f.terms; constant = f.constant }
 abbrev pub second_forms : List Fact → List Fact
 second_forms fs = map second_form fs
 
--- a symbol of the launch has what the first item's path holds of it
+-- a symbol of the launch has what the first item's path holds of it; there are no symbols of the sixteenth family
 abbrev pub element_of_two : {E : Type 0} → Ghosts E → Known E → (first second : Held E) → ℕ → E
-element_of_two g k h1 h2 n = cond (nat_lt (n % 16) 9) (element_held g k h1 n) (element_held g k h2 (n - 6))
+element_of_two g k h1 h2 n = cond (nat_lt ((n + 1) % 16) 10) (element_held g k h1 n) (element_held g k h2 (n - 6))

@@ -9,7 +9,6 @@ ghost use Rattle.obligations.specs.Shown.{obligations};
 use domain::Domain;
 
 /// Try.
-#[tactic(auto, using(crate::proofs::Opening::opening_stood))]
 pub fn try_it<D: Domain>()
     ensures { (k : Kernel) (c : Conditions) (has_entry : ℕ → Bool) → obligations D.Domain k c has_entry ≡ obligations D.Domain k c has_entry }
 {}

@@ -1,0 +1,4 @@
+pub mod Rows
+pub mod Located
+pub mod Nth
+pub mod Growing

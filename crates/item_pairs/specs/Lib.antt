@@ -1,0 +1,4 @@
+pub mod Places
+pub mod View
+pub mod Seconds
+pub mod Refusals

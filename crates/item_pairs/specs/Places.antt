@@ -1,0 +1,28 @@
+-- Claims and accesses of several paths, one path after the other, by places: a path and a number on it.
+use Rattle.std.specs.Prelude.{ℕ, zero, suc, List, [], ◌∷◌, ◌++◌, get_or, map, length}
+use Rattle.path_walk.specs.declared.path.Path.{Path}
+use Rattle.item_pairs.specs.declared.places.Place.{Place}
+
+-- so many places of a path, from a number on
+abbrev pub row : (path from count : ℕ) → List Place
+row p i zero = []
+row p i (suc n) = record { path = p; item = i } ∷ row p (suc i) n
+
+-- of paths with so many each, from a path on
+abbrev pub rows : (path : ℕ) → (counts : List ℕ) → List Place
+rows p [] = []
+rows p (n ∷ ns) = row p 0 n ++ rows (suc p) ns
+
+abbrev pub claim_count : {E : Type 0} → Path E → ℕ
+claim_count p = length p.claims.items
+
+abbrev pub access_count : {E : Type 0} → Path E → ℕ
+access_count p = length p.accesses.items
+
+abbrev pub joined : {A : Type 0} → List (List A) → List A
+joined [] = []
+joined (l ∷ ls) = l ++ joined ls
+
+-- what stands at a place of lists
+abbrev pub at_place : {A : Type 0} → (past : A) → List (List A) → Place → A
+at_place past ls p = get_or (get_or ls p.path []) p.item past

@@ -1,0 +1,37 @@
+-- What an error about two items says.
+use Rattle.std.specs.Prelude.{◌≡◌, ◌<◌, ℕ, Bool, false, ◌&&◌}
+use Rattle.linear.specs.Exact.{fits}
+use Rattle.facts.specs.Symbols.{Fact, minus}
+use Rattle.facts.specs.declared.error.WalkError.{WalkError}
+use Rattle.facts.specs.declared.error.WalkError.TheVariants as errors
+use Rattle.obligations.specs.Pairs.{Pair, second_index}
+use Rattle.item_pairs.specs.declared.pairs.Pair as declared
+
+-- both differences of two forms are of i64
+abbrev pub differences_fit : Fact → Fact → Bool
+differences_fit f g = fits (minus f g) && fits (minus g f)
+
+-- the differences of a pair's indexes are of i64
+abbrev pub pair_fits : {E : Type 0} → Pair E → Bool
+pair_fits p = differences_fit p.first.index (second_index p)
+
+-- a difference was not made: a number of it is no i64, or there was no memory
+abbrev pub AreUnfit : WalkError → Fact → Fact → Type 0
+AreUnfit errors.TooMany f g = ⊥
+AreUnfit errors.TooLarge f g = differences_fit f g ≡ false
+AreUnfit errors.Outside f g = ⊥
+AreUnfit errors.Memory f g = Unit {0}
+
+abbrev pub IsUnfitPair : {E : Type 0} → WalkError → Pair E → Type 0
+IsUnfitPair e p = AreUnfit e p.first.index (second_index p)
+
+-- not all forms that are made are of i64, or there was no memory
+abbrev pub DoNotFit : (fit : Bool) → WalkError → Type 0
+DoNotFit fit errors.TooMany = ⊥
+DoNotFit fit errors.TooLarge = fit ≡ false
+DoNotFit fit errors.Outside = ⊥
+DoNotFit fit errors.Memory = Unit {0}
+
+-- a pair of accesses of so many
+abbrev pub IsInside : (count : ℕ) → declared.Pair → Type 0
+IsInside n p = (p.first < n) × (p.second < n)

@@ -1,0 +1,24 @@
+use Rattle.path_walk.specs.View.{followed}
+use Rattle.path_walk.proofs.Moves.{accesses_known}
+use Rattle.path_walk.proofs.path.Path.invent.Goals as goal
+
+pub returns : goal.returns
+unfolding followed
+returns g c =
+    let s = c.args.self.now in
+    let p = followed s in
+    let e = c.in_ok-push.ensures.items in
+    λ i. record {
+      found = record {
+        facts = p.found.facts;
+        claims = p.found.claims;
+        accesses = accesses_known s.facts.items s.news.items c.push.new.self.items c.args.element s.narrowed.items s.accesses.items e s.accesses_in i;
+        leaves = p.found.leaves;
+        count = p.found.count;
+        taken = p.found.taken;
+        left = p.found.left;
+        is_fit = p.found.is_fit;
+        is_few = p.found.is_few;
+      };
+      state = record { claims = p.state.claims; variables = p.state.variables; held = record { news = e i; narrowed = p.state.held.narrowed }; at = p.state.at };
+    }

@@ -1,0 +1,5 @@
+pub mod Paths
+pub mod Leads
+pub mod Before
+pub mod View
+pub mod Refusals

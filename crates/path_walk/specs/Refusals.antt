@@ -1,0 +1,22 @@
+-- What it says of a path that its walk did not go on.
+use Rattle.std.specs.Prelude.{◌≡◌, false}
+use Rattle.obligations.specs.Trees.{Tree}
+use Rattle.obligations.specs.Walks.{State}
+use Rattle.path_walk.specs.Paths.{Found, Followed, collect}
+use Rattle.facts.specs.declared.error.WalkError.{WalkError}
+use Rattle.facts.specs.declared.error.WalkError.TheVariants as errors
+
+-- what a refused walk says of all that is found along the path; `outside` is what `Outside` says of the kernel
+abbrev pub Refused : {E : Type 0} → (outside : Type 0) → WalkError → Found E → Type 0
+Refused o errors.TooMany m = m.is_few ≡ false
+Refused o errors.TooLarge m = m.is_fit ≡ false
+Refused o errors.Outside m = o
+Refused o errors.Memory m = Unit {0}
+
+-- a step was refused: whatever goes on
+abbrev pub StopsAtStep : {E : Type 0} → (outside : Type 0) → Followed E → WalkError → (State E → (State E → Tree E) → Tree E) → Type 0
+StopsAtStep {E} o from e walk = (go : State E → Tree E) → Refused o e (collect from.found (walk from.state go))
+
+-- with an answer
+abbrev pub Stops : {E A : Type 0} → (outside : Type 0) → Followed E → WalkError → (State E → (A → State E → Tree E) → Tree E) → Type 0
+Stops {E} {A} o from e walk = (go : A → State E → Tree E) → Refused o e (collect from.found (walk from.state go))

@@ -1,0 +1,83 @@
+-- What the code's values stand for.
+use Rattle.std.specs.Prelude.{List, map, take, drop, length, true, false, slice_index_or}
+use Rattle.domain.specs.declared.Domain.{Ghosts}
+use Rattle.words.specs.View.{kind}
+use Rattle.core_code.specs.View.{array, site}
+use Rattle.facts.specs.View.{known_seen, three}
+use Rattle.linear.specs.Forms.{form, forms}
+use Rattle.facts.specs.Symbols.{Fact}
+use Rattle.obligations.specs.Held as held
+use Rattle.obligations.specs.Trees as trees
+use Rattle.obligations.specs.Walks as walks
+use Rattle.path_walk.specs.Paths as paths
+use Rattle.path_walk.specs.Paths.{Claimed, Followed}
+use Rattle.path_walk.specs.declared.path.Sort.{Sort}
+use Rattle.path_walk.specs.declared.path.Sort.TheVariants as sorts
+use Rattle.path_walk.specs.declared.path.Spot.{Spot}
+use Rattle.path_walk.specs.declared.path.Target.{Target}
+use Rattle.path_walk.specs.declared.path.Goal.{Goal}
+use Rattle.path_walk.specs.declared.path.Goal.TheVariants as goals
+use Rattle.path_walk.specs.declared.path.Claim.{Claim}
+use Rattle.path_walk.specs.declared.path.Access.{Access}
+use Rattle.path_walk.specs.declared.path.Narrowed.{Narrowed}
+use Rattle.path_walk.specs.declared.path.Choice.{Choice}
+use Rattle.path_walk.specs.declared.path.Choice.TheVariants as choices
+use Rattle.path_walk.specs.declared.path.Value.{Value}
+use Rattle.path_walk.specs.declared.path.Path.{Path}
+
+abbrev pub sort : Sort → trees.Sort
+sort (sorts.OfRange k) = trees.OfRange (kind k)
+sort sorts.OfIndex = trees.OfIndex
+sort sorts.OfDivisor = trees.OfDivisor
+sort sorts.OfQuotient = trees.OfQuotient
+sort sorts.OfPair = trees.OfPair
+
+abbrev pub spot : Spot → trees.Spot
+spot p = record { statement = p.statement; site = site p.site }
+
+abbrev pub target : Target → trees.Target
+target t = record { is_store = t.is_store; array = array t.array; spot = spot t.spot }
+
+abbrev pub goal_seen : Goal → trees.Goal
+goal_seen (goals.AtLeastZero f) = trees.AtLeastZero (form f)
+goal_seen (goals.Either p n) = trees.Either (form p) (form n)
+
+abbrev pub claim_seen : List Fact → Claim → Claimed
+claim_seen facts c = record { demand = record { sort = sort c.sort; spot = spot c.spot }; needed = c.needed; settled = c.settled; goal = goal_seen c.goal; facts = take c.facts facts }
+
+abbrev pub narrowed_seen : {E : Type 0} → Narrowed E → held.Narrowed E
+narrowed_seen n = record { symbol = n.symbol.number; element = n.element }
+
+abbrev pub held_seen : {E : Type 0} → List E → List (Narrowed E) → held.Held E
+held_seen news narrowed = record { news = news; narrowed = map narrowed_seen narrowed }
+
+abbrev pub access_seen : {E : Type 0} → List Fact → List E → List (Narrowed E) → Access → trees.Access E
+access_seen facts news narrowed a = record { target = target a.target; index = form a.index; held = held_seen (take a.news news) (take a.narrowed narrowed); facts = take a.facts facts }
+
+abbrev pub choice : Choice → paths.Choice
+choice choices.First = paths.First
+choice (choices.Other n) = paths.Other n
+
+abbrev pub value : Value → walks.Value
+value v = record { kind = kind v.kind; form = form v.form }
+
+unfoldable pub followed : {E : Type 0} → Path E → Followed E
+followed p = record {
+  found = record {
+    facts = forms p.facts.items;
+    claims = map (claim_seen (forms p.facts.items)) p.claims.items;
+    accesses = map (access_seen (forms p.facts.items) p.news.items p.narrowed.items) p.accesses.items;
+    leaves = p.leaves;
+    count = p.count;
+    taken = map choice p.taken.items;
+    left = map choice (drop (length p.taken.items) p.given.items);
+    is_fit = true;
+    is_few = true;
+  };
+  state = record {
+    claims = p.count;
+    variables = map value p.variables.items;
+    held = held_seen p.news.items p.narrowed.items;
+    at = spot p.at;
+  };
+}

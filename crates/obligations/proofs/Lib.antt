@@ -23,3 +23,4 @@ pub mod SameWords
 pub mod Safe
 pub mod OwnForms
 pub mod OwnTrees
+pub mod CoveredSafe

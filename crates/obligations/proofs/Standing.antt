@@ -35,11 +35,11 @@ pub has_right : {A : Type 0} (x : A) (a b : List A) → Has x b → Has x (a ++ 
 has_right x [] b h = h
 has_right x (y ∷ a) b h = inr (has_right x a b h)
 
-all_left : {A : Type 0} (P : A → Type 0) (a b : List A) → All P (a ++ b) → All P a
+pub all_left : {A : Type 0} (P : A → Type 0) (a b : List A) → All P (a ++ b) → All P a
 all_left P [] b h = All-nil P
 all_left P (x ∷ a) b h = All-cons P x a (All-head P x (a ++ b) h) (all_left P a b (All-tail P x (a ++ b) h))
 
-all_right : {A : Type 0} (P : A → Type 0) (a b : List A) → All P (a ++ b) → All P b
+pub all_right : {A : Type 0} (P : A → Type 0) (a b : List A) → All P (a ++ b) → All P b
 all_right P [] b h = h
 all_right P (x ∷ a) b h = all_right P a b (All-tail P x (a ++ b) h)
 

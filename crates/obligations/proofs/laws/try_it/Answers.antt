@@ -10,7 +10,6 @@ use Rattle.obligations.proofs.Plain.{sound}
 use Rattle.obligations.proofs.Following.{in_front}
 use Rattle.obligations.proofs.Safe.{pair_safe}
 use Rattle.obligations.proofs.OwnTrees.{own-of-kernel}
-use Rattle.obligations.proofs.CoveredSafe.{covered_pair_safe}
 use Rattle.obligations.proofs.laws.try_it.Goals as goal
 
 pub returns : goal.returns

@@ -2,3 +2,4 @@ pub mod Rows
 pub mod Located
 pub mod Nth
 pub mod Growing
+pub mod Copies

@@ -1,4 +1,5 @@
 pub mod Places
+pub mod Paths
 pub mod View
 pub mod Seconds
 pub mod Refusals

@@ -4,10 +4,13 @@
 //! impossible of each.
 #![tactic(auto)]
 
+mod clashing;
 mod looking;
 mod met;
 mod pairs;
 mod places;
+mod seconds;
 
+pub use clashing::{lacks_zero, pair_facts, try_differences};
 pub use met::Met;
 pub use pairs::{Order, Pair, Scope, all_pairs, spot_of};

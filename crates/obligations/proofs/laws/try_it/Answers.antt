@@ -9,7 +9,7 @@ use Rattle.obligations.proofs.Meetings.{not-within}
 use Rattle.obligations.proofs.Plain.{sound}
 use Rattle.obligations.proofs.Following.{in_front}
 use Rattle.obligations.proofs.Safe.{pair_safe}
-use Rattle.obligations.proofs.OwnTrees.{own-of-kernel}
+use Rattle.obligations.proofs.OwnTrees.{accesses-own}
 use Rattle.obligations.proofs.laws.try_it.Goals as goal
 
 pub returns : goal.returns

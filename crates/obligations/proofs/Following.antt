@@ -27,15 +27,19 @@ module _ (s : Setup) (r : Ranking) (i : ℕ) {E : Type 0} (w : Setting E) (Stood
     (store_stood : (a : Array) (site : Site) (st : State E) (go : State E → obligations.Tree E) (vars : List Word) (x : Value) → Stood (access w true a site x.form st go) st vars → (st' : State E) × Stood (go st') st' vars)
     (moves_stood : (n : ℕ) (t : obligations.Tree E) (st : State E) (vars : List Word) → Stood t st vars → Stood t (stand (spot_of n) st) vars)
     where
+  abbrev pub IsBefore : Statement → List Word → Type 0
+  IsBefore (Set n x e) vars = (st : State E) × ((go : Onward E) × Stood ((walk w e).value st go) st vars)
+  IsBefore (Store n a site k e) vars = (st : State E) × ((go : (State E → obligations.Tree E)) × Stood (walk_store w n a site k e st go) st vars)
+  IsBefore (If n e t f) vars = (st : State E) × ((go : Outcomes E) × Stood ((walk w e).test st go) st vars)
+  IsBefore (Loop n e b u) vars = ⊥
+  IsBefore (Barrier n l g) vars = ⊥
+  IsBefore (Return n) vars = ⊥
+  IsBefore (Break n k) vars = ⊥
+  IsBefore (Continue n k) vars = ⊥
+
+  -- and the statement is covered
   abbrev pub AtFront : Statement → List Word → Type 0
-  AtFront (Set n x e) vars = (st : State E) × ((go : Onward E) × Stood ((walk w e).value st go) st vars)
-  AtFront (Store n a site k e) vars = (st : State E) × ((go : (State E → obligations.Tree E)) × Stood (walk_store w n a site k e st go) st vars)
-  AtFront (If n e t f) vars = (st : State E) × ((go : Outcomes E) × Stood ((walk w e).test st go) st vars)
-  AtFront (Loop n e b u) vars = ⊥
-  AtFront (Barrier n l g) vars = ⊥
-  AtFront (Return n) vars = ⊥
-  AtFront (Break n k) vars = ⊥
-  AtFront (Continue n k) vars = ⊥
+  AtFront a vars = (is_covered_statement a ≡ true) × IsBefore a vars
 
   -- an item that stands before what goes on follows it
   abbrev Goes_on : Later → (State E → obligations.Tree E) → Type 0
@@ -71,16 +75,16 @@ module _ (s : Setup) (r : Ranking) (i : ℕ) {E : Type 0} (w : Setting E) (Stood
 
   mutual
     follow_one : (x : Statement) → is_covered_statement x ≡ true → (ws : Ways) (go : State E → obligations.Tree E) → Goes_on ws.go go → (again : Bool) → Goes_on (trees.walk_one false again x ws) (λ st. walk_one w x st go)
-    follow_one (Set n x e) h ws go on again t st from here a k (inl p) = front_here a (Set n x e) from here p.0 p.1 (stand (spot_of n) st, (_, moves_stood n _ st from.variables k))
+    follow_one (Set n x e) h ws go on again t st from here a k (inl p) = front_here a (Set n x e) from here p.0 p.1 (h, (stand (spot_of n) st, (_, moves_stood n _ st from.variables k)))
     follow_one (Set n x e) h ws go on again t st from here a k (inr p) = set_on n x e h ws.go go on t st from p.0 here a k p.1.0.0 p.1.0.1.0 p.1.0.1.1 p.1.1
-    follow_one (Store n y site d e) h ws go on again t st from here a k (inl p) = front_here a (Store n y site d e) from here p.0 p.1 (st, (go, k))
+    follow_one (Store n y site d e) h ws go on again t st from here a k (inl p) = front_here a (Store n y site d e) from here p.0 p.1 (h, (st, (go, k)))
     follow_one (Store n y site d e) h ws go on again t st from here a k (inr p) =
         let c = and_parts (is_global y.space) (is_covered_term d && is_covered_term e) h in
         let f = and_parts (is_covered_term d) (is_covered_term e) c.1 in
         let u = p.1.0 in
         let v = p.1.1.1.0 in
         store_on n y site d e f.0 f.1 ws.go go on t st from here a k u.0 v.0 u.1.0 (subst (λ (l : Held). CanBe s i e l.variables v.0) u.1.1 v.1.0) (subst (λ l. ComesTo s r i (ws.go t) a l here) (v.1.1 ∙ u.1.1) p.1.1.1.1)
-    follow_one (If n e yeses noes) h ws go on again t st from here a k (inl p) = front_here a (If n e yeses noes) from here p.0 p.1 (stand (spot_of n) st, (_, moves_stood n _ st from.variables k))
+    follow_one (If n e yeses noes) h ws go on again t st from here a k (inl p) = front_here a (If n e yeses noes) from here p.0 p.1 (h, (stand (spot_of n) st, (_, moves_stood n _ st from.variables k)))
     follow_one (If n e yeses noes) h ws go on again t st from here a k (inr (inl p)) =
         let c = and_parts (is_covered_term e) (are_covered yeses && are_covered noes) h in
         let f = and_parts (are_covered yeses) (are_covered noes) c.1 in

@@ -4,3 +4,4 @@ pub mod Nth
 pub mod Growing
 pub mod Copies
 pub mod Showing
+pub mod Listing

@@ -1,6 +1,5 @@
 -- Claims of all paths, what denies them, and the manners in which they are shown.
-use Rattle.std.specs.Prelude.{List, Bool, ◌&&◌, Option, None, Some}
-use Rattle.linear.specs.Exact.{fits}
+use Rattle.std.specs.Prelude.{List, Option, None, Some}
 use Rattle.linear.specs.Forms.{form, forms}
 use Rattle.linear.specs.declared.form.Form.{Form}
 use Rattle.facts.specs.Symbols.{Fact, denial}
@@ -27,11 +26,6 @@ denial_by ByPositive (AtLeastZero f) = None
 denial_by ByPositive (Either p n) = Some (denial p)
 denial_by ByNegative (AtLeastZero f) = None
 denial_by ByNegative (Either p n) = Some (denial n)
-
--- what denies it is of i64
-abbrev pub goal_fits : Goal → Bool
-goal_fits (AtLeastZero f) = fits (denial f)
-goal_fits (Either p n) = fits (denial p) && fits (denial n)
 
 abbrev pub maybe_form : Option Form → Option Fact
 maybe_form None = None

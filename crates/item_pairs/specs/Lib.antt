@@ -4,3 +4,4 @@ pub mod View
 pub mod Seconds
 pub mod Goals
 pub mod Refusals
+pub mod Listed

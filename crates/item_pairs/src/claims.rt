@@ -7,7 +7,8 @@ ghost use Rattle.facts.specs.Refusals.{IsMemory, IsUnfit};
 ghost use Rattle.facts.specs.Symbols as symbols;
 ghost use Rattle.obligations.specs.Trees.{facts_by};
 ghost use Rattle.path_walk.specs.View.{sort as sort_seen, spot as spot_seen, goal_seen};
-ghost use Rattle.item_pairs.specs.Goals.{manner as manner_seen, owed, denial_by, goal_fits, maybe_form, maybe_forms};
+ghost use Rattle.item_pairs.specs.Goals.{manner as manner_seen, owed, denial_by, maybe_form, maybe_forms};
+ghost use Rattle.obligations.specs.Fitting.{denials_fit};
 ghost use Rattle.item_pairs.specs.Refusals.{DoNotFit};
 ghost use Rattle.item_pairs.specs.View.{nth_claim, IsPlaceOfClaim};
 
@@ -77,7 +78,7 @@ fn denial(alloc: Global, form: &Form) -> Result<Form, WalkError>
 
 /// What denies a goal that is shown in a manner; none where the manner does not fit.
 fn denial_of(alloc: Global, goal: &Goal, manner: Manner) -> Result<Option<Form>, WalkError>
-    ensures { MatchResult result (λ o. maybe_form o ≡ denial_by (manner_seen manner) (goal_seen goal.now)) (DoNotFit (goal_fits (goal_seen goal.now))) }
+    ensures { MatchResult result (λ o. maybe_form o ≡ denial_by (manner_seen manner) (goal_seen goal.now)) (DoNotFit (denials_fit (goal_seen goal.now))) }
 {
     match (goal, manner) {
         (Goal::AtLeastZero(form), Manner::Plainly) => Ok(Some(denial(alloc, form)?)),
@@ -90,7 +91,7 @@ fn denial_of(alloc: Global, goal: &Goal, manner: Manner) -> Result<Option<Form>,
 
 /// All that denies a goal is of `i64`, or an error.
 fn try_goal(alloc: Global, goal: &Goal) -> Result<(), WalkError>
-    ensures { MatchResult result (λ _. goal_fits (goal_seen goal.now) ≡ true) (DoNotFit (goal_fits (goal_seen goal.now))) }
+    ensures { MatchResult result (λ _. denials_fit (goal_seen goal.now) ≡ true) (DoNotFit (denials_fit (goal_seen goal.now))) }
 {
     match goal {
         Goal::AtLeastZero(form) => {
@@ -107,7 +108,7 @@ fn try_goal(alloc: Global, goal: &Goal) -> Result<(), WalkError>
 /// That of a claim is.
 pub fn try_claim<D: Copy>(alloc: Global, met: &Met<D>, i: usize) -> Result<(), WalkError>
     requires { i < length met.now.claims.items }
-    ensures { MatchResult result (λ _. goal_fits (nth_claim met.now i).goal ≡ true) (DoNotFit (goal_fits (nth_claim met.now i).goal)) }
+    ensures { MatchResult result (λ _. denials_fit (nth_claim met.now i).goal ≡ true) (DoNotFit (denials_fit (nth_claim met.now i).goal)) }
 {
     let place = place_of_claim(met, i);
     let path = &met.paths[place.path];
@@ -141,7 +142,7 @@ pub fn claim_facts<D: Copy>(
     manner: Manner,
 ) -> Result<Option<Vec<Form>>, WalkError>
     requires { i < length met.now.claims.items }
-    ensures { MatchResult result (λ r. maybe_forms r ≡ facts_by (manner_seen manner) (owed (forms launch.now) (nth_claim met.now i))) (DoNotFit (goal_fits (nth_claim met.now i).goal)) }
+    ensures { MatchResult result (λ r. maybe_forms r ≡ facts_by (manner_seen manner) (owed (forms launch.now) (nth_claim met.now i))) (DoNotFit (denials_fit (nth_claim met.now i).goal)) }
 {
     let place = place_of_claim(met, i);
     let path = &met.paths[place.path];

@@ -10,7 +10,8 @@ ghost use Rattle.facts.specs.View.{side};
 ghost use Rattle.obligations.specs.Pairs as specs;
 ghost use Rattle.obligations.specs.Seconds as copies;
 ghost use Rattle.obligations.specs.Tests.{below};
-ghost use Rattle.item_pairs.specs.Refusals.{AreUnfit, IsUnfitPair, pair_fits, differences_fit};
+ghost use Rattle.item_pairs.specs.Refusals.{AreUnfit, IsUnfitPair};
+ghost use Rattle.obligations.specs.Fitting.{pair_fits, differences_fit};
 ghost use Rattle.item_pairs.specs.View.{scope as scope_seen, order as order_seen, pair as pair_seen, met_access, met_accesses};
 
 use crate::looking::{facts_before, index_of};

@@ -5,7 +5,8 @@ use Rattle.facts.proofs.Unmade.{handed}
 use Rattle.obligations.specs.Trees.{facts_by}
 use Rattle.path_walk.specs.Paths.{Claimed}
 use Rattle.path_walk.specs.View.{goal_seen}
-use Rattle.item_pairs.specs.Goals.{manner, owed, goal_fits, maybe_form, maybe_forms}
+use Rattle.obligations.specs.Fitting.{denials_fit}
+use Rattle.item_pairs.specs.Goals.{manner, owed, maybe_form, maybe_forms}
 use Rattle.item_pairs.specs.Refusals.{DoNotFit}
 use Rattle.item_pairs.specs.View.{nth_claim}
 use Rattle.item_pairs.proofs.Nth.{claim_is}

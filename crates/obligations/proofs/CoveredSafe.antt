@@ -14,17 +14,15 @@ use Rattle.facts.specs.Launching.{launch_facts, known}
 use Rattle.facts.proofs.Worlds.{Walked, View, setup_of}
 use Rattle.arrivals.specs.Trees.{Front, IsFront}
 use Rattle.arrivals.specs.Places.{own_place, tree}
-use Rattle.arrivals.specs.Paths.{Held, CanBe, Follows, Makes}
+use Rattle.arrivals.specs.Paths.{Held, Follows, Makes}
 use Rattle.arrivals.specs.Shown.{IsShort}
 use Rattle.arrivals.specs.Faults.{Stops}
 use Rattle.obligations.specs.Trees as trees
 use Rattle.obligations.specs.Walks.{State}
 use Rattle.obligations.specs.Statements.{spot_of, opening_state, walk_all, ended}
 use Rattle.obligations.specs.Covered.{is_covered_term, are_covered}
-use Rattle.obligations.specs.Pairs.{Pair}
 use Rattle.obligations.specs.Shown.{item_accesses, item_claims, obligations, IsShown, pairs}
 use Rattle.obligations.specs.Pairs.{pair_obligation}
-use Rattle.obligations.proofs.Made.{Made}
 use Rattle.obligations.proofs.Standing.{walks, Noted, all_left}
 use Rattle.obligations.proofs.Arithmetic.{DividesLawfully}
 use Rattle.obligations.proofs.Fronts.{Stood, IsFine, stood_at, value_stood, set_stood, test_stood, store_stood, set_front, if_front, store_front}

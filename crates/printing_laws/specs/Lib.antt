@@ -1,0 +1,2 @@
+pub mod BareCore
+pub mod Alike

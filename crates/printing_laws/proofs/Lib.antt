@@ -6,3 +6,7 @@ pub mod Rooms
 pub mod NamedTokens
 pub mod PrintableTrees
 pub mod ReadBack
+pub mod BareSteps
+pub mod BareWorlds
+pub mod BareRounds
+pub mod BareHeadline

@@ -3,7 +3,11 @@
 ghost use Rattle.std.specs.Prelude.{◌≡◌, ◌≤◌, ℕ, List, length, Ok};
 ghost use Rattle.printing_laws.specs.Alike.{AreAlike, IsTextAtAnyLength};
 ghost use Rattle.printing_laws.specs.BareCore.{bare_core, bare_checked};
+ghost use Rattle.printing_laws.specs.Meaning.{at_launch, MeansTheSame};
 ghost use Rattle.reading.specs.Kernels.{Kernel, read};
+ghost use Rattle.semantics.specs.Headline.{Headline};
+ghost use Rattle.semantics.specs.Launch as launch;
+ghost use Rattle.semantics.specs.Rounds.{result_by_rounds};
 ghost use Rattle.texts.specs.Bare.{bare_kernel};
 ghost use Rattle.texts.specs.Brackets.{AllOpenStatements};
 ghost use Rattle.texts.specs.Canonical.{canonical};
@@ -51,4 +55,19 @@ pub fn kernels_of_one_text_are_alike()
 /// Elaboration heeds no position: of a tree without positions it gives the core without positions, or the same fault.
 pub fn elaboration_heeds_no_position()
     ensures { (k : surface.Kernel) → elaborate (bare_kernel k) ≡ bare_checked bare_core (elaborate k) }
+{}
+
+/// Nor does what kernels mean: of cores that are the same but for positions both have the headline at a launch, or neither has.
+pub fn the_headline_heeds_no_position()
+    ensures { (k l : launch.Kernel) (given : launch.Launch) (bound : ℕ) → bare_core k ≡ bare_core l → Headline (at_launch k given) bound → Headline (at_launch l given) bound }
+{}
+
+/// And their result by rounds is the same.
+pub fn the_result_heeds_no_position()
+    ensures { (k l : launch.Kernel) (given : launch.Launch) (bound : ℕ) → bare_core k ≡ bare_core l → result_by_rounds (at_launch k given) bound ≡ result_by_rounds (at_launch l given) bound }
+{}
+
+/// So what is read of a canonical text means what its kernel means, at each launch of it.
+pub fn a_canonical_text_means_what_its_kernel_means()
+    ensures { (bytes : List ℕ) (k l : Kernel) (given : launch.Launch) (bound : ℕ) → read bytes ≡ Ok k → read (canonical k.tree) ≡ Ok l → MeansTheSame k.core l.core given bound }
 {}

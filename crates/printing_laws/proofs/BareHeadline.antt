@@ -1,5 +1,5 @@
 -- The headline, positions aside: a kernel has it exactly where it has it without positions.
-use Rattle.std.proofs.Common.{◌≡◌, ◌<◌, ℕ, zero, suc, List, [], ◌∷◌, inl, inr, length, map, get_or, refl, ap, sym, subst, ◌∙◌, arith}
+use Rattle.std.proofs.Common.{◌≡◌, ◌<◌, ℕ, zero, suc, ◌+◌, List, [], ◌∷◌, inl, inr, length, map, get_or, refl, ap, sym, subst, ◌∙◌, arith}
 use Rattle.std.specs.Prelude.{Option, Some, None}
 use Rattle.std.specs.Option.{option_map}
 use Rattle.std.specs.List.{Contains}
@@ -8,10 +8,11 @@ use Rattle.semantics.specs.Word.{Fault}
 use Rattle.semantics.specs.Launch.{Kernel, Launch, Fits}
 use Rattle.semantics.specs.Setup.{Setup, group_size, group_count}
 use Rattle.semantics.specs.Item.{Status, Running, Waiting, Ended, Stopped}
-use Rattle.semantics.specs.Solo.{Access}
+use Rattle.semantics.specs.Memory.{opening_memory}
+use Rattle.semantics.specs.Solo.{opening, Access}
 use Rattle.semantics.specs.World.{World, Event, opening_world, happens, run}
 use Rattle.semantics.specs.Safety.{Clash, Divergent, IsSafe}
-use Rattle.semantics.specs.Rounds.{result_by_rounds}
+use Rattle.semantics.specs.Rounds.{rounds_end, IsDefined, result_by_rounds}
 use Rattle.semantics.specs.Headline.{IsOver, HoldsOfRun, Headline}
 use Rattle.texts.specs.Bare.{nowhere}
 use Rattle.printing_laws.specs.BareCore.{bare_core}
@@ -19,7 +20,7 @@ use Rattle.printing_laws.specs.Meaning.{at_launch, MeansTheSame}
 use Rattle.printing_laws.specs.BareRuns.{bare_status, bare_setup}
 use Rattle.printing_laws.proofs.BareSteps.{bare-trail}
 use Rattle.printing_laws.proofs.BareWorlds.{bare_access, bare_world, bare-happens, bare-run, bare-opening_world}
-use Rattle.printing_laws.proofs.BareRounds.{bare-result}
+use Rattle.printing_laws.proofs.BareRounds.{bare-ends, bare-result}
 
 -- options and lists
 none-on : {A B : Type 0} (f : A → B) (o : Option A) (p : Option B) → p ≡ option_map f o → o ≡ None → p ≡ None
@@ -174,6 +175,12 @@ pub result-alike : (k l : Kernel) (given : Launch) (bound : ℕ) → bare_core k
 result-alike k l given bound e =
     sym (bare-result (at_launch k given) bound) ∙ ap (λ c. result_by_rounds (at_launch c given) bound) e ∙ bare-result (at_launch l given) bound
 
+defined-alike : (k l : Kernel) (given : Launch) (bound : ℕ) → bare_core k ≡ bare_core l → IsDefined (at_launch k given) bound → IsDefined (at_launch l given) bound
+unfolding group_count
+defined-alike k l given bound e h = λ g lower.
+    sym (bare-ends (at_launch l given) bound g) ∙ ap (λ c. rounds_end (at_launch c given) g (bound + 1) (bound + 1) (opening (at_launch c given)) (opening_memory (at_launch c given))) (sym e)
+    ∙ bare-ends (at_launch k given) bound g ∙ h g lower
+
 fits-on : (k : Kernel) (given : Launch) → Fits k given → Fits (bare_core k) given
 fits-on k given h = record { count_x = h.count_x; count_y = h.count_y; count_z = h.count_z; arguments = h.arguments; buffers = h.buffers; fill = h.fill }
 
@@ -189,5 +196,7 @@ means-the-same k l given bound e = record {
   fits_back = fits-alike l k given (sym e);
   headline = headline-alike k l given bound e;
   headline_back = headline-alike l k given bound (sym e);
+  defined = defined-alike k l given bound e;
+  defined_back = defined-alike l k given bound (sym e);
   result = result-alike k l given bound e;
 }

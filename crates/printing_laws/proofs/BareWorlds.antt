@@ -91,7 +91,7 @@ bare-waits Waiting = refl
 bare-waits Ended = refl
 bare-waits (Stopped f site) = refl
 
-every-same : (n : ℕ) (p q : ℕ → Bool) → ((k : ℕ) → p k ≡ q k) → every n p ≡ every n q
+pub every-same : (n : ℕ) (p q : ℕ → Bool) → ((k : ℕ) → p k ≡ q k) → every n p ≡ every n q
 every-same zero p q h = refl
 every-same (suc n) p q h = ap (λ b. b && every n p) (h n) ∙ ap (λ b. q n && b) (every-same n p q h)
 

@@ -1,13 +1,12 @@
 -- Forms of the first item, and the second one's copies of them.
 use Rattle.std.proofs.Common.{◌≡◌, ℕ, zero, suc, ◌+◌, ◌*◌, ◌/◌, ◌%◌, ◌<◌, ◌≤◌, ◌&&◌, Bool, true, false, cond, not, nat_lt, nat_le, List, ◌++◌, [], ◌∷◌, length, drop, get_or, drop-cons, add-one, append-nil, append_assoc, arith, refl, sym, ap, ◌∙◌, subst, lt-ltb, ltb-true}
-use Rattle.std.specs.Prelude.{ℤ, pos}
+use Rattle.std.specs.Prelude.{pos}
 use Rattle.std.specs.Ordering.{int_eq}
 use Rattle.std.proofs.Math.ListN.{drop_of_length-le}
 use Rattle.std.proofs.lemmas.Bool.{and_parts, and_from, le-ltb, leb-true, le-leb}
-use Rattle.semantics.specs.Linear.{Weighted}
 use Rattle.linear.specs.Exact.{Terms, is_rising, over}
 use Rattle.linear.specs.Forms.{form, forms}
-use Rattle.linear.specs.Terms.{term, terms, numbers}
+use Rattle.linear.specs.Terms.{terms, numbers}
 use Rattle.linear.specs.declared.form.Form.{Form}
 use Rattle.linear.specs.declared.term.Symbol.{Symbol}
 use Rattle.linear.specs.declared.term.Term.{Term}

@@ -2,7 +2,6 @@
 use Rattle.std.proofs.Common.{◌≡◌, ℕ, zero, suc, refl, ◌+◌, ◌-◌, ◌<◌, ◌≤◌, ◌&&◌, Bool, true, false, List, [], ◌∷◌, length, map, drop, get_or, drop-cons, add-one, sym, ap, subst, ◌∙◌, arith}
 use Rattle.std.specs.List.{All}
 use Rattle.std.proofs.Math.ListN.{drop_of_length-le}
-use Rattle.std.proofs.lemmas.Bool.{and_from}
 use Rattle.std.proofs.lemmas.List.{get_or-map, length-map, length-append, get_or_append_left, get_or-append-add}
 use Rattle.std.proofs.lemmas.List.Elements.{All-get_or}
 use Rattle.domain.specs.declared.Domain.{Ghosts}
@@ -14,7 +13,6 @@ use Rattle.facts.proofs.Tests.{and_left, and_right}
 use Rattle.obligations.specs.Fitting.{denials_fit, pair_fits, pairs_fit}
 use Rattle.obligations.specs.Pairs as specs
 use Rattle.obligations.specs.Pairs.{pair_obligation}
-use Rattle.obligations.specs.Trees.{Obligation}
 use Rattle.path_walk.specs.Paths.{Claimed}
 use Rattle.item_pairs.specs.Goals.{owed}
 use Rattle.item_pairs.specs.Listed.{no_obligation, nth_obligation, found_pairs, claims_listed, pairs_listed, listed, claims_fit}

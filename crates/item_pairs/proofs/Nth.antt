@@ -1,10 +1,8 @@
 -- Accesses and claims of paths by their numbers.
-use Rattle.std.proofs.Common.{◌≡◌, ℕ, ◌+◌, ◌-◌, ◌<◌, ◌≤◌, true, List, length, map, get_or, sym, ap, ◌∙◌, subst, arith}
-use Rattle.std.specs.List.{All}
+use Rattle.std.proofs.Common.{◌≡◌, ℕ, ◌-◌, ◌<◌, ◌≤◌, true, length, map, get_or, sym, ap, ◌∙◌, subst, arith}
 use Rattle.std.proofs.lemmas.List.{get_or-map, length-map}
 use Rattle.std.proofs.lemmas.List.Elements.{All-get_or}
 use Rattle.linear.specs.Forms.{forms}
-use Rattle.obligations.specs.Trees as trees
 use Rattle.path_walk.specs.Before.{HasFacts, HasAll}
 use Rattle.path_walk.specs.View.{followed, access_seen, claim_seen}
 use Rattle.path_walk.specs.declared.path.Access.{Access}

@@ -1,5 +1,5 @@
 -- The facts of a claim that is shown in a manner.
-use Rattle.std.proofs.Common.{◌≡◌, ◌++◌, ◌∙◌, List, [], ◌∷◌, Option, None, Some, Bool, refl, sym, ap, subst}
+use Rattle.std.proofs.Common.{◌≡◌, ◌++◌, ◌∙◌, List, [], ◌∷◌, Option, None, Some, refl, sym, ap, subst}
 use Rattle.facts.specs.Symbols.{Fact}
 use Rattle.facts.specs.declared.error.WalkError.{WalkError}
 use Rattle.obligations.specs.Trees.{Manner, Plainly, ByPositive, ByNegative, Goal, AtLeastZero, Either, added, with_facts, facts_by}

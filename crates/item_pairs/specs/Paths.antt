@@ -1,5 +1,5 @@
 -- All that several paths have, one after the other.
-use Rattle.std.specs.Prelude.{ℕ, pos, List, [], map, false}
+use Rattle.std.specs.Prelude.{pos, List, [], map, false}
 use Rattle.semantics.specs.Core.{Global}
 use Rattle.facts.specs.Symbols.{constant}
 use Rattle.obligations.specs.Held.{no_held}

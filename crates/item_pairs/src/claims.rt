@@ -118,12 +118,7 @@ pub fn try_claim<D: Copy>(alloc: Global, met: &Met<D>, i: usize) -> Result<(), W
 
 #[tactic(auto, using(facts::proofs::Facts::copies))]
 /// Facts of the launch, facts of an item, and one more.
-fn gathered(
-    alloc: Global,
-    launch: &[Form],
-    of: &[Form],
-    last: Form,
-) -> Result<Vec<Form>, WalkError>
+fn gathered(alloc: Global, launch: &[Form], of: &[Form], last: Form) -> Result<Vec<Form>, WalkError>
     ensures { MatchResult result (λ v. forms v.items ≡ (forms launch.now ++ forms of.now) ++ form_seen last ∷ []) IsMemory }
 {
     let mut facts = Vec::new(alloc);

@@ -42,4 +42,3 @@ impl<D: Copy> Met<D> {
         })
     }
 }
-

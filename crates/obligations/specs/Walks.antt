@@ -3,10 +3,10 @@ use Rattle.std.specs.Prelude.{ℕ, suc, ◌+◌, ℤ, pos, negsuc, List, [], ◌
 use Rattle.semantics.specs.Word.{Kind, Int, Uint}
 use Rattle.semantics.specs.Core.{Site}
 use Rattle.semantics.specs.Launch.{Three}
-use Rattle.linear.specs.Exact.{sum, multiple, fits_i64}
+use Rattle.linear.specs.Exact.{fits_i64}
 use Rattle.domain.specs.declared.Domain.{Ghosts}
 use Rattle.domain.specs.declared.Bounds.{Bounds}
-use Rattle.facts.specs.Symbols.{First, Symbol, New, Fact, constant, once, minus}
+use Rattle.facts.specs.Symbols.{First, New, Fact, constant, once, minus}
 use Rattle.facts.specs.Elements.{Known, between}
 use Rattle.obligations.specs.Held.{Held, with_new, element_at, is_settled_at, narrow}
 use Rattle.obligations.specs.Trees.{Sort, OfRange, Spot, Demand, Goal, AtLeastZero, Tree, Dead, Claim, Know, Fork}

@@ -7,7 +7,8 @@ ghost use Rattle.semantics.specs.Conditions.{Conditions, Meets};
 ghost use Rattle.semantics.specs.Safety.{IsPairSafe};
 ghost use Rattle.arrivals.specs.Shown.{IsShort};
 ghost use Rattle.obligations.specs.Covered.{is_covered};
-ghost use Rattle.obligations.specs.Shown.{obligations, IsShown};
+ghost use Rattle.obligations.specs.Seconds.{are_own_accesses};
+ghost use Rattle.obligations.specs.Shown.{obligations, item_accesses, IsShown};
 
 use domain::Domain;
 
@@ -17,7 +18,7 @@ pub fn what_is_shown_is_pair_safe<D: Domain>()
     ensures { (k : Kernel) (c : Conditions) (has_entry : ℕ → Bool) (l : Launch) (bound : ℕ) → is_covered k ≡ true → All IsShown (obligations D.Domain k c has_entry) → Fits k l → Meets c l → IsShort (record { kernel = k; launch = l }) bound → IsPairSafe (record { kernel = k; launch = l }) bound }
 {}
 
-/// Try.
-pub fn try_it<D: Domain>()
-    ensures { (k : Kernel) (c : Conditions) (has_entry : ℕ → Bool) → obligations D.Domain k c has_entry ≡ obligations D.Domain k c has_entry }
+/// The accesses that an item makes, and what is known before them, have symbols of the launch and of the first item alone.
+pub fn accesses_have_own_symbols<D: Domain>()
+    ensures { (k : Kernel) (c : Conditions) (has_entry : ℕ → Bool) → are_own_accesses (item_accesses D.Domain k c has_entry) ≡ true }
 {}

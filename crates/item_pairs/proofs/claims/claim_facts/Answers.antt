@@ -1,13 +1,10 @@
-use Rattle.std.proofs.Common.{◌≡◌, ap, sym, ◌∙◌, ◌++◌, ◌∷◌, [], take, Some, None}
+use Rattle.std.proofs.Common.{ap, sym, ◌∙◌, ◌++◌, ◌∷◌, [], take, Some, None}
 use Rattle.linear.specs.Forms.{form, forms}
 use Rattle.linear.proofs.FormLists.{forms-take}
 use Rattle.facts.proofs.Unmade.{handed}
-use Rattle.obligations.specs.Trees.{facts_by}
 use Rattle.path_walk.specs.Paths.{Claimed}
 use Rattle.path_walk.specs.View.{goal_seen}
-use Rattle.obligations.specs.Fitting.{denials_fit}
-use Rattle.item_pairs.specs.Goals.{manner, owed, maybe_form, maybe_forms}
-use Rattle.item_pairs.specs.Refusals.{DoNotFit}
+use Rattle.item_pairs.specs.Goals.{manner, maybe_form}
 use Rattle.item_pairs.specs.View.{nth_claim}
 use Rattle.item_pairs.proofs.Nth.{claim_is}
 use Rattle.item_pairs.proofs.Showing.{facts_are, unfit_goal}

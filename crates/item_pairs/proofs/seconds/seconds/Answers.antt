@@ -1,4 +1,4 @@
-use Rattle.std.proofs.Common.{◌≡◌, get_or, slice_index_or}
+use Rattle.std.proofs.Common.{slice_index_or}
 use Rattle.std.specs.Prelude.{pos}
 use Rattle.linear.specs.declared.term.Term.{Term}
 use Rattle.item_pairs.proofs.Copies.{any-default, own-front, seconds_step}

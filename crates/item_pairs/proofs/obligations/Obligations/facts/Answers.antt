@@ -1,7 +1,7 @@
-use Rattle.std.proofs.Common.{arith, refl, sym, ap, ◌<◌, ◌+◌, ◌-◌, ◌≡◌, ◌∙◌, length, append-nil, Some, None}
+use Rattle.std.proofs.Common.{arith, refl, sym, ap, ◌<◌, ◌+◌, ◌-◌, ◌≡◌, ◌∙◌, length, append-nil, Some}
 use Rattle.linear.specs.Forms.{forms}
 use Rattle.facts.proofs.Unmade.{matched, handed}
-use Rattle.obligations.specs.Fitting.{denials_fit, pairs_fit}
+use Rattle.obligations.specs.Fitting.{pairs_fit}
 use Rattle.facts.specs.View.{known_seen}
 use Rattle.obligations.specs.Pairs.{pair_facts, pair_obligation}
 use Rattle.obligations.specs.Trees.{facts_by}

@@ -1,4 +1,4 @@
-use Rattle.std.proofs.Common.{arith, refl, sym, ap, ◌<◌, ◌+◌, ◌-◌, ◌≡◌, ◌∙◌, length, get_or}
+use Rattle.std.proofs.Common.{arith, refl, sym, ap, ◌<◌, ◌+◌, ◌-◌, ◌≡◌, ◌∙◌, length}
 use Rattle.obligations.specs.Trees.{Obligation}
 use Rattle.item_pairs.proofs.Listing.{inside_at, listed_length, nth_is_claim, nth_is_pair}
 use Rattle.item_pairs.proofs.obligations.Obligations.spot.Goals as goal

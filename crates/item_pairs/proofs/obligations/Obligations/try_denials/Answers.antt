@@ -1,8 +1,5 @@
-use Rattle.std.proofs.Common.{rules, ◌≡◌, ◌≤◌, ◌<◌, length}
-use Rattle.std.specs.Prelude.{true}
+use Rattle.std.proofs.Common.{rules, ◌≤◌, ◌<◌, length}
 use Rattle.facts.proofs.Unmade.{handed}
-use Rattle.obligations.specs.Fitting.{denials_fit}
-use Rattle.item_pairs.specs.View.{nth_claim}
 use Rattle.item_pairs.proofs.Listing.{claim_unfit, claims-next, claims-end}
 use Rattle.item_pairs.proofs.obligations.Obligations.try_denials.Goals as goal
 

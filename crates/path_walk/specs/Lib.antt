@@ -1,5 +1,6 @@
 pub mod Paths
 pub mod Leads
 pub mod Before
+pub mod Without
 pub mod View
 pub mod Refusals

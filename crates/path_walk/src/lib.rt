@@ -4,7 +4,11 @@
 //! the accesses.
 #![tactic(auto)]
 
+mod held;
+mod narrowing;
 mod path;
+mod setting;
 mod steps;
 
 pub use path::{Access, Choice, Claim, Goal, Narrowed, Path, Sort, Spot, Target, Value};
+pub use setting::Setting;

@@ -7,6 +7,7 @@
 mod held;
 mod narrowing;
 mod path;
+mod ranges;
 mod setting;
 mod steps;
 

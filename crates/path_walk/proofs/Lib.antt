@@ -1,3 +1,5 @@
 pub mod Moves
 pub mod Leading
 pub mod Refusing
+pub mod Testing
+pub mod PastEnds

@@ -4,3 +4,5 @@ pub mod Before
 pub mod Without
 pub mod View
 pub mod Refusals
+pub mod Halts
+pub mod Sides

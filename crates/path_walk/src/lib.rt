@@ -4,12 +4,15 @@
 //! the accesses.
 #![tactic(auto)]
 
+mod halt;
 mod held;
 mod narrowing;
 mod path;
 mod ranges;
 mod setting;
 mod steps;
+mod tests;
 
+pub use halt::Halt;
 pub use path::{Access, Choice, Claim, Goal, Narrowed, Path, Sort, Spot, Target, Value};
 pub use setting::Setting;

@@ -1,0 +1,206 @@
+//! Tests: each way begins with the facts of its outcome.
+
+ghost use Rattle.std.specs.Prelude.{◌≡◌, ◌&&◌, pos, int_lt, MatchResult};
+ghost use Rattle.linear.specs.Exact.{fits_i64};
+ghost use Rattle.linear.specs.Forms.{form as form_seen};
+ghost use Rattle.semantics.specs.Word.{Equal, Unequal};
+ghost use Rattle.core_code.specs.View.{relation as relation_seen};
+ghost use Rattle.facts.specs.Symbols.{minus};
+ghost use Rattle.facts.specs.Refusals.{IsUnfit};
+ghost use Rattle.obligations.specs.Walks as walks;
+ghost use Rattle.obligations.specs.Tests as tests;
+ghost use Rattle.path_walk.specs.Leads.{Steps, Leads};
+ghost use Rattle.path_walk.specs.Halts.{HaltsAtStep, Halts};
+ghost use Rattle.path_walk.specs.Sides.{side, split_sides};
+ghost use Rattle.path_walk.specs.View.{followed, setting as seen};
+
+use crate::halt::Halt;
+use crate::narrowing::narrow;
+use crate::path::Path;
+use crate::setting::Setting;
+use core_code::tree::Relation;
+use domain::Domain;
+use facts::{WalkError, less_number};
+use linear::Form;
+use std::alloc::Global;
+
+/// A form without terms.
+pub fn is_number(form: &Form) -> bool
+    ensures { result ≡ walks.is_number (form_seen form.now) }
+{
+    form.terms().is_empty()
+}
+
+/// A number of 64 bits is below 0.
+fn is_negative(number: i64) -> bool
+    ensures { result ≡ (fits_i64 number && int_lt number (pos 0)) }
+{
+    number < 0
+}
+
+/// No item goes on where the form would have to be at least 0.
+fn is_dead(form: &Form) -> bool
+    ensures { result ≡ walks.is_dead (form_seen form.now) }
+{
+    is_number(form) && is_negative(form.constant_part())
+}
+
+/// A fact of a test, which narrows.
+fn know_test<D: Domain>(setting: &Setting<D>, path: &mut Path<D>, fact: Form) -> Result<(), Halt>
+    ensures { MatchResult result (λ _. Steps (followed path.old) (followed path.new) (walks.know_test (seen D.Domain setting.now) (form_seen fact))) (λ h. HaltsAtStep ⊥ (followed path.old) (followed path.new) h (walks.know_test (seen D.Domain setting.now) (form_seen fact))) }
+{
+    if is_dead(&fact) {
+        return Err(Halt::Dead);
+    }
+    narrow(setting, path, &fact)?;
+    path.know(fact)?;
+    Ok(())
+}
+
+/// One form less another.
+fn difference(alloc: Global, left: &Form, right: &Form) -> Result<Form, WalkError>
+    ensures { MatchResult result (λ f. form_seen f ≡ minus (form_seen left.now) (form_seen right.now)) (λ e. IsUnfit e (minus (form_seen left.now) (form_seen right.now))) }
+{
+    let form = left.sub(alloc, right)?;
+    Ok(form)
+}
+
+/// A form is below another: the difference less 1, in the order in which no number on the way leaves 64 bits.
+fn below(alloc: Global, left: &Form, right: &Form) -> Result<Form, WalkError>
+    ensures { MatchResult result (λ f. form_seen f ≡ tests.below (form_seen left.now) (form_seen right.now)) (λ e. IsUnfit e (tests.below (form_seen left.now) (form_seen right.now))) }
+{
+    if is_negative(right.constant_part()) {
+        let form = difference(alloc, right, left)?;
+        return less_number(alloc, &form, 1);
+    }
+    let most = less_number(alloc, right, 1)?;
+    difference(alloc, &most, left)
+}
+
+/// What holds on a way of a comparison.
+fn side_fact(
+    alloc: Global,
+    relation: Relation,
+    first: bool,
+    left: &Form,
+    right: &Form,
+) -> Result<Form, WalkError>
+    ensures { MatchResult result (λ f. form_seen f ≡ side (relation_seen relation) first (form_seen left.now) (form_seen right.now)) (λ e. IsUnfit e (side (relation_seen relation) first (form_seen left.now) (form_seen right.now))) }
+{
+    match (relation, first) {
+        (Relation::Less, true) | (Relation::AtLeast, false) => below(alloc, left, right),
+        (Relation::AtMost, false) | (Relation::More, true) => below(alloc, right, left),
+        (Relation::Less, false) | (Relation::AtLeast, true) => difference(alloc, left, right),
+        (Relation::AtMost, true) | (Relation::More, false) => difference(alloc, right, left),
+        (Relation::Equal | Relation::Unequal, true) => below(alloc, left, right),
+        (Relation::Equal | Relation::Unequal, false) => below(alloc, right, left),
+    }
+}
+
+/// The fact of a way of a comparison.
+fn know_side<D: Domain>(
+    alloc: Global,
+    setting: &Setting<D>,
+    path: &mut Path<D>,
+    relation: Relation,
+    first: bool,
+    left: &Form,
+    right: &Form,
+) -> Result<(), Halt>
+    ensures { MatchResult result (λ _. Steps (followed path.old) (followed path.new) (walks.know_test (seen D.Domain setting.now) (side (relation_seen relation) first (form_seen left.now) (form_seen right.now)))) (λ h. HaltsAtStep ⊥ (followed path.old) (followed path.new) h (walks.know_test (seen D.Domain setting.now) (side (relation_seen relation) first (form_seen left.now) (form_seen right.now)))) }
+{
+    let fact = side_fact(alloc, relation, first, left, right)?;
+    know_test(setting, path, fact)
+}
+
+/// Two facts of a test: the forms are equal.
+fn know_equal<D: Domain>(
+    alloc: Global,
+    setting: &Setting<D>,
+    path: &mut Path<D>,
+    left: &Form,
+    right: &Form,
+) -> Result<(), Halt>
+    ensures { MatchResult result (λ _. Steps (followed path.old) (followed path.new) (walks.know_two (seen D.Domain setting.now) (minus (form_seen left.now) (form_seen right.now)) (minus (form_seen right.now) (form_seen left.now)))) (λ h. HaltsAtStep ⊥ (followed path.old) (followed path.new) h (walks.know_two (seen D.Domain setting.now) (minus (form_seen left.now) (form_seen right.now)) (minus (form_seen right.now) (form_seen left.now)))) }
+{
+    know_side(alloc, setting, path, Relation::AtLeast, true, left, right)?;
+    know_side(alloc, setting, path, Relation::AtLeast, true, right, left)
+}
+
+/// The two ways of a relation, one form below the other on one of them.
+fn split_sides<D: Domain>(
+    alloc: Global,
+    setting: &Setting<D>,
+    path: &mut Path<D>,
+    relation: Relation,
+    left: &Form,
+    right: &Form,
+) -> Result<bool, Halt>
+    ensures { MatchResult result (λ b. Leads (followed path.old) (followed path.new) (split_sides (seen D.Domain setting.now) (relation_seen relation) (form_seen left.now) (form_seen right.now)) b) (λ h. Halts ⊥ (followed path.old) (followed path.new) h (split_sides (seen D.Domain setting.now) (relation_seen relation) (form_seen left.now) (form_seen right.now))) }
+{
+    let first = path.choose()?;
+    know_side(alloc, setting, path, relation, first, left, right)?;
+    Ok(first)
+}
+
+/// The ways of equality: equal, below, above.
+fn split_equal<D: Domain>(
+    alloc: Global,
+    setting: &Setting<D>,
+    path: &mut Path<D>,
+    left: &Form,
+    right: &Form,
+) -> Result<bool, Halt>
+    ensures { MatchResult result (λ b. Leads (followed path.old) (followed path.new) (tests.split (seen D.Domain setting.now) Equal (form_seen left.now) (form_seen right.now)) b) (λ h. Halts ⊥ (followed path.old) (followed path.new) h (tests.split (seen D.Domain setting.now) Equal (form_seen left.now) (form_seen right.now))) }
+{
+    if path.choose()? {
+        know_equal(alloc, setting, path, left, right)?;
+        return Ok(true);
+    }
+    let first = path.choose()?;
+    know_side(alloc, setting, path, Relation::Equal, first, left, right)?;
+    Ok(false)
+}
+
+/// The ways of inequality: below, above, equal.
+fn split_unequal<D: Domain>(
+    alloc: Global,
+    setting: &Setting<D>,
+    path: &mut Path<D>,
+    left: &Form,
+    right: &Form,
+) -> Result<bool, Halt>
+    ensures { MatchResult result (λ b. Leads (followed path.old) (followed path.new) (tests.split (seen D.Domain setting.now) Unequal (form_seen left.now) (form_seen right.now)) b) (λ h. Halts ⊥ (followed path.old) (followed path.new) h (tests.split (seen D.Domain setting.now) Unequal (form_seen left.now) (form_seen right.now))) }
+{
+    if path.choose()? {
+        know_side(alloc, setting, path, Relation::Unequal, true, left, right)?;
+        return Ok(true);
+    }
+    if path.choose()? {
+        know_side(alloc, setting, path, Relation::Unequal, false, left, right)?;
+        return Ok(true);
+    }
+    know_equal(alloc, setting, path, left, right)?;
+    Ok(false)
+}
+
+/// The ways of a comparison, in their order.
+pub fn split<D: Domain>(
+    alloc: Global,
+    setting: &Setting<D>,
+    path: &mut Path<D>,
+    relation: Relation,
+    left: &Form,
+    right: &Form,
+) -> Result<bool, Halt>
+    ensures { MatchResult result (λ b. Leads (followed path.old) (followed path.new) (tests.split (seen D.Domain setting.now) (relation_seen relation) (form_seen left.now) (form_seen right.now)) b) (λ h. Halts ⊥ (followed path.old) (followed path.new) h (tests.split (seen D.Domain setting.now) (relation_seen relation) (form_seen left.now) (form_seen right.now))) }
+{
+    match relation {
+        Relation::Less => split_sides(alloc, setting, path, Relation::Less, left, right),
+        Relation::AtMost => split_sides(alloc, setting, path, Relation::AtMost, left, right),
+        Relation::More => split_sides(alloc, setting, path, Relation::More, left, right),
+        Relation::AtLeast => split_sides(alloc, setting, path, Relation::AtLeast, left, right),
+        Relation::Equal => split_equal(alloc, setting, path, left, right),
+        Relation::Unequal => split_unequal(alloc, setting, path, left, right),
+    }
+}

@@ -1,12 +1,12 @@
 //! Tests: each way begins with the facts of its outcome.
 
-ghost use Rattle.std.specs.Prelude.{◌≡◌, ◌&&◌, pos, int_lt, MatchResult};
-ghost use Rattle.linear.specs.Exact.{fits_i64};
+ghost use Rattle.std.specs.Prelude.{◌≡◌, ◌&&◌, pos, negsuc, int_lt, MatchResult};
+ghost use Rattle.linear.specs.Exact.{fits_i64, multiple};
 ghost use Rattle.linear.specs.Forms.{form as form_seen};
 ghost use Rattle.semantics.specs.Word.{Equal, Unequal};
 ghost use Rattle.core_code.specs.View.{relation as relation_seen};
-ghost use Rattle.facts.specs.Symbols.{minus};
-ghost use Rattle.facts.specs.Refusals.{IsUnfit};
+ghost use Rattle.facts.specs.Symbols.{constant, minus};
+ghost use Rattle.facts.specs.Refusals.{IsMemory, IsUnfit};
 ghost use Rattle.obligations.specs.Walks as walks;
 ghost use Rattle.obligations.specs.Tests as tests;
 ghost use Rattle.path_walk.specs.Leads.{Steps, Leads};
@@ -20,7 +20,7 @@ use crate::path::Path;
 use crate::setting::Setting;
 use core_code::tree::Relation;
 use domain::Domain;
-use facts::{WalkError, less_number};
+use facts::{WalkError, less_number, number_less};
 use linear::Form;
 use std::alloc::Global;
 
@@ -203,4 +203,106 @@ pub fn split<D: Domain>(
         Relation::Equal => split_equal(alloc, setting, path, left, right),
         Relation::Unequal => split_unequal(alloc, setting, path, left, right),
     }
+}
+
+/// The same form again.
+pub fn copied(alloc: Global, form: &Form) -> Result<Form, WalkError>
+    ensures { MatchResult result (λ f. form_seen f ≡ form_seen form.now) IsMemory }
+{
+    let copy = form.copy(alloc)?;
+    Ok(copy)
+}
+
+/// A form's negation.
+fn negated(alloc: Global, form: &Form) -> Result<Form, WalkError>
+    ensures { MatchResult result (λ f. form_seen f ≡ multiple (negsuc 0) (form_seen form.now)) (λ e. IsUnfit e (multiple (negsuc 0) (form_seen form.now))) }
+{
+    let negation = form.times(alloc, -1)?;
+    Ok(negation)
+}
+
+/// A form is above 0.
+fn know_above<D: Domain>(
+    alloc: Global,
+    setting: &Setting<D>,
+    path: &mut Path<D>,
+    form: &Form,
+) -> Result<(), Halt>
+    ensures { MatchResult result (λ _. Steps (followed path.old) (followed path.new) (walks.know_test (seen D.Domain setting.now) (minus (form_seen form.now) (constant (pos 1))))) (λ h. HaltsAtStep ⊥ (followed path.old) (followed path.new) h (walks.know_test (seen D.Domain setting.now) (minus (form_seen form.now) (constant (pos 1))))) }
+{
+    let fact = less_number(alloc, form, 1)?;
+    know_test(setting, path, fact)
+}
+
+/// A form is below 0.
+fn know_below<D: Domain>(
+    alloc: Global,
+    setting: &Setting<D>,
+    path: &mut Path<D>,
+    form: &Form,
+) -> Result<(), Halt>
+    ensures { MatchResult result (λ _. Steps (followed path.old) (followed path.new) (walks.know_test (seen D.Domain setting.now) (minus (constant (negsuc 0)) (form_seen form.now)))) (λ h. HaltsAtStep ⊥ (followed path.old) (followed path.new) h (walks.know_test (seen D.Domain setting.now) (minus (constant (negsuc 0)) (form_seen form.now)))) }
+{
+    let fact = number_less(alloc, -1, form)?;
+    know_test(setting, path, fact)
+}
+
+/// A form is at least 0.
+fn know_form<D: Domain>(
+    alloc: Global,
+    setting: &Setting<D>,
+    path: &mut Path<D>,
+    form: &Form,
+) -> Result<(), Halt>
+    ensures { MatchResult result (λ _. Steps (followed path.old) (followed path.new) (walks.know_test (seen D.Domain setting.now) (form_seen form.now))) (λ h. HaltsAtStep ⊥ (followed path.old) (followed path.new) h (walks.know_test (seen D.Domain setting.now) (form_seen form.now))) }
+{
+    let fact = copied(alloc, form)?;
+    know_test(setting, path, fact)
+}
+
+/// A form is at most 0.
+fn know_negated<D: Domain>(
+    alloc: Global,
+    setting: &Setting<D>,
+    path: &mut Path<D>,
+    form: &Form,
+) -> Result<(), Halt>
+    ensures { MatchResult result (λ _. Steps (followed path.old) (followed path.new) (walks.know_test (seen D.Domain setting.now) (multiple (negsuc 0) (form_seen form.now)))) (λ h. HaltsAtStep ⊥ (followed path.old) (followed path.new) h (walks.know_test (seen D.Domain setting.now) (multiple (negsuc 0) (form_seen form.now)))) }
+{
+    let fact = negated(alloc, form)?;
+    know_test(setting, path, fact)
+}
+
+/// Two facts of a test: a form is 0.
+fn know_zero<D: Domain>(
+    alloc: Global,
+    setting: &Setting<D>,
+    path: &mut Path<D>,
+    form: &Form,
+) -> Result<(), Halt>
+    ensures { MatchResult result (λ _. Steps (followed path.old) (followed path.new) (walks.know_two (seen D.Domain setting.now) (form_seen form.now) (multiple (negsuc 0) (form_seen form.now)))) (λ h. HaltsAtStep ⊥ (followed path.old) (followed path.new) h (walks.know_two (seen D.Domain setting.now) (form_seen form.now) (multiple (negsuc 0) (form_seen form.now)))) }
+{
+    know_form(alloc, setting, path, form)?;
+    know_negated(alloc, setting, path, form)
+}
+
+/// A number as a test: above 0, below 0, or 0.
+pub fn split_number<D: Domain>(
+    alloc: Global,
+    setting: &Setting<D>,
+    path: &mut Path<D>,
+    form: &Form,
+) -> Result<bool, Halt>
+    ensures { MatchResult result (λ b. Leads (followed path.old) (followed path.new) (tests.split_number (seen D.Domain setting.now) (form_seen form.now)) b) (λ h. Halts ⊥ (followed path.old) (followed path.new) h (tests.split_number (seen D.Domain setting.now) (form_seen form.now))) }
+{
+    if path.choose()? {
+        know_above(alloc, setting, path, form)?;
+        return Ok(true);
+    }
+    if path.choose()? {
+        know_below(alloc, setting, path, form)?;
+        return Ok(true);
+    }
+    know_zero(alloc, setting, path, form)?;
+    Ok(false)
 }

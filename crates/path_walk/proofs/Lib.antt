@@ -3,3 +3,4 @@ pub mod Leading
 pub mod Refusing
 pub mod Testing
 pub mod PastEnds
+pub mod Exactly

@@ -4,6 +4,7 @@
 //! the accesses.
 #![tactic(auto)]
 
+mod exact;
 mod halt;
 mod held;
 mod narrowing;

@@ -58,7 +58,7 @@ fn know_test<D: Domain>(setting: &Setting<D>, path: &mut Path<D>, fact: Form) ->
 }
 
 /// One form less another.
-fn difference(alloc: Global, left: &Form, right: &Form) -> Result<Form, WalkError>
+pub fn difference(alloc: Global, left: &Form, right: &Form) -> Result<Form, WalkError>
     ensures { MatchResult result (λ f. form_seen f ≡ minus (form_seen left.now) (form_seen right.now)) (λ e. IsUnfit e (minus (form_seen left.now) (form_seen right.now))) }
 {
     let form = left.sub(alloc, right)?;
@@ -214,7 +214,7 @@ pub fn copied(alloc: Global, form: &Form) -> Result<Form, WalkError>
 }
 
 /// A form's negation.
-fn negated(alloc: Global, form: &Form) -> Result<Form, WalkError>
+pub fn negated(alloc: Global, form: &Form) -> Result<Form, WalkError>
     ensures { MatchResult result (λ f. form_seen f ≡ multiple (negsuc 0) (form_seen form.now)) (λ e. IsUnfit e (multiple (negsuc 0) (form_seen form.now))) }
 {
     let negation = form.times(alloc, -1)?;

@@ -4,3 +4,4 @@ pub mod Refusing
 pub mod Testing
 pub mod PastEnds
 pub mod Exactly
+pub mod Turning

@@ -7,6 +7,7 @@
 mod exact;
 mod halt;
 mod held;
+pub mod laws;
 mod narrowing;
 mod path;
 mod ranges;

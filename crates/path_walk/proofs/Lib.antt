@@ -5,3 +5,4 @@ pub mod Testing
 pub mod PastEnds
 pub mod Exactly
 pub mod Turning
+pub mod Collecting

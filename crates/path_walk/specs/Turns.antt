@@ -1,9 +1,10 @@
 -- All paths of a tree in turn: what each notes, and the choices of the next one.
-use Rattle.std.specs.Prelude.{◌≡◌, ℕ, suc, List, [], ◌∷◌, ◌++◌, Bool, Option, Some, None}
+use Rattle.std.specs.Prelude.{◌≡◌, ℕ, suc, List, [], ◌∷◌, ◌++◌, Bool, true, ◌&&◌, Option, Some, None}
+use Rattle.linear.specs.Exact.{fits}
 use Rattle.facts.specs.Symbols.{Fact}
 use Rattle.obligations.specs.Held.{Held}
-use Rattle.obligations.specs.Trees.{Demand, Goal, Target, Tree, Leaf, Dead, Claim, Know, Touch, Fork, Access, after}
-use Rattle.path_walk.specs.Paths.{Choice, First, Other, front, behind, by_choice, Claimed}
+use Rattle.obligations.specs.Trees.{Demand, Goal, Target, Tree, Leaf, Dead, Claim, Know, Touch, Fork, Access, Obligation, claimed, after}
+use Rattle.path_walk.specs.Paths.{Choice, First, Other, front, behind, by_choice, is_goal_fit, Claimed}
 
 -- what is listed of a tree: of each claim, of each access, of each end
 pub record Listed (E A : Type 0) : Type 0 where
@@ -85,3 +86,19 @@ listed_claims = record { of_claim = λ facts o needed settled g. record { demand
 
 abbrev pub listed_accesses : {E : Type 0} → Listed E (Access E)
 listed_accesses = record { of_claim = λ facts o needed settled g. []; of_access = λ facts t i h. record { target = t; index = i; held = h; facts = facts } ∷ []; of_end = [] }
+
+abbrev pub listed_ends : {E : Type 0} → Listed E (Unit {0})
+listed_ends = record { of_claim = λ facts o needed settled g. []; of_access = λ facts t i h. []; of_end = tt ∷ [] }
+
+-- a claim as an obligation, with the facts of the launch
+abbrev pub obliged : (launch : List Fact) → Claimed → Obligation
+obliged launch c = claimed launch c.facts c.demand c.needed c.settled c.goal
+
+-- all forms of a tree, in front of which n claims stand, are of `i64`
+abbrev pub is_tree_fit : {E : Type 0} → ℕ → Tree E → Bool
+is_tree_fit n Leaf = true
+is_tree_fit n Dead = true
+is_tree_fit n (Claim o needed settled g rest) = is_goal_fit g && is_tree_fit (suc n) rest
+is_tree_fit n (Know f rest) = fits f && is_tree_fit n rest
+is_tree_fit n (Touch t i h rest) = fits i && is_tree_fit n rest
+is_tree_fit n (Fork a b) = is_tree_fit n a && is_tree_fit (after n a) (b (after n a))

@@ -61,12 +61,6 @@ keeps s kept f l m d e a go =
     ∙ a (λ st'. walks.kept_or_new s kept f st' go)
     ∙ ap (λ c. collect m.found (walks.kept_or_new s c f m.state go)) e
 
-pub buffer_steps : {E : Type 0} (s : Setting E) (b : ℕ) (i low last room : Fact) (l m n : Followed E) → low ≡ i → last ≡ minus (once (Length b)) (constant (pos 1)) → room ≡ minus last i → Steps l m (walks.claim_form s OfIndex true low) → Steps m n (walks.claim_form s OfIndex true room) →
-    (go : State E → Tree E) → collect l.found (walks.claim_form s OfIndex true i l.state (λ st'. walks.claim_form s OfIndex true (minus (minus (once (Length b)) (constant (pos 1))) i) st' go)) ≡ collect n.found (go n.state)
-buffer_steps s b i low last room l m n d e f a c go =
-    (λ j. collect l.found (walks.claim_form s OfIndex true (sym d j) l.state (λ st'. walks.claim_form s OfIndex true (sym (f ∙ ap (λ x. minus x i) e) j) st' go)))
-    ∙ a (λ st'. walks.claim_form s OfIndex true room st' go) ∙ c go
-
 abbrev fork_by : {E : Type 0} (m : Followed E) (go : Bool → State E → Tree E) → Choice → Found E
 fork_by m go c = by_choice c (collect (take_first m.found) (go true m.state)) (λ k. collect (take_other k m.found) (go false (counted k m.state)))
 

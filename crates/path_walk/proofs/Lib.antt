@@ -4,5 +4,6 @@ pub mod Refusing
 pub mod Testing
 pub mod PastEnds
 pub mod Exactly
+pub mod Accessing
 pub mod Turning
 pub mod Collecting

@@ -4,9 +4,11 @@
 //! the accesses.
 #![tactic(auto)]
 
+mod accesses;
 mod exact;
 mod halt;
 mod held;
+mod ids;
 pub mod laws;
 mod narrowing;
 mod path;

@@ -4,6 +4,7 @@
 //! impossible of each.
 #![tactic(auto)]
 
+mod apart;
 mod claims;
 mod clashing;
 mod looking;

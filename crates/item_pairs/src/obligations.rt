@@ -4,7 +4,8 @@ ghost use Rattle.std.specs.Prelude.{◌≤◌, ◌+◌, length};
 ghost use Rattle.std.specs.List.{All};
 ghost use Rattle.item_pairs.specs.Refusals.{IsInside};
 
-use crate::claims::{claim_facts, is_needed, sort_of, spot_of_claim, try_claim};
+use crate::apart::is_apart;
+use crate::claims::{claim_facts, is_needed, is_settled, sort_of, spot_of_claim, try_claim};
 use crate::clashing::{pair_facts, try_differences};
 use crate::manner::Manner;
 use crate::met::Met;
@@ -128,6 +129,21 @@ impl<D: Domain> Obligations<D> {
             return is_needed(&self.met, i);
         }
         true
+    }
+
+    /// The domain alone shows it.
+    pub fn is_settled(&self, alloc: Global, number: usize) -> Result<bool, WalkError>
+        requires first { 0 < number }
+        requires last { number ≤ length (listed D.Domain self.now) }
+        ensures { MatchResult result (λ b. b ≡ (nth_obligation (listed D.Domain self.now) number).settled) (DoNotFit (made_fit self.now)) }
+    {
+        let i = number - 1;
+        let claims = self.met.claims.len();
+        if i < claims {
+            return Ok(is_settled(&self.met, i));
+        }
+        let pair = self.pairs[i - claims];
+        is_apart(alloc, &self.known, &self.met, pair)
     }
 
     /// The facts that are to be impossible where it is shown in a manner; none where the manner does not fit.

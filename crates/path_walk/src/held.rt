@@ -11,7 +11,7 @@ ghost use Rattle.facts.specs.View.{known_seen, elements_seen};
 ghost use Rattle.obligations.specs.Held as held;
 ghost use Rattle.path_walk.specs.Paths.{with_held};
 ghost use Rattle.path_walk.specs.Without.{element_without};
-ghost use Rattle.path_walk.specs.View.{followed, narrowed_seen};
+ghost use Rattle.path_walk.specs.View.{followed, held_seen, narrowed_seen};
 
 use crate::path::{Narrowed, Path};
 use crate::setting::Setting;
@@ -114,4 +114,17 @@ pub fn settles<D: Domain>(setting: &Setting<D>, path: &Path<D>, form: &Form) -> 
         Some(low) => low >= 0,
         None => false,
     }
+}
+
+/// A symbol's element, by the elements of new symbols and by what was narrowed.
+pub fn element_from<D: Domain>(
+    known: &Known<D>,
+    news: &[D],
+    narrowed: &[Narrowed<D>],
+    symbol: Symbol,
+) -> D
+    ensures { result ≡ held.element_held D.Domain (known_seen known.now) (held_seen news.now narrowed.now) symbol.number }
+{
+    let found = known_element(known, news, symbol);
+    latest(found, narrowed, symbol)
 }

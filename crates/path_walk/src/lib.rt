@@ -18,5 +18,6 @@ mod steps;
 mod tests;
 
 pub use halt::Halt;
+pub use held::element_from;
 pub use path::{Access, Choice, Claim, Goal, Narrowed, Path, Sort, Spot, Target, Value};
 pub use setting::Setting;

@@ -16,9 +16,10 @@ pub fn plain_kernels_are_covered()
     ensures { (k : Kernel) (c : Conditions) → HasLimits k c → IsPlain k c → is_covered k ≡ true }
 {}
 
-/// They have one path.
+/// The tree of what an item does has one path: no test forks it, and it comes to an end.
 pub fn plain_kernels_have_few_paths()
-    ensures { (k : Kernel) (c : Conditions) (has_entry : ℕ → Bool) → HasLimits k c → IsPlain k c → (leaves 0 (tree (setting domain k c has_entry) k) ≡ 1) × (has_fork (tree (setting domain k c has_entry) k) ≡ false) }
+    ensures one_path { (k : Kernel) (c : Conditions) (has_entry : ℕ → Bool) → HasLimits k c → IsPlain k c → leaves 0 (tree (setting domain k c has_entry) k) ≡ 1 }
+    ensures no_fork { (k : Kernel) (c : Conditions) (has_entry : ℕ → Bool) → HasLimits k c → IsPlain k c → has_fork (tree (setting domain k c has_entry) k) ≡ false }
 {}
 
 /// No number of a form that is made to show their obligations leaves `i64`.

@@ -26,30 +26,30 @@ module _ (s : Setup) (k : Notes) (sound : IsSound s) (shown : Shown s k) (faults
   abbrev it : Item
   it = after s i ws
 
-  fault_at : (again : Bool) (st : Statement) (t : ℕ) (r : List Entry) → (moved it (act s i it st t r) z).status ≡ Stopped f site → (h : Standing s k i (passed s i ws) (record { statement = st; turns = t } ∷ r) it.variables (front_one st (has_turned t) (bare r))) → IsFront (record { statement = left st again; path = h.path }) h.path (front_one st (has_turned t) (bare r) h.turns) → ⊥
-  fault_at again st t r e h q = faults h.place (record { statement = left st again; path = h.path }) h.is_place (h.fronts (record { statement = left st again; path = h.path }) q) i h.start (held it.variables h.ranks) is_item h.came
-      (record { it = it; turns = t; rest = r; answer = z; fault = f; site = site; variables = refl; stops = e })
+  fault_at : (again : Bool) (st : Statement) (t : ℕ) (r : List Entry) → it.status ≡ Running → (moved it (act s i it st t r) z).status ≡ Stopped f site → (h : Standing s k i (passed s i ws) (record { statement = st; turns = t } ∷ r) it.variables (front_one st (has_turned t) (bare r))) → IsFront (record { statement = left st again; path = h.path }) h.path (front_one st (has_turned t) (bare r) h.turns) → ⊥
+  fault_at again st t r run e h q = faults h.place (record { statement = left st again; path = h.path }) h.is_place (h.fronts (record { statement = left st again; path = h.path }) q) i h.start (held it.variables h.ranks) is_item h.came
+      (record { it = it; turns = t; rest = r; answer = z; fault = f; site = site; runs = run; variables = refl; stops = e })
 
-  fault_by : (st : Statement) (t : ℕ) (r : List Entry) → (moved it (act s i it st t r) z).status ≡ Stopped f site → Standing s k i (passed s i ws) (record { statement = st; turns = t } ∷ r) it.variables (front_one st (has_turned t) (bare r)) → ⊥
-  fault_by (Set m x e) t r h p = fault_at (has_turned t) (Set m x e) t r h p (inl refl)
-  fault_by (Store m y a x e) t r h p = fault_at (has_turned t) (Store m y a x e) t r h p (inl refl)
-  fault_by (If m e yeses noes) t r h p = fault_at (has_turned t) (If m e yeses noes) t r h p (inl refl)
-  fault_by (Loop m e b u) t r h p = fault_at (told_turned (have_barrier b || have_barrier u) (has_turned t)) (Loop m e b u) t r h p (in_front m e b u (has_turned t) (bare r) (have_barrier b || have_barrier u) p.turns p.path)
-  fault_by (Barrier m l g) t r h p = cc
-  fault_by (Return m) t r h p = cc
-  fault_by (Break m j) t r h p = goes_on (leave j r) f site h
-  fault_by (Continue m j) t r h p = goes_on (resume j r) f site h
+  fault_by : (st : Statement) (t : ℕ) (r : List Entry) → it.status ≡ Running → (moved it (act s i it st t r) z).status ≡ Stopped f site → Standing s k i (passed s i ws) (record { statement = st; turns = t } ∷ r) it.variables (front_one st (has_turned t) (bare r)) → ⊥
+  fault_by (Set m x e) t r run h p = fault_at (has_turned t) (Set m x e) t r run h p (inl refl)
+  fault_by (Store m y a x e) t r run h p = fault_at (has_turned t) (Store m y a x e) t r run h p (inl refl)
+  fault_by (If m e yeses noes) t r run h p = fault_at (has_turned t) (If m e yeses noes) t r run h p (inl refl)
+  fault_by (Loop m e b u) t r run h p = fault_at (told_turned (have_barrier b || have_barrier u) (has_turned t)) (Loop m e b u) t r run h p (in_front m e b u (has_turned t) (bare r) (have_barrier b || have_barrier u) p.turns p.path)
+  fault_by (Barrier m l g) t r run h p = cc
+  fault_by (Return m) t r run h p = cc
+  fault_by (Break m j) t r run h p = goes_on (leave j r) f site h
+  fault_by (Continue m j) t r run h p = goes_on (resume j r) f site h
 
-  fault_left : (left : List Entry) → (moved it (front s i it left) z).status ≡ Stopped f site → Stands s k i (passed s i ws) left it.variables → ⊥
-  fault_left [] h p = cc
-  fault_left (e ∷ r) h p = fault_by e.statement e.turns r h (rooted s k shown i is_item (passed s i ws) (e ∷ r) it.variables p)
+  fault_left : (left : List Entry) → it.status ≡ Running → (moved it (front s i it left) z).status ≡ Stopped f site → Stands s k i (passed s i ws) left it.variables → ⊥
+  fault_left [] run h p = cc
+  fault_left (e ∷ r) run h p = fault_by e.statement e.turns r run h (rooted s k shown i is_item (passed s i ws) (e ∷ r) it.variables p)
 
   passed_on : (left : List Entry) → (moved it (passes it left) z).status ≡ Stopped f site → ⊥
   passed_on [] h = cc
   passed_on (e ∷ r) h = goes_on r f site h
 
   fault_status : (st : Status) → it.status ≡ st → ((g : Fault) (at : Site) → it.status ≢ Stopped g at) → (moved it (by_status s i it st) z).status ≡ Stopped f site → Placed s k i (passed s i ws) it.left it.variables st → ⊥
-  fault_status Running e before h p = fault_left it.left h p
+  fault_status Running e before h p = fault_left it.left e h p
   fault_status Waiting e before h p = passed_on it.left h
   fault_status Ended e before h p = before f site h
   fault_status (Stopped g at) e before h p = before f site h

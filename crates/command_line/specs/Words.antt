@@ -30,4 +30,5 @@ abbrev pub Asks : List (List ℕ) → Line → Type 0
 Asks ws lines.First = ws ≡ []
 Asks ws (lines.Check names) = HasWord ws 0 (codes "check") × HasNames ws names
 Asks ws (lines.Run names launch workers) = HasWord ws 0 (codes "run") × HasNames ws names × HasWord ws 4 launch.now
+Asks ws (lines.Print kernel) = HasWord ws 0 (codes "print") × HasWord ws 1 kernel.now
 Asks ws lines.Usage = Unit {0}

@@ -22,6 +22,8 @@ pub enum Line<'a> {
         launch: &'a str,
         workers: u32,
     },
+    /// The canonical text of a file's kernel.
+    Print(&'a str),
     /// No command line.
     Usage,
 }
@@ -176,6 +178,32 @@ fn run_line<'a>(alloc: Global, words: &'a [String]) -> Result<Line<'a>, AllocErr
     }
 }
 
+/// What `print` is asked for.
+fn print_of<'a>(words: &'a [String]) -> Line<'a>
+    requires { HasWord (texts words.now) 0 (codes "print") }
+    ensures { Asks (texts words.now) result }
+{
+    match operand(words, 1) {
+        Some(kernel) => Line::Print(kernel),
+        None => Line::Usage,
+    }
+}
+
+/// `print`, where the words are such a line.
+fn print_line<'a>(alloc: Global, words: &'a [String]) -> Result<Line<'a>, AllocError>
+    requires { HasWord (texts words.now) 0 (codes "print") }
+    ensures { IfOk result (λ line. Asks (texts words.now) line) }
+{
+    if !is_spelled(words, "print") {
+        return Ok(Line::Usage);
+    }
+    let command = Command::new(alloc, "print").arg(file(alloc, "KERNEL"))?;
+    match command.try_get_matches_from(words) {
+        Ok(_) => Ok(print_of(words)),
+        Err(error) => unread(&error),
+    }
+}
+
 /// What the words ask for. The first is the command.
 pub fn read_line<'a>(alloc: Global, words: &'a [String]) -> Result<Line<'a>, AllocError>
     ensures { IfOk result (λ line. Asks (texts words.now) line) }
@@ -186,6 +214,7 @@ pub fn read_line<'a>(alloc: Global, words: &'a [String]) -> Result<Line<'a>, All
     match operand(words, 0) {
         Some(command) if command == "check" => check_line(alloc, words),
         Some(command) if command == "run" => run_line(alloc, words),
+        Some(command) if command == "print" => print_line(alloc, words),
         _ => Ok(Line::Usage),
     }
 }

@@ -1,12 +1,13 @@
 -- Pairs found one after the other.
-use Rattle.std.proofs.Common.{◌≡◌, ℕ, suc, ◌+◌, ◌<◌, ◌≤◌, List, [], ◌∷◌, ◌++◌, length, drop, get_or, append-nil, drop-cons, add-one, sym, ap, ◌∙◌}
+use Rattle.std.proofs.Common.{◌≡◌, ℕ, suc, ◌+◌, ◌<◌, ◌≤◌, List, ◌∷◌, ◌++◌, length, drop, get_or, append-nil, drop-cons, add-one, sym, ap, ◌∙◌}
 use Rattle.std.proofs.Math.ListN.{drop_of_length-le}
 use Rattle.semantics.specs.Launch.{Three}
 use Rattle.semantics.specs.Conditions.{Conditions}
 use Rattle.facts.proofs.Facts.{carried}
 use Rattle.obligations.specs.Trees.{Access}
 use Rattle.obligations.specs.Pairs.{Pair, Scope, with_one, with_each, pairs_in, pairs_of, pairs_from}
-use Rattle.item_pairs.specs.View.{nth_access, no_access}
+use Rattle.item_pairs.specs.Paths.{no_access}
+use Rattle.item_pairs.specs.View.{nth_access}
 
 front : {A : Type 0} (xs : List A) (i : ℕ) (d : A) → i < length xs → drop i xs ≡ get_or xs i d ∷ drop (i + 1) xs
 front xs i d h = drop-cons xs i d h ∙ ap (λ k. get_or xs i d ∷ drop k xs) (sym (add-one i))

@@ -2,3 +2,6 @@ pub mod Rows
 pub mod Located
 pub mod Nth
 pub mod Growing
+pub mod Copies
+pub mod Showing
+pub mod Listing

@@ -1,8 +1,8 @@
 -- Places one after the other, and what stands at them.
-use Rattle.std.proofs.Common.{◌≡◌, ℕ, zero, suc, ◌+◌, ◌-◌, ◌<◌, ◌≤◌, List, [], ◌∷◌, ◌++◌, map, length, drop, get_or, drop-cons, add-one, append-nil, refl, sym, ap, ◌∙◌, subst, arith}
+use Rattle.std.proofs.Common.{◌≡◌, ℕ, suc, ◌+◌, ◌-◌, ◌<◌, ◌≤◌, List, [], ◌∷◌, ◌++◌, map, length, drop, get_or, drop-cons, add-one, append-nil, sym, ap, ◌∙◌, arith}
 use Rattle.std.proofs.Math.ListN.{drop_of_length-le}
-use Rattle.std.proofs.lemmas.List.{length-append, length-map, map-append, get_or_append_left, get_or-append-add, get_or-map, append_assoc}
-use Rattle.item_pairs.specs.Places.{row, rows, joined, at_place}
+use Rattle.std.proofs.lemmas.List.{append_assoc}
+use Rattle.item_pairs.specs.Places.{row, rows}
 use Rattle.item_pairs.specs.declared.places.Place.{Place}
 
 -- one place more of a path

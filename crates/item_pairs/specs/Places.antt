@@ -1,5 +1,5 @@
 -- Claims and accesses of several paths, one path after the other, by places: a path and a number on it.
-use Rattle.std.specs.Prelude.{ℕ, zero, suc, List, [], ◌∷◌, ◌++◌, get_or, map, length}
+use Rattle.std.specs.Prelude.{ℕ, zero, suc, List, [], ◌∷◌, ◌++◌, get_or, length}
 use Rattle.path_walk.specs.declared.path.Path.{Path}
 use Rattle.item_pairs.specs.declared.places.Place.{Place}
 

@@ -1,19 +1,11 @@
 -- What an error about two items says.
-use Rattle.std.specs.Prelude.{◌≡◌, ◌<◌, ℕ, Bool, false, ◌&&◌}
-use Rattle.linear.specs.Exact.{fits}
-use Rattle.facts.specs.Symbols.{Fact, minus}
+use Rattle.std.specs.Prelude.{◌≡◌, ◌<◌, ℕ, Bool, false}
+use Rattle.obligations.specs.Fitting.{differences_fit}
+use Rattle.facts.specs.Symbols.{Fact}
 use Rattle.facts.specs.declared.error.WalkError.{WalkError}
 use Rattle.facts.specs.declared.error.WalkError.TheVariants as errors
 use Rattle.obligations.specs.Pairs.{Pair, second_index}
 use Rattle.item_pairs.specs.declared.pairs.Pair as declared
-
--- both differences of two forms are of i64
-abbrev pub differences_fit : Fact → Fact → Bool
-differences_fit f g = fits (minus f g) && fits (minus g f)
-
--- the differences of a pair's indexes are of i64
-abbrev pub pair_fits : {E : Type 0} → Pair E → Bool
-pair_fits p = differences_fit p.first.index (second_index p)
 
 -- a difference was not made: a number of it is no i64, or there was no memory
 abbrev pub AreUnfit : WalkError → Fact → Fact → Type 0

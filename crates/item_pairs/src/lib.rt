@@ -4,10 +4,19 @@
 //! impossible of each.
 #![tactic(auto)]
 
+mod claims;
+mod clashing;
 mod looking;
+mod manner;
 mod met;
+mod obligations;
 mod pairs;
 mod places;
+mod seconds;
 
+pub use claims::{claim_facts, is_needed, is_settled, sort_of, spot_of_claim, try_claim};
+pub use clashing::{lacks_zero, pair_facts, try_differences};
+pub use manner::Manner;
 pub use met::Met;
+pub use obligations::Obligations;
 pub use pairs::{Order, Pair, Scope, all_pairs, spot_of};

@@ -14,7 +14,7 @@ use path_walk::Target;
 use std::alloc::Global;
 
 /// Where an access stands.
-fn place_of<D: Copy>(met: &Met<D>, i: usize) -> Place
+pub fn place_of<D: Copy>(met: &Met<D>, i: usize) -> Place
     requires { i < length met.now.accesses.items }
     ensures { IsPlaceOf met.now i result }
 {

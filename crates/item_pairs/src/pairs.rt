@@ -104,9 +104,7 @@ fn conflict<D: Copy>(buffer: usize, met: &Met<D>, i: usize, j: usize) -> bool
     requires second { j < length met.now.accesses.items }
     ensures { result ≡ specs.conflict buffer (met_access met.now i) (met_access met.now j) }
 {
-    is_of(buffer, met, i)
-        && is_of(buffer, met, j)
-        && (is_store(met, i) || is_store(met, j))
+    is_of(buffer, met, i) && is_of(buffer, met, j) && (is_store(met, i) || is_store(met, j))
 }
 
 /// Where the items can differ in a dimension, both ways round.
@@ -249,22 +247,8 @@ fn pairs_of<D: Copy>(
     ensures exact { MatchResult result (λ _. Adds (met_accesses met.now) found.old.items found.new.items (specs.pairs_of (three sizes) (conditions_seen conditions.now) buffer (met_accesses met.now))) IsMemory }
     ensures inside { IfOk result (λ _. All (IsInside (length met.now.accesses.items)) found.old.items → All (IsInside (length met.now.accesses.items)) found.new.items) }
 {
-    pairs_in(
-        found,
-        sizes,
-        conditions,
-        met,
-        Scope::Within,
-        buffer,
-    )?;
-    pairs_in(
-        found,
-        sizes,
-        conditions,
-        met,
-        Scope::Across,
-        buffer,
-    )?;
+    pairs_in(found, sizes, conditions, met, Scope::Within, buffer)?;
+    pairs_in(found, sizes, conditions, met, Scope::Across, buffer)?;
     Ok(())
 }
 

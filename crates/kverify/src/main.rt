@@ -1,8 +1,8 @@
 //! Section: Runs and program. Promises no more than `program`, over this machine's files; stands on `program`.
 //!
-//! The program: `kverify check KERNEL CONDITIONS CERTIFICATE` says whether a kernel is accepted, and `kverify run KERNEL CONDITIONS
-//! CERTIFICATE LAUNCH [--workers N]` runs it. Status 0 accepted or done, 1 refused, 2 a command line that is none, 3 a file or an
-//! output that fails, 4 out of memory.
+//! The program: `kverify check KERNEL CONDITIONS CERTIFICATE` says whether a kernel is accepted, `kverify run KERNEL CONDITIONS CERTIFICATE
+//! LAUNCH [--workers N]` runs it, and `kverify print KERNEL` prints its canonical text. Status 0 accepted or done, 1 refused, 2 a command
+//! line that is none, 3 a file or an output that fails, 4 out of memory.
 #![tactic(auto)]
 
 #[cfg(test)]

@@ -12,8 +12,8 @@ use Rattle.semantics.specs.World.{opening_world}
 use Rattle.work_item.specs.Items.{item}
 use Rattle.work_item.specs.Proper.{are_proper, is_proper_left}
 use Rattle.work_item.specs.declared.item.Item.{Item}
-use Rattle.machine.specs.declared.world.Access.{Access}
-use Rattle.machine.specs.Worlds.{items_in, access}
+use Rattle.semantics.specs.Solo.{Access}
+use Rattle.machine.specs.Worlds.{items_in}
 use Rattle.machine.proofs.Openings.{same}
 use Rattle.machine.proofs.Steps.{the_world, world_is}
 use Rattle.machine.proofs.Moves.{opening_proper}
@@ -25,9 +25,9 @@ count_of s = refl
 items_are : (s : Setup) (xs : List Item) (n : ℕ) → ((i : ℕ) → map item xs ≡ replicate n (opening s i)) → (i : ℕ) → items_in xs (opening s) i ≡ opening s i
 items_are s xs n h i = ap (λ ys. slice_index_or ys i (opening s i)) (h i) ∙ same n i (opening s i)
 
-pub opens_world : (s : Setup) (xs : List Item) (n : ℕ) (m : Memory) (history : List Access) → m ≡ opening_memory s → ((i : ℕ) → map item xs ≡ replicate n (opening s i)) → history ≡ [] → the_world m (items_in xs (opening s)) (map access history) ≡ opening_world s
+pub opens_world : (s : Setup) (xs : List Item) (n : ℕ) (m : Memory) (history : List Access) → m ≡ opening_memory s → ((i : ℕ) → map item xs ≡ replicate n (opening s i)) → history ≡ [] → the_world m (items_in xs (opening s)) history ≡ opening_world s
 unfolding opening_world
-opens_world s xs n m history e h empty = world_is m (opening_memory s) (items_in xs (opening s)) (opening s) (map access history) [] e (fun_ext (items_are s xs n h)) (ap (map access) empty)
+opens_world s xs n m history e h empty = world_is m (opening_memory s) (items_in xs (opening s)) (opening s) history [] e (fun_ext (items_are s xs n h)) empty
 
 pub opens_count : (s : Setup) (xs : List Item) (n : ℕ) → ((i : ℕ) → map item xs ≡ replicate n (opening s i)) → length xs ≡ n
 opens_count s xs n h = sym (length-map xs item) ∙ ap length (h 0) ∙ length-replicate n (opening s 0)

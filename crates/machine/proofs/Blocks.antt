@@ -114,12 +114,12 @@ waiting Waiting h = refl
 waiting Ended h = cc
 waiting (Stopped f at) h = cc
 
-passes_so : (s : Setup) (i : ℕ) (it : Item) → it.status ≡ Waiting → past_barrier it ≡ past s i it
+pub passes_so : (s : Setup) (i : ℕ) (it : Item) → it.status ≡ Waiting → past_barrier it ≡ past s i it
 unfolding ask
 passes_so s i it h = ap (λ st. moved it (by_status s i it st) (pos 0)) (sym h)
 
 -- all members of a group that may go wait
-member_waits : (s : Setup) (items : ℕ → Item) (g i : ℕ) → 0 < group_size s → may_go s items g ≡ true → group_of s i ≡ g → (items i).status ≡ Waiting
+pub member_waits : (s : Setup) (items : ℕ → Item) (g i : ℕ) → 0 < group_size s → may_go s items g ≡ true → group_of s i ≡ g → (items i).status ≡ Waiting
 unfolding may_go
 member_waits s items g i some h e =
     let l : i % group_size s < group_size s = omega arith in

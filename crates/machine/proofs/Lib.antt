@@ -6,3 +6,4 @@ pub mod Moves
 pub mod Beginnings
 pub mod Blocks
 pub mod Apart
+pub mod Levels

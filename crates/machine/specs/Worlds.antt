@@ -1,9 +1,10 @@
 -- The code's world as the definitions' one, and what an event answers.
-use Rattle.std.specs.Prelude.{◌≡◌, ◌+◌, ◌&&◌, ◌||◌, not, nat_le, nat_lt, bytes_eq, ℕ, ℤ, pos, List, true, false, Bool, length, map, slice_index_or, Some, None}
+use Rattle.std.specs.Prelude.{◌≡◌, ◌<◌, ◌≤◌, ◌+◌, ◌&&◌, ◌||◌, not, nat_le, nat_lt, bytes_eq, ℕ, ℤ, pos, List, true, false, Bool, length, map, slice_index_or, Some, None}
+use Rattle.std.specs.List.{Contains}
 use Rattle.semantics.specs.Word as word
 use Rattle.semantics.specs.Core as core
 use Rattle.semantics.specs.Launch.{Fits}
-use Rattle.semantics.specs.Setup.{Setup, item_count}
+use Rattle.semantics.specs.Setup.{Setup, group_of, item_count}
 use Rattle.semantics.specs.Memory as memories
 use Rattle.semantics.specs.Item as items
 use Rattle.semantics.specs.Ask.{Ask, Loads, Stores, Goes, Waits, Rests, passes}
@@ -19,10 +20,10 @@ use Rattle.work_item.specs.Asks.{cell}
 use Rattle.work_item.specs.declared.item.Item.{Item}
 use Rattle.work_item.specs.declared.ask.Ask as asks
 use Rattle.work_item.specs.declared.ask.Ask.TheVariants as variants
+use Rattle.clashes.specs.Watched.{accesses, IsWatched}
 use Rattle.machine.specs.Memories.{memory, HasShape, Inside}
 use Rattle.machine.specs.declared.memory.Memory.{Memory}
 use Rattle.machine.specs.declared.world.World.{World}
-use Rattle.machine.specs.declared.world.Access.{Access}
 use Rattle.machine.specs.declared.world.Event.{Event}
 use Rattle.machine.specs.declared.world.Event.TheVariants as events
 use Rattle.machine.specs.declared.world.Applied.{Applied}
@@ -30,9 +31,6 @@ use Rattle.machine.specs.declared.world.Applied.TheVariants as answers
 
 abbrev pub setup : World → Setup
 setup w = setup_of w.core.now w.launch.now
-
-abbrev pub access : Access → solo.Access
-access a = record { item = a.item; at = cell a.at; is_store = a.is_store; epoch = a.epoch; site = site a.site }
 
 -- items that a launch does not have stand as they begin
 abbrev pub items_in : List Item → (ℕ → items.Item) → ℕ → items.Item
@@ -42,11 +40,19 @@ abbrev pub items_of : World → ℕ → items.Item
 items_of w = items_in w.items.items (solo.opening (setup w))
 
 abbrev pub world : World → meaning.World
-world w = record { memory = memory w.memory; items = items_of w; history = map access w.history.items }
+world w = record { memory = memory w.memory; items = items_of w; history = accesses w.history }
 
 abbrev pub event : Event → meaning.Event
 event (events.Step i) = meaning.Step i
 event (events.Release g) = meaning.Release g
+
+abbrev pub AreLevel : items.Item → items.Item → Type 0
+AreLevel a b = (a.local_epoch ≡ b.local_epoch) × (a.global_epoch ≡ b.global_epoch)
+
+-- items of one group stand at equal epochs, and no access is of a later one than those of its group
+pub record KeepsEpochs (s : Setup) (w : meaning.World) : Type 0 where
+  pub level : (i j : ℕ) → i < item_count s → j < item_count s → group_of s i ≡ group_of s j → AreLevel (w.items i) (w.items j)
+  pub noted : (a : solo.Access) → Contains w.history a → (j : ℕ) → j < item_count s → group_of s a.item ≡ group_of s j → a.epoch ≤ solo.epoch (w.items j) a.at.owner
 
 -- what holds of each world that was opened
 pub record IsSound (w : World) : Type 0 where
@@ -55,6 +61,8 @@ pub record IsSound (w : World) : Type 0 where
   pub count : length w.items.items ≡ item_count (setup w)
   pub left : (i : ℕ) → is_proper_left (items_of w i).left ≡ true
   pub shape : HasShape (setup w) w.memory
+  pub epochs : KeepsEpochs (setup w) (world w)
+  pub watched : IsWatched (setup w) w.history
 
 -- memory after a step of an item that asks so
 abbrev pub remembered : Ask → memories.Memory → memories.Memory

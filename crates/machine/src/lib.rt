@@ -1,9 +1,10 @@
-//! Section: Runs and program. Promises events of a launch, and its first barrier divergence, exactly as defined; stands on `work_item`.
+//! Section: Runs and program. Promises a launch's events, its first data race and first barrier divergence, exactly; stands on `clashes`.
 //!
 //! The machine: all work-items of a launch over one memory, one event at a time. A world that was opened is sound (`IsSound`), and each
 //! event keeps that.
 #![tactic(auto)]
 
+mod clash;
 mod divergence;
 pub mod memory;
 mod release;

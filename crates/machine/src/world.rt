@@ -10,7 +10,7 @@ ghost use Rattle.semantics.specs.Memory as memories;
 ghost use Rattle.semantics.specs.Ask as asks;
 ghost use Rattle.semantics.specs.Solo as solo;
 ghost use Rattle.semantics.specs.World as events;
-ghost use Rattle.semantics.specs.World.{opening_world, noted, put_item};
+ghost use Rattle.semantics.specs.World.{opening_world, put_item};
 ghost use Rattle.words.specs.View.{value_of};
 ghost use Rattle.core_code.specs.View.{kernel as kernel_seen};
 ghost use Rattle.launch.specs.View.{launch as launch_seen};
@@ -19,9 +19,13 @@ ghost use Rattle.work_item.specs.View.{setup_of};
 ghost use Rattle.work_item.specs.Items.{item as item_seen};
 ghost use Rattle.work_item.specs.Asks.{asked as asked_seen, owner as owner_seen};
 ghost use Rattle.machine.specs.Memories.{Inside, HasShape, memory};
-ghost use Rattle.machine.specs.Worlds.{setup, access as access_seen, world, items_in, items_of, event as event_seen, IsSound, remembered, answered, stepped, StoresInside, is_move, told, Answers};
+ghost use Rattle.clashes.specs.View.{access as access_seen};
+ghost use Rattle.clashes.specs.Watched.{AreNext};
+ghost use Rattle.machine.specs.Worlds.{setup, world, items_in, items_of, event as event_seen, IsSound, remembered, answered, stepped, StoresInside, is_move, told, Answers};
 
 use crate::memory::Memory;
+use clashes::access::Access;
+use clashes::history::History;
 use core_code::tree::{Core, Site};
 use launch::launches::Launch;
 use std::alloc::{AllocError, Global};
@@ -29,16 +33,6 @@ use words::{Fault, Word};
 use work_item::ask::{Ask, Cell, Owner};
 use work_item::identity::{group_size, identity, product_of};
 use work_item::item::Item;
-
-/// An access of an element, with the item's epoch of the element's space.
-#[derive(Clone, Copy)]
-pub struct Access {
-    pub item: u64,
-    pub at: Cell,
-    pub is_store: bool,
-    pub epoch: u64,
-    pub site: Site,
-}
 
 /// One step of an item, or the release of a group that waits at a barrier; items and groups by their numbers.
 #[derive(Clone, Copy)]
@@ -64,7 +58,7 @@ pub struct World<'a> {
     pub launch: &'a Launch,
     pub memory: Memory,
     pub items: Vec<Item<'a>>,
-    pub history: Vec<Access>,
+    pub history: History,
 }
 
 /// The epoch of an item, of the space that an owner's arrays are in.
@@ -158,16 +152,6 @@ fn perform<'a>(
     all[number].perform(asked, loaded)
 }
 
-/// Notes an access, where there is room.
-fn note(history: &mut Vec<Access>, access: Option<Access>)
-    requires { vec_len history.old < vec_capacity history.old }
-    ensures { map access_seen history.new.items ≡ noted (option_map access_seen access) (map access_seen history.old.items) }
-{
-    if let Some(access) = access {
-        history.push_reserved(access);
-    }
-}
-
 /// A product; past 64 bits there is no memory for so many items.
 fn product(groups: u64, size: u64) -> Result<u64, AllocError>
     ensures { IfOk result (λ n. n ≡ groups * size) }
@@ -192,11 +176,20 @@ fn open_items<'a>(
 }
 
 impl<'a> World<'a> {
+    // The access that an item makes by what it asks for.
+    fn touches(&self, number: usize, asked: Ask) -> Option<Access>
+        requires { number < length self.now.items.items }
+        ensures { option_map access_seen result ≡ solo.touch number (items_of self.now number) (asked_seen asked.entry (items_of self.now number)) }
+    {
+        touched(number as u64, &self.items[number], asked)
+    }
+
     // The step of an item that asks so.
     fn take_step(&mut self, number: usize, asked: Ask<'a>) -> Result<(), AllocError>
         requires number { number < length self.old.items.items }
         requires asked { asked_seen asked (items_of self.old number) ≡ asks.ask (setup self.old) number (items_of self.old number) }
         requires inside { StoresInside self.old.memory asked }
+        requires goes { is_move asked ≡ true }
         requires sound { IsSound self.old }
         ensures done { OnOk result (world self.new ≡ stepped (world self.old) number (asked_seen asked.entry (items_of self.old number))) }
         ensures unchanged { OnErr result (world self.new ≡ world self.old) }
@@ -204,12 +197,12 @@ impl<'a> World<'a> {
         ensures core { self.new.core.now ≡ self.old.core.now }
         ensures launch { self.new.launch.now ≡ self.old.launch.now }
     {
-        let access = touched(number as u64, &self.items[number], asked);
-        self.history.reserve(1)?;
+        let access = self.touches(number, asked);
+        self.history.reserve(access)?;
         let loaded = self.memory.answer(asked);
         perform(&mut self.items, number, asked, loaded)?;
         self.memory.remember(asked);
-        note(&mut self.history, access);
+        self.history.note(access, group_size(self.core));
         Ok(())
     }
 
@@ -275,7 +268,7 @@ impl<'a> World<'a> {
             launch,
             memory: Memory::open(alloc, core, launch, groups)?,
             items: open_items(alloc, core, launch, count)?,
-            history: Vec::new(alloc),
+            history: History::new(alloc),
         })
     }
 }

@@ -1,4 +1,16 @@
 pub mod Each
+pub mod KindEnds
+pub mod Holding
+pub mod Standing
+pub mod Ranges
+pub mod Splits
+pub mod Divisions
+pub mod Arithmetic
+pub mod Identities
+pub mod Accesses
+pub mod TermSound
+pub mod Fronts
+pub mod Opening
 pub mod Seconds
 pub mod Made
 pub mod Distinct
@@ -11,3 +23,4 @@ pub mod SameWords
 pub mod Safe
 pub mod OwnForms
 pub mod OwnTrees
+pub mod CoveredSafe

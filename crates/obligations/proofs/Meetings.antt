@@ -21,11 +21,11 @@ use Rattle.obligations.specs.Trees.{Target, Access, Manner, Plainly, ByPositive,
 use Rattle.obligations.specs.Tests.{below}
 use Rattle.obligations.specs.Covered.{is_global}
 use Rattle.obligations.specs.Seconds.{second, second_form, second_forms, element_of_two}
-use Rattle.obligations.specs.Pairs.{Scope, Within, Across, Order, Below, Above, Pair, id, order_fact, same_group, scope_facts, pair_facts, is_apart, pair_obligation, differs, two_orders, all_orders, is_buffer, conflict, where_so, with_one}
+use Rattle.obligations.specs.Pairs.{Scope, Within, Across, Order, Below, Above, Pair, id, order_fact, same_group, scope_facts, pair_facts, is_apart, pair_obligation, differs, two_orders, all_orders, is_buffer, conflict, with_one}
 use Rattle.obligations.specs.Shown.{IsShown, IsRefuted}
 use Rattle.obligations.proofs.Each.{Each, each-dimension, each-where}
 use Rattle.obligations.proofs.Seconds.{second-groups, second-given, second-length, second-local, second-group, second-new, second-value, second-met}
-use Rattle.obligations.proofs.Made.{Made, IsFit}
+use Rattle.obligations.proofs.Made.{Made}
 use Rattle.obligations.proofs.TwoElements.{two-has}
 
 below-met : (v : ℕ → ℤ) (s r : Symbol) → v (number s) <ℤ v (number r) → IsMet v (below (once s) (once r))

@@ -1,5 +1,5 @@
 -- Forms that have symbols of the launch and of the first item alone.
-use Rattle.std.proofs.Common.{◌≡◌, ℕ, zero, suc, ◌+◌, ◌*◌, ◌%◌, ◌<◌, Bool, true, false, cond, nat_lt, List, [], ◌∷◌, ◌++◌, arith}
+use Rattle.std.proofs.Common.{ℕ, zero, suc, ◌%◌, ◌<◌, Bool, true, false, cond, nat_lt, [], ◌∷◌, arith}
 use Rattle.std.specs.Prelude.{ℤ, pos, negsuc, ◌+ℤ◌, ◌-ℤ◌, ◌*ℤ◌}
 use Rattle.semantics.specs.Linear.{Weighted}
 use Rattle.semantics.specs.Launch.{Three}
@@ -7,7 +7,7 @@ use Rattle.semantics.specs.Setup.{along}
 use Rattle.linear.specs.Exact.{Terms, put, merge, merge_one, multiples, sum, multiple}
 use Rattle.facts.specs.Symbols as symbols
 use Rattle.facts.specs.Symbols.{First, ArgumentOf, Length, Local, Group, New, number, Fact, constant, once, minus}
-use Rattle.facts.specs.Launching.{id_facts, item_facts}
+use Rattle.facts.specs.Launching.{item_facts}
 use Rattle.obligations.proofs.Each.{Each}
 
 abbrev pub IsOwnSymbol : ℕ → Type 0

@@ -1,23 +1,24 @@
 -- The trees of what an item does have its own symbols, and the launch's, alone.
-use Rattle.std.proofs.Common.{◌≡◌, ℕ, zero, suc, ◌+◌, ◌^◌, ◌&&◌, Bool, true, false, not, cond, nat_lt, List, [], ◌∷◌, ◌++◌, map, length, slice_index_or, Option, Some, None}
+use Rattle.std.proofs.Common.{◌≡◌, ℕ, zero, suc, ◌^◌, ◌%◌, Bool, true, false, not, cond, nat_lt, List, [], ◌∷◌, ◌++◌, map, length, slice_index_or, Option, Some, None, refl, lt-ltb}
+use Rattle.std.proofs.lemmas.Bool.{and_from}
 use Rattle.std.specs.Prelude.{ℤ, pos, negsuc, ◌+ℤ◌, ◌-ℤ◌, slice_set}
 use Rattle.semantics.specs.Word.{Kind, Int, Uint, Operator, Add, Subtract, Multiply, Divide, Remainder, BitAnd, BitOr, BitXor, UnaryOperator, Negate, Complement, ShiftLeft, ShiftRight, Relation, Less, AtMost, More, AtLeast, Equal, Unequal}
 use Rattle.semantics.specs.Core.{Array, Site, Function, GlobalId, LocalId, GroupId, GlobalSize, LocalSize, NumGroups, Term, Literal, Variable, Id, Load, Unary, Binary, Convert, Compare, Not, And, Or, Select, Minimum, Maximum, Statement, Set, Store, If, Loop, Barrier, Return, Break, Continue, Statements, none, one}
 use Rattle.semantics.specs.Launch.{Kernel}
 use Rattle.semantics.specs.Setup.{along}
 use Rattle.linear.specs.Exact.{Terms, sum, multiple}
-use Rattle.domain.specs.declared.Bounds.{Bounds}
 use Rattle.facts.specs.Symbols as symbols
 use Rattle.facts.specs.Symbols.{First, ArgumentOf, Length, Local, Group, New, Fact, constant, once, minus}
 use Rattle.facts.specs.Launching.{item_facts}
 use Rattle.obligations.specs.Trees.{Tree, Leaf, Dead, Claim, Know, Touch, Fork, Access, after, accesses}
-use Rattle.obligations.specs.Walks.{Setting, State, Value, value, Onward, claimed_once, counted, lower_fact, upper_fact, bound_facts, know_all, newest, invent, unknown, any_of, is_kept, kept_or_new, ranged, brought_from, brought, both_brought, at_site, fork, is_dead, unless_dead, know_test, know_two, with_variables}
+use Rattle.obligations.specs.Walks.{Setting, State, Value, value, Onward, claimed_once, counted, lower_fact, upper_fact, know_all, newest, invent, unknown, any_of, is_kept, kept_or_new, ranged, brought_from, both_brought, at_site, fork, is_dead, unless_dead, know_test, know_two}
 use Rattle.obligations.specs.Operators.{product, claim_divisor, claim_quotient, left_over, quotient, is_exact, divided, remaining, is_mask, are_from_zero, masked_by, masked, binary, complement, shifted, unary}
 use Rattle.obligations.specs.Tests.{Outcomes, below, split_below, split, split_number}
-use Rattle.obligations.specs.Terms.{Walks, walk, no_value, truth_value, id_inside, id_outside, id_form, access, buffer_kind, load, chosen, pick}
-use Rattle.obligations.specs.Statements.{assigned, walk_one, walk_all, argument_values, zero_value, opening_values, opening_state, ended, tree}
+use Rattle.obligations.specs.Terms.{Walks, walk, no_value, truth_value, id_inside, id_outside, id_form, access, buffer_kind, chosen, pick}
+use Rattle.obligations.specs.Statements.{assigned, walk_one, walk_all, argument_values, zero_value, opening_state, ended, tree}
+use Rattle.obligations.specs.Seconds.{is_own_symbol, are_own_terms, is_own, are_own, is_own_access, are_own_accesses}
 use Rattle.obligations.proofs.Each.{Each}
-use Rattle.obligations.proofs.OwnForms.{IsOwn, AreOwn, own-sum, own-multiple, own-minus, own-groups, own-given, own-length, own-local, own-group, own-new, own-items}
+use Rattle.obligations.proofs.OwnForms.{IsOwn, AreOwn, own-sum, own-multiple, own-minus, own-groups, own-given, own-local, own-group, own-new, own-items}
 
 abbrev the_leaf : (E : Type 0) → Tree E
 the_leaf E = Leaf
@@ -316,5 +317,21 @@ own-accesses fs n (Know f rest) h k = own-accesses (fs ++ f ∷ []) n rest (one_
 own-accesses fs n (Touch t i e rest) h k = ((k.0, h), own-accesses fs n rest h k.1)
 own-accesses fs n (Fork first second) h k = joined IsOwnAccess (accesses fs n first) (accesses fs (after n first) (second (after n first))) (own-accesses fs n first h k.0) (own-accesses fs (after n first) (second (after n first)) h (k.1 (after n first)))
 
-pub own-of-kernel : {E : Type 0} (s : Setting E) (k : Kernel) → Each IsOwnAccess (accesses (item_facts k.sizes First) 0 (tree s k))
+own-of-kernel : {E : Type 0} (s : Setting E) (k : Kernel) → Each IsOwnAccess (accesses (item_facts k.sizes First) 0 (tree s k))
 own-of-kernel s k = own-accesses (item_facts k.sizes First) 0 (tree s k) (own-items k.sizes) (own-tree s k)
+
+-- the same as a test
+own-terms-test : (ts : Terms) → AreOwn ts → are_own_terms ts ≡ true
+own-terms-test [] h = refl
+own-terms-test (t ∷ ts) h = and_from (is_own_symbol t.symbol) (are_own_terms ts) (lt-ltb (t.symbol % 16) 9 h.0) (own-terms-test ts h.1)
+
+own-test : (fs : List Fact) → Each IsOwn fs → are_own fs ≡ true
+own-test [] h = refl
+own-test (f ∷ fs) h = and_from (is_own f) (are_own fs) (own-terms-test f.terms h.0) (own-test fs h.1)
+
+own-accesses-test : {E : Type 0} (us : List (Access E)) → Each IsOwnAccess us → are_own_accesses us ≡ true
+own-accesses-test [] h = refl
+own-accesses-test (a ∷ us) h = and_from (is_own_access a) (are_own_accesses us) (and_from (is_own a.index) (are_own a.facts) (own-terms-test a.index.terms h.0.0) (own-test a.facts h.0.1)) (own-accesses-test us h.1)
+
+pub accesses-own : {E : Type 0} (s : Setting E) (k : Kernel) → are_own_accesses (accesses (item_facts k.sizes First) 0 (tree s k)) ≡ true
+accesses-own s k = own-accesses-test (accesses (item_facts k.sizes First) 0 (tree s k)) (own-of-kernel s k)

@@ -1,10 +1,10 @@
 -- Of any two accesses, one way round or the other, all pairs are in the list.
-use Rattle.std.proofs.Common.{◌≡◌, ℕ, zero, suc, ◌+◌, ◌<◌, List, [], ◌∷◌, ◌++◌, length, arith, sym, subst, inl, inr}
+use Rattle.std.proofs.Common.{◌≡◌, ℕ, zero, suc, ◌+◌, ◌<◌, List, [], ◌∷◌, length, arith, sym, subst, inl, inr}
 use Rattle.std.specs.Prelude.{◌⊎◌}
 use Rattle.semantics.specs.Launch.{Three}
 use Rattle.semantics.specs.Conditions.{Conditions}
 use Rattle.obligations.specs.Trees.{Access}
-use Rattle.obligations.specs.Pairs.{Scope, Within, Across, Pair, all_orders, conflict, where_so, with_one, with_each, pairs_in, pairs_of, pairs_from}
+use Rattle.obligations.specs.Pairs.{Scope, Within, Across, Pair, with_one, with_each, pairs_in, pairs_of, pairs_from}
 use Rattle.obligations.proofs.Each.{Has, Each, each-left, each-right}
 
 module _ {E : Type 0} (P : Pair E → Type 0) (sizes : Three ℕ) (c : Conditions) where

@@ -1,15 +1,15 @@
 -- A covered kernel has neither loops nor barriers nor exits: one place, whose paths all end at the kernel's end.
-use Rattle.std.proofs.Common.{◌≡◌, ℕ, Bool, true, false, ◌||◌, ◌&&◌, List, [], ◌∷◌, ◌++◌, Option, Some, None, refl, sym, ap, ◌∙◌, inl, inr, subst}
+use Rattle.std.proofs.Common.{◌≡◌, ℕ, Bool, true, false, ◌||◌, ◌&&◌, List, [], ◌∷◌, ◌++◌, Option, Some, None, refl, ap, ◌∙◌, inl, inr, subst}
 use Rattle.std.specs.Prelude.{◌⊎◌}
 use Rattle.std.proofs.lemmas.Bool.{and_parts}
-use Rattle.semantics.specs.Core.{Term, Statement, Set, Store, If, Loop, Barrier, Return, Break, Continue, Statements, none, one}
+use Rattle.semantics.specs.Core.{Statement, Set, Store, If, Loop, Barrier, Return, Break, Continue, Statements, none, one}
 use Rattle.semantics.specs.Setup.{Setup}
 use Rattle.arrivals.specs.Loops.{unmet, unmet_one, first_of}
-use Rattle.arrivals.specs.Points.{Has, Point, Left, points, points_one, join, has_loop, have_loop, jumps_to, jump_to, IsFormed, AreFormed}
-use Rattle.arrivals.specs.Trees.{Step, Turns, AtEnd, Tree, Later, Ways, walk, walk_one, walk_left, ways, End, IsEnd}
+use Rattle.arrivals.specs.Points.{Has, Left, points, points_one, join, has_loop, have_loop, jumps_to, jump_to, IsFormed, AreFormed}
+use Rattle.arrivals.specs.Trees.{Step, Turns, AtEnd, Tree, Ways, walk, walk_one, walk_left, ways, End, IsEnd}
 use Rattle.arrivals.specs.Places.{Place, own_place, places, tree, reached, heads_among, from_barriers}
 use Rattle.arrivals.specs.Shown.{IsSound}
-use Rattle.obligations.specs.Covered.{is_covered_term, is_covered_statement, are_covered, is_global}
+use Rattle.obligations.specs.Covered.{is_covered_term, is_covered_statement, are_covered}
 
 -- of a statement, and of statements
 pub record IsPlain (s : Statement) : Type 0 where

@@ -1,6 +1,6 @@
 -- Elements of two items have the numbers of both.
-use Rattle.std.proofs.Common.{◌≡◌, ℕ, zero, suc, ◌+◌, ◌-◌, ◌%◌, ◌/◌, ◌*◌, ◌<◌, ◌≤◌, Bool, true, false, cond, nat_lt, List, [], ◌∷◌, arith, refl, sym, ap, subst, ◌∙◌, ltb-true, ltb-false}
-use Rattle.std.specs.Prelude.{ℤ, pos, ◌+ℤ◌, ◌*ℤ◌}
+use Rattle.std.proofs.Common.{◌≡◌, ℕ, zero, suc, ◌+◌, ◌-◌, ◌%◌, ◌/◌, ◌<◌, ◌≤◌, Bool, true, false, cond, nat_lt, List, [], ◌∷◌, arith, refl, sym, ap, subst, ◌∙◌, ltb-true, ltb-false}
+use Rattle.std.specs.Prelude.{ℤ, ◌+ℤ◌, ◌*ℤ◌}
 use Rattle.std.proofs.lemmas.Int.{ints}
 use Rattle.semantics.specs.Linear.{Weighted, terms_value, value_of}
 use Rattle.semantics.specs.Setup.{Setup, item_count}
@@ -8,7 +8,7 @@ use Rattle.domain.specs.declared.Domain.{Ghosts}
 use Rattle.facts.specs.Symbols.{Fact, of_family, symbol_of}
 use Rattle.facts.specs.Launching.{known}
 use Rattle.facts.proofs.Members.{Lawful, by_number}
-use Rattle.facts.proofs.Worlds.{Walked, setup_of, View, meaning, own}
+use Rattle.facts.proofs.Worlds.{Walked, setup_of, meaning}
 use Rattle.obligations.specs.Held.{Held, element_held, terms_with, element_with}
 use Rattle.obligations.specs.Seconds.{element_of_two}
 use Rattle.obligations.proofs.Made.{IsFit}

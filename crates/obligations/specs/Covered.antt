@@ -1,5 +1,5 @@
 -- The kernels that the walk covers: those without loops, barriers, local arrays and exits.
-use Rattle.std.specs.Prelude.{ℕ, Bool, true, false, ◌&&◌, nat_lt}
+use Rattle.std.specs.Prelude.{Bool, true, false, ◌&&◌, nat_lt}
 use Rattle.semantics.specs.Word.{Kind, Int, Uint, in_kind, UnaryOperator, Negate, Complement, ShiftLeft, ShiftRight}
 use Rattle.semantics.specs.Core.{Space, Global, Local, Term, Literal, Variable, Id, Load, Unary, Binary, Convert, Compare, Not, And, Or, Select, Minimum, Maximum, Statement, Set, Store, If, Loop, Barrier, Return, Break, Continue, Statements, none, one}
 use Rattle.semantics.specs.Launch.{Kernel}

@@ -9,3 +9,5 @@ pub mod Covered
 pub mod Seconds
 pub mod Pairs
 pub mod Shown
+pub mod Fitting
+pub mod Unfound

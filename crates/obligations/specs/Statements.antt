@@ -1,5 +1,5 @@
 -- The walk of statements, and of a kernel.
-use Rattle.std.specs.Prelude.{ℕ, suc, ℤ, pos, List, [], ◌∷◌, ◌++◌, map, Bool, true, slice_set}
+use Rattle.std.specs.Prelude.{ℕ, suc, pos, List, [], ◌∷◌, ◌++◌, map, Bool, true, slice_set}
 use Rattle.semantics.specs.Word.{Kind}
 use Rattle.semantics.specs.Core.{Array, Site, Term, Statement, Set, Store, If, Loop, Barrier, Return, Break, Continue, Statements, none, one}
 use Rattle.semantics.specs.Launch.{Kernel}

@@ -1,13 +1,13 @@
 -- The walk of a term, as a value and as a test.
-use Rattle.std.specs.Prelude.{ℕ, ℤ, pos, Bool, true, false, not, cond, nat_lt, List, slice_index_or}
+use Rattle.std.specs.Prelude.{ℕ, pos, Bool, true, false, not, cond, nat_lt, slice_index_or}
 use Rattle.semantics.specs.Word.{Kind, Int, Uint, Less}
 use Rattle.semantics.specs.Core.{Array, Site, Function, GlobalId, LocalId, GroupId, GlobalSize, LocalSize, NumGroups, Term, Literal, Variable, Id, Load, Unary, Binary, Convert, Compare, Not, And, Or, Select, Minimum, Maximum}
 use Rattle.semantics.specs.Setup.{along}
 use Rattle.linear.specs.Exact.{sum, multiple}
 use Rattle.facts.specs.Symbols as symbols
 use Rattle.facts.specs.Symbols.{First, Length, Fact, constant, once, minus}
-use Rattle.obligations.specs.Trees.{OfIndex, Spot, Target, Tree, Touch}
-use Rattle.obligations.specs.Walks.{Setting, State, Value, value, Onward, stand, spot_at, at_site, claim_form, unknown, brought, both_brought}
+use Rattle.obligations.specs.Trees.{OfIndex, Target, Tree, Touch}
+use Rattle.obligations.specs.Walks.{Setting, State, Value, value, Onward, spot_at, at_site, claim_form, unknown, brought, both_brought}
 use Rattle.obligations.specs.Operators.{unary, binary}
 use Rattle.obligations.specs.Tests.{Outcomes, split, split_number}
 

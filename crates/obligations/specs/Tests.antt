@@ -1,5 +1,5 @@
 -- Tests split a path: each way begins with the facts of its outcome.
-use Rattle.std.specs.Prelude.{ℤ, pos, negsuc, Bool, true, false}
+use Rattle.std.specs.Prelude.{pos, negsuc, Bool, true, false}
 use Rattle.semantics.specs.Word.{Relation, Less, AtMost, More, AtLeast, Equal, Unequal}
 use Rattle.linear.specs.Exact.{multiple}
 use Rattle.facts.specs.Symbols.{Fact, constant, minus}

@@ -3,10 +3,10 @@ use Rattle.std.specs.Prelude.{ℕ, suc, ◌+◌, ℤ, pos, negsuc, List, [], ◌
 use Rattle.semantics.specs.Word.{Kind, Int, Uint}
 use Rattle.semantics.specs.Core.{Site}
 use Rattle.semantics.specs.Launch.{Three}
-use Rattle.linear.specs.Exact.{sum, multiple}
+use Rattle.linear.specs.Exact.{fits_i64}
 use Rattle.domain.specs.declared.Domain.{Ghosts}
 use Rattle.domain.specs.declared.Bounds.{Bounds}
-use Rattle.facts.specs.Symbols.{First, Symbol, New, Fact, constant, once, minus}
+use Rattle.facts.specs.Symbols.{First, New, Fact, constant, once, minus}
 use Rattle.facts.specs.Elements.{Known, between}
 use Rattle.obligations.specs.Held.{Held, with_new, element_at, is_settled_at, narrow}
 use Rattle.obligations.specs.Trees.{Sort, OfRange, Spot, Demand, Goal, AtLeastZero, Tree, Dead, Claim, Know, Fork}
@@ -169,9 +169,9 @@ is_none (x ∷ xs) = false
 abbrev pub is_number : Fact → Bool
 is_number f = is_none f.terms
 
--- no item goes on where a negative number would have to be at least 0
+-- no item goes on where a negative number would have to be at least 0; a number past 64 bits is a fact like others
 abbrev pub is_dead : Fact → Bool
-is_dead f = is_number f && int_lt f.constant (pos 0)
+is_dead f = is_number f && (fits_i64 f.constant && int_lt f.constant (pos 0))
 
 abbrev pub unless_dead : {E : Type 0} → Bool → Fact → Tree E → Tree E
 unless_dead true f rest = Dead

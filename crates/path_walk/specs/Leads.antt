@@ -10,3 +10,7 @@ Steps {E} from to walk = (go : State E → Tree E) → collect from.found (walk 
 -- with an answer
 abbrev pub Leads : {E A : Type 0} → (from to : Followed E) → (State E → (A → State E → Tree E) → Tree E) → A → Type 0
 Leads {E} {A} from to walk a = (go : A → State E → Tree E) → collect from.found (walk from.state go) ≡ collect to.found (go a to.state)
+
+-- with two
+abbrev pub LeadsTwo : {E A B : Type 0} → (from to : Followed E) → (State E → (A → B → State E → Tree E) → Tree E) → A → B → Type 0
+LeadsTwo {E} {A} {B} from to walk a b = (go : A → B → State E → Tree E) → collect from.found (walk from.state go) ≡ collect to.found (go a b to.state)

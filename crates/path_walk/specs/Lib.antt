@@ -1,5 +1,9 @@
 pub mod Paths
 pub mod Leads
 pub mod Before
+pub mod Turns
+pub mod Without
 pub mod View
 pub mod Refusals
+pub mod Halts
+pub mod Sides

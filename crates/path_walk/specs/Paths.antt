@@ -110,6 +110,9 @@ with_element m e = record { found = m.found; state = holding (with_new e m.state
 abbrev pub with_narrowed : {E : Type 0} → Followed E → ℕ → E → Followed E
 with_narrowed m s e = record { found = m.found; state = holding (held.with_narrowed s e m.state.held) m.state }
 
+abbrev pub with_held : {E : Type 0} → Followed E → Held E → Followed E
+with_held m h = record { found = m.found; state = holding h m.state }
+
 abbrev pub with_access : {E : Type 0} → Followed E → Target → Fact → Followed E
 with_access m t i = record { found = add_access m.found t i m.state.held; state = m.state }
 

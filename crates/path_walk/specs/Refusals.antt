@@ -1,7 +1,9 @@
 -- What it says of a path that its walk did not go on.
 use Rattle.std.specs.Prelude.{◌≡◌, false}
 use Rattle.obligations.specs.Trees.{Tree}
-use Rattle.obligations.specs.Walks.{State}
+use Rattle.obligations.specs.Walks.{Setting, State, ranged}
+use Rattle.semantics.specs.Word.{Kind}
+use Rattle.facts.specs.Symbols.{Fact}
 use Rattle.path_walk.specs.Paths.{Found, Followed, collect}
 use Rattle.facts.specs.declared.error.WalkError.{WalkError}
 use Rattle.facts.specs.declared.error.WalkError.TheVariants as errors
@@ -20,3 +22,11 @@ StopsAtStep {E} o from e walk = (go : State E → Tree E) → Refused o e (colle
 -- with an answer
 abbrev pub Stops : {E A : Type 0} → (outside : Type 0) → Followed E → WalkError → (State E → (A → State E → Tree E) → Tree E) → Type 0
 Stops {E} {A} o from e walk = (go : A → State E → Tree E) → Refused o e (collect from.found (walk from.state go))
+
+-- with two
+abbrev pub StopsTwo : {E A B : Type 0} → (outside : Type 0) → Followed E → WalkError → (State E → (A → B → State E → Tree E) → Tree E) → Type 0
+StopsTwo {E} {A} {B} o from e walk = (go : A → B → State E → Tree E) → Refused o e (collect from.found (walk from.state go))
+
+-- with a form that is to be in the range of a kind, whatever the kind
+abbrev pub StopsAtForm : {E : Type 0} → (outside : Type 0) → Setting E → Followed E → WalkError → (State E → (Fact → State E → Tree E) → Tree E) → Type 0
+StopsAtForm o s from e walk = (k : Kind) → Stops o from e (λ st go. walk st (λ f st'. ranged s k f st' go))

@@ -24,6 +24,7 @@ use Rattle.path_walk.specs.declared.path.Choice.{Choice}
 use Rattle.path_walk.specs.declared.path.Choice.TheVariants as choices
 use Rattle.path_walk.specs.declared.path.Value.{Value}
 use Rattle.path_walk.specs.declared.path.Path.{Path}
+use Rattle.path_walk.specs.declared.setting.Setting.{Setting}
 
 abbrev pub sort : Sort → trees.Sort
 sort (sorts.OfRange k) = trees.OfRange (kind k)
@@ -80,4 +81,13 @@ followed p = record {
     held = held_seen p.news.items p.narrowed.items;
     at = spot p.at;
   };
+}
+
+abbrev pub setting : {E : Type 0} → Ghosts E → Setting E → walks.Setting E
+setting g s = record {
+  domain = g;
+  known = known_seen s.known;
+  sizes = three s.sizes;
+  buffers = map kind s.buffers.items;
+  has_entry = λ n. slice_index_or s.entries.items n false;
 }

@@ -4,7 +4,19 @@
 //! the accesses.
 #![tactic(auto)]
 
+mod accesses;
+mod exact;
+mod halt;
+mod held;
+mod ids;
+pub mod laws;
+mod narrowing;
 mod path;
+mod ranges;
+mod setting;
 mod steps;
+mod tests;
 
+pub use halt::Halt;
 pub use path::{Access, Choice, Claim, Goal, Narrowed, Path, Sort, Spot, Target, Value};
+pub use setting::Setting;

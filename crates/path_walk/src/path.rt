@@ -74,7 +74,7 @@ pub struct Narrowed<D> {
 #[derive(Clone, Copy)]
 pub enum Choice {
     First,
-    Other(usize),
+    Other(u32),
 }
 
 /// A form with the kind of its value.
@@ -92,7 +92,7 @@ pub struct Path<D> {
     pub claims: Vec<Claim>,
     pub accesses: Vec<Access>,
     pub leaves: usize,
-    pub count: usize,
+    pub count: u32,
     pub taken: Vec<Choice>,
     pub given: Vec<Choice>,
     pub news: Vec<D>,

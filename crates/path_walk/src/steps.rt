@@ -6,7 +6,7 @@ ghost use Rattle.core_code.specs.View.{site as site_seen};
 ghost use Rattle.facts.specs.Refusals.{IsMemory};
 ghost use Rattle.obligations.specs.Walks.{spot_at, is_none};
 ghost use Rattle.path_walk.specs.Paths.{opening, with_claim, with_fact, with_element, with_narrowed, with_access, with_leaf, with_spot, with_choice, front, choosing};
-ghost use Rattle.path_walk.specs.Refusals.{Refused, Stops};
+ghost use Rattle.path_walk.specs.Refusals.{Refused};
 ghost use Rattle.path_walk.specs.Leads.{Leads};
 ghost use Rattle.path_walk.specs.View.{followed, sort as sort_seen, spot as spot_seen, target as target_seen, goal_seen, choice as choice_seen, value as value_seen};
 
@@ -158,7 +158,7 @@ impl<D: Copy> Path<D> {
 
     /// The next way at a fork, and whether it is the first.
     pub fn choose(&mut self) -> Result<bool, WalkError>
-        ensures { MatchResult result (Leads (followed self.old) (followed self.new) choosing) (λ e. Stops ⊥ (followed self.old) e choosing) }
+        ensures { MatchResult result (Leads (followed self.old) (followed self.new) choosing) IsMemory }
     {
         match self.next() {
             Choice::First => {

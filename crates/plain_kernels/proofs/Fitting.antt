@@ -1,25 +1,21 @@
 -- Tame trees have one path, all of their forms are of i64, and so are those that are made of them to show what there is to show.
-use Rattle.std.proofs.Common.{◌≡◌, ℕ, suc, ◌+◌, ◌≤◌, ◌&&◌, Bool, true, false, List, [], ◌∷◌, ◌++◌, map, arith, refl, sym, ap, subst}
-use Rattle.std.specs.Prelude.{pos, negsuc, ◌-ℤ◌, unsigned_abs, Some}
-use Rattle.std.proofs.lemmas.Int.{ints}
+use Rattle.std.proofs.Common.{◌≡◌, ℕ, suc, ◌+◌, ◌&&◌, Bool, true, false, List, [], ◌∷◌, ◌++◌, arith, refl, sym, ap, subst}
+use Rattle.std.specs.Prelude.{negsuc, unsigned_abs}
 use Rattle.semantics.specs.Linear.{Weighted}
 use Rattle.semantics.specs.Launch.{Three}
 use Rattle.semantics.specs.Conditions.{Conditions}
-use Rattle.domain.specs.declared.Domain.{Ghosts}
 use Rattle.linear.specs.Exact.{fits}
 use Rattle.linear.specs.Sizes.{terms_size}
 use Rattle.linear.proofs.Sizes.{size_difference, fits_small}
-use Rattle.facts.specs.Symbols.{First, Groups, Local, Group, Fact, constant, once, minus, denial}
-use Rattle.facts.specs.Elements.{Known}
-use Rattle.facts.specs.Launching.{item_facts}
+use Rattle.facts.specs.Symbols.{Fact, constant, minus, denial}
 use Rattle.obligations.specs.Trees as trees
 use Rattle.obligations.specs.Trees.{Goal, AtLeastZero, Either, Tree, Leaf, Dead, Claim, Know, Touch, Fork, leaves, Obligation, Access}
 use Rattle.obligations.specs.Seconds.{second_terms, second_form}
-use Rattle.obligations.specs.Pairs.{Scope, Within, Across, Pair, pair_obligation, two_orders, all_orders, differs, conflict, where_so, with_one, with_each, pairs_in, pairs_of, pairs_from}
+use Rattle.obligations.specs.Pairs.{Scope, Within, Across, Pair, two_orders, all_orders, differs, conflict, where_so, with_one, with_each, pairs_in, pairs_of, pairs_from}
 use Rattle.obligations.proofs.Each.{Each}
-use Rattle.plain_kernels.specs.Fitting.{are_fit, goal_fits, tree_fits, denial_fits, denials_fit, pair_fits, pairs_fit, has_fork}
-use Rattle.plain_kernels.proofs.Trees.{most, IsSmall, IsSmallGoal, IsRight, IsTame}
-use Rattle.plain_kernels.proofs.Stores.{less}
+use Rattle.obligations.specs.Fitting.{goal_fits, tree_fits, denials_fit, tree_denials_fit, pair_fits, pairs_fit}
+use Rattle.plain_kernels.specs.Forks.{has_fork}
+use Rattle.plain_kernels.proofs.Trees.{IsSmall, IsSmallGoal, IsRight, IsTame}
 
 two : (a b : Bool) → a ≡ true → b ≡ true → (a && b) ≡ true
 two true b p q = q
@@ -34,17 +30,13 @@ denial-fits f h = fits_small (denial f) (omega (arith, h, size_difference (const
 difference-fits : (f g : Fact) → IsSmall f → IsSmall g → fits (minus f g) ≡ true
 difference-fits f g h i = fits_small (minus f g) (omega (arith, h, i, size_difference f g))
 
-pub small-facts-fit : (fs : List Fact) → Each IsSmall fs → are_fit fs ≡ true
-small-facts-fit [] h = refl
-small-facts-fit (f ∷ fs) h = two (fits f) (are_fit fs) (small-fits f h.0) (small-facts-fit fs h.1)
-
 small-goal-fits : (g : Goal) → IsSmallGoal g → goal_fits g ≡ true
 small-goal-fits (AtLeastZero f) h = small-fits f h
 small-goal-fits (Either p n) h = two (fits p) (fits n) (small-fits p h.0) (small-fits n h.1)
 
-small-denial-fits : (g : Goal) → IsSmallGoal g → denial_fits (Some g) ≡ true
-small-denial-fits (AtLeastZero f) h = denial-fits f h
-small-denial-fits (Either p n) h = two (fits (denial p)) (fits (denial n)) (denial-fits p h.0) (denial-fits n h.1)
+small-denials-fit : (g : Goal) → IsSmallGoal g → denials_fit g ≡ true
+small-denials-fit (AtLeastZero f) h = denial-fits f h
+small-denials-fit (Either p n) h = two (fits (denial p)) (fits (denial n)) (denial-fits p h.0) (denial-fits n h.1)
 
 abbrev pub IsSmallAccess : {E : Type 0} → Access E → Type 0
 IsSmallAccess a = IsSmall a.index
@@ -75,14 +67,14 @@ module _ {E : Type 0} (h : ℕ → Bool) (signed : Type 0) where
   tame-path rs n (Touch a i d rest) t = tame-path rs n rest t.1
   tame-path rs n (Fork first second) t = absurd t
 
-  pub tame-denials : (rs : List Bool) (n : ℕ) (launch facts : List Fact) (t : Tree E) (more : List Obligation) → IsTame h signed rs n t → denials_fit more ≡ true → denials_fit (trees.claims launch facts n t ++ more) ≡ true
-  tame-denials rs n launch facts Leaf more t m = m
-  tame-denials rs n launch facts Dead more t m = absurd t
-  tame-denials [] n launch facts (Claim o needed settled g rest) more t m = absurd t
-  tame-denials (r ∷ rs) n launch facts (Claim o needed settled g rest) more t m = two (denial_fits (Some g)) _ (small-denial-fits g t.0) (tame-denials rs (suc n) launch facts rest more t.2 m)
-  tame-denials rs n launch facts (Know f rest) more t m = tame-denials rs n launch _ rest more t.1 m
-  tame-denials rs n launch facts (Touch a i d rest) more t m = tame-denials rs n launch facts rest more t.1 m
-  tame-denials rs n launch facts (Fork first second) more t m = absurd t
+  pub tame-denials : (rs : List Bool) (n : ℕ) (t : Tree E) → IsTame h signed rs n t → tree_denials_fit n t ≡ true
+  tame-denials rs n Leaf t = refl
+  tame-denials rs n Dead t = absurd t
+  tame-denials [] n (Claim o needed settled g rest) t = absurd t
+  tame-denials (r ∷ rs) n (Claim o needed settled g rest) t = two (denials_fit g) (tree_denials_fit (suc n) rest) (small-denials-fit g t.0) (tame-denials rs (suc n) rest t.2)
+  tame-denials rs n (Know f rest) t = tame-denials rs n rest t.1
+  tame-denials rs n (Touch a i d rest) t = tame-denials rs n rest t.1
+  tame-denials rs n (Fork first second) t = absurd t
 
   pub small-accesses : (rs : List Bool) (n : ℕ) (facts : List Fact) (t : Tree E) → IsTame h signed rs n t → Each IsSmallAccess (trees.accesses facts n t)
   small-accesses rs n facts Leaf t = tt
@@ -101,18 +93,6 @@ module _ {E : Type 0} (h : ℕ → Bool) (signed : Type 0) where
   claims-right rs n launch facts (Know f rest) more t = claims-right rs n launch _ rest more t.1
   claims-right rs n launch facts (Touch a i d rest) more t = claims-right rs n launch facts rest more t.1
   claims-right rs n launch facts (Fork first second) more t = absurd t
-
--- pairs have no goal
-pub pairs-denials : {E : Type 0} (g : Ghosts E) (k : Known E) (launch : List Fact) (ps : List (Pair E)) → denials_fit (map (pair_obligation g k launch) ps) ≡ true
-pairs-denials g k launch [] = refl
-pairs-denials g k launch (p ∷ ps) = pairs-denials g k launch ps
-
--- what is known of an item at first is small, where no local size is over 1,024
-pub small-items : (sizes : Three ℕ) → sizes.x ≤ 1024 → sizes.y ≤ 1024 → sizes.z ≤ 1024 → Each IsSmall (item_facts sizes First)
-small-items sizes x y z =
-    let last = λ (d n : ℕ) (h : n ≤ 1024). less (constant (pos n -ℤ pos 1)) (once (Local First d)) most (omega (arith, ints, h)) in
-    let room = λ (d : ℕ). less (minus (once (Groups d)) (once (Group First d))) (constant (pos 1)) most (omega (arith, less (once (Groups d)) (once (Group First d)) 2 (omega arith))) in
-    (omega arith, (last 0 sizes.x x, (omega arith, (room 0, (omega arith, (last 1 sizes.y y, (omega arith, (room 1, (omega arith, (last 2 sizes.z z, (omega arith, (room 2, tt))))))))))))
 
 -- a copy is as large as its form
 terms-size-second : (ts : List (Weighted ℕ)) → terms_size (second_terms ts) ≡ terms_size ts

@@ -15,10 +15,11 @@ use Rattle.obligations.proofs.Each.{Each}
 use Rattle.plain_kernels.specs.Domains.{domain}
 use Rattle.plain_kernels.specs.Claims.{claims, marked, is_range}
 use Rattle.plain_kernels.specs.Kernels.{has_signed, IsPlain, HasLimits}
-use Rattle.plain_kernels.specs.Fitting.{forms_fit, has_fork}
+use Rattle.obligations.specs.Fitting.{forms_fit}
+use Rattle.plain_kernels.specs.Forks.{has_fork}
 use Rattle.plain_kernels.proofs.Terms.{Both}
 use Rattle.plain_kernels.proofs.Trees.{IsRight, IsTame}
-use Rattle.plain_kernels.proofs.Fitting.{IsSmallAccess, AreRight, small-facts-fit, tame-fits, tame-path, tame-denials, small-accesses, claims-right, pairs-denials, small-items, small-pairs-fit, small-pairs}
+use Rattle.plain_kernels.proofs.Fitting.{IsSmallAccess, AreRight, tame-fits, tame-path, tame-denials, small-accesses, claims-right, small-pairs-fit, small-pairs}
 use Rattle.plain_kernels.proofs.Stores.{tree-tame}
 
 -- a number of at least 1 is one more than another
@@ -70,9 +71,8 @@ module _ (k : Kernel) (c : Conditions) (h : ℕ → Bool) (limits : HasLimits k 
   pub plain-fits : forms_fit domain k c h ≡ true
   plain-fits =
       rw (
-        small-facts-fit (item_facts k.sizes First) (small-items k.sizes limits.size_x.1 limits.size_y.1 limits.size_z.1),
         tame-fits h signed marks 0 found found-tame,
-        tame-denials h signed marks 0 (launch_facts c) (item_facts k.sizes First) found _ found-tame (pairs-denials domain (known domain k.sizes c) (launch_facts c) (pairs domain k c h)),
+        tame-denials h signed marks 0 found found-tame,
         small-pairs-fit (pairs domain k c h) (small-pairs k.sizes c 0 k.buffers (item_accesses domain k c h) small),
       ) refl
 

@@ -28,7 +28,7 @@ use Rattle.plain_kernels.proofs.Trees.{most, IsTame, range-tame, range-asked}
 multiple-size : (size' f z : ℕ) → size (id_multiple size' (pos f) (pos z)) ≡ z + (f * 1 + (f * size' + 0))
 multiple-size size' f z = ap (λ n. z + n) (size-put (pos f *ℤ pos 1) local (put (pos f *ℤ pos size') group []) ∙ ap (λ n. f * 1 + n) (size-put (pos f *ℤ pos size') group []))
 
-pub less : (f g : Fact) (n : ℕ) → size f + size g ≤ n → size (minus f g) ≤ n
+less : (f g : Fact) (n : ℕ) → size f + size g ≤ n → size (minus f g) ≤ n
 less f g n h = omega (arith, size_difference f g, h)
 
 int_below : (z : ℕ) → in_kind Int (pos z) ≡ true → z ≤ 4294967295

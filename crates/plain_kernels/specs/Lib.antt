@@ -1,4 +1,4 @@
 pub mod Domains
 pub mod Claims
 pub mod Kernels
-pub mod Fitting
+pub mod Forks

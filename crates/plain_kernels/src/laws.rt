@@ -6,10 +6,11 @@ ghost use Rattle.obligations.specs.Covered.{is_covered};
 ghost use Rattle.obligations.specs.Trees.{Obligation, leaves};
 ghost use Rattle.obligations.specs.Statements.{setting, tree};
 ghost use Rattle.obligations.specs.Shown.{obligations};
+ghost use Rattle.obligations.specs.Fitting.{forms_fit};
 ghost use Rattle.plain_kernels.specs.Domains.{domain};
 ghost use Rattle.plain_kernels.specs.Claims.{is_range};
 ghost use Rattle.plain_kernels.specs.Kernels.{IsPlain, HasLimits, has_signed};
-ghost use Rattle.plain_kernels.specs.Fitting.{forms_fit, has_fork};
+ghost use Rattle.plain_kernels.specs.Forks.{has_fork};
 
 /// Plain kernels are covered by the walk.
 pub fn plain_kernels_are_covered()

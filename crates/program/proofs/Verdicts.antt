@@ -2,12 +2,13 @@
 use Rattle.std.proofs.Common.{ℕ, List, [], ◌∷◌, ◌++◌, inl, inr, refl, subst}
 use Rattle.std.specs.Prelude.{Option}
 use Rattle.std.specs.String.{string_bytes}
+use Rattle.reading.specs.Answers as kernels
 use Rattle.launch_text.specs.Answers as launches
 use Rattle.cert_check.specs.Numbers as checks
 use Rattle.executor.specs.Numbers as runs
 use Rattle.telling.specs.Refusals.{IsRefusalLine, place_seen}
-use Rattle.telling.specs.Refusing.{IsRefusedText, IsUnanswered}
-use Rattle.program.specs.Running.{Read, IsOf, Reads, own, checked, ran, Success, Output, done, refused, silent, torn}
+use Rattle.telling.specs.Refusing.{IsRefusedText, IsRefusedKernel, IsUnanswered}
+use Rattle.program.specs.Running.{Read, IsOf, Reads, own, checked, ran, printed, Success, Output, done, refused, silent, torn}
 use Rattle.program.specs.Refusing.{Refusal}
 use Rattle.program.specs.Verdicts.{Tells, IsTold, IsWritten}
 use Rattle.telling.specs.declared.Verdict.{Verdict}
@@ -22,10 +23,14 @@ run_line k c p l line (inl h) = check_line k c p line h
 run_line k c p l line (inr (inl (e, kernel, conditions, s, r, h))) = (launches.error_number e, place_seen (checks.at_line (launches.error_place e)), h)
 run_line k c p l line (inr (inr (e, kernel, conditions, launch, workers, s, q, r, h))) = (runs.error_number e, place_seen (checks.at_line (runs.error_line e)), h)
 
+print_line : (k line : List ℕ) → IsRefusedKernel k line → IsRefusalLine line
+print_line k line (e, r, h) = (kernels.error_number e, place_seen (checks.at_place (kernels.error_place e)), h)
+
 line_of : (given : List Read → Type 0) (ws : List (List ℕ)) (line : List ℕ) → Refusal given ws line → IsRefusalLine line
 line_of given ws line (own e g h) = check_line _ _ _ line h
 line_of given ws line (checked k c p kernel conditions certificate w x y z g h) = check_line kernel conditions certificate line h
 line_of given ws line (ran k c p l kernel conditions certificate launch w x y z u g h) = run_line kernel conditions certificate launch line h
+line_of given ws line (printed k kernel w x g h) = print_line kernel line h
 
 module _ (given : List Read → Type 0) (ws : List (List ℕ)) (old new : Option (List ℕ)) (status : ℕ) where
   abbrev Gained : Type 0

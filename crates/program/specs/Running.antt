@@ -1,7 +1,7 @@
 -- What a run of the program reads and writes.
 use Rattle.std.specs.Prelude.{◌≡◌, ◌+◌, ◌⊎◌, ℕ, List, [], ◌∷◌, Option, IfSome, take, codes}
 use Rattle.std.specs.Io.KnownBytes.{Appends, Keeps}
-use Rattle.telling.specs.Telling.{IsAcceptedText, IsResultText}
+use Rattle.telling.specs.Telling.{IsAcceptedText, IsResultText, IsPrintedText}
 use Rattle.telling.specs.Refusals.{IsRefusalLine}
 use Rattle.command_line.specs.Words.{HasWord}
 use Rattle.program.specs.First.{first_kernel, first_conditions, first_certificate}
@@ -36,18 +36,20 @@ launch_read name bytes = record { name = name; limit = 4194304; bytes = bytes }
 
 -- what is told of the texts that the words ask about: those in the program where there is no word, else those of the files that the
 -- words name, which were read in this order; `given` says of reads that they were made
-pub data Answers (given : List Read → Type 0) (ws : List (List ℕ)) (checks : (kernel conditions certificate : List ℕ) → Type 0) (runs : (kernel conditions certificate launch : List ℕ) → Type 0) : Type 0 where
-  own : ws ≡ [] → given [] → checks first_kernel first_conditions first_certificate → Answers given ws checks runs
+pub data Answers (given : List Read → Type 0) (ws : List (List ℕ)) (checks : (kernel conditions certificate : List ℕ) → Type 0) (runs : (kernel conditions certificate launch : List ℕ) → Type 0) (prints : (kernel : List ℕ) → Type 0) : Type 0 where
+  own : ws ≡ [] → given [] → checks first_kernel first_conditions first_certificate → Answers given ws checks runs prints
   checked : (k c p kernel conditions certificate : List ℕ) → HasWord ws 0 (codes "check") → HasWord ws 1 k → HasWord ws 2 c → HasWord ws 3 p →
-      given (kernel_read k kernel ∷ conditions_read c conditions ∷ certificate_read p certificate ∷ []) → checks kernel conditions certificate → Answers given ws checks runs
+      given (kernel_read k kernel ∷ conditions_read c conditions ∷ certificate_read p certificate ∷ []) → checks kernel conditions certificate → Answers given ws checks runs prints
   ran : (k c p l kernel conditions certificate launch : List ℕ) → HasWord ws 0 (codes "run") → HasWord ws 1 k → HasWord ws 2 c → HasWord ws 3 p → HasWord ws 4 l →
       given (kernel_read k kernel ∷ conditions_read c conditions ∷ certificate_read p certificate ∷ launch_read l launch ∷ []) → runs kernel conditions certificate launch →
-      Answers given ws checks runs
+      Answers given ws checks runs prints
+  printed : (k kernel : List ℕ) → HasWord ws 0 (codes "print") → HasWord ws 1 k → given (kernel_read k kernel ∷ []) → prints kernel → Answers given ws checks runs prints
 
--- `accepted`, or the buffers of a launch
+-- `accepted`, the buffers of a launch, or a canonical text
 abbrev pub Success : (given : List Read → Type 0) (ws : List (List ℕ)) (written : List ℕ) → Type 0
 Success given ws written =
     Answers given ws (λ kernel conditions certificate. IsAcceptedText kernel conditions written) (λ kernel conditions certificate launch. IsResultText kernel conditions launch written)
+    (λ kernel. IsPrintedText kernel written)
 
 -- what the standard output has gained, by the status: at 0 what succeeds, at 1 a line that refuses, at 2 and 4 nothing, at 3 nothing
 -- or, where the output failed, a front of one of these; `refusal` says of a line what it tells

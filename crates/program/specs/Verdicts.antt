@@ -2,7 +2,7 @@
 use Rattle.std.specs.Prelude.{◌≡◌, ◌⊎◌, ℕ, List, Option, take}
 use Rattle.std.specs.String.{string_bytes}
 use Rattle.std.specs.Io.KnownBytes.{Appends, Keeps}
-use Rattle.telling.specs.Verdicts.{Checks, Runs}
+use Rattle.telling.specs.Verdicts.{Checks, Runs, Prints}
 use Rattle.telling.specs.declared.Verdict.{Verdict}
 use Rattle.telling.specs.declared.Verdict.TheVariants as verdicts
 use Rattle.program.specs.Running.{Read, Answers}
@@ -10,7 +10,7 @@ use Rattle.program.specs.Running.{Read, Answers}
 -- of the texts that were asked about
 abbrev pub Tells : (given : List Read → Type 0) (ws : List (List ℕ)) → Verdict → Type 0
 Tells given ws v =
-    Answers given ws (λ kernel conditions certificate. Checks v kernel conditions certificate) (λ kernel conditions certificate launch. Runs v kernel conditions certificate launch)
+    Answers given ws (λ kernel conditions certificate. Checks v kernel conditions certificate) (λ kernel conditions certificate launch. Runs v kernel conditions certificate launch) (λ kernel. Prints v kernel)
 
 -- the text is written, or a front of it, which is status 3
 abbrev pub IsWritten : (text : List ℕ) (old new : Option (List ℕ)) (done status : ℕ) → Type 0

@@ -16,7 +16,7 @@ use std::alloc::Global;
 use std::io::Write;
 use std::sync::Wait;
 use std::thread::Threads;
-use telling::{Texts, Verdict, check_texts, run_texts};
+use telling::{Texts, Verdict, check_texts, print_text, run_texts};
 
 const USAGE: &[u8] = b"usage: kverify prove | check | run | print\n";
 
@@ -116,6 +116,15 @@ fn ran<'a, R: Threads + Wait + Sync, F: Files>(
     Ok(run_texts(rt, alloc, found.texts(), &launch, workers))
 }
 
+/// The canonical text of a file's kernel.
+fn printed<'a, F: Files>(alloc: Global, kernel: &'a str, files: &mut F) -> Result<Verdict, Stop<'a>>
+    ensures verdict { (ws : List (List ℕ)) → HasWord ws 0 (codes "print") → HasWord ws 1 kernel.now → IfOk result (λ v. Tells (Reads F.contents F.gives files.old files.new) ws v) }
+    ensures same { (n : List ℕ) → F.contents files.new n ≡ F.contents files.old n }
+{
+    let text = text_of(files, kernel, 65_536)?;
+    Ok(print_text(alloc, &text))
+}
+
 /// The verdict on what the words ask for.
 fn verdict_of<'a, R: Threads + Wait + Sync, F: Files>(
     rt: &R,
@@ -136,6 +145,7 @@ fn verdict_of<'a, R: Threads + Wait + Sync, F: Files>(
                 workers,
             },
         ) => ran(rt, alloc, names, launch, workers, files),
+        Ok(Line::Print(kernel)) => printed(alloc, kernel, files),
         Ok(Line::Usage) => Err(Stop::Usage),
         Err(_) => Err(Stop::Memory),
     }

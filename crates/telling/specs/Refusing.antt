@@ -2,7 +2,9 @@
 use Rattle.std.specs.Prelude.{◌≡◌, ◌⊎◌, ℕ, List, Ok, Err, Option}
 use Rattle.semantics.specs.Conditions as meaning
 use Rattle.texts.specs.LaunchReading.{launch_of}
-use Rattle.reading.specs.Kernels.{Kernel}
+use Rattle.reading.specs.Kernels.{Kernel, read}
+use Rattle.reading.specs.Answers as kernels
+use Rattle.reading.specs.declared.KernelError.{KernelError}
 use Rattle.launch.specs.View.{conditions as conditions_seen, launch as launch_seen}
 use Rattle.launch.specs.declared.conditions.Conditions.{Conditions}
 use Rattle.launch.specs.declared.launches.Launch.{Launch}
@@ -23,6 +25,10 @@ use Rattle.telling.specs.Telling.{IsSafe}
 -- the line has this number and this place
 abbrev pub IsLineOf : (number : ℕ) → Option code.Place → (line : List ℕ) → Type 0
 IsLineOf number place line = line ≡ refusal_line number (place_seen place)
+
+-- the text of the kernel is refused
+abbrev pub IsRefusedKernel : (kernel line : List ℕ) → Type 0
+IsRefusedKernel kernel line = (e : KernelError) × kernels.Refuses e (read kernel) × IsLineOf (kernels.error_number e) (checks.at_place (kernels.error_place e)) line
 
 -- the check refuses the texts
 abbrev pub IsRefusedText : (kernel conditions certificate line : List ℕ) → Type 0

@@ -1,11 +1,12 @@
--- What the program promises where it says that a kernel is accepted, and where it gives the buffers of a launch: all of it is said of
--- bytes and of the definitions, and no type of the code stands in it.
+-- What the program promises where it says that a kernel is accepted, where it gives the buffers of a launch, and where it gives a canonical
+-- text: all of it is said of bytes and of the definitions, and no type of the code stands in it.
 use Rattle.std.specs.Prelude.{◌≡◌, ℕ, List, map, codes}
 use Rattle.semantics.specs.Word.{Word}
 use Rattle.semantics.specs.Launch.{Launch, Fits}
 use Rattle.semantics.specs.Conditions.{Conditions, Meets}
 use Rattle.semantics.specs.Setup.{Setup}
 use Rattle.semantics.specs.Rounds.{IsDefined}
+use Rattle.texts.specs.Canonical.{canonical}
 use Rattle.texts.specs.ConditionsText.{IsConditionsText}
 use Rattle.texts.specs.LaunchReading.{number}
 use Rattle.texts.specs.LaunchSpelling.{IsLaunchText}
@@ -46,3 +47,7 @@ IsAcceptedText kernel conditions written = (k : Kernel) × (c : Conditions) × I
 abbrev pub IsResultText : (kernel conditions launch written : List ℕ) → Type 0
 IsResultText kernel conditions launch written =
     (k : Kernel) × (c : Conditions) × (l : Launch) × (b : List (List Word)) × IsSafe kernel conditions k c × IsRun k c launch written l b
+
+-- the bytes are the text of a kernel, by the grammar, and what is written is the canonical text of its tree
+abbrev pub IsPrintedText : (kernel written : List ℕ) → Type 0
+IsPrintedText kernel written = (k : Kernel) × IsTextOf kernel k × (written ≡ canonical k.tree)

@@ -2,8 +2,8 @@
 use Rattle.std.specs.Prelude.{ℕ, List, Option}
 use Rattle.std.specs.String.{string_bytes}
 use Rattle.entry_check.specs.declared.error.Place as code
-use Rattle.telling.specs.Refusing.{IsLineOf, IsRefusedText, IsUnanswered}
-use Rattle.telling.specs.Telling.{IsAcceptedText, IsResultText}
+use Rattle.telling.specs.Refusing.{IsLineOf, IsRefusedText, IsRefusedKernel, IsUnanswered}
+use Rattle.telling.specs.Telling.{IsAcceptedText, IsResultText, IsPrintedText}
 use Rattle.telling.specs.declared.Verdict.{Verdict}
 use Rattle.telling.specs.declared.Verdict.TheVariants as verdicts
 
@@ -22,3 +22,8 @@ abbrev pub Runs : Verdict → (kernel conditions certificate launch : List ℕ) 
 Runs (verdicts.Done text) kernel conditions certificate launch = IsResultText kernel conditions launch text.items
 Runs (verdicts.Refused line) kernel conditions certificate launch = IsUnanswered kernel conditions certificate launch (string_bytes line)
 Runs verdicts.OutOfMemory kernel conditions certificate launch = Unit {0}
+
+abbrev pub Prints : Verdict → (kernel : List ℕ) → Type 0
+Prints (verdicts.Done text) kernel = IsPrintedText kernel text.items
+Prints (verdicts.Refused line) kernel = IsRefusedKernel kernel (string_bytes line)
+Prints verdicts.OutOfMemory kernel = Unit {0}

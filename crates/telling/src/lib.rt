@@ -1,6 +1,7 @@
 //! Section: Runs and program. Promises what is written says `accepted` only of what is; stands on `cert_check` and `executor`.
 //!
-//! What the program says of texts: it checks them, or runs an accepted kernel, and tells the answer or the refusal.
+//! What the program says of texts: it checks them, runs an accepted kernel, or prints a kernel's canonical text, and tells the answer or the
+//! refusal.
 #![tactic(auto)]
 
 ghost use Rattle.std.specs.Prelude.{◌≡◌};
@@ -8,7 +9,7 @@ ghost use Rattle.launch_text.specs.Answers as launches;
 ghost use Rattle.cert_check.specs.Numbers as checks;
 ghost use Rattle.cert_check.specs.Numbers.{at_line};
 ghost use Rattle.executor.specs.Numbers as runs;
-ghost use Rattle.telling.specs.Verdicts.{Checks, Runs, IsRefusal};
+ghost use Rattle.telling.specs.Verdicts.{Checks, Runs, Prints, IsRefusal};
 
 mod refusal;
 
@@ -20,7 +21,9 @@ use launch_grammar::laws::{
 };
 use launch_text::error::LaunchTextError;
 use launch_text::{read_launch, write_buffers};
+use printer::print;
 use reading::laws::bytes_are_the_text_of_what_is_read;
+use reading::read_kernel;
 use refusal::Refusal;
 use std::alloc::Global;
 use std::sync::Wait;
@@ -135,6 +138,21 @@ pub fn run_texts<R: Threads + Wait + Sync>(
     };
     match write_buffers(alloc, accepted.typed(), &buffers) {
         Ok(text) => Verdict::Done(text),
+        Err(_) => Verdict::OutOfMemory,
+    }
+}
+
+/// The canonical text of a kernel, or why the bytes are no kernel's text.
+pub fn print_text(alloc: Global, kernel: &[u8]) -> Verdict
+    ensures { Prints result kernel.now }
+{
+    bytes_are_the_text_of_what_is_read();
+    let typed = match read_kernel(alloc, kernel) {
+        Ok(typed) => typed,
+        Err(error) => return unaccepted(alloc, &CheckError::Kernel(error)),
+    };
+    match print(alloc, &typed) {
+        Ok(text) => Verdict::Done(text.into_bytes()),
         Err(_) => Verdict::OutOfMemory,
     }
 }

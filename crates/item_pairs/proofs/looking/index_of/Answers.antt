@@ -1,4 +1,4 @@
-use Rattle.std.proofs.Common.{ap, ◌∙◌}
+use Rattle.std.proofs.Common.{ap}
 use Rattle.obligations.specs.Trees as trees
 use Rattle.item_pairs.proofs.Nth.{access_is}
 use Rattle.item_pairs.proofs.looking.index_of.Goals as goal

@@ -1,0 +1,4 @@
+pub mod Order
+pub mod Knowing
+pub mod Keys
+pub mod Clashing

@@ -1,0 +1,6 @@
+pub mod Marks
+pub mod View
+pub mod Knowledge
+pub mod Elements
+pub mod Histories
+pub mod Watched

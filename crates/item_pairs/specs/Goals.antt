@@ -1,0 +1,36 @@
+-- Claims of all paths, what denies them, and the manners in which they are shown.
+use Rattle.std.specs.Prelude.{List, Option, None, Some}
+use Rattle.linear.specs.Forms.{form, forms}
+use Rattle.linear.specs.declared.form.Form.{Form}
+use Rattle.facts.specs.Symbols.{Fact, denial}
+use Rattle.obligations.specs.Trees as trees
+use Rattle.obligations.specs.Trees.{Obligation, Goal, AtLeastZero, Either, Plainly, ByPositive, ByNegative, claimed}
+use Rattle.path_walk.specs.Paths.{Claimed}
+use Rattle.item_pairs.specs.declared.manner.Manner.{Manner}
+use Rattle.item_pairs.specs.declared.manner.Manner.TheVariants as manners
+use Rattle.std.proofs.Common.{Vec, Global}
+
+abbrev pub manner : Manner → trees.Manner
+manner manners.Plainly = Plainly
+manner manners.ByPositive = ByPositive
+manner manners.ByNegative = ByNegative
+
+abbrev pub owed : (launch : List Fact) → Claimed → Obligation
+owed launch c = claimed launch c.facts c.demand c.needed c.settled c.goal
+
+-- what denies a goal, shown in that manner
+abbrev pub denial_by : trees.Manner → Goal → Option Fact
+denial_by Plainly (AtLeastZero f) = Some (denial f)
+denial_by Plainly (Either p n) = None
+denial_by ByPositive (AtLeastZero f) = None
+denial_by ByPositive (Either p n) = Some (denial p)
+denial_by ByNegative (AtLeastZero f) = None
+denial_by ByNegative (Either p n) = Some (denial n)
+
+abbrev pub maybe_form : Option Form → Option Fact
+maybe_form None = None
+maybe_form (Some f) = Some (form f)
+
+abbrev pub maybe_forms : Option (Vec Form Global) → Option (List Fact)
+maybe_forms None = None
+maybe_forms (Some v) = Some (forms v.items)

@@ -1,0 +1,157 @@
+//! All that is to be shown of a kernel under conditions, by its numbers.
+
+ghost use Rattle.std.specs.Prelude.{◌≤◌, ◌+◌, length};
+ghost use Rattle.std.specs.List.{All};
+ghost use Rattle.item_pairs.specs.Refusals.{IsInside};
+
+use crate::claims::{claim_facts, is_needed, sort_of, spot_of_claim, try_claim};
+use crate::clashing::{pair_facts, try_differences};
+use crate::manner::Manner;
+use crate::met::Met;
+use crate::pairs::{Pair, spot_of};
+use domain::Domain;
+use facts::{Known, WalkError};
+use linear::Form;
+use path_walk::{Sort, Spot};
+use std::alloc::Global;
+
+/// The obligations of a kernel, numbered from 1: the claims of one item, then the pairs of accesses of two items that may clash. There
+/// are at most 65,536.
+#[derive(Drop)]
+pub struct Obligations<D> {
+    pub(crate) launch: Vec<Form>,
+    pub(crate) known: Known<D>,
+    pub(crate) met: Met<D>,
+    pub(crate) pairs: Vec<Pair>,
+    pub(crate) ghost few: { length met.claims.items + length pairs.items ≤ 65536 },
+    pub(crate) ghost inside: { All (IsInside (length met.accesses.items)) pairs.items },
+}
+
+impl<D: Domain> Obligations<D> {
+    ghost use Rattle.std.specs.Prelude.{◌≡◌, ◌≤◌, ◌<◌, length, true, MatchResult};
+    ghost use Rattle.obligations.specs.Fitting.{pairs_fit};
+    ghost use Rattle.obligations.specs.Trees.{facts_by};
+    ghost use Rattle.path_walk.specs.View.{sort as sort_seen, spot as spot_seen};
+    ghost use Rattle.item_pairs.specs.Goals.{manner as manner_seen, maybe_forms};
+    ghost use Rattle.item_pairs.specs.Refusals.{DoNotFit};
+    ghost use Rattle.item_pairs.specs.View.{met_claims};
+    ghost use Rattle.item_pairs.specs.Listed.{listed, nth_obligation, made_fit, claims_fit, found_pairs, maybe_spot};
+
+    /// What denies each claim is of `i64`, or an error.
+    fn try_denials(&self, alloc: Global) -> Result<(), WalkError>
+        ensures { MatchResult result (λ _. claims_fit (met_claims self.now.met) ≡ true) (DoNotFit (claims_fit (met_claims self.now.met))) }
+    {
+        for i in 0..self.met.claims.len() {
+            try_claim(alloc, &self.met, i)?;
+        }
+        Ok(())
+    }
+
+    /// The differences of each pair's indexes are, or an error.
+    fn try_pairs(&self, alloc: Global) -> Result<(), WalkError>
+        ensures { MatchResult result (λ _. pairs_fit (found_pairs self.now.met self.now.pairs.items) ≡ true) (DoNotFit (pairs_fit (found_pairs self.now.met self.now.pairs.items))) }
+    {
+        for i in 0..self.pairs.len() {
+            let pair = self.pairs[i];
+            try_differences(alloc, &self.met, pair)?;
+        }
+        Ok(())
+    }
+
+    /// All forms that are made of the obligations are of `i64`, or an error.
+    fn try_forms(&self, alloc: Global) -> Result<(), WalkError>
+        ensures { MatchResult result (λ _. made_fit self.now ≡ true) (DoNotFit (made_fit self.now)) }
+    {
+        self.try_denials(alloc)?;
+        self.try_pairs(alloc)
+    }
+
+    /// How many there are.
+    pub fn len(&self) -> usize
+        ensures exact { result ≡ length (listed D.Domain self.now) }
+        ensures few { result ≤ 65536 }
+    {
+        self.met.claims.len() + self.pairs.len()
+    }
+
+    /// What is to be shown, by which an entry fits or does not.
+    pub fn sort(&self, number: usize) -> Sort
+        requires first { 0 < number }
+        requires last { number ≤ length (listed D.Domain self.now) }
+        ensures { sort_seen result ≡ (nth_obligation (listed D.Domain self.now) number).sort }
+    {
+        let i = number - 1;
+        if i < self.met.claims.len() {
+            return sort_of(&self.met, i);
+        }
+        Sort::OfPair
+    }
+
+    /// Where the kernel asks for it; of a pair, where the first item's access is.
+    pub fn spot(&self, number: usize) -> Spot
+        requires first { 0 < number }
+        requires last { number ≤ length (listed D.Domain self.now) }
+        ensures { spot_seen result ≡ (nth_obligation (listed D.Domain self.now) number).spot }
+    {
+        let i = number - 1;
+        let claims = self.met.claims.len();
+        if i < claims {
+            return spot_of_claim(&self.met, i);
+        }
+        let pair = self.pairs[i - claims];
+        spot_of(&self.met, pair.first)
+    }
+
+    /// Of a pair, where the second item's access is.
+    pub fn other_spot(&self, number: usize) -> Option<Spot>
+        requires first { 0 < number }
+        requires last { number ≤ length (listed D.Domain self.now) }
+        ensures { maybe_spot result ≡ (nth_obligation (listed D.Domain self.now) number).other }
+    {
+        let i = number - 1;
+        let claims = self.met.claims.len();
+        if i < claims {
+            return None;
+        }
+        let pair = self.pairs[i - claims];
+        Some(spot_of(&self.met, pair.second))
+    }
+
+    /// It is to be shown also where it has no entry.
+    pub fn is_needed(&self, number: usize) -> bool
+        requires first { 0 < number }
+        requires last { number ≤ length (listed D.Domain self.now) }
+        ensures { result ≡ (nth_obligation (listed D.Domain self.now) number).needed }
+    {
+        let i = number - 1;
+        if i < self.met.claims.len() {
+            return is_needed(&self.met, i);
+        }
+        true
+    }
+
+    /// The facts that are to be impossible where it is shown in a manner; none where the manner does not fit.
+    pub fn facts(
+        &self,
+        alloc: Global,
+        number: usize,
+        manner: Manner,
+    ) -> Result<Option<Vec<Form>>, WalkError>
+        requires first { 0 < number }
+        requires last { number ≤ length (listed D.Domain self.now) }
+        ensures { MatchResult result (λ r. maybe_forms r ≡ facts_by (manner_seen manner) (nth_obligation (listed D.Domain self.now) number)) (DoNotFit (made_fit self.now)) }
+    {
+        let i = number - 1;
+        let claims = self.met.claims.len();
+        let launch = self.launch.as_slice();
+        if i < claims {
+            return claim_facts(alloc, launch, &self.met, i, manner);
+        }
+        let pair = self.pairs[i - claims];
+        let Manner::Plainly = manner else {
+            return Ok(None);
+        };
+        let facts = pair_facts(alloc, launch, &self.met, pair)?;
+        Ok(Some(facts))
+    }
+}

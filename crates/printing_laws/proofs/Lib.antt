@@ -1,0 +1,12 @@
+pub mod BareTerms
+pub mod BareStatements
+pub mod BareTexts
+pub mod BareLimits
+pub mod Rooms
+pub mod NamedTokens
+pub mod PrintableTrees
+pub mod ReadBack
+pub mod BareSteps
+pub mod BareWorlds
+pub mod BareRounds
+pub mod BareHeadline

@@ -1,0 +1,80 @@
+// Schedules of small kernels.
+
+use crate::play::play;
+use std::test::Fail;
+
+const LAUNCH: &str = "launch 1\ngroups 1 1 1\nfill 0\n";
+
+/// Half of the items wait, and the others end.
+const HALF: &str = "__kernel __attribute__((reqd_work_group_size(64, 1, 1))) void k() {\n\
+    if (get_local_id(0) < 32u) barrier(CLK_LOCAL_MEM_FENCE);\n}\n";
+
+#[test]
+fn who_waits_and_who_has_ended_diverge(rt: HostRuntime) -> Result<(), Fail> {
+    let text = play(
+        rt.alloc(),
+        HALF,
+        LAUNCH,
+        "step 0\nstep 0\nstep 32\nrelease 0\n",
+    )?;
+    assert_eq!(rt;
+        text.as_str(),
+        "done\ndone\ndone\nnot possible\nno clash\ndivergence 0 32\n"
+    );
+    Ok(())
+}
+
+/// Each item arrives once, the odd ones an iteration later.
+const TURNS: &str = "__kernel __attribute__((reqd_work_group_size(64, 1, 1))) void k() {\n\
+    uint lid = get_local_id(0);\n\
+    for (uint i = 0u; i < 2u; i += 1u) if (i == (lid & 1u)) barrier(CLK_LOCAL_MEM_FENCE);\n}\n";
+
+/// Each even item takes 5 steps, and each odd one 8.
+#[test]
+fn who_waits_in_other_iterations_is_not_released(rt: HostRuntime) -> Result<(), Fail> {
+    let text = play(rt.alloc(), TURNS, LAUNCH, "rounds 8 64 1\nrounds 1 64 1\n")?;
+    assert_eq!(rt;
+        text.as_str(),
+        "416 done, 104 not possible, 0 faults\n0 done, 65 not possible, 0 faults\nno clash\ndivergence 0 1\n"
+    );
+    Ok(())
+}
+
+/// Item 0 stores what item 1 loads.
+const SHIFT: &str =
+    "__kernel __attribute__((reqd_work_group_size(2, 1, 1))) void k(__global uint *a) {\n  \
+       uint gid = get_global_id(0);\n  a[gid + 1u] = a[gid];\n}\n";
+
+#[test]
+fn a_race_is_found(rt: HostRuntime) -> Result<(), Fail> {
+    let launch = "launch 1\ngroups 1 1 1\nbuffer a list 7 8 9\nfill 0\n";
+    let text = play(rt.alloc(), SHIFT, launch, "rounds 3 2 0\n")?;
+    assert_eq!(rt;
+        text.as_str(),
+        "6 done, 0 not possible, 0 faults\nbuffer 7 7 8\n\
+         clash load 3:17 item 1 of launch array 0 element 1 epoch 0 store 3:3 item 0 of launch array 0 element 1 epoch 0\n\
+         no divergence\n"
+    );
+    Ok(())
+}
+
+/// An item is stopped, and steps no more.
+const DIVIDES: &str =
+    "__kernel __attribute__((reqd_work_group_size(1, 1, 1))) void k(__global uint *a) {\n\
+    a[0] = 1u / a[0];\n}\n";
+
+#[test]
+fn a_fault_is_told_at_its_site(rt: HostRuntime) -> Result<(), Fail> {
+    let launch = "launch 1\ngroups 1 1 1\nbuffer a list 0\nfill 0\n";
+    let text = play(
+        rt.alloc(),
+        DIVIDES,
+        launch,
+        "step 0\nstep 0\nstep 0\nstep 1\nrelease 1\n",
+    )?;
+    assert_eq!(rt;
+        text.as_str(),
+        "done\nfault F1 2:11\nnot possible\nnot possible\nnot possible\nbuffer 0\nno clash\nno divergence\n"
+    );
+    Ok(())
+}

@@ -1,0 +1,3 @@
+pub mod TermLoads
+pub mod Remaining
+pub mod Kept

@@ -1,0 +1,173 @@
+-- The tree of a plain kernel: its forms are small, and the claims of ranges in its indexes are settled.
+use Rattle.std.proofs.Common.{◌≡◌, ℕ, zero, suc, ◌+◌, ◌*◌, ◌<◌, ◌≤◌, Bool, true, false, List, [], ◌∷◌, ◌++◌, length, slice_index_or, arith, refl, sym, ap, subst, ◌∙◌, mul-le-mul, mul-suc, mul-add, mul_assoc}
+use Rattle.std.specs.Prelude.{ℤ, pos, ◌+ℤ◌, ◌-ℤ◌, ◌*ℤ◌, ◌≤ℤ◌, ◌||◌, map}
+use Rattle.std.proofs.lemmas.Int.{ints}
+use Rattle.std.proofs.lemmas.Bool.Decides.{nat_tests}
+use Rattle.semantics.specs.Word.{Kind, Int, Uint, in_kind, Add, Multiply}
+use Rattle.semantics.specs.Core.{Global, Array, Term, GlobalId, Statements, none, one}
+use Rattle.semantics.specs.Launch.{Kernel}
+use Rattle.semantics.specs.Conditions.{Conditions}
+use Rattle.linear.specs.Exact.{put, multiple, sum}
+use Rattle.linear.specs.Sizes.{size}
+use Rattle.linear.proofs.Sizes.{size-put, size_difference}
+use Rattle.facts.specs.Symbols.{Length, ArgumentOf, Fact, constant, once, minus}
+use Rattle.obligations.specs.Held.{with_new}
+use Rattle.obligations.specs.Trees.{Tree}
+use Rattle.obligations.specs.Walks.{Setting, State, Value, value, newest, holding, any_of, Onward, settles, claimed_once, stand, at_site, ranged, kept_or_new, brought, brought_from, both_brought}
+use Rattle.obligations.specs.Operators.{binary}
+use Rattle.obligations.specs.Terms.{no_value, variable, id_form, access, walk}
+use Rattle.obligations.specs.Statements.{setting, walk_all, spot_of, argument_values, zero_value, opening_state, ended}
+use Rattle.plain_kernels.specs.Domains.{domain}
+use Rattle.plain_kernels.specs.Claims.{brings, ranges, claims}
+use Rattle.plain_kernels.specs.Kernels.{is_int, is_signed, has_signed, IsPlainValue, Number, BroughtNumber, Parameter, BroughtParameter, IsPlainIndex, Alone, Times, Plus, TimesPlus, Plain, ArePlain, last_index}
+use Rattle.plain_kernels.proofs.Terms.{Both}
+use Rattle.plain_kernels.proofs.Indexes.{IsPlainState, local, group, id_multiple, settles_up, settles_down, low-multiple, minus-multiple, id-form, id-alone, multiple-id, sum-multiple, number-multiple}
+use Rattle.plain_kernels.proofs.Trees.{most, IsTame, range-tame, range-asked}
+
+-- how large a multiple of the id is
+multiple-size : (size' f z : ℕ) → size (id_multiple size' (pos f) (pos z)) ≡ z + (f * 1 + (f * size' + 0))
+multiple-size size' f z = ap (λ n. z + n) (size-put (pos f *ℤ pos 1) local (put (pos f *ℤ pos size') group []) ∙ ap (λ n. f * 1 + n) (size-put (pos f *ℤ pos size') group []))
+
+less : (f g : Fact) (n : ℕ) → size f + size g ≤ n → size (minus f g) ≤ n
+less f g n h = omega (arith, size_difference f g, h)
+
+int_below : (z : ℕ) → in_kind Int (pos z) ≡ true → z ≤ 4294967295
+int_below z h = grind (arith, nat_tests)
+
+below : (kd : Kind) (z : ℕ) → in_kind kd (pos z) ≡ true → z ≤ 4294967295
+below Int z h = int_below z h
+below Uint z h = grind (arith, nat_tests)
+
+factor-below : (e : Term) (f z : ℕ) → IsPlainIndex e f z → f ≤ 4294967295
+factor-below _ _ _ Alone = omega arith
+factor-below _ _ _ (Times p kf f hf) = below kf f hf
+factor-below _ _ _ (Plus a kc z hz) = omega arith
+factor-below _ _ _ (TimesPlus a p kf kc f z hf hz) = below kf f hf
+
+left : (a b : Bool) → a ≡ true → (a || b) ≡ true
+left a b e = rw e refl
+
+right : (a b : Bool) → b ≡ true → (a || b) ≡ true
+right true b e = refl
+right false b e = e
+
+-- the bound on the last index, over natural numbers
+last_below : (f z size' m n : ℕ) (groups : ℤ) → size' ≡ suc m → groups ≡ pos (suc n) → last_index size' groups f z ≤ℤ pos 4294967295 → f * m + f * suc m * n + z ≤ 4294967295
+last_below f z size' m n groups em en h =
+    let d : pos (suc m) *ℤ pos (suc n) -ℤ pos 1 ≡ pos (m + suc m * n) = omega (arith, ints, mul-suc (suc m) n) in
+    let e : last_index size' groups f z ≡ pos f *ℤ pos (m + suc m * n) +ℤ pos z = (λ i. pos f *ℤ (pos (em i) *ℤ en i -ℤ pos 1) +ℤ pos z) ∙ ap (λ x. pos f *ℤ x +ℤ pos z) d in
+    let r : (pos f *ℤ pos (m + suc m * n) +ℤ pos z) ≤ℤ pos 4294967295 = subst (λ x. x ≤ℤ pos 4294967295) e h in
+    omega (arith, ints, r, mul-add f m (suc m * n), mul_assoc f (suc m) n)
+
+-- a value parameter is its argument, whatever variables stand behind
+argument-value : (n : ℕ) (ks : List Kind) (more : List Value) (x : ℕ) → x < length ks → slice_index_or (argument_values n ks ++ more) x no_value ≡ value (slice_index_or ks x Int) (once (ArgumentOf (n + x)))
+argument-value n [] more x l = absurd (omega arith)
+argument-value n (kd ∷ ks) more zero l = let e : n ≡ n + 0 = omega arith in ap (λ j. value kd (once (ArgumentOf j))) e
+argument-value n (kd ∷ ks) more (suc x) l =
+    let e : suc n + x ≡ n + suc x = omega arith in
+    argument-value (suc n) ks more x (omega arith) ∙ ap (λ j. value (slice_index_or ks x Int) (once (ArgumentOf j))) e
+
+variable-is : {E : Type 0} (k : Kernel) (st : State E) (x : ℕ) → IsPlainState k st → x < length k.arguments → variable st x ≡ value (slice_index_or k.arguments x Int) (once (ArgumentOf x))
+variable-is k st x o l =
+    let e : 0 + x ≡ x = omega arith in
+    ap (λ vs. slice_index_or vs x no_value) o.1 ∙ argument-value 0 k.arguments (map zero_value k.variables) x l ∙ ap (λ j. value (slice_index_or k.arguments x Int) (once (ArgumentOf j))) e
+
+module _ (k : Kernel) (c : Conditions) (h : ℕ → Bool) (m n : ℕ) (em : k.sizes.x ≡ suc m) (en : c.groups.x.high ≡ pos (suc n)) (lm : m ≤ 1023) (ln : n ≤ 65535) (signed : Type 0) where
+  abbrev s : Setting Both
+  s = setting domain k c h
+
+  abbrev Tame : List Bool → State Both → Tree Both → Type 0
+  Tame rs st t = IsTame h signed rs st.claims t
+
+  -- what goes on is tame from this value, in each state that the walk of a plain kernel can have
+  abbrev GoesOn : List Bool → Value → Onward Both → Type 0
+  GoesOn rs x go = (st : State Both) → IsPlainState k st → Tame rs st (go x st)
+
+  module _ (f z : ℕ) (lf : f ≤ 4294967295) (b : f * m + f * suc m * n + z ≤ 4294967295) where
+    abbrev form : Fact
+    form = id_multiple (suc m) (pos f) (pos z)
+
+    small : size form ≤ 4402341478400
+    small = let l : suc m ≤ 1024 = omega (arith, lm) in omega (arith, multiple-size (suc m) f z, lf, b, mul-le-mul lf l)
+
+    multiple-tame : (rs : List Bool) (st : State Both) (go : Onward Both) → IsPlainState k st → GoesOn rs (value Uint form) go → Tame (true ∷ true ∷ rs) st (ranged s Uint form st go)
+    multiple-tame rs st go o t =
+        range-tame s h signed rs form st go
+        (ap (settles s st) (low-multiple (suc m) (pos f) (pos z)) ∙ settles_up k c h m n em en lm ln f z lf b st o)
+        (ap (settles s st) (minus-multiple (suc m) (pos 4294967295) (pos f) (pos z)) ∙ settles_down k c h m n em en lm ln f z lf b st o)
+        (less form (constant (pos 0)) most (omega (arith, small))) (less (constant (pos 4294967295)) form most (omega (arith, small))) (t (claimed_once (claimed_once st)) o)
+
+  number-tame : (kd : Kind) (z : ℕ) → z ≤ 4294967295 → (rs : List Bool) (st : State Both) (go : Onward Both) → IsPlainState k st → GoesOn rs (value Uint (constant (pos z))) go → Tame (brings Uint kd rs) st (brought_from s Uint kd (constant (pos z)) st go)
+  number-tame Uint z l rs st go o t = t st o
+  number-tame Int z l rs st go o t =
+      let e = number-multiple (suc m) (pos z) in
+      subst (λ x. Tame (true ∷ true ∷ rs) st (ranged s Uint x st go)) (sym e) (multiple-tame 0 z (omega arith) (omega (arith, l)) rs st go o (subst (λ x. GoesOn rs (value Uint x) go) e t))
+
+  index-tame : (e : Term) (f z : ℕ) → IsPlainIndex e f z → f * m + f * suc m * n + z ≤ 4294967295 → (rs : List Bool) (st : State Both) (go : Onward Both) → IsPlainState k st →
+      GoesOn rs (value Uint (id_multiple (suc m) (pos f) (pos z))) go → Tame (ranges k.arguments e rs) st ((walk s e).value st go)
+  index-tame _ _ _ Alone b rs st go o t = subst (λ x. Tame rs st (go (value Uint x) st)) (sym (id-alone s m em)) (t st o)
+  index-tame _ _ _ (Times p kf f hf) b rs st go o t =
+      number-tame kf f (below kf f hf) (true ∷ true ∷ rs) (at_site p st) (λ y st1. binary s Multiply Uint (id_form s GlobalId 0) y.form st1 go) o (λ st1 o1.
+      subst (λ x. Tame (true ∷ true ∷ rs) st1 (ranged s Uint x st1 go)) (sym (ap (multiple (pos f)) (id-form s m em) ∙ multiple-id m f))
+      (multiple-tame f 0 (below kf f hf) b rs st1 go o1 t))
+  index-tame _ _ _ (Plus a kc z hz) b rs st go o t =
+      let z0 : pos 0 +ℤ pos z ≡ pos z = omega (arith, ints) in
+      number-tame kc z (below kc z hz) (true ∷ true ∷ rs) (at_site a st) (λ y st1. binary s Add Uint (id_form s GlobalId 0) y.form st1 go) o (λ st1 o1.
+      subst (λ x. Tame (true ∷ true ∷ rs) st1 (ranged s Uint x st1 go))
+      (sym (ap (λ g. sum g (constant (pos z))) (id-alone s m em) ∙ sum-multiple (suc m) (pos 1) (pos 0) (pos z) ∙ ap (id_multiple (suc m) (pos 1)) z0))
+      (multiple-tame 1 z (omega arith) b rs st1 go o1 t))
+  index-tame _ _ _ (TimesPlus a p kf kc f z hf hz) b rs st go o t =
+      let lf = below kf f hf in
+      let first = id_multiple (suc m) (pos f) (pos 0) in
+      let rs2 : List Bool = brings Uint kc (true ∷ true ∷ rs) in
+      let on1 : Onward Both = λ x st2. both_brought s Uint x (value kc (constant (pos z))) (at_site a st2) (λ x' y' st3. binary s Add Uint x'.form y'.form st3 go) in
+      let z0 : pos 0 +ℤ pos z ≡ pos z = omega (arith, ints) in
+      number-tame kf f lf (true ∷ true ∷ rs2) (at_site p st) (λ y st1. binary s Multiply Uint (id_form s GlobalId 0) y.form st1 on1) o (λ st1 o1.
+      subst (λ x. Tame (true ∷ true ∷ rs2) st1 (ranged s Uint x st1 on1)) (sym (ap (multiple (pos f)) (id-form s m em) ∙ multiple-id m f))
+      (multiple-tame f 0 lf (omega (arith, b)) rs2 st1 on1 o1 (λ st2 o2.
+      number-tame kc z (omega (arith, b)) (true ∷ true ∷ rs) (at_site a st2) (λ y st3. binary s Add Uint first y.form st3 go) o2 (λ st3 o3.
+      subst (λ x. Tame (true ∷ true ∷ rs) st3 (ranged s Uint x st3 go)) (sym (sum-multiple (suc m) (pos f) (pos 0) (pos z) ∙ ap (id_multiple (suc m) (pos f)) z0))
+      (multiple-tame f z lf b rs st3 go o3 t)))))
+
+  -- from each value
+  abbrev GoesOnAny : List Bool → Onward Both → Type 0
+  GoesOnAny rs go = (x : Value) → GoesOn rs x go
+
+  new-tame : (rs : List Bool) (f : Fact) (st : State Both) (go : Onward Both) → IsPlainState k st → GoesOnAny rs go → (b : Bool) → Tame rs st (kept_or_new s b f st go)
+  new-tame rs f st go o t true = t (value Uint f) st o
+  new-tame rs f st go o t false =
+      let new = newest st in
+      (less new (constant (pos 0)) most (omega arith), (less (constant (pos 4294967295)) new most (omega arith), t (value Uint new) (holding (with_new (any_of domain Uint) st.held) st) o))
+
+  given-tame : (kd : Kind) (x : ℕ) → (is_int kd ≡ true → signed) → (rs : List Bool) (st : State Both) (go : Onward Both) → IsPlainState k st → GoesOnAny rs go → Tame (brings Uint kd rs) st (brought_from s Uint kd (once (ArgumentOf x)) st go)
+  given-tame Uint x g rs st go o t = t (value Uint (once (ArgumentOf x))) st o
+  given-tame Int x g rs st go o t =
+      let f = once (ArgumentOf x) in
+      range-asked s h signed rs f st go (λ i. refl) (g refl) (less f (constant (pos 0)) most (omega arith)) (less (constant (pos 4294967295)) f most (omega arith)) (new-tame rs f (claimed_once (claimed_once st)) go o t)
+
+  value-tame : (v : Term) → IsPlainValue k.arguments v → (is_signed k.arguments v ≡ true → signed) → (rs : List Bool) (st : State Both) (go : Onward Both) → IsPlainState k st → GoesOnAny rs go → Tame (ranges k.arguments v rs) st ((walk s v).value st go)
+  value-tame v (Number z l) g rs st go o t = t (value Uint (constant (pos z))) st o
+  value-tame v (BroughtNumber site z l) g rs st go o t = number-tame Int z (int_below z l) rs (at_site site st) go o (t (value Uint (constant (pos z))))
+  value-tame v (Parameter x l) g rs st go o t = t (variable st x) st o
+  value-tame v (BroughtParameter site x l) g rs st go o t =
+      subst (λ y. Tame (brings Uint (slice_index_or k.arguments x Int) rs) st (brought s Uint y (at_site site st) go)) (sym (variable-is k st x o l))
+      (given-tame (slice_index_or k.arguments x Int) x g rs (at_site site st) go o t)
+
+  body-tame : (body : Statements) → ArePlain k.arguments k.sizes.x c.groups.x.high body → (has_signed k.arguments body ≡ true → signed) → (st : State Both) → IsPlainState k st → Tame (claims k.arguments body) st (walk_all s body st ended)
+  body-tame none p g st o = refl
+  body-tame (one i others) (Plain num buffer site e f z v pi last pv, q) g st o =
+      let lf = factor-below e f z pi in
+      let b = last_below f z k.sizes.x m n c.groups.x.high em en last in
+      let form = id_multiple (suc m) (pos f) (pos z) in
+      let l : size form ≤ 4402341478400 = small f z lf b in
+      let rs : List Bool = claims k.arguments others in
+      let array : Array = record { space = Global; number = buffer } in
+      let on : State Both → Tree Both = λ st2. access s true array site form st2 (λ st3. walk_all s others st3 ended) in
+      let before = minus (once (Length buffer)) (constant (pos 1)) in
+      let room : size (minus before form) ≤ most = less before form most (omega (arith, l, less (once (Length buffer)) (constant (pos 1)) 2 (omega arith))) in
+      index-tame e f z pi b (ranges k.arguments v (false ∷ false ∷ rs)) (stand (spot_of num) st) _ o (λ st1 o1.
+      value-tame v pv (λ e. g (left (is_signed k.arguments v) (has_signed k.arguments others) e)) (false ∷ false ∷ rs) st1 (λ x st2. on st2) o1 (λ x st2 o2.
+      (omega (arith, l), tt, (room, tt, (omega (arith, l), body-tame others q (λ e. g (right (is_signed k.arguments v) (has_signed k.arguments others) e)) (claimed_once (claimed_once (at_site site st2))) o2)))))
+
+  pub tree-tame : ArePlain k.arguments k.sizes.x c.groups.x.high k.body → (has_signed k.arguments k.body ≡ true → signed) → IsTame h signed (claims k.arguments k.body) 0 (walk_all s k.body (opening_state k) ended)
+  tree-tame p g = body-tame k.body p g (opening_state k) (refl, refl)

@@ -1,0 +1,4 @@
+pub mod Domains
+pub mod Claims
+pub mod Kernels
+pub mod Forks

@@ -1,4 +1,4 @@
-//! Section: Runs and program. Promises nothing: it is measured, and holds the tests of `machine`; stands on `machine`.
+//! Section: Runs and program. Promises nothing: it is measured, and holds the tests of `machine` and `replay`; stands on `replay`.
 //!
 //! Replays a schedule of a kernel at a launch. It writes what each event did, and in the end the buffers, the first data race and the
 //! first barrier divergence. A line of a schedule is `step ITEM`, `release GROUP`, or `rounds COUNT ITEMS GROUPS`: so often a step of each

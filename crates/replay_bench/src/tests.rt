@@ -1,7 +1,19 @@
 // Schedules of small kernels.
 
+ghost use Rattle.semantics.specs.Launch.{Fits};
+ghost use Rattle.core_code.specs.View.{kernel as core_seen};
+ghost use Rattle.launch.specs.View.{launch as launch_seen};
+
 use crate::play::play;
+use launch::launches::Launch;
+use launch_text::read_launch;
+use machine::world::{Event, World};
+use reading::read_kernel;
+use replay::replay::replay as replay_events;
+use std::alloc::{AllocError, Global};
 use std::test::Fail;
+use types::typed::Typed;
+use work_item::proper::is_proper;
 
 const LAUNCH: &str = "launch 1\ngroups 1 1 1\nfill 0\n";
 
@@ -76,5 +88,37 @@ fn a_fault_is_told_at_its_site(rt: HostRuntime) -> Result<(), Fail> {
         text.as_str(),
         "done\nfault F1 2:11\nnot possible\nnot possible\nnot possible\nbuffer 0\nno clash\nno divergence\n"
     );
+    Ok(())
+}
+
+/// Two steps, and a release that is not possible while the others run.
+const EVENTS: &[Event] = &[
+    Event::Step(0),
+    Event::Step(0),
+    Event::Release(0),
+    Event::Step(32),
+];
+
+/// How many of them were applied.
+fn applied(alloc: Global, typed: &Typed, launch: &Launch) -> Result<usize, AllocError>
+    requires { Fits (core_seen typed.now.1) (launch_seen launch.now) }
+{
+    if !is_proper(typed.core()) {
+        return Ok(0);
+    }
+    let mut world = World::open(alloc, typed.core(), launch)?;
+    replay_events(&mut world, EVENTS)
+}
+
+#[test]
+fn a_schedule_stops_at_what_is_not_possible(rt: HostRuntime) -> Result<(), Fail> {
+    let Ok(typed) = read_kernel(rt.alloc(), HALF.as_bytes()) else {
+        return Err(Fail::new(format_args!("a kernel is due")));
+    };
+    let Ok(launch) = read_launch(rt.alloc(), &typed, LAUNCH.as_bytes()) else {
+        return Err(Fail::new(format_args!("a launch is due")));
+    };
+    let count = applied(rt.alloc(), &typed, &launch)?;
+    assert_eq!(rt; count, 2);
     Ok(())
 }

@@ -1,20 +1,21 @@
 // A schedule, replayed.
 
+ghost use Rattle.std.specs.Prelude.{◌≡◌, true};
 ghost use Rattle.semantics.specs.Launch.{Fits};
 ghost use Rattle.core_code.specs.View.{kernel as core_seen};
 ghost use Rattle.launch.specs.View.{launch as launch_seen};
+ghost use Rattle.work_item.specs.Proper.{is_proper};
 ghost use Rattle.machine.specs.Worlds.{IsSound};
 
 use clashes::access::Access;
 use launch::launches::Launch;
 use launch_text::read_launch;
 use machine::world::{Applied, Event, World};
-use reading::read_kernel;
+use proper_kernels::kernel::read_proper_kernel;
 use std::alloc::{AllocError, Global};
 use types::typed::Typed;
 use words::Word;
 use work_item::ask::Owner;
-use work_item::proper::is_proper;
 
 /// How many events of some rounds did what.
 #[derive(Clone, Copy)]
@@ -215,14 +216,11 @@ fn play_launch(
     launch: &Launch,
     schedule: &str,
 ) -> Result<String, AllocError>
-    requires { Fits (core_seen typed.now.1) (launch_seen launch.now) }
+    requires proper { is_proper (core_seen typed.now.1) ≡ true }
+    requires fits { Fits (core_seen typed.now.1) (launch_seen launch.now) }
 {
-    let core = typed.core();
     let mut out = String::new(alloc);
-    if !is_proper(core) {
-        return Ok(out);
-    }
-    let mut world = World::open(alloc, core, launch)?;
+    let mut world = World::open(alloc, typed.core(), launch)?;
     play_lines(&mut out, &mut world, schedule)?;
     push_end(&mut out, &world)?;
     Ok(out)
@@ -233,7 +231,9 @@ fn play_typed(
     typed: &Typed,
     launch: &str,
     schedule: &str,
-) -> Result<String, AllocError> {
+) -> Result<String, AllocError>
+    requires { is_proper (core_seen typed.now.1) ≡ true }
+{
     match read_launch(alloc, typed, launch.as_bytes()) {
         Ok(launch) => play_launch(alloc, typed, &launch, schedule),
         Err(error) => format!(in alloc; "refused {error}\n"),
@@ -247,7 +247,7 @@ pub fn play(
     launch: &str,
     schedule: &str,
 ) -> Result<String, AllocError> {
-    match read_kernel(alloc, kernel.as_bytes()) {
+    match read_proper_kernel(alloc, kernel.as_bytes()) {
         Ok(typed) => play_typed(alloc, &typed, launch, schedule),
         Err(error) => format!(in alloc; "refused {error}\n"),
     }

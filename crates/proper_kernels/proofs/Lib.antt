@@ -1,0 +1,4 @@
+pub mod Holding
+pub mod Terms
+pub mod Elaborating
+pub mod ProperReads

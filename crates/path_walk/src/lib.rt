@@ -5,6 +5,7 @@
 #![tactic(auto)]
 
 mod accesses;
+mod dividing;
 mod exact;
 mod halt;
 mod held;

@@ -6,6 +6,7 @@
 
 mod accesses;
 mod dividing;
+mod divisors;
 mod exact;
 mod halt;
 mod held;

@@ -187,3 +187,13 @@ negative_unfit errors.TooMany p n h = h
 negative_unfit errors.TooLarge p n h = and_right (fits p) (fits n) h
 negative_unfit errors.Outside p n h = h
 negative_unfit errors.Memory p n h = h
+
+-- one step after another
+pub then_step : {E : Type 0} (one two : State E → (State E → Tree E) → Tree E) (l m n : Followed E) (r : Result (Unit {0}) WalkError) → Steps l m one →
+    MatchResult r (λ _. Steps m n two) (λ e. StopsAtStep ⊥ m e two) →
+    MatchResult r (λ _. Steps l n (λ st go. one st (λ st'. two st' go))) (λ e. StopsAtStep ⊥ l e (λ st go. one st (λ st'. two st' go)))
+then_step one two l m n (Ok u) a h = λ go. a (λ st'. two st' go) ∙ h go
+then_step one two l m n (Err e) a h = λ go. refused_from ⊥ e _ _ (a (λ st'. two st' go)) (h go)
+
+pub step_stops : {E : Type 0} (one two : State E → (State E → Tree E) → Tree E) (l : Followed E) (e : WalkError) → StopsAtStep ⊥ l e one → StopsAtStep ⊥ l e (λ st go. one st (λ st'. two st' go))
+step_stops one two l e h go = h (λ st'. two st' go)

@@ -1,5 +1,5 @@
 -- Quotients: a new symbol, and what it leaves.
-use Rattle.std.proofs.Common.{◌≡◌, ◌<◌, ◌^◌, ◌*◌, ℕ, Bool, true, false, refl, sym, ap, subst, ◌∙◌, nat_lt, arith}
+use Rattle.std.proofs.Common.{◌≡◌, ◌<◌, ◌^◌, ◌*◌, true, sym, ap, subst, ◌∙◌, arith}
 use Rattle.std.specs.Prelude.{ℤ, pos, negsuc, ◌<ℤ◌, ◌-ℤ◌, unsigned_abs}
 use Rattle.std.proofs.lemmas.Int.{ints}
 use Rattle.std.proofs.lemmas.Bool.Decides.{nat_tests}
@@ -15,9 +15,9 @@ use Rattle.obligations.specs.Walks as walks
 use Rattle.obligations.specs.Walks.{Setting, State}
 use Rattle.obligations.specs.Operators as operators
 use Rattle.obligations.specs.Operators.{left_over}
-use Rattle.path_walk.specs.Paths.{Followed, collect, with_fact, add_fact}
+use Rattle.path_walk.specs.Paths.{Followed, collect, with_fact}
 use Rattle.path_walk.specs.Leads.{Leads, LeadsTwo}
-use Rattle.path_walk.specs.Refusals.{Refused, Stops, StopsTwo}
+use Rattle.path_walk.specs.Refusals.{Stops, StopsTwo}
 use Rattle.path_walk.proofs.Refusing.{unfit_fact, refused_from}
 use Rattle.path_walk.proofs.Leading.{knows}
 

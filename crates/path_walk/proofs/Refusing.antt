@@ -1,27 +1,23 @@
 -- A refusal of a part is one of the whole.
-use Rattle.std.proofs.Common.{◌≡◌, ◌≤◌, ◌<◌, ◌^◌, ◌-◌, ℕ, Bool, true, false, ◌&&◌, List, [], ◌∷◌, refl, sym, ap, subst, ◌∙◌, ◌⊎◌, inl, inr, arith}
-use Rattle.std.specs.Prelude.{ℤ, pos, negsuc, ◌+ℤ◌, ◌*ℤ◌, ◌≤ℤ◌, ◌<ℤ◌, Option, Some, Result, Ok, Err, MatchResult}
-use Rattle.std.proofs.lemmas.Int.{ints}
-use Rattle.std.proofs.lemmas.Bool.Decides.{nat_tests}
-use Rattle.semantics.specs.Word.{Kind, Int, Uint}
-use Rattle.semantics.specs.Core.{Site}
+use Rattle.std.proofs.Common.{◌≡◌, ℕ, Bool, false, List, sym, ap, subst, ◌∙◌, ◌⊎◌, inl, inr}
+use Rattle.std.specs.Prelude.{ℤ, Option, Some, Result, Ok, Err, MatchResult}
+use Rattle.semantics.specs.Word.{Kind, Uint}
 use Rattle.domain.specs.declared.Bounds.{Bounds}
-use Rattle.linear.specs.Exact.{fits_i64, fits_terms, fits}
-use Rattle.linear.proofs.Lists.{merge-none}
+use Rattle.linear.specs.Exact.{fits}
 use Rattle.facts.specs.Symbols.{Fact, constant, minus}
 use Rattle.facts.specs.Refusals.{IsUnfit}
 use Rattle.facts.specs.declared.error.WalkError.{WalkError}
 use Rattle.facts.specs.declared.error.WalkError.TheVariants as errors
 use Rattle.facts.proofs.Tests.{and_left, and_right}
 use Rattle.obligations.specs.Held as held
-use Rattle.obligations.specs.Trees.{Sort, OfRange, Spot, Demand, Goal, AtLeastZero, Either, Target, Tree, Leaf, Dead, Claim, Know, Touch, Fork}
+use Rattle.obligations.specs.Trees.{Sort, OfRange, Demand, Goal, AtLeastZero, Either, Tree, Leaf, Dead, Claim, Know, Touch, Fork}
 use Rattle.obligations.specs.Walks as walks
 use Rattle.obligations.specs.Walks.{Setting, State, Onward, settles, newest, claimed_once, demand, know_all, bound_facts, lower_fact, upper_fact, low_end, high_end, least, greatest}
-use Rattle.path_walk.specs.Paths.{Choice, First, Other, front, by_choice, is_goal_fit, Found, Followed, collect, add_claim, add_fact, add_access, take_first, take_other, with_claim, with_spot}
+use Rattle.path_walk.specs.Paths.{Choice, First, Other, front, by_choice, is_goal_fit, Found, Followed, collect, add_claim, add_fact, add_access, take_first, take_other, with_claim}
 use Rattle.path_walk.specs.declared.path.Value.{Value}
 use Rattle.path_walk.proofs.Leading.{wraps}
 use Rattle.path_walk.specs.Leads.{Steps, Leads}
-use Rattle.path_walk.specs.Refusals.{Refused, StopsAtStep, Stops, StopsAtForm, IsGoalUnfit}
+use Rattle.path_walk.specs.Refusals.{Refused, StopsAtStep, Stops, IsGoalUnfit}
 
 -- tests that were false stay so
 record Falls {E : Type 0} (m n : Found E) : Type 0 where

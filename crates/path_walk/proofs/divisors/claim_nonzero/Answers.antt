@@ -1,7 +1,6 @@
-use Rattle.std.specs.Prelude.{pos, negsuc, true}
+use Rattle.std.specs.Prelude.{pos, true}
 use Rattle.std.proofs.Common.{ap, ◌∙◌}
 use Rattle.linear.specs.Forms.{form}
-use Rattle.facts.specs.Symbols.{constant, minus}
 use Rattle.facts.proofs.Unmade.{handed}
 use Rattle.obligations.specs.Trees.{OfDivisor}
 use Rattle.obligations.specs.Walks.{bounds_of}

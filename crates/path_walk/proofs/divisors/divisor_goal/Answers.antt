@@ -1,11 +1,7 @@
-use Rattle.std.specs.Prelude.{pos, negsuc, true}
+use Rattle.std.specs.Prelude.{pos, negsuc}
 use Rattle.linear.specs.Forms.{form}
 use Rattle.facts.specs.Symbols.{constant, minus}
 use Rattle.facts.proofs.Unmade.{handed}
-use Rattle.obligations.specs.Trees.{OfDivisor}
-use Rattle.obligations.specs.Walks.{bounds_of}
-use Rattle.obligations.specs.Operators.{lacks, divisor_goal}
-use Rattle.path_walk.specs.View.{followed, goal_seen, setting as seen}
 use Rattle.path_walk.proofs.Refusing.{positive_unfit, negative_unfit}
 use Rattle.path_walk.proofs.divisors.divisor_goal.Goals as goal
 

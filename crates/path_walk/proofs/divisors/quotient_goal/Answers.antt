@@ -1,14 +1,7 @@
-use Rattle.std.proofs.Common.{ap, ◌∙◌}
-use Rattle.std.specs.Prelude.{pos, negsuc, true, ◌||◌}
+use Rattle.std.specs.Prelude.{negsuc}
 use Rattle.linear.specs.Forms.{form}
-use Rattle.words.specs.View.{kind}
 use Rattle.facts.specs.Symbols.{constant, minus}
 use Rattle.facts.proofs.Unmade.{handed}
-use Rattle.obligations.specs.Trees.{OfQuotient}
-use Rattle.obligations.specs.Walks.{bounds_of}
-use Rattle.obligations.specs.Operators as operators
-use Rattle.obligations.specs.Operators.{lacks, quotient_goal}
-use Rattle.path_walk.specs.View.{followed, goal_seen, setting as seen}
 use Rattle.path_walk.proofs.Refusing.{negative_unfit}
 use Rattle.path_walk.proofs.divisors.quotient_goal.Goals as goal
 

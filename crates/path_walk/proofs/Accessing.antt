@@ -6,7 +6,7 @@ use Rattle.semantics.specs.Word.{Kind}
 use Rattle.facts.specs.Symbols.{Length, Fact, constant, once, minus}
 use Rattle.facts.specs.Refusals.{IsUnfit}
 use Rattle.facts.specs.declared.error.WalkError.{WalkError}
-use Rattle.obligations.specs.Trees.{OfIndex, AtLeastZero, Spot, Target, Tree, Touch}
+use Rattle.obligations.specs.Trees.{OfIndex, AtLeastZero, Spot, Tree, Touch}
 use Rattle.obligations.specs.Walks as walks
 use Rattle.obligations.specs.Walks.{Setting, State, spot_at}
 use Rattle.obligations.specs.Terms as terms

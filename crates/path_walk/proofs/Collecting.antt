@@ -7,7 +7,7 @@ use Rattle.facts.specs.Symbols.{Fact}
 use Rattle.facts.proofs.Tests.{and_left, and_right}
 use Rattle.obligations.specs.Trees.{Tree, Leaf, Dead, Claim, Know, Touch, Fork, after, leaves, claims, accesses}
 use Rattle.path_walk.specs.Paths.{Choice, First, Other, front, behind, by_choice, noted, is_goal_fit, Found, collect, add_claim, add_fact, add_access, take_first, take_other}
-use Rattle.path_walk.specs.Turns.{Listed, if_new, along, from, taken_in, count_in, RightAt, AreRight, listed_claims, listed_accesses, listed_ends, obliged, is_tree_fit}
+use Rattle.path_walk.specs.Turns.{if_new, along, from, taken_in, count_in, RightAt, AreRight, listed_claims, listed_accesses, listed_ends, obliged, is_tree_fit}
 
 noted_in : {A : Type 0} (cs : List Choice) (x : A) (xs rest : List A) → noted cs x xs ++ rest ≡ xs ++ (if_new cs (x ∷ []) ++ rest)
 noted_in [] x xs rest = append_assoc xs (x ∷ []) rest

@@ -1,11 +1,11 @@
 -- The steps of a walk, composed.
-use Rattle.std.proofs.Common.{◌≡◌, ℕ, suc, Bool, true, false, List, [], ◌∷◌, sym, ap, ◌∙◌}
-use Rattle.std.specs.Prelude.{ℤ, pos, Option, Some}
-use Rattle.semantics.specs.Word.{Kind, Int, Uint}
+use Rattle.std.proofs.Common.{◌≡◌, ℕ, Bool, true, false, List, sym, ap, ◌∙◌}
+use Rattle.std.specs.Prelude.{ℤ, Option, Some}
+use Rattle.semantics.specs.Word.{Kind, Uint}
 use Rattle.domain.specs.declared.Bounds.{Bounds}
-use Rattle.facts.specs.Symbols.{Length, Fact, constant, once, minus}
+use Rattle.facts.specs.Symbols.{Fact, constant, minus}
 use Rattle.obligations.specs.Held as held
-use Rattle.obligations.specs.Trees.{Tree, Claim, Know, Touch, Sort, OfRange, OfIndex, Goal, AtLeastZero}
+use Rattle.obligations.specs.Trees.{Tree, Know, Sort, OfRange, AtLeastZero}
 use Rattle.obligations.specs.Walks as walks
 use Rattle.obligations.specs.Walks.{Setting, State, counted, claimed_once, settles, newest, know_all, bound_facts, lower_fact, upper_fact, low_end, high_end, demand}
 use Rattle.path_walk.specs.Paths.{Choice, Found, Followed, First, Other, front, by_choice, take_first, take_other, with_choice, choosing, collect, add_claim, with_claim, with_fact, with_element}

@@ -4,6 +4,7 @@ pub mod Refusing
 pub mod Testing
 pub mod PastEnds
 pub mod Exactly
+pub mod Quotients
 pub mod Accessing
 pub mod Turning
 pub mod Collecting

@@ -1,27 +1,23 @@
 -- A refusal of a part is one of the whole.
-use Rattle.std.proofs.Common.{◌≡◌, ◌≤◌, ◌<◌, ◌^◌, ◌-◌, ℕ, Bool, true, false, ◌&&◌, List, [], ◌∷◌, refl, sym, ap, subst, ◌∙◌, ◌⊎◌, inl, inr, arith}
-use Rattle.std.specs.Prelude.{ℤ, pos, negsuc, ◌+ℤ◌, ◌*ℤ◌, ◌≤ℤ◌, ◌<ℤ◌, Option, Some, Result, Ok, Err, MatchResult}
-use Rattle.std.proofs.lemmas.Int.{ints}
-use Rattle.std.proofs.lemmas.Bool.Decides.{nat_tests}
-use Rattle.semantics.specs.Word.{Kind, Int, Uint}
-use Rattle.semantics.specs.Core.{Site}
+use Rattle.std.proofs.Common.{◌≡◌, ℕ, Bool, false, List, sym, ap, subst, ◌∙◌, ◌⊎◌, inl, inr}
+use Rattle.std.specs.Prelude.{ℤ, Option, Some, Result, Ok, Err, MatchResult}
+use Rattle.semantics.specs.Word.{Kind, Uint}
 use Rattle.domain.specs.declared.Bounds.{Bounds}
-use Rattle.linear.specs.Exact.{fits_i64, fits_terms, fits}
-use Rattle.linear.proofs.Lists.{merge-none}
+use Rattle.linear.specs.Exact.{fits}
 use Rattle.facts.specs.Symbols.{Fact, constant, minus}
 use Rattle.facts.specs.Refusals.{IsUnfit}
 use Rattle.facts.specs.declared.error.WalkError.{WalkError}
 use Rattle.facts.specs.declared.error.WalkError.TheVariants as errors
 use Rattle.facts.proofs.Tests.{and_left, and_right}
 use Rattle.obligations.specs.Held as held
-use Rattle.obligations.specs.Trees.{Sort, OfRange, Spot, Demand, Goal, AtLeastZero, Target, Tree, Leaf, Dead, Claim, Know, Touch, Fork}
+use Rattle.obligations.specs.Trees.{Sort, OfRange, Demand, Goal, AtLeastZero, Either, Tree, Leaf, Dead, Claim, Know, Touch, Fork}
 use Rattle.obligations.specs.Walks as walks
 use Rattle.obligations.specs.Walks.{Setting, State, Onward, settles, newest, claimed_once, demand, know_all, bound_facts, lower_fact, upper_fact, low_end, high_end, least, greatest}
-use Rattle.path_walk.specs.Paths.{Choice, First, Other, front, by_choice, Found, Followed, collect, add_claim, add_fact, add_access, take_first, take_other, with_claim, with_spot}
+use Rattle.path_walk.specs.Paths.{Choice, First, Other, front, by_choice, is_goal_fit, Found, Followed, collect, add_claim, add_fact, add_access, take_first, take_other, with_claim}
 use Rattle.path_walk.specs.declared.path.Value.{Value}
 use Rattle.path_walk.proofs.Leading.{wraps}
 use Rattle.path_walk.specs.Leads.{Steps, Leads}
-use Rattle.path_walk.specs.Refusals.{Refused, StopsAtStep, Stops, StopsAtForm}
+use Rattle.path_walk.specs.Refusals.{Refused, StopsAtStep, Stops, IsGoalUnfit}
 
 -- tests that were false stay so
 record Falls {E : Type 0} (m n : Found E) : Type 0 where
@@ -153,3 +149,47 @@ wrapped s kept f l m n view (Err e) d p a h = wrapped_stops s kept f l m e d p a
 
 pub unknown_stops : {E : Type 0} (s : Setting E) (k : Kind) (x : E) (m : Followed E) (e : WalkError) → x ≡ walks.any_of s.domain k → Stops ⊥ m e (walks.invent s x) → Stops ⊥ m e (walks.unknown s k)
 unknown_stops s k x m e d h go = subst (λ y. Refused ⊥ e (collect m.found (walks.invent s y m.state (λ g st'. go (walks.value k g) st')))) d (h (λ g st'. go (walks.value k g) st'))
+
+-- any goal as a claim
+pub goal_steps : {E : Type 0} (o : Sort) (needed b settled : Bool) (g goal : Goal) (m n : Followed E) → settled ≡ b → goal ≡ g → n ≡ with_claim m o needed settled goal → Steps m n (walks.claim o needed b g)
+unfolding collect
+goal_steps o needed b settled g goal m n d e f go =
+    (λ i. collect (add_claim m.found (demand o m.state) needed (sym d i) (sym e i)) (go (claimed_once m.state)))
+    ∙ ap (λ (u : Followed _). collect u.found (go u.state)) (sym f)
+
+pub goal_stops : {E : Type 0} (o : Sort) (needed b settled : Bool) (g goal : Goal) (m : Followed E) (e : WalkError) → settled ≡ b → goal ≡ g → Refused ⊥ e (with_claim m o needed settled goal).found → StopsAtStep ⊥ m e (walks.claim o needed b g)
+unfolding collect
+goal_stops o needed b settled g goal m e d p h go =
+    refused_stays ⊥ e (add_claim m.found (demand o m.state) needed b g) (go (claimed_once m.state)) (subst (Refused ⊥ e) (λ i. add_claim m.found (demand o m.state) needed (d i) (p i)) h)
+
+goal_unfit : {E : Type 0} (e : WalkError) (m : Found E) (o : Demand) (needed settled : Bool) (g : Goal) → IsGoalUnfit e g → Refused ⊥ e (add_claim m o needed settled g)
+goal_unfit errors.TooMany m o needed settled g h = absurd h
+goal_unfit errors.TooLarge m o needed settled g h = and_right m.is_fit (is_goal_fit g) h
+goal_unfit errors.Outside m o needed settled g h = h
+goal_unfit errors.Memory m o needed settled g h = tt
+
+pub unfit_goal : {E : Type 0} (o : Sort) (needed b : Bool) (g : Goal) (m : Followed E) (e : WalkError) → IsGoalUnfit e g → StopsAtStep ⊥ m e (walks.claim o needed b g)
+unfolding collect
+unfit_goal o needed b g m e h go = refused_stays ⊥ e (add_claim m.found (demand o m.state) needed b g) (go (claimed_once m.state)) (goal_unfit e m.found (demand o m.state) needed b g h)
+
+pub positive_unfit : (e : WalkError) (p n : Fact) → IsUnfit e p → IsGoalUnfit e (Either p n)
+positive_unfit errors.TooMany p n h = h
+positive_unfit errors.TooLarge p n h = and_left (fits p) (fits n) h
+positive_unfit errors.Outside p n h = h
+positive_unfit errors.Memory p n h = h
+
+pub negative_unfit : (e : WalkError) (p n : Fact) → IsUnfit e n → IsGoalUnfit e (Either p n)
+negative_unfit errors.TooMany p n h = h
+negative_unfit errors.TooLarge p n h = and_right (fits p) (fits n) h
+negative_unfit errors.Outside p n h = h
+negative_unfit errors.Memory p n h = h
+
+-- one step after another
+pub then_step : {E : Type 0} (one two : State E → (State E → Tree E) → Tree E) (l m n : Followed E) (r : Result (Unit {0}) WalkError) → Steps l m one →
+    MatchResult r (λ _. Steps m n two) (λ e. StopsAtStep ⊥ m e two) →
+    MatchResult r (λ _. Steps l n (λ st go. one st (λ st'. two st' go))) (λ e. StopsAtStep ⊥ l e (λ st go. one st (λ st'. two st' go)))
+then_step one two l m n (Ok u) a h = λ go. a (λ st'. two st' go) ∙ h go
+then_step one two l m n (Err e) a h = λ go. refused_from ⊥ e _ _ (a (λ st'. two st' go)) (h go)
+
+pub step_stops : {E : Type 0} (one two : State E → (State E → Tree E) → Tree E) (l : Followed E) (e : WalkError) → StopsAtStep ⊥ l e one → StopsAtStep ⊥ l e (λ st go. one st (λ st'. two st' go))
+step_stops one two l e h go = h (λ st'. two st' go)

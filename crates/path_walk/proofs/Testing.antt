@@ -1,17 +1,17 @@
 -- Facts of tests, and the ways of a comparison.
 use Rattle.std.proofs.Common.{◌≡◌, Bool, true, false, ◌&&◌, List, [], ◌∷◌, refl, sym, ap, subst, ◌∙◌}
 use Rattle.std.specs.Prelude.{pos, int_lt, Result, Ok, Err, IsErr, IsErrAnd, MatchResult}
-use Rattle.semantics.specs.Word.{Relation, Less, AtMost, More, AtLeast, Equal, Unequal}
-use Rattle.linear.specs.Exact.{fits, fits_i64, fits_terms, multiple}
-use Rattle.facts.specs.Symbols.{Fact, constant, minus}
+use Rattle.semantics.specs.Word.{Relation, Equal}
+use Rattle.linear.specs.Exact.{fits, fits_i64, fits_terms}
+use Rattle.facts.specs.Symbols.{Fact, minus}
 use Rattle.facts.specs.Refusals.{IsUnfit}
 use Rattle.facts.specs.declared.error.WalkError.{WalkError}
 use Rattle.facts.specs.declared.error.WalkError.TheVariants as errors
 use Rattle.obligations.specs.Held.{narrow}
-use Rattle.obligations.specs.Trees.{Tree, Know}
+use Rattle.obligations.specs.Trees.{Tree}
 use Rattle.obligations.specs.Walks as walks
 use Rattle.obligations.specs.Walks.{Setting, State, is_none, is_dead, unless_dead, know_test, know_two, holding}
-use Rattle.obligations.specs.Tests.{Outcomes, below, split, split_below, split_number}
+use Rattle.obligations.specs.Tests.{Outcomes, below, split, split_below}
 use Rattle.obligations.specs.Terms.{chosen}
 use Rattle.path_walk.specs.Paths.{Found, Followed, collect, with_fact, with_held, choosing}
 use Rattle.path_walk.specs.Leads.{Steps, Leads}
@@ -20,7 +20,7 @@ use Rattle.path_walk.specs.Halts.{Ended, HaltsAtStep, Halts}
 use Rattle.path_walk.specs.declared.halt.Halt.{Halt}
 use Rattle.path_walk.specs.declared.halt.Halt.TheVariants as halts
 use Rattle.path_walk.specs.Sides.{side, split_sides, three_ways}
-use Rattle.path_walk.proofs.Refusing.{unfit_fact, refused_from}
+use Rattle.path_walk.proofs.Refusing.{unfit_fact}
 
 pub know_steps : {E : Type 0} (s : Setting E) (b : Bool) (f : Fact) (l m n : Followed E) → b ≡ is_dead f → b ≡ false → m ≡ with_held l (narrow s.domain s.known f l.state.held) → n ≡ with_fact m f → Steps l n (know_test s f)
 unfolding collect

@@ -7,3 +7,4 @@ pub mod View
 pub mod Refusals
 pub mod Halts
 pub mod Sides
+pub mod Divisors

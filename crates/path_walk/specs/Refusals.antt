@@ -1,10 +1,10 @@
 -- What it says of a path that its walk did not go on.
 use Rattle.std.specs.Prelude.{◌≡◌, false}
-use Rattle.obligations.specs.Trees.{Tree}
+use Rattle.obligations.specs.Trees.{Goal, Tree}
 use Rattle.obligations.specs.Walks.{Setting, State, ranged}
 use Rattle.semantics.specs.Word.{Kind}
 use Rattle.facts.specs.Symbols.{Fact}
-use Rattle.path_walk.specs.Paths.{Found, Followed, collect}
+use Rattle.path_walk.specs.Paths.{is_goal_fit, Found, Followed, collect}
 use Rattle.facts.specs.declared.error.WalkError.{WalkError}
 use Rattle.facts.specs.declared.error.WalkError.TheVariants as errors
 
@@ -30,3 +30,10 @@ StopsTwo {E} {A} {B} o from e walk = (go : A → B → State E → Tree E) → R
 -- with a form that is to be in the range of a kind, whatever the kind
 abbrev pub StopsAtForm : {E : Type 0} → (outside : Type 0) → Setting E → Followed E → WalkError → (State E → (Fact → State E → Tree E) → Tree E) → Type 0
 StopsAtForm o s from e walk = (k : Kind) → Stops o from e (λ st go. walk st (λ f st'. ranged s k f st' go))
+
+-- a goal was not made: a number of it is no `i64`, or there was no memory
+abbrev pub IsGoalUnfit : WalkError → Goal → Type 0
+IsGoalUnfit errors.TooMany g = ⊥
+IsGoalUnfit errors.TooLarge g = is_goal_fit g ≡ false
+IsGoalUnfit errors.Outside g = ⊥
+IsGoalUnfit errors.Memory g = Unit {0}

@@ -1,10 +1,13 @@
 //! Section: Walks. Promises exactly what one work-item finds along a path of its walk; stands on `core_code`, `facts` and `obligations`.
 //!
-//! The walk of one work-item along a kernel with choices, one path at a time: what is to be shown on the way, what is known there, and
-//! the accesses.
+//! The steps of one work-item's walk along a kernel with choices, one path at a time: what is to be shown on the way, what is known
+//! there, and the accesses. A step's contract holds whatever goes on (`specs/Leads.antt`), and each error says what is true of all that
+//! is found along the path (`specs/Refusals.antt`, `specs/Halts.antt`). The laws say of all paths in turn that they list the tree.
 #![tactic(auto)]
 
 mod accesses;
+mod dividing;
+mod divisors;
 mod exact;
 mod halt;
 mod held;
@@ -17,7 +20,16 @@ mod setting;
 mod steps;
 mod tests;
 
+pub use accesses::{access, load};
+pub use dividing::quotient;
+pub use divisors::claim_divisor;
+pub use exact::{
+    ranged_complement, ranged_difference, ranged_negation, ranged_product, ranged_sum,
+};
 pub use halt::Halt;
 pub use held::element_from;
+pub use ids::id_form;
 pub use path::{Access, Choice, Claim, Goal, Narrowed, Path, Sort, Spot, Target, Value};
+pub use ranges::{both_brought, brought, unknown};
 pub use setting::Setting;
+pub use tests::{split, split_number};

@@ -2,6 +2,7 @@
 
 ghost use Rattle.std.specs.Prelude.{◌≡◌, ◌⊎◌, List, IfOk, IfErr, MatchResult};
 ghost use Rattle.linear.specs.Forms.{form as form_seen};
+ghost use Rattle.linear.specs.Sizes.{size};
 ghost use Rattle.words.specs.View.{kind as kind_seen};
 ghost use Rattle.semantics.specs.Word.{Uint};
 ghost use Rattle.obligations.specs.Walks as walks;
@@ -44,7 +45,8 @@ pub fn invent<D: Domain>(
     path: &mut Path<D>,
     element: D,
 ) -> Result<Form, WalkError>
-    ensures { MatchResult result (λ f. Leads (followed path.old) (followed path.new) (walks.invent (seen D.Domain setting.now) element) (form_seen f)) (λ e. Stops ⊥ (followed path.old) e (walks.invent (seen D.Domain setting.now) element)) }
+    ensures leads { MatchResult result (λ f. Leads (followed path.old) (followed path.new) (walks.invent (seen D.Domain setting.now) element) (form_seen f)) (λ e. Stops ⊥ (followed path.old) e (walks.invent (seen D.Domain setting.now) element)) }
+    ensures small { IfOk result (λ f. size (form_seen f) ≡ 1) }
 {
     let index = path.news.len();
     if index >= 1 << 59 {
@@ -59,7 +61,7 @@ pub fn invent<D: Domain>(
 }
 
 /// Any number of a kind.
-fn any_of<D: Domain>(kind: Kind) -> D
+pub fn any_of<D: Domain>(kind: Kind) -> D
     ensures { result ≡ walks.any_of D.Domain (kind_seen kind) }
 {
     match kind {

@@ -1,9 +1,7 @@
-use Rattle.std.specs.Prelude.{false}
 use Rattle.linear.specs.Forms.{form}
-use Rattle.words.specs.View.{kind}
 use Rattle.core_code.specs.View.{array, site}
 use Rattle.facts.proofs.Unmade.{handed}
-use Rattle.path_walk.specs.View.{followed, value, spot, setting as seen}
+use Rattle.path_walk.specs.View.{followed, spot, setting as seen}
 use Rattle.path_walk.proofs.Accessing.{access_steps, access_stops}
 use Rattle.path_walk.proofs.accesses.access.Goals as goal
 

@@ -1,9 +1,8 @@
-use Rattle.std.specs.Prelude.{false}
 use Rattle.linear.specs.Forms.{form}
 use Rattle.words.specs.View.{kind}
 use Rattle.core_code.specs.View.{array, site}
 use Rattle.facts.proofs.Unmade.{handed}
-use Rattle.path_walk.specs.View.{followed, value, spot, setting as seen}
+use Rattle.path_walk.specs.View.{followed, value, setting as seen}
 use Rattle.path_walk.proofs.Accessing.{load_after, load_stops}
 use Rattle.path_walk.proofs.accesses.load.Goals as goal
 

@@ -1,14 +1,10 @@
 use Rattle.std.proofs.Common.{sym, ◌∙◌, rules, SFits, w64}
-use Rattle.std.specs.Prelude.{pos, negsuc}
 use Rattle.std.proofs.lemmas.Int.{to_z-of_z}
-use Rattle.words.specs.View.{kind}
-use Rattle.linear.specs.Exact.{sum, multiple}
+use Rattle.linear.specs.Exact.{multiple}
 use Rattle.linear.specs.Forms.{form}
-use Rattle.facts.specs.Symbols.{constant, minus}
 use Rattle.facts.specs.View.{error_of_form}
 use Rattle.facts.proofs.Unmade.{unfit_of, handed}
-use Rattle.obligations.specs.Operators as operators
-use Rattle.path_walk.specs.View.{followed, value, setting as seen}
+use Rattle.path_walk.specs.View.{followed, setting as seen}
 use Rattle.path_walk.proofs.Exactly.{right_stops, left_stops, new_product}
 use Rattle.path_walk.proofs.exact.product.Goals as goal
 
@@ -37,4 +33,4 @@ returns g c =
     let left = form c.args.left.now in
     let right = form c.args.right.now in
     let d = c.mul-element.ensures ∙ (λ i. g.D.Domain.mul_of (c.element_at.ensures i) (c.element_at-2.ensures i)) in
-    new_product (seen g.D.Domain c.args.setting.now) left.terms right.terms left right (followed c.args.path.now) (followed c.invent.new.path) c.mul-element.result c.invent.result (sym c.is_number.ensures ∙ c.if-is_number.false) (sym c.is_number-2.ensures ∙ c.if-is_number-2.false) d c.invent.ensures
+    new_product (seen g.D.Domain c.args.setting.now) left.terms right.terms left right (followed c.args.path.now) (followed c.invent.new.path) c.mul-element.result c.invent.result (sym c.is_number.ensures ∙ c.if-is_number.false) (sym c.is_number-2.ensures ∙ c.if-is_number-2.false) d c.invent.ensures.leads

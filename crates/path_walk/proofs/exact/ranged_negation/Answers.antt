@@ -1,13 +1,8 @@
-use Rattle.std.proofs.Common.{sym, ◌∙◌, rules, SFits, w64}
-use Rattle.std.specs.Prelude.{pos, negsuc}
-use Rattle.std.proofs.lemmas.Int.{to_z-of_z}
+use Rattle.std.specs.Prelude.{negsuc}
 use Rattle.words.specs.View.{kind}
-use Rattle.linear.specs.Exact.{sum, multiple}
+use Rattle.linear.specs.Exact.{multiple}
 use Rattle.linear.specs.Forms.{form}
-use Rattle.facts.specs.Symbols.{constant, minus}
-use Rattle.facts.specs.View.{error_of_form}
-use Rattle.facts.proofs.Unmade.{unfit_of, handed}
-use Rattle.obligations.specs.Operators as operators
+use Rattle.facts.proofs.Unmade.{handed}
 use Rattle.path_walk.specs.View.{followed, value, setting as seen}
 use Rattle.path_walk.proofs.Exactly.{ranged_as, ranged_unfit}
 use Rattle.path_walk.proofs.exact.ranged_negation.Goals as goal

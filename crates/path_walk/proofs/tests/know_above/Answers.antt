@@ -1,5 +1,4 @@
-use Rattle.std.specs.Prelude.{pos, negsuc}
-use Rattle.linear.specs.Exact.{multiple}
+use Rattle.std.specs.Prelude.{pos}
 use Rattle.linear.specs.Forms.{form}
 use Rattle.facts.specs.Symbols.{constant, minus}
 use Rattle.path_walk.specs.View.{followed, setting as seen}

@@ -1,7 +1,6 @@
-use Rattle.std.specs.Prelude.{pos, negsuc}
+use Rattle.std.specs.Prelude.{negsuc}
 use Rattle.linear.specs.Exact.{multiple}
 use Rattle.linear.specs.Forms.{form}
-use Rattle.facts.specs.Symbols.{constant, minus}
 use Rattle.path_walk.specs.View.{followed, setting as seen}
 use Rattle.path_walk.specs.declared.halt.Halt.TheVariants as halts
 use Rattle.path_walk.proofs.Testing.{know_as, unfit_know, halted}

@@ -1,7 +1,5 @@
 use Rattle.linear.specs.Forms.{form}
 use Rattle.core_code.specs.View.{relation}
-use Rattle.facts.specs.Symbols.{minus}
-use Rattle.facts.specs.declared.error.WalkError.TheVariants as errors
 use Rattle.path_walk.specs.Sides.{side}
 use Rattle.path_walk.specs.View.{followed, setting as seen}
 use Rattle.path_walk.specs.declared.halt.Halt.TheVariants as halts

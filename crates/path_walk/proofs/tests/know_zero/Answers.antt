@@ -1,9 +1,7 @@
-use Rattle.std.specs.Prelude.{pos, negsuc}
+use Rattle.std.specs.Prelude.{negsuc}
 use Rattle.linear.specs.Exact.{multiple}
 use Rattle.linear.specs.Forms.{form}
-use Rattle.facts.specs.Symbols.{constant, minus}
 use Rattle.path_walk.specs.View.{followed, setting as seen}
-use Rattle.path_walk.specs.declared.halt.Halt.TheVariants as halts
 use Rattle.path_walk.proofs.Testing.{two_know, two_halts, halted}
 use Rattle.path_walk.proofs.tests.know_zero.Goals as goal
 

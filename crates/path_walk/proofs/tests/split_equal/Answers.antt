@@ -1,6 +1,4 @@
 use Rattle.linear.specs.Forms.{form}
-use Rattle.facts.specs.Symbols.{minus}
-use Rattle.obligations.specs.Tests.{below}
 use Rattle.path_walk.specs.View.{followed, setting as seen}
 use Rattle.path_walk.proofs.Testing.{equal_first, equal_first_halts, equal_second, equal_second_halts, halted}
 use Rattle.path_walk.proofs.tests.split_equal.Goals as goal

@@ -3,7 +3,6 @@ use Rattle.linear.specs.Exact.{multiple}
 use Rattle.linear.specs.Forms.{form}
 use Rattle.facts.specs.Symbols.{constant, minus}
 use Rattle.path_walk.specs.View.{followed, setting as seen}
-use Rattle.path_walk.specs.declared.halt.Halt.TheVariants as halts
 use Rattle.path_walk.proofs.Testing.{ways_first, ways_first_halts, ways_second, ways_second_halts, ways_third, ways_third_halts, halted}
 use Rattle.path_walk.proofs.tests.split_number.Goals as goal
 

@@ -1,5 +1,4 @@
-use Rattle.std.proofs.Common.{◌≡◌, ◌∙◌, sym, ap, map, drop, length}
-use Rattle.path_walk.specs.Paths as paths
+use Rattle.std.proofs.Common.{◌∙◌, sym, ap, map, drop, length}
 use Rattle.path_walk.specs.Paths.{Followed}
 use Rattle.path_walk.specs.declared.path.Choice.TheVariants as choices
 use Rattle.path_walk.specs.View.{followed, choice}

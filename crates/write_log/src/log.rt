@@ -1,6 +1,7 @@
 //! The log, and writing it.
 
 ghost use Rattle.std.specs.Prelude.{◌≡◌, ◌<◌, ◌&&◌, ℕ, Some, None, OnOk, cond, length, map, nat_eq, slice_index_or, []};
+ghost use Rattle.std.specs.Option.{option_map};
 ghost use Rattle.std.specs.List.Sorted.{IsStrictlySortedBy};
 ghost use Rattle.std.specs.Map.{keys_of};
 ghost use Rattle.semantics.specs.Rounds.{logged};
@@ -35,6 +36,16 @@ impl WriteLog {
     {
         self.words.insert((buffer, index), word)?;
         Ok(())
+    }
+
+    /// The word that the log has of an element.
+    pub fn word(&self, buffer: u32, index: u32) -> Option<Word>
+        ensures { option_map value_of result ≡ written self.now buffer index }
+    {
+        match self.words.get(&(buffer, index)) {
+            Some(word) => Some(*word),
+            None => None,
+        }
     }
 
     /// Each element that was written, as its buffer and index, with its word: in rising order.

@@ -1,0 +1,3 @@
+pub mod Overlays
+pub mod Turns
+pub mod Groups

@@ -9,10 +9,10 @@ ghost use Rattle.certificate_tree.specs.View as view;
 ghost use Rattle.certificate_parts.specs.Items as items;
 ghost use Rattle.certificate_words.specs.Answers.{Means};
 
-use certificate_words::error::LineError;
-use certificate_words::name::{form, identifier};
 use certificate_tree::order::part_follows;
 use certificate_tree::tree::{Bound, Congruence, EntrySort, Form, Scaled, Spot, Step};
+use certificate_words::error::LineError;
+use certificate_words::name::{form, identifier};
 use certificate_words::word::{descent, integer, is, natural, natural_from, scaled, spot};
 use lines::pieces::Pieces;
 use std::alloc::Global;

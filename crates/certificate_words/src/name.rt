@@ -10,9 +10,9 @@ ghost use Rattle.certificate_tree.specs.View as view;
 ghost use Rattle.certificate_words.specs.Answers.{Means, pair};
 
 use crate::error::LineError;
+use crate::word::{begins, dimension, integer, is, is_identifier, natural};
 use certificate_tree::order::name_follows;
 use certificate_tree::tree::{Form, Name, Term};
-use crate::word::{begins, dimension, integer, is, is_identifier, natural};
 use lines::pieces::Pieces;
 use std::alloc::Global;
 

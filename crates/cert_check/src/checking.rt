@@ -12,7 +12,7 @@ ghost use Rattle.reading.specs.Kernels.{read};
 ghost use Rattle.reading.specs.Answers.{kernel_seen};
 ghost use Rattle.facts.specs.View.{three};
 ghost use Rattle.walk.specs.Straight.{is_straight, steps};
-ghost use Rattle.certificate.specs.View.{entry as entry_seen};
+ghost use Rattle.certificate_tree.specs.View.{entry as entry_seen};
 ghost use Rattle.cert_check.specs.Accepting.{IsAccepted, IsStraightUnder, HasHeadline};
 ghost use Rattle.entry_check.specs.Lacking.{PassesOf, TellsOf};
 ghost use Rattle.cert_check.specs.Refusing.{IsPassed, Tells};

@@ -3,7 +3,7 @@
 ghost use Rattle.std.specs.Prelude.{◌≡◌, map};
 ghost use Rattle.syntax.specs.View.{parameter as parameter_seen};
 ghost use Rattle.certificate.specs.Certificates.{certificate as certificate_seen};
-ghost use Rattle.certificate.specs.View as view;
+ghost use Rattle.certificate_tree.specs.View as view;
 ghost use Rattle.texts.specs.CertificateRules.{all};
 ghost use Rattle.cert_check.specs.Names as names;
 

@@ -100,30 +100,3 @@ impl<T: Drop> From<AllocFailed<T>> for CertError {
         CertError::Memory
     }
 }
-
-/// A line that says nothing, or want of memory.
-#[derive(Drop)]
-pub enum LineError {
-    Bad,
-    Memory,
-}
-
-impl From<AllocError> for LineError {
-    ghost use Rattle.certificate.specs.declared.error.LineError.TheVariants.{Memory};
-
-    ghost from_gives = { λ _ e. e ≡ Memory };
-
-    fn from(_: AllocError) -> LineError {
-        LineError::Memory
-    }
-}
-
-impl<T: Drop> From<AllocFailed<T>> for LineError {
-    ghost use Rattle.certificate.specs.declared.error.LineError.TheVariants.{Memory};
-
-    ghost from_gives = { λ _ e. e ≡ Memory };
-
-    fn from(_: AllocFailed<T>) -> LineError {
-        LineError::Memory
-    }
-}

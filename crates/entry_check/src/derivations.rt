@@ -3,11 +3,11 @@
 ghost use Rattle.std.specs.Prelude.{◌≡◌, IfOk, IsTrue, map};
 ghost use Rattle.semantics.specs.Linear.{IsImpossible};
 ghost use Rattle.linear.specs.Forms.{forms};
-ghost use Rattle.certificate.specs.View.{scaled as scaled_seen, step as step_seen, entry as entry_seen};
+ghost use Rattle.certificate_tree.specs.View.{scaled as scaled_seen, step as step_seen, entry as entry_seen};
 ghost use Rattle.cut_proof.specs.View.{line as line_seen};
 ghost use Rattle.entry_check.specs.Entries as entries;
 
-use certificate::tree::{Entry, EntrySort, Scaled, Step};
+use certificate_tree::tree::{Entry, EntrySort, Scaled, Step};
 use cut_proof::{Derivation, Line, refutes};
 use linear::Form;
 use std::alloc::{AllocError, Global};

@@ -1,4 +1,4 @@
-//! Section: Gate. Promises that all obligations are shown, or names the first that is not; stands on `two_thread` and `certificate`.
+//! Section: Gate. Promises that all obligations are shown, or names the first that is not; stands on `two_thread` and `certificate_tree`.
 //!
 //! The obligations of a kernel one by one, each settled by the domain or refuted by its entry in a certificate.
 #![tactic(auto)]

@@ -7,14 +7,14 @@ ghost use Rattle.launch.specs.View.{conditions as conditions_seen};
 ghost use Rattle.two_thread.specs.Listed.{listed, nth_obligation, made_fit};
 ghost use Rattle.two_thread.specs.Refusals.{DoNotFit};
 ghost use Rattle.two_thread.specs.Shown.{IsShown};
-ghost use Rattle.certificate.specs.View.{entry as entry_seen};
+ghost use Rattle.certificate_tree.specs.View.{entry as entry_seen};
 ghost use Rattle.entry_check.specs.Entries.{IsTable, is_past};
 ghost use Rattle.entry_check.specs.Lacking.{AreListed, ArePassed, IsStopped, IsUnwalked, Lacks, Passes, PassesOf, TellsBy, TellsOfList, owing};
 
 use crate::derivations::is_refuted;
 use crate::error::ShowError;
 use crate::table::{entry_at, flags_of, places_of};
-use certificate::tree::Entry;
+use certificate_tree::tree::Entry;
 use core_code::tree::Core;
 use domain::Domain;
 use launch::conditions::Conditions;

@@ -2,7 +2,7 @@ use Rattle.std.proofs.Common.{rules, ◌≡◌, ◌≤◌, true, map}
 use Rattle.core_code.specs.View.{kernel, statements}
 use Rattle.launch.specs.View.{conditions}
 use Rattle.walk.specs.Straight.{is_straight, steps}
-use Rattle.certificate.specs.View.{entry}
+use Rattle.certificate_tree.specs.View.{entry}
 use Rattle.entry_check.specs.Entries.{has_entry}
 use Rattle.cert_check.proofs.checking.accept.Goals as goal
 

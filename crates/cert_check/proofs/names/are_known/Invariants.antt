@@ -1,6 +1,6 @@
 use Rattle.std.proofs.Common.{◌≡◌, drop, map}
 use Rattle.syntax.specs.View.{parameter}
-use Rattle.certificate.specs.View as view
+use Rattle.certificate_tree.specs.View as view
 use Rattle.texts.specs.CertificateRules.{all}
 use Rattle.cert_check.specs.Names.{is_known_entry}
 use Rattle.cert_check.proofs.names.are_known.Given as goal

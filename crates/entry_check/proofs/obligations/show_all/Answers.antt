@@ -6,7 +6,7 @@ use Rattle.texts.specs.Certificate.{Entry}
 use Rattle.two_thread.specs.Fitting.{forms_fit}
 use Rattle.two_thread.specs.declared.obligations.Obligations.{Obligations}
 use Rattle.std.specs.List.{All}
-use Rattle.certificate.specs.View.{entry}
+use Rattle.certificate_tree.specs.View.{entry}
 use Rattle.core_code.specs.View.{kernel}
 use Rattle.launch.specs.View.{conditions}
 use Rattle.facts.proofs.Unmade.{passed}

@@ -1,5 +1,5 @@
 use Rattle.std.proofs.Common.{rules, arith, ◌≡◌, ℕ, ◌≤◌, ◌<◌, ◌+◌, ◌-◌, length, map, get_or, ap, sym, subst, ◌∙◌}
-use Rattle.certificate.specs.View.{entry}
+use Rattle.certificate_tree.specs.View.{entry}
 use Rattle.two_thread.specs.Listed.{listed, nth_obligation, no_obligation, made_fit}
 use Rattle.two_thread.specs.Refusals.{DoNotFit}
 use Rattle.two_thread.specs.Shown.{IsShown}

@@ -1,5 +1,5 @@
 use Rattle.std.proofs.Common.{◌<◌, ℕ, ◌+◌, get_or, map}
-use Rattle.certificate.specs.View.{entry}
+use Rattle.certificate_tree.specs.View.{entry}
 use Rattle.two_thread.specs.Listed.{listed, no_obligation}
 use Rattle.two_thread.specs.Shown.{IsShown}
 use Rattle.entry_check.specs.Lacking.{Passes}

@@ -20,7 +20,7 @@ use Rattle.item_pairs.specs.Paths.{no_claim}
 use Rattle.item_pairs.specs.Refusals.{IsInside, IsUnfitPair, DoNotFit}
 use Rattle.item_pairs.specs.View.{met_claims, met_accesses, nth_claim, pair}
 use Rattle.item_pairs.specs.declared.met.Met.{Met}
-use Rattle.item_pairs.specs.declared.obligations.Obligations.{Obligations}
+use Rattle.item_pairs.specs.declared.numbered.Obligations.{Obligations}
 use Rattle.item_pairs.specs.declared.pairs.Pair.{Pair}
 use Rattle.item_pairs.proofs.Nth.{length_met_claims}
 

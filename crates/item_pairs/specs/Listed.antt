@@ -15,7 +15,7 @@ use Rattle.path_walk.specs.declared.path.Spot.{Spot}
 use Rattle.item_pairs.specs.Goals.{owed}
 use Rattle.item_pairs.specs.View.{met_claims, met_accesses, pair}
 use Rattle.item_pairs.specs.declared.met.Met.{Met}
-use Rattle.item_pairs.specs.declared.obligations.Obligations.{Obligations}
+use Rattle.item_pairs.specs.declared.numbered.Obligations.{Obligations}
 use Rattle.item_pairs.specs.declared.pairs.Pair.{Pair}
 
 -- whether the obligation of a number has an entry

@@ -10,7 +10,7 @@ mod clashing;
 mod looking;
 mod manner;
 mod met;
-mod obligations;
+mod numbered;
 mod pairs;
 mod places;
 mod seconds;
@@ -19,5 +19,5 @@ pub use claims::{claim_facts, is_needed, is_settled, sort_of, spot_of_claim, try
 pub use clashing::{lacks_zero, pair_facts, try_differences};
 pub use manner::Manner;
 pub use met::Met;
-pub use obligations::Obligations;
+pub use numbered::Obligations;
 pub use pairs::{Order, Pair, Scope, all_pairs, spot_of};

@@ -4,7 +4,7 @@ use Rattle.facts.proofs.Unmade.{handed}
 use Rattle.obligations.specs.Fitting.{pair_fits}
 use Rattle.item_pairs.specs.View.{pair, met_accesses}
 use Rattle.item_pairs.proofs.Listing.{pair_unfit, pairs-next, pairs-end}
-use Rattle.item_pairs.proofs.obligations.Obligations.try_pairs.Goals as goal
+use Rattle.item_pairs.proofs.numbered.Obligations.try_pairs.Goals as goal
 
 pub returns-in_err-try_differences : goal.returns-in_err-try_differences
 returns-in_err-try_differences g c =

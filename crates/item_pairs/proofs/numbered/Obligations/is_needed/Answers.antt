@@ -3,7 +3,7 @@ use Rattle.obligations.specs.Trees.{Obligation}
 use Rattle.item_pairs.specs.Listed.{no_pair}
 use Rattle.item_pairs.proofs.Copies.{any-default}
 use Rattle.item_pairs.proofs.Listing.{listed_length, nth_is_claim, nth_is_pair}
-use Rattle.item_pairs.proofs.obligations.Obligations.is_needed.Goals as goal
+use Rattle.item_pairs.proofs.numbered.Obligations.is_needed.Goals as goal
 
 pub returns-then-i-len : goal.returns-then-i-len
 returns-then-i-len g c =

@@ -10,7 +10,7 @@ use Rattle.item_pairs.specs.Listed.{claims_fit, found_pairs}
 use Rattle.item_pairs.specs.View.{met_claims, nth_claim, met_accesses, pair}
 use Rattle.item_pairs.proofs.Listing.{inside_at, listed_length, nth_is_claim, nth_is_pair, claim_unfit, pair_unfit, unfit_left, unfit_right}
 use Rattle.item_pairs.proofs.Showing.{pair_otherwise}
-use Rattle.item_pairs.proofs.obligations.Obligations.facts.Goals as goal
+use Rattle.item_pairs.proofs.numbered.Obligations.facts.Goals as goal
 
 pub returns-then-i-claims : goal.returns-then-i-claims
 returns-then-i-claims g c =

@@ -1,7 +1,7 @@
 use Rattle.std.proofs.Common.{rules, ◌≤◌, ◌<◌, length}
 use Rattle.facts.proofs.Unmade.{handed}
 use Rattle.item_pairs.proofs.Listing.{claim_unfit, claims-next, claims-end}
-use Rattle.item_pairs.proofs.obligations.Obligations.try_denials.Goals as goal
+use Rattle.item_pairs.proofs.numbered.Obligations.try_denials.Goals as goal
 
 pub returns-in_err-try_claim : goal.returns-in_err-try_claim
 returns-in_err-try_claim g c =

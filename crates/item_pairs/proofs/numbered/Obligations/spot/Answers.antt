@@ -1,7 +1,7 @@
 use Rattle.std.proofs.Common.{arith, refl, sym, ap, ◌<◌, ◌+◌, ◌-◌, ◌≡◌, ◌∙◌, length}
 use Rattle.obligations.specs.Trees.{Obligation}
 use Rattle.item_pairs.proofs.Listing.{inside_at, listed_length, nth_is_claim, nth_is_pair}
-use Rattle.item_pairs.proofs.obligations.Obligations.spot.Goals as goal
+use Rattle.item_pairs.proofs.numbered.Obligations.spot.Goals as goal
 
 pub returns-then-i-claims : goal.returns-then-i-claims
 returns-then-i-claims g c =

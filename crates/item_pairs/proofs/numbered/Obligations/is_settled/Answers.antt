@@ -5,7 +5,7 @@ use Rattle.obligations.specs.Trees.{Obligation}
 use Rattle.item_pairs.specs.Listed.{claims_fit, found_pairs}
 use Rattle.item_pairs.specs.View.{met_claims}
 use Rattle.item_pairs.proofs.Listing.{inside_at, listed_length, nth_is_claim, nth_is_pair, pair_unfit, unfit_right}
-use Rattle.item_pairs.proofs.obligations.Obligations.is_settled.Goals as goal
+use Rattle.item_pairs.proofs.numbered.Obligations.is_settled.Goals as goal
 
 pub returns-then-i-claims : goal.returns-then-i-claims
 returns-then-i-claims g c =

@@ -51,13 +51,7 @@ fn element_in_pair<D: Domain>(known: &Known<D>, met: &Met<D>, pair: Pair, symbol
 }
 
 /// The element of a sum with one more term.
-fn with_term<D: Domain>(
-    known: &Known<D>,
-    met: &Met<D>,
-    pair: Pair,
-    so_far: D,
-    term: Term,
-) -> D
+fn with_term<D: Domain>(known: &Known<D>, met: &Met<D>, pair: Pair, so_far: D, term: Term) -> D
     requires first { pair.first < length met.now.accesses.items }
     requires second { pair.second < length met.now.accesses.items }
     ensures { result ≡ D.add_of so_far (D.mul_of (D.number_of (term_seen term).coefficient) (element_of_two D.Domain (known_seen known.now) (met_access met.now pair.first).held (met_access met.now pair.second).held (term_seen term).symbol)) }

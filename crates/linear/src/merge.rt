@@ -52,11 +52,7 @@ pub fn without_symbol(alloc: Global, a: &[Term], symbol: Symbol) -> Result<TermL
 }
 
 /// The coefficients with other symbols, one for each.
-pub fn with_symbols(
-    alloc: Global,
-    a: &[Term],
-    symbols: &[Symbol],
-) -> Result<TermList, AllocError>
+pub fn with_symbols(alloc: Global, a: &[Term], symbols: &[Symbol]) -> Result<TermList, AllocError>
     requires { length symbols.now ≡ length a.now }
     ensures exact { IfOk result (λ out. terms out.items ≡ over (numbers symbols.now) (terms a.now)) }
     ensures fits { IfOk result (λ out. fits_terms (terms out.items) ≡ true) }

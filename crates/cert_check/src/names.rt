@@ -29,7 +29,7 @@ fn is_other_buffer(parameter: &Parameter, name: &str) -> bool
     }
 }
 
-#[tactic(auto, using(certificate::proofs::Rows::all_rows))]
+#[tactic(auto, using(certificate_parts::proofs::Rows::all_rows))]
 /// No value parameter has this name.
 fn lacks_value(parameters: &[Parameter], name: &str) -> bool
     ensures { result ≡ names.lacks_value (map parameter_seen parameters.now) name.now }
@@ -42,7 +42,7 @@ fn lacks_value(parameters: &[Parameter], name: &str) -> bool
     true
 }
 
-#[tactic(auto, using(certificate::proofs::Rows::all_rows))]
+#[tactic(auto, using(certificate_parts::proofs::Rows::all_rows))]
 /// No buffer parameter has this name.
 fn lacks_buffer(parameters: &[Parameter], name: &str) -> bool
     ensures { result ≡ names.lacks_buffer (map parameter_seen parameters.now) name.now }
@@ -69,7 +69,7 @@ fn is_known(parameters: &[Parameter], name: &Name) -> bool
     }
 }
 
-#[tactic(auto, using(certificate::proofs::Rows::all_rows))]
+#[tactic(auto, using(certificate_parts::proofs::Rows::all_rows))]
 /// It has the symbols of all terms.
 fn are_known_terms(parameters: &[Parameter], terms: &[Term]) -> bool
     ensures { result ≡ all (names.is_known_term (map parameter_seen parameters.now)) (map view.term terms.now) }
@@ -92,7 +92,7 @@ fn is_known_entry(parameters: &[Parameter], entry: &Entry) -> bool
     }
 }
 
-#[tactic(auto, using(certificate::proofs::Rows::all_rows))]
+#[tactic(auto, using(certificate_parts::proofs::Rows::all_rows))]
 /// It has the symbols of all entries.
 fn are_known(parameters: &[Parameter], entries: &[Entry]) -> bool
     ensures { result ≡ all (names.is_known_entry (map parameter_seen parameters.now)) (map view.entry entries.now) }

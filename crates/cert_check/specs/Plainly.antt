@@ -5,21 +5,20 @@ use Rattle.semantics.specs.Conditions.{Conditions}
 use Rattle.texts.specs.Certificate.{Certificate}
 use Rattle.texts.specs.ConditionsReading.{Lined, meant}
 use Rattle.texts.specs.CertificateReading.{certificate_of}
-use Rattle.texts.specs.Surface.{Parameter}
+use Rattle.texts.specs.Surface as surface
 use Rattle.syntax.specs.View.{kernel as tree_seen}
 use Rattle.syntax.specs.declared.tree.Kernel.{Kernel}
 use Rattle.core_code.specs.View.{kernel as core_seen}
 use Rattle.core_code.specs.declared.tree.Core.{Core}
-use Rattle.walk.specs.Straight.{steps}
-use Rattle.walk.specs.Trees.{Obligation}
+use Rattle.obligations.specs.Trees.{Obligation}
 use Rattle.facts.specs.declared.error.WalkError.TheVariants as walks
-use Rattle.plain.specs.Domains.{domain}
-use Rattle.plain.specs.Claims.{is_range}
-use Rattle.plain.specs.Kernels.{IsPlain, has_signed}
+use Rattle.plain_kernels.specs.Domains.{domain}
+use Rattle.plain_kernels.specs.Claims.{is_range}
+use Rattle.plain_kernels.specs.Kernels.{IsPlain, has_signed}
 use Rattle.entry_check.specs.Entries.{has_entry, is_refuted, is_past}
-use Rattle.entry_check.specs.Lacking.{IsNumbered, owing}
+use Rattle.entry_check.specs.Lacking.{IsNumbered, owing, steps_of}
 use Rattle.cert_check.specs.Refusing.{AreRead}
-use Rattle.cert_check.specs.Names.{is_for_others}
+use Rattle.certificate_names.specs.Names.{is_for_others}
 use Rattle.cert_check.specs.declared.accepted.Accepted.{Accepted}
 use Rattle.cert_check.specs.declared.error.CheckError.{CheckError}
 use Rattle.cert_check.specs.declared.error.CheckError.TheVariants as errors
@@ -30,27 +29,27 @@ use Rattle.entry_check.specs.declared.error.ShowError.TheVariants as shows
 abbrev pub IsOwnRange : semantics.Kernel → Certificate → (number : ℕ) → Type 0
 IsOwnRange k cert n = is_range k n ≡ true → (has_entry cert.entries n ≡ true) × (has_signed k.arguments k.body ≡ true)
 
--- the obligation of this number has no `show` entry that refutes its facts
+-- the obligation of this number has no entry that fits it and refutes its facts
 abbrev pub IsUnrefuted : semantics.Kernel → Conditions → Certificate → (number : ℕ) → Type 0
-IsUnrefuted k c cert n = (o : Obligation) × IsNumbered 0 (owing domain k c cert.entries) n o × (is_refuted cert.entries n o.facts ≡ false)
+IsUnrefuted k c cert n = (o : Obligation) × IsNumbered 0 (owing domain k c cert.entries) n o × (is_refuted cert.entries n o ≡ false)
 
 -- 0: the certificate tells of what the kernel lacks, or has an entry past the last; a number is that of an obligation that is not shown;
 -- there are over 65,536 obligations; or the stores outnumber the budget. No form leaves i64, and no kernel is left out
-abbrev pub TellsPlain : semantics.Kernel → List Parameter → Conditions → Certificate → ShowError → Type 0
-TellsPlain k ps c cert (shows.NotShown zero) = (is_for_others ps cert ≡ true) ⊎ (is_past cert.entries (length (owing domain k c cert.entries)) ≡ true)
-TellsPlain k ps c cert (shows.NotShown (suc n)) = IsUnrefuted k c cert (suc n) × IsOwnRange k cert (suc n)
-TellsPlain k ps c cert (shows.Walk walks.TooMany) = 65536 < length (owing domain k c cert.entries)
-TellsPlain k ps c cert (shows.Walk walks.TooLarge) = ⊥
-TellsPlain k ps c cert (shows.Walk walks.Outside) = ⊥
-TellsPlain k ps c cert (shows.Walk walks.Memory) = Unit {0}
-TellsPlain k ps c cert shows.OverBudget = c.budget < steps k.body
-TellsPlain k ps c cert shows.Memory = Unit {0}
+abbrev pub TellsPlain : semantics.Kernel → surface.Kernel → Conditions → Certificate → ShowError → Type 0
+TellsPlain k tree c cert (shows.NotShown zero) = (is_for_others tree cert ≡ true) ⊎ (is_past cert.entries (length (owing domain k c cert.entries)) ≡ true)
+TellsPlain k tree c cert (shows.NotShown (suc n)) = IsUnrefuted k c cert (suc n) × IsOwnRange k cert (suc n)
+TellsPlain k tree c cert (shows.Walk walks.TooMany) = 65536 < length (owing domain k c cert.entries)
+TellsPlain k tree c cert (shows.Walk walks.TooLarge) = ⊥
+TellsPlain k tree c cert (shows.Walk walks.Outside) = ⊥
+TellsPlain k tree c cert (shows.Walk walks.Memory) = Unit {0}
+TellsPlain k tree c cert shows.OverBudget = c.budget < steps_of k
+TellsPlain k tree c cert shows.Memory = Unit {0}
 
 -- the texts are read, and where the kernel is plain the error tells this of it
 abbrev pub OnPlain : Result Accepted CheckError → (kernel conditions certificate : List ℕ) → Type 0
 OnPlain (Err (errors.Show e)) kernel conditions certificate =
     (typed : Kernel × Core) × (found : Lined) × (cert : Certificate) × AreRead typed found kernel conditions × (certificate_of certificate ≡ Ok cert)
-    × (IsPlain (core_seen typed.1) (meant found) → TellsPlain (core_seen typed.1) (tree_seen typed.0).parameters (meant found) cert e)
+    × (IsPlain (core_seen typed.1) (meant found) → TellsPlain (core_seen typed.1) (tree_seen typed.0) (meant found) cert e)
 OnPlain (Err (errors.Kernel e)) kernel conditions certificate = Unit {0}
 OnPlain (Err (errors.Conditions e)) kernel conditions certificate = Unit {0}
 OnPlain (Err (errors.Certificate e)) kernel conditions certificate = Unit {0}

@@ -3,7 +3,7 @@ use Rattle.std.specs.Prelude.{◌≡◌, ◌⊎◌, ℕ, List, true, false, Resu
 use Rattle.semantics.specs.Launch as semantics
 use Rattle.semantics.specs.Conditions.{Conditions}
 use Rattle.texts.specs.Certificate.{Certificate}
-use Rattle.texts.specs.Surface.{Parameter}
+use Rattle.texts.specs.Surface as surface
 use Rattle.texts.specs.ConditionsReading.{Lined, conditions_of, meant}
 use Rattle.texts.specs.CertificateReading as certificates
 use Rattle.syntax.specs.View.{kernel as tree_seen}
@@ -14,8 +14,8 @@ use Rattle.reading.specs.Kernels.{read}
 use Rattle.reading.specs.Answers as reading
 use Rattle.launch_text.specs.Answers as launches
 use Rattle.certificate.specs.Certificates.{Says}
-use Rattle.plain.specs.Domains.{domain}
-use Rattle.cert_check.specs.Names.{is_for_others}
+use Rattle.plain_kernels.specs.Domains.{domain}
+use Rattle.certificate_names.specs.Names.{is_for_others}
 use Rattle.entry_check.specs.Lacking.{PassesOf, TellsOf}
 use Rattle.cert_check.specs.declared.accepted.Accepted.{Accepted}
 use Rattle.cert_check.specs.declared.error.CheckError.{CheckError}
@@ -31,14 +31,14 @@ IsRead typed kernel = read kernel ≡ Ok (reading.kernel_seen typed)
 abbrev pub AreRead : Kernel × Core → Lined → (kernel conditions : List ℕ) → Type 0
 AreRead typed found kernel conditions = IsRead typed kernel × (conditions_of (tree_seen typed.0).parameters conditions ≡ Ok found)
 
--- what the error tells of a kernel with these parameters under conditions, with a certificate: that it tells of what the kernel lacks, else
--- what is not shown
-abbrev pub Shows : semantics.Kernel → List Parameter → Conditions → Certificate → ShowError → Type 0
-Shows k ps c cert e = ((e ≡ NotShown 0) × (is_for_others ps cert ≡ true)) ⊎ ((is_for_others ps cert ≡ false) × TellsOf domain k c cert.entries e)
+-- what the error tells of a kernel with its tree under conditions, with a certificate: that it tells of what the kernel lacks, else what is
+-- not shown
+abbrev pub Shows : semantics.Kernel → surface.Kernel → Conditions → Certificate → ShowError → Type 0
+Shows k tree c cert e = ((e ≡ NotShown 0) × (is_for_others tree cert ≡ true)) ⊎ ((is_for_others tree cert ≡ false) × TellsOf domain k c cert.entries e)
 
 -- the certificate too, and the kernel under these conditions is not shown by it
 abbrev pub IsUnshown : ShowError → Kernel × Core → Lined → (certificate : List ℕ) → Type 0
-IsUnshown e typed found certificate = (cert : Certificate) × (certificates.certificate_of certificate ≡ Ok cert) × Shows (core_seen typed.1) (tree_seen typed.0).parameters (meant found) cert e
+IsUnshown e typed found certificate = (cert : Certificate) × (certificates.certificate_of certificate ≡ Ok cert) × Shows (core_seen typed.1) (tree_seen typed.0) (meant found) cert e
 
 abbrev pub Refuses : CheckError → (kernel conditions certificate : List ℕ) → Type 0
 Refuses (errors.Kernel e) kernel conditions certificate = reading.Refuses e (read kernel)
@@ -52,4 +52,4 @@ Tells (Err e) kernel conditions certificate = Refuses e kernel conditions certif
 
 -- what is accepted: the certificate is read, it tells of nothing that the kernel lacks, and with it nothing stops the check
 abbrev pub IsPassed : Kernel × Core → Conditions → (certificate : List ℕ) → Type 0
-IsPassed typed c certificate = (cert : Certificate) × (certificates.certificate_of certificate ≡ Ok cert) × (is_for_others (tree_seen typed.0).parameters cert ≡ false) × PassesOf domain (core_seen typed.1) c cert.entries
+IsPassed typed c certificate = (cert : Certificate) × (certificates.certificate_of certificate ≡ Ok cert) × (is_for_others (tree_seen typed.0) cert ≡ false) × PassesOf domain (core_seen typed.1) c cert.entries

@@ -2,7 +2,7 @@
 
 ghost use Rattle.core_code.specs.View.{kernel as core_seen};
 ghost use Rattle.launch.specs.View.{conditions as conditions_seen};
-ghost use Rattle.cert_check.specs.Accepting.{IsAccepted, IsStraightUnder};
+ghost use Rattle.cert_check.specs.Accepting.{IsAccepted, IsCoveredUnder};
 
 use launch::conditions::Conditions;
 use types::typed::Typed;
@@ -13,5 +13,5 @@ pub struct Accepted {
     pub(crate) typed: Typed,
     pub(crate) conditions: Conditions,
     pub(crate) ghost promise: { IsAccepted (core_seen typed.1) (conditions_seen conditions) },
-    pub(crate) ghost shape: { IsStraightUnder (core_seen typed.1) (conditions_seen conditions) },
+    pub(crate) ghost shape: { IsCoveredUnder (core_seen typed.1) (conditions_seen conditions) },
 }

@@ -11,34 +11,33 @@ ghost use Rattle.core_code.specs.View.{kernel as core_seen};
 ghost use Rattle.reading.specs.Kernels.{read};
 ghost use Rattle.reading.specs.Answers.{kernel_seen};
 ghost use Rattle.facts.specs.View.{three};
-ghost use Rattle.walk.specs.Straight.{is_straight, steps};
 ghost use Rattle.certificate_tree.specs.View.{entry as entry_seen};
-ghost use Rattle.cert_check.specs.Accepting.{IsAccepted, IsStraightUnder, HasHeadline};
-ghost use Rattle.entry_check.specs.Lacking.{PassesOf, TellsOf};
+ghost use Rattle.cert_check.specs.Accepting.{IsAccepted, IsCoveredUnder, HasHeadline};
+ghost use Rattle.entry_check.specs.Lacking.{PassesOf, TellsOf, steps_of};
 ghost use Rattle.cert_check.specs.Refusing.{IsPassed, Tells};
 ghost use Rattle.cert_check.specs.Plainly.{OnPlain};
 ghost use Rattle.cert_check.specs.View.{typed_of, kept};
 
 use crate::accepted::Accepted;
 use crate::error::CheckError;
-use crate::names::is_for_others;
 use certificate::tree::Entry;
+use certificate_names::is_for_others;
 use congruence::Congruence;
 use core_code::tree::Core;
 use domain::Domain;
 use entry_check::{ShowError, show_all};
 use interval::Interval;
 use launch::conditions::Conditions;
+use kernel_walk::is_covered;
 use launch_text::read_conditions;
 use loop_bounds::cost;
-use loop_bounds::laws::stores_are_steps;
+use obligations::laws::what_is_shown_is_pair_safe;
 use product::Product;
 use reading::laws::local_sizes_are_within_limits;
 use reading::read_kernel;
 use reduction::headline;
 use std::alloc::Global;
-use two_thread::laws::what_is_shown_is_pair_safe;
-use walk::is_straight;
+use step_bounds::laws::steps_are_within_the_cost;
 
 /// Each dimension of a work-group has a work-item.
 fn has_items(sizes: [u32; 3]) -> bool
@@ -48,19 +47,17 @@ fn has_items(sizes: [u32; 3]) -> bool
     sizes[0] > 0 && sizes[1] > 0 && sizes[2] > 0
 }
 
-/// An item of a straight-line kernel takes more steps than the budget.
+/// An item of a kernel without loops may take more steps than the budget.
 fn is_over(core: &Core, budget: u64) -> bool
-    requires { is_straight (core_seen core.now) ≡ true }
-    ensures { result ≡ nat_lt budget (steps (core_seen core.now).body) }
+    ensures { result ≡ nat_lt budget (steps_of (core_seen core.now)) }
 {
-    stores_are_steps();
     match cost(core, &[]) {
         Ok(steps) => steps > budget,
         Err(_) => true,
     }
 }
 
-/// A straight-line kernel under conditions, with the entries of its certificate.
+/// A kernel under conditions, with the entries of its certificate.
 fn accept<D: Domain>(
     alloc: Global,
     core: &Core,
@@ -69,24 +66,25 @@ fn accept<D: Domain>(
 ) -> Result<(), ShowError>
     requires { ConditionsFit (core_seen core.now) (conditions_seen conditions.now) }
     ensures promise { IfOk result (λ _. IsAccepted (core_seen core.now) (conditions_seen conditions.now)) }
-    ensures shape { IfOk result (λ _. IsStraightUnder (core_seen core.now) (conditions_seen conditions.now)) }
+    ensures shape { IfOk result (λ _. IsCoveredUnder (core_seen core.now) (conditions_seen conditions.now)) }
     ensures passed { IfOk result (λ _. PassesOf D.Domain (core_seen core.now) (conditions_seen conditions.now) (map entry_seen entries.now)) }
     ensures lacks { IfErr result (TellsOf D.Domain (core_seen core.now) (conditions_seen conditions.now) (map entry_seen entries.now)) }
 {
-    if !has_items(core.sizes) || !is_straight(core) {
+    if !has_items(core.sizes) || !is_covered(core) {
         return Err(ShowError::NotShown(0));
     }
     show_all::<D>(alloc, core, conditions, entries)?;
     if is_over(core, conditions.budget) {
         return Err(ShowError::OverBudget);
     }
+    steps_are_within_the_cost();
     what_is_shown_is_pair_safe::<D>();
     Ok(())
 }
 
 /// A kernel, launch conditions and a certificate, each by its text. What is accepted is pair-safe at each launch that meets the
 /// conditions, and the headline holds there. What is refused first, in this order: the kernel, the conditions, the certificate's text, what
-/// it tells of that the kernel lacks, over 65,536 obligations or a number that is too large, the obligations by their numbers, entries past
+/// it tells of that the kernel lacks, over 256 paths, over 65,536 obligations or a number that is too large, the obligations by their numbers, entries past
 /// the last of them, the budget.
 pub fn check(
     alloc: Global,
@@ -114,7 +112,7 @@ pub fn check(
         Ok(certificate) => certificate,
         Err(error) => return Err(CheckError::Certificate(error)),
     };
-    if is_for_others(typed.kernel().parameters.as_slice(), &certificate) {
+    if is_for_others(typed.kernel(), &certificate) {
         return Err(CheckError::Show(ShowError::NotShown(0)));
     }
     let entries = certificate.entries();

@@ -3,7 +3,7 @@
 ghost use Rattle.std.specs.Prelude.{◌≡◌};
 ghost use Rattle.core_code.specs.View.{kernel as core_seen};
 ghost use Rattle.launch.specs.View.{conditions as conditions_seen};
-ghost use Rattle.cert_check.specs.Accepting.{IsAccepted, IsStraightUnder};
+ghost use Rattle.cert_check.specs.Accepting.{IsAccepted, IsCoveredUnder};
 ghost use Rattle.cert_check.specs.View.{typed_of, kept};
 
 use crate::accepted::Accepted;
@@ -14,7 +14,7 @@ impl Accepted {
     /// A kernel with conditions under which it is accepted, as the caller has shown.
     pub(crate) fn of(typed: Typed, conditions: Conditions) -> Accepted
         requires promise { IsAccepted (core_seen typed.1) (conditions_seen conditions) }
-        requires shape { IsStraightUnder (core_seen typed.1) (conditions_seen conditions) }
+        requires shape { IsCoveredUnder (core_seen typed.1) (conditions_seen conditions) }
         ensures typed { typed_of result ≡ typed }
         ensures conditions { kept result ≡ conditions }
     {
@@ -25,7 +25,7 @@ impl Accepted {
     pub fn typed(&self) -> &Typed
         ensures value { result.now ≡ typed_of self.now }
         ensures accepted { IsAccepted (core_seen (typed_of self.now).1) (conditions_seen (kept self.now)) }
-        ensures shape { IsStraightUnder (core_seen (typed_of self.now).1) (conditions_seen (kept self.now)) }
+        ensures shape { IsCoveredUnder (core_seen (typed_of self.now).1) (conditions_seen (kept self.now)) }
     {
         &self.typed
     }
@@ -34,7 +34,7 @@ impl Accepted {
     pub fn conditions(&self) -> &Conditions
         ensures value { result.now ≡ kept self.now }
         ensures accepted { IsAccepted (core_seen (typed_of self.now).1) (conditions_seen (kept self.now)) }
-        ensures shape { IsStraightUnder (core_seen (typed_of self.now).1) (conditions_seen (kept self.now)) }
+        ensures shape { IsCoveredUnder (core_seen (typed_of self.now).1) (conditions_seen (kept self.now)) }
     {
         &self.conditions
     }

@@ -8,7 +8,6 @@ mod accepted;
 mod checking;
 pub mod error;
 mod keeping;
-mod names;
 
 pub use accepted::Accepted;
 pub use checking::check;

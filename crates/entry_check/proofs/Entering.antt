@@ -3,11 +3,10 @@ use Rattle.std.proofs.Common.{◌≡◌, ℕ, zero, suc, ◌+◌, ◌<◌, ◌�
 use Rattle.std.specs.Prelude.{Option, None, Some, IfSome, MatchOption, is_some}
 use Rattle.std.proofs.lemmas.Bool.{cases_eq, cases_lt}
 use Rattle.std.proofs.lemmas.Bool.Decides.{nat_tests}
-use Rattle.std.proofs.lemmas.List.{map-append, length-set, length-replicate, drop_more, drop_all, set_past, get_or-set_same, get_or-set_other, get_or_past, get_or_push, get_or_append_left, length-append}
+use Rattle.std.proofs.lemmas.List.{map-append, length-set, length-replicate, drop_more, drop_all, set_past, get_or-set_same, get_or-set_other, get_or_past, get_or_push, get_or_append_left, length-append, get_or_default}
 use Rattle.texts.specs.Certificate as certificate
 use Rattle.certificate_tree.specs.View.{entry}
 use Rattle.certificate_tree.specs.declared.tree.Entry.{Entry}
-use Rattle.two_thread.proofs.Listing.{at_place}
 use Rattle.entry_check.proofs.OneByOne.{one_more}
 use Rattle.entry_check.specs.Entries.{IsTable, placed, last_of, is_of, entry_of, is_found, has_entry}
 
@@ -81,8 +80,8 @@ empty_table es ps e = (ap length e ∙ length-replicate 65537 zero, λ n. ap (λ
 
 pub looked_up : (H : Bor Entry → Type 0) (es : List Entry) (ps : List ℕ) (n p i : ℕ) (r : Option (Bor Entry)) → IsTable (map entry es) ps → n < length ps → p ≡ get_or ps n p → p ≡ suc i →
     IfSome r (λ e. e.now ≡ get_or es i e.now) → MatchOption r (length es ≤ i) (λ e. (i < length es) × H e) → MatchOption r (entry_of (map entry es) n ≡ None) (λ e. entry_of (map entry es) n ≡ Some (entry e.now))
-looked_up H es ps n p i None t h e k a b = sym (t n) ∙ ap (placed (map entry es)) (at_place ps n p 0 h ∙ sym e ∙ k) ∙ at_none es i b
-looked_up H es ps n p i (Some x) t h e k a b = sym (t n) ∙ ap (placed (map entry es)) (at_place ps n p 0 h ∙ sym e ∙ k) ∙ at_some es i x.now b.0 ∙ ap (λ y. Some (entry y)) (sym a)
+looked_up H es ps n p i None t h e k a b = sym (t n) ∙ ap (placed (map entry es)) (get_or_default ps n 0 p h ∙ sym e ∙ k) ∙ at_none es i b
+looked_up H es ps n p i (Some x) t h e k a b = sym (t n) ∙ ap (placed (map entry es)) (get_or_default ps n 0 p h ∙ sym e ∙ k) ∙ at_some es i x.now b.0 ∙ ap (λ y. Some (entry y)) (sym a)
 
 -- one flag more
 pub one_flag : (es : List certificate.Entry) (fs fs' : List Bool) (i : ℕ) (f : Bool) → f ≡ has_entry es i → fs' ≡ fs ++ f ∷ [] → (length fs ≡ i) × ((n : ℕ) → n < i → get_or fs n false ≡ has_entry es n) → (length fs' ≡ i + 1) × ((n : ℕ) → n < i + 1 → get_or fs' n false ≡ has_entry es n)

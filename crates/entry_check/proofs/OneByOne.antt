@@ -1,13 +1,9 @@
 -- Obligations one by one.
 use Rattle.std.proofs.Common.{◌≡◌, ℕ, zero, suc, ◌+◌, ◌<◌, ◌≤◌, Bool, true, List, length, get_or, refl, sym, ap, subst, ◌⊎◌, inl, inr, arith}
-use Rattle.std.specs.Prelude.{IsTrue}
 use Rattle.std.specs.List.{All}
 use Rattle.std.proofs.lemmas.List.Elements.{All-from_get_or}
-use Rattle.semantics.specs.Linear.{IsImpossible}
-use Rattle.linear.specs.Forms.{forms}
-use Rattle.linear.specs.declared.form.Form.{Form}
-use Rattle.walk.specs.Trees.{Obligation}
-use Rattle.two_thread.specs.Shown.{IsShown}
+use Rattle.obligations.specs.Trees.{Obligation}
+use Rattle.obligations.specs.Shown.{IsShown}
 
 latest : (i k : ℕ) → k < i + 1 → (k < i) ⊎ (k ≡ i)
 latest zero zero h = inr refl
@@ -20,6 +16,3 @@ one_more {P} i f p k h = elim (latest i k h) [ inl a ↦ f k a | inr a ↦ subst
 
 pub all_shown : (os : List Obligation) (d : Obligation) (n : ℕ) → length os ≤ n → ((k : ℕ) → k < n → IsShown (get_or os k d)) → All IsShown os
 all_shown os d n h s = All-from_get_or IsShown os d (λ i l. s i (omega (arith, h, l)))
-
-pub refuted : (b : Bool) (xs ys : List Form) → xs ≡ ys → (IsTrue b → IsImpossible (forms xs)) → b ≡ true → IsImpossible (forms ys)
-refuted b xs ys e f h = subst (λ l. IsImpossible (forms l)) e (f h)

@@ -3,6 +3,7 @@ use Rattle.std.specs.Prelude.{◌≡◌, ℕ, zero, suc, ℤ, pos, negsuc, List,
 use Rattle.texts.specs.Certificate.{Entry, EntrySort, Show, Positive, Negative, Quotient, Step, Given, Sum, Divide, Scaled}
 use Rattle.cut_proof.specs.Derivations as derivations
 use Rattle.cut_proof.specs.Derivations.{Forms, Line, refutes_of}
+use Rattle.obligations.specs.Trees.{Obligation, Manner, Plainly, ByPositive, ByNegative, facts_by}
 
 -- a number of a line or a fact; one that is none, or has over 32 bits, is 0, which names nothing
 abbrev pub line_number : ℤ → ℕ
@@ -18,15 +19,25 @@ line_of (Given fact) = derivations.Given (line_number fact)
 line_of (Sum parts) = derivations.Sum (map part_of parts)
 line_of (Divide by) = derivations.Divide by.factor (line_number by.line)
 
-abbrev pub is_show : EntrySort → Bool
-is_show Show = true
-is_show Positive = false
-is_show Negative = false
-is_show (Quotient form) = false
+-- how an entry of a sort shows an obligation; a quotient shows none
+abbrev pub manner_of : EntrySort → Option Manner
+manner_of Show = Some Plainly
+manner_of Positive = Some ByPositive
+manner_of Negative = Some ByNegative
+manner_of (Quotient form) = None
 
--- an entry says `show`, and its derivation refutes the facts
-abbrev pub refutes_by : Entry → Forms → Bool
-refutes_by e facts = is_show e.sort && refutes_of facts (map line_of e.steps)
+-- the facts that are impossible where an obligation is shown so; none where an entry of that sort does not fit it
+abbrev pub facts_for : Option Manner → Obligation → Option Forms
+facts_for None o = None
+facts_for (Some m) o = facts_by m o
+
+abbrev pub refutes_facts : Entry → Option Forms → Bool
+refutes_facts e None = false
+refutes_facts e (Some facts) = refutes_of facts (map line_of e.steps)
+
+-- an entry fits an obligation, and its derivation refutes the facts
+abbrev pub refutes_by : Entry → Obligation → Bool
+refutes_by e o = refutes_facts e (facts_for (manner_of e.sort) o)
 
 -- an entry has this number; there are at most 65,536 obligations
 abbrev pub is_of : ℕ → Entry → Bool
@@ -45,17 +56,17 @@ abbrev pub is_found : Option Entry → Bool
 is_found None = false
 is_found (Some e) = true
 
-abbrev pub found_refutes : Option Entry → Forms → Bool
-found_refutes None facts = false
-found_refutes (Some e) facts = refutes_by e facts
+abbrev pub found_refutes : Option Entry → Obligation → Bool
+found_refutes None o = false
+found_refutes (Some e) o = refutes_by e o
 
 -- an obligation of this number has an entry
 abbrev pub has_entry : List Entry → ℕ → Bool
 has_entry es n = is_found (entry_of es n)
 
--- the entry of this number refutes the facts
-abbrev pub is_refuted : List Entry → (number : ℕ) → (facts : Forms) → Bool
-is_refuted es n facts = found_refutes (entry_of es n) facts
+-- the entry of this number fits an obligation, and refutes its facts
+abbrev pub is_refuted : List Entry → (number : ℕ) → Obligation → Bool
+is_refuted es n o = found_refutes (entry_of es n) o
 
 -- an entry is past the last obligation
 abbrev pub is_past : List Entry → (last : ℕ) → Bool

@@ -1,26 +1,29 @@
 -- What an error tells of what is to be shown.
-use Rattle.std.specs.Prelude.{◌≡◌, ◌<◌, ◌≤◌, ◌⊎◌, ℕ, zero, suc, ◌+◌, List, length, get_or, true, false}
+use Rattle.std.specs.Prelude.{◌≡◌, ◌<◌, ◌≤◌, ◌⊎◌, ℕ, zero, suc, ◌+◌, List, [], length, get_or, true, false}
 use Rattle.semantics.specs.Launch.{Kernel, product}
 use Rattle.semantics.specs.Conditions.{Conditions}
 use Rattle.domain.specs.declared.Domain.{Ghosts}
 use Rattle.texts.specs.Certificate.{Entry}
-use Rattle.walk.specs.Straight.{is_straight, steps}
-use Rattle.walk.specs.Trees.{Obligation}
-use Rattle.two_thread.specs.Fitting.{forms_fit}
-use Rattle.two_thread.specs.Shown.{obligations}
-use Rattle.two_thread.specs.Unfound as unfound
+use Rattle.obligations.specs.Covered.{is_covered}
+use Rattle.obligations.specs.Trees.{Obligation, leaves}
+use Rattle.obligations.specs.Statements.{setting, tree}
+use Rattle.obligations.specs.Fitting.{forms_fit}
+use Rattle.obligations.specs.Shown.{obligations}
+use Rattle.obligations.specs.Unfound as unfound
+use Rattle.loop_bounds.specs.Costs.{cost}
+use Rattle.loop_bounds.specs.Turns.{turns_of}
 use Rattle.facts.specs.declared.error.WalkError.{WalkError}
 use Rattle.entry_check.specs.Entries.{has_entry, is_refuted, is_past}
 use Rattle.entry_check.specs.declared.error.ShowError.{ShowError}
 use Rattle.entry_check.specs.declared.error.ShowError.TheVariants as errors
 
--- an obligation that stops the check: the domain does not settle it, it is needed or has an entry, and no entry refutes its facts
+-- an obligation that stops the check: the domain does not settle it, it is needed or has an entry, and no entry that fits refutes its facts
 abbrev pub IsLacking : List Entry → (number : ℕ) → Obligation → Type 0
-IsLacking es n o = (o.settled ≡ false) × ((o.needed ≡ true) ⊎ (has_entry es n ≡ true)) × (is_refuted es n o.facts ≡ false)
+IsLacking es n o = (o.settled ≡ false) × ((o.needed ≡ true) ⊎ (has_entry es n ≡ true)) × (is_refuted es n o ≡ false)
 
 -- one that passes: the domain settles it, or it is not needed and has no entry, or its entry refutes its facts
 abbrev pub Passes : List Entry → (number : ℕ) → Obligation → Type 0
-Passes es n o = (o.settled ≡ true) ⊎ (((o.needed ≡ false) × (has_entry es n ≡ false)) ⊎ (is_refuted es n o.facts ≡ true))
+Passes es n o = (o.settled ≡ true) ⊎ (((o.needed ≡ false) × (has_entry es n ≡ false)) ⊎ (is_refuted es n o ≡ true))
 
 -- an obligation of a list has this number, counted on from those before the list
 abbrev pub IsNumbered : (before : ℕ) → List Obligation → (number : ℕ) → Obligation → Type 0
@@ -62,17 +65,21 @@ ArePassed es os = AllPass es 0 os × (is_past es (length os) ≡ false)
 abbrev pub owing : {E : Type 0} → Ghosts E → Kernel → Conditions → List Entry → List Obligation
 owing g k c es = obligations g k c (has_entry es)
 
--- over 65,536 obligations, a form that is not of i64, or a kernel that is not a straight-line one
+-- over 256 paths that come to an end, over 65,536 obligations, a form that is not of i64, or a kernel that the walk does not cover
 abbrev pub IsUnwalked : {E : Type 0} → Ghosts E → Kernel → Conditions → List Entry → WalkError → Type 0
 IsUnwalked g k c es = unfound.IsUnwalked g k c (has_entry es)
 
--- the kernel's obligations are told: a work-group has work-items, and the kernel is a straight-line one
+-- the kernel's obligations are told: a work-group has work-items, and the walk covers the kernel
 abbrev pub HasObligations : Kernel → Type 0
-HasObligations k = (0 < product k.sizes) × (is_straight k ≡ true)
+HasObligations k = (0 < product k.sizes) × (is_covered k ≡ true)
 
--- they are listed: there are 65,536 at most, and all forms that are made for them are of i64
+-- at most 256 paths of an item come to an end
+abbrev pub HasFewPaths : {E : Type 0} → Ghosts E → Kernel → Conditions → List Entry → Type 0
+HasFewPaths g k c es = leaves 0 (tree (setting g k c (has_entry es)) k) ≤ 256
+
+-- they are listed: few paths, 65,536 obligations at most, and all forms that are made for them are of i64
 abbrev pub AreListed : {E : Type 0} → Ghosts E → Kernel → Conditions → List Entry → Type 0
-AreListed g k c es = (length (owing g k c es) ≤ 65536) × (forms_fit g k c (has_entry es) ≡ true)
+AreListed g k c es = HasFewPaths g k c es × (length (owing g k c es) ≤ 65536) × (forms_fit g k c (has_entry es) ≡ true)
 
 -- an error that comes of what is to be shown, once it is listed, or before that
 abbrev pub TellsOfList : List Entry → (listed : Type 0) → List Obligation → (walk : WalkError → Type 0) → ShowError → Type 0
@@ -82,14 +89,18 @@ TellsOfList es listed os = TellsBy (λ n. listed × Lacks es os n)
 abbrev pub PassesOf : {E : Type 0} → Ghosts E → Kernel → Conditions → List Entry → Type 0
 PassesOf g k c es = ArePassed es (owing g k c es) × AreListed g k c es
 
--- 0 also where a work-group has no work-items, or the kernel is not a straight-line one
+-- 0 also where a work-group has no work-items, or the walk does not cover the kernel
 abbrev pub LacksOf : {E : Type 0} → Ghosts E → Kernel → Conditions → List Entry → (number : ℕ) → Type 0
-LacksOf g k c es zero = (product k.sizes ≡ 0) ⊎ ((is_straight k ≡ false) ⊎ (HasObligations k × AreListed g k c es × Lacks es (owing g k c es) zero))
+LacksOf g k c es zero = (product k.sizes ≡ 0) ⊎ ((is_covered k ≡ false) ⊎ (HasObligations k × AreListed g k c es × Lacks es (owing g k c es) zero))
 LacksOf g k c es (suc n) = HasObligations k × AreListed g k c es × Lacks es (owing g k c es) (suc n)
 
--- what an error tells of a kernel. The budget comes last: an item takes more steps than it has, and nothing else stops the check
+-- how many steps an item of a kernel without loops takes at most
+abbrev pub steps_of : Kernel → ℕ
+steps_of k = cost (turns_of []) k.body
+
+-- what an error tells of a kernel. The budget comes last: an item may take more steps than it has, and nothing else stops the check
 abbrev pub TellsOf : {E : Type 0} → Ghosts E → Kernel → Conditions → List Entry → ShowError → Type 0
 TellsOf g k c es (errors.NotShown n) = LacksOf g k c es n
 TellsOf g k c es (errors.Walk e) = HasObligations k × IsUnwalked g k c es e
-TellsOf g k c es errors.OverBudget = HasObligations k × PassesOf g k c es × (c.budget < steps k.body)
+TellsOf g k c es errors.OverBudget = HasObligations k × PassesOf g k c es × (c.budget < steps_of k)
 TellsOf g k c es errors.Memory = Unit {0}

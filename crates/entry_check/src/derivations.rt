@@ -1,14 +1,18 @@
 //! The derivation of an entry, and whether it refutes facts.
 
 ghost use Rattle.std.specs.Prelude.{◌≡◌, IfOk, IsTrue, map};
+ghost use Rattle.std.specs.Option.{option_map};
 ghost use Rattle.semantics.specs.Linear.{IsImpossible};
 ghost use Rattle.linear.specs.Forms.{forms};
-ghost use Rattle.certificate_tree.specs.View.{scaled as scaled_seen, step as step_seen, entry as entry_seen};
+ghost use Rattle.certificate_tree.specs.View.{scaled as scaled_seen, step as step_seen, entry as entry_seen, sort as sort_seen};
 ghost use Rattle.cut_proof.specs.View.{line as line_seen};
+ghost use Rattle.cut_proof.specs.Derivations.{refutes_of};
+ghost use Rattle.item_pairs.specs.Goals.{manner as manner_seen};
 ghost use Rattle.entry_check.specs.Entries as entries;
 
 use certificate_tree::tree::{Entry, EntrySort, Scaled, Step};
 use cut_proof::{Derivation, Line, refutes};
+use item_pairs::Manner;
 use linear::Form;
 use std::alloc::{AllocError, Global};
 
@@ -61,16 +65,23 @@ fn derivation_of(alloc: Global, steps: &[Step]) -> Result<Derivation, AllocError
     Ok(Derivation { lines })
 }
 
-/// The entry says `show`, and its derivation refutes the facts.
+/// How an entry of a sort shows an obligation; a quotient shows none.
+pub fn manner_of(sort: &EntrySort) -> Option<Manner>
+    ensures { option_map manner_seen result ≡ entries.manner_of (sort_seen sort.now) }
+{
+    match sort {
+        EntrySort::Show => Some(Manner::Plainly),
+        EntrySort::Positive => Some(Manner::ByPositive),
+        EntrySort::Negative => Some(Manner::ByNegative),
+        EntrySort::Quotient(_) => None,
+    }
+}
+
+/// The derivation of an entry refutes the facts.
 pub fn is_refuted(alloc: Global, facts: &[Form], entry: &Entry) -> Result<bool, AllocError>
-    ensures exact { IfOk result (λ b. b ≡ entries.refutes_by (entry_seen entry.now) (forms facts.now)) }
+    ensures exact { IfOk result (λ b. b ≡ refutes_of (forms facts.now) (map entries.line_of (entry_seen entry.now).steps)) }
     ensures impossible { IfOk result (λ b. IsTrue b → IsImpossible (forms facts.now)) }
 {
-    match entry.sort {
-        EntrySort::Show => {
-            let derivation = derivation_of(alloc, entry.steps.as_slice())?;
-            refutes(alloc, facts, &derivation)
-        }
-        _ => Ok(false),
-    }
+    let derivation = derivation_of(alloc, entry.steps.as_slice())?;
+    refutes(alloc, facts, &derivation)
 }

@@ -1,12 +1,12 @@
-//! Section: Gate. Promises that all obligations are shown, or names the first that is not; stands on `two_thread` and `certificate_tree`.
+//! Section: Gate. Promises that all obligations are shown, or names the first that is not; stands on `kernel_obligations` and `certificate_tree`.
 //!
 //! The obligations of a kernel one by one, each settled by the domain or refuted by its entry in a certificate.
 #![tactic(auto)]
 
 mod derivations;
 mod error;
-mod obligations;
+mod showing;
 mod table;
 
 pub use error::{Place, ShowError};
-pub use obligations::show_all;
+pub use showing::show_all;

@@ -1,3 +1,2 @@
-mod Straight
 mod Products
 mod Enough

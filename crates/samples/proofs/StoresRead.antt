@@ -4,7 +4,7 @@ use Rattle.std.specs.Prelude.{Ok, pos, ◌≤ℤ◌}
 use Rattle.std.proofs.lemmas.Int.{ints}
 use Rattle.semantics.specs.Launch.{Kernel}
 use Rattle.semantics.specs.Conditions.{Conditions}
-use Rattle.plain.specs.Kernels.{Alone, Times, Plus, TimesPlus, Number, BroughtNumber, BroughtParameter, Plain, ArePlain, IsPlain, last_index}
+use Rattle.plain_kernels.specs.Kernels.{Alone, Times, Plus, TimesPlus, Number, BroughtNumber, BroughtParameter, Plain, ArePlain, IsPlain, last_index}
 use Rattle.texts.specs.Signs.{signs}
 use Rattle.texts.specs.Reserved.{reserved_words}
 use Rattle.texts.specs.Limits.{within_limits}

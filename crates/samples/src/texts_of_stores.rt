@@ -4,7 +4,7 @@ ghost use Rattle.std.specs.Prelude.{◌≡◌, pos, Ok};
 ghost use Rattle.semantics.specs.Conditions.{Conditions};
 ghost use Rattle.reading.specs.Kernels.{read};
 ghost use Rattle.reading.specs.Texts.{IsTextOf};
-ghost use Rattle.plain.specs.Kernels.{IsPlain};
+ghost use Rattle.plain_kernels.specs.Kernels.{IsPlain};
 ghost use Rattle.samples.specs.Stores.{stores, kernel_of};
 
 use reading::laws::bytes_are_the_text_of_what_is_read;

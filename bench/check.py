@@ -1,0 +1,198 @@
+#!/usr/bin/env python3
+"""Compares `check` with an independent program, and measures it.
+
+    check.py compare FOLDER COUNT SEED      COUNT random kernels without loops, barriers and local arrays; FOLDER has the modules of the
+                                            independent program; each kernel with a certificate that was made for it, and with changed ones
+    check.py measure FOLDER                 seconds and memory of `check` with 256 paths and with 65,520 obligations
+
+Build the program first: cd crates/kverify && rt run
+"""
+import os
+import random
+import resource
+import subprocess
+import sys
+import tempfile
+import time
+
+ROOT = os.path.dirname(os.path.dirname(os.path.abspath(__file__)))
+PROGRAM = os.path.join(ROOT, "crates", "kverify", "out", "kverify")
+EMPTY = b"certificate 1\nend\n"
+CHANGES = 3
+
+
+def checked(folder, kernel, conditions, certificate):
+    """The first line of what the program prints."""
+    names = [os.path.join(folder, name) for name in ("kernel.cl", "conditions.txt", "certificate.txt")]
+    for name, text in zip(names, (kernel, conditions, certificate)):
+        with open(name, "wb") as out:
+            out.write(text)
+    done = subprocess.run([PROGRAM, "check", *names], capture_output=True, text=True, timeout=600)
+    return (done.stdout + done.stderr).split("\n")[0]
+
+
+class Answers:
+    """The independent program's answers."""
+
+    def __init__(self, folder):
+        sys.path.insert(0, folder)
+        import check
+        import config
+        import fuzz
+        import prove
+        import tree
+
+        config.stage("b")
+        self.check, self.config, self.fuzz, self.prove, self.tree = check, config, fuzz, prove, tree
+
+    def is_within(self, typed):
+        others = (self.tree.Barrier, self.tree.Local)
+        return not typed.loops and not any(isinstance(it, others) for it in typed.stmts.values())
+
+    def of(self, kernel, conditions, certificate):
+        try:
+            self.check.check(kernel, conditions, certificate)
+            return "accepted"
+        except self.config.Refused as error:
+            return error.line()
+
+    def made(self, kernel, conditions):
+        try:
+            return self.prove.verify(kernel, conditions, 1)[1]
+        except self.config.Refused:
+            return EMPTY
+
+
+class Guarded:
+    """Kernels that keep inside their buffers by their own tests, with each operator; most of them are shown."""
+
+    def __init__(self, rng):
+        self.rng = rng
+
+    def number(self):
+        return "%du" % self.rng.choice([0, 1, 2, 3, 5, 8, 63, 64, 1000, 65535, 4294967295])
+
+    def leaf(self):
+        return self.rng.choice(["g", "l", "n", "x", "y", "b[l]", "a[g]", self.number(), self.number(), "get_group_id(0)", "get_local_size(0)"])
+
+    def value(self, depth):
+        rng = self.rng
+        if depth == 0 or rng.random() < 0.2:
+            return self.leaf()
+        x, y = self.value(depth - 1), self.value(depth - 1)
+        small = rng.randrange(1, 9)
+        return rng.choice([
+            f"({x} {rng.choice(['+', '-', '*', '&', '|', '^'])} {y})",
+            f"({x} {rng.choice(['/', '%'])} {small}u)",
+            f"({x} / ({y} % 7u + 1u))",
+            f"({x} & {2 ** small - 1}u)",
+            f"({x} {rng.choice(['<<', '>>'])} {small})",
+            f"{rng.choice(['min', 'max'])}({x}, {y})",
+            f"({self.test(depth - 1)} ? {x} : {y})",
+            f"{rng.choice(['-', '~', '!'])}{x}",
+            f"(uint)(int)({x} % {small}u)",
+        ])
+
+    def test(self, depth):
+        rng = self.rng
+        if depth == 0 or rng.random() < 0.6:
+            return f"{self.leaf()} {rng.choice(['<', '<=', '>', '>=', '==', '!='])} {self.leaf()}"
+        x, y = self.test(depth - 1), self.test(depth - 1)
+        return rng.choice([f"(({x}) && ({y}))", f"(({x}) || ({y}))", f"!({x})"])
+
+    def statement(self, depth):
+        rng = self.rng
+        if depth and rng.random() < 0.3:
+            return [f"if ({self.test(1)}) {{", *self.statement(depth - 1), "} else {", *self.statement(depth - 1), "}"]
+        return [rng.choice([f"x = {self.value(2)};", f"y {rng.choice(['+', '-', '*', '|', '>>'])}= {rng.randrange(9)}u;", f"a[g] = {self.value(2)};"])]
+
+    def kernel(self):
+        rng = self.rng
+        size = rng.choice([1, 2, 4, 64])
+        body = ["uint g = get_global_id(0);", "uint l = get_local_id(0);", "uint x = 3u;", "uint y = n;", "if (g < n) {"]
+        for _ in range(rng.randrange(1, 4)):
+            body += self.statement(2)
+        body.append("}")
+        text = HEAD % (size, "__global uint *a, __global const uint *b, uint n") + "\n".join(body) + "\n}\n"
+        groups = rng.choice([1, 2, 16])
+        most = rng.choice([1, size * groups, 1000])
+        lines = f"arg n 1..{most}\nlength a >= n\nlength b >= {rng.choice([size, size, size - 1 or 1])}\nbudget 100\n"
+        return text, f"conditions 1\ngroups 1..{groups} 1..1 1..1\n" + lines
+
+
+def compare(folder, count, seed):
+    answers = Answers(folder)
+    found = dict.fromkeys(("kernels", "certificates", "accepted", "refused", "changed ones accepted", "different"), 0)
+    attempt = 0
+    with tempfile.TemporaryDirectory() as place:
+        while found["kernels"] < count:
+            rng = random.Random("%d:%d" % (seed, attempt))
+            attempt += 1
+            source = rng.choice([answers.fuzz.Gen, Guarded, Guarded])
+            kernel, conditions = (text.encode() for text in source(rng).kernel())
+            try:
+                typed, _, _ = answers.check.front(kernel, conditions)
+            except answers.config.Refused:
+                continue
+            if not answers.is_within(typed):
+                continue
+            found["kernels"] += 1
+            made = answers.made(kernel, conditions)
+            changed = [answers.fuzz.forge_text(rng, made) for _ in range(CHANGES)]
+            for certificate in dict.fromkeys([made, EMPTY, *changed]):
+                wanted = answers.of(kernel, conditions, certificate)
+                got = checked(place, kernel, conditions, certificate)
+                found["certificates"] += 1
+                found["accepted" if wanted == "accepted" else "refused"] += 1
+                found["changed ones accepted"] += wanted == "accepted" and certificate != made
+                if got != wanted:
+                    found["different"] += 1
+                    print(f"kernel {seed}:{attempt - 1}: {got}, not {wanted}")
+    for what, number in found.items():
+        print(f"{number} {what}")
+    return found["different"]
+
+
+# ---- the measurements
+
+HEAD = "__kernel __attribute__((reqd_work_group_size(%d, 1, 1))) void k(%s) {\n"
+
+
+def paths(tests):
+    """So many tests that fork: two paths each."""
+    lines = ["uint x = get_local_id(0);", "uint s = 0u;"]
+    lines += ["if (a[x] < 1u) s = s + 1u;"] * tests
+    return HEAD % (64, "__global const uint *a, __global uint *b") + "\n".join(lines) + "\nb[get_global_id(0)] = s;\n}\n"
+
+
+def stores(number):
+    return HEAD % (64, "__global uint *a") + "a[get_global_id(0)] = 1u;\n" * number + "}\n"
+
+
+def measure(folder):
+    answers = Answers(folder)
+    cases = (
+        ("256 paths", paths(8), "length a >= 64\nlength b >= 65536\nbudget 100\n"),
+        ("180 stores, 65,520 obligations", stores(180), "length a >= 65536\nbudget 200\n"),
+    )
+    with tempfile.TemporaryDirectory() as place:
+        for what, kernel, lines in cases:
+            conditions = "conditions 1\ngroups 1..1024 1..1 1..1\n" + lines
+            certificate = answers.made(kernel.encode(), conditions.encode())
+            start = time.perf_counter()
+            told = checked(place, kernel.encode(), conditions.encode(), certificate)
+            taken = time.perf_counter() - start
+            most = resource.getrusage(resource.RUSAGE_CHILDREN).ru_maxrss // 1024
+            print(f"{what}: {told}; {taken:.2f} s, {most} MiB at most so far, a certificate of {len(certificate)} bytes")
+
+
+def main():
+    if sys.argv[1:2] == ["compare"] and len(sys.argv) == 5:
+        return 1 if compare(sys.argv[2], int(sys.argv[3]), int(sys.argv[4])) else 0
+    if sys.argv[1:2] == ["measure"] and len(sys.argv) == 3:
+        return measure(sys.argv[2])
+    sys.exit(__doc__)
+
+
+if __name__ == "__main__":
+    sys.exit(main())

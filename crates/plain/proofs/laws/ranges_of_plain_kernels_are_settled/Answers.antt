@@ -1,5 +1,0 @@
-use Rattle.plain.proofs.Plainly.{plain-range}
-use Rattle.plain.proofs.laws.ranges_of_plain_kernels_are_settled.Goals as goal
-
-pub returns : goal.returns
-returns c = λ k d h i o l p m e n a. plain-range k d h l p i o m e n a

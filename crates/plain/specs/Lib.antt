@@ -1,3 +1,0 @@
-pub mod Domains
-pub mod Claims
-pub mod Kernels

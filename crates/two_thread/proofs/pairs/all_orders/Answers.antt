@@ -1,4 +1,0 @@
-use Rattle.two_thread.proofs.pairs.all_orders.Goals as goal
-
-pub returns-clause-inside : goal.returns-clause-inside
-returns-clause-inside g c = λ n m h k a. c.in_ok-two_orders-3.ensures.inside n m (h, k) (c.in_ok-two_orders-2.ensures.inside n m (h, k) (c.in_ok-two_orders.ensures.inside n m (h, k) a))

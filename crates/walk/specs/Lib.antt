@@ -1,9 +1,0 @@
-pub mod Trees
-pub mod Walks
-pub mod Straight
-pub mod Collected
-pub mod View
-pub mod Accesses
-pub mod Before
-pub mod Leads
-pub mod Refusals

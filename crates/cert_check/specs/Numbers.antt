@@ -1,7 +1,7 @@
 -- The number of a refusal, and where it points.
 use Rattle.std.specs.Prelude.{ℕ, Option, Some, None}
 use Rattle.reading.specs.Answers as reading
-use Rattle.launch_text.specs.Answers as conditions
+use Rattle.launch_words.specs.Answers as conditions
 use Rattle.certificate.specs.Answers as certificates
 use Rattle.entry_check.specs.declared.error.Place.{Place}
 use Rattle.entry_check.specs.declared.error.Place.TheVariants.{At, Number}

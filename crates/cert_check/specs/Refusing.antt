@@ -12,7 +12,7 @@ use Rattle.core_code.specs.View.{kernel as core_seen}
 use Rattle.core_code.specs.declared.tree.Core.{Core}
 use Rattle.reading.specs.Kernels.{read}
 use Rattle.reading.specs.Answers as reading
-use Rattle.launch_text.specs.Answers as launches
+use Rattle.launch_words.specs.Answers as launches
 use Rattle.certificate.specs.Certificates.{Says}
 use Rattle.plain_kernels.specs.Domains.{domain}
 use Rattle.certificate_names.specs.Names.{is_for_others}

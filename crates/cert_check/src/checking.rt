@@ -4,7 +4,7 @@ ghost use Rattle.std.specs.Prelude.{◌≡◌, ◌<◌, nat_lt, true, map, false
 ghost use Rattle.semantics.specs.Launch.{product};
 ghost use Rattle.semantics.specs.Conditions.{ConditionsFit};
 ghost use Rattle.launch.specs.View.{conditions as conditions_seen};
-ghost use Rattle.launch_text.specs.View.{lined};
+ghost use Rattle.launch_words.specs.View.{lined};
 ghost use Rattle.texts.specs.ConditionsReading.{conditions_of};
 ghost use Rattle.syntax.specs.View.{kernel as tree_seen};
 ghost use Rattle.core_code.specs.View.{kernel as core_seen};

@@ -15,7 +15,8 @@ use Rattle.texts.specs.LaunchText.{argument_text, fill_text}
 use Rattle.texts.specs.LaunchSpelling.{AreListed, no_word, a_word, AreContents, listed, filled, contents_text, counts_text, AreWordLines, no_argument, past_buffer, an_argument, AreBufferLines, no_buffer, past_value, a_buffer, IsLaunchText}
 use Rattle.texts.proofs.Fits.{begins}
 use Rattle.launch_text.proofs.Back.{then_back, same_back, unless_back, natural_back, word_back}
-use Rattle.launch_text.proofs.Lists.{map-filled, words-push}
+use Rattle.launch_lines.proofs.Fills.{map-filled}
+use Rattle.launch_text.proofs.Lists.{words-push}
 use Rattle.launch_grammar.proofs.Taken.{expect_took, end_took, natural_took, word_took, due_blank_took, due_parameter_took, head_took, end_text_took}
 use Rattle.launch_grammar.proofs.SumsTaken.{Took, joined}
 use Rattle.launch_grammar.proofs.LinesTaken.{TookLines, no_line, one_line, argument_shape, not_above}

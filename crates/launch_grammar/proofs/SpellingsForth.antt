@@ -20,7 +20,8 @@ use Rattle.texts.specs.LaunchText.{argument_text, fill_text}
 use Rattle.texts.specs.LaunchSpelling.{AreListed, no_word, a_word, AreContents, listed, filled, contents_text, counts_text, AreWordLines, no_argument, past_buffer, an_argument, AreBufferLines, no_buffer, past_value, a_buffer, IsLaunchText}
 use Rattle.launch_text.specs.Parameters.{AreNamed}
 use Rattle.launch_text.proofs.Back.{same_back}
-use Rattle.launch_text.proofs.Lists.{map-filled, words-push}
+use Rattle.launch_lines.proofs.Fills.{map-filled}
+use Rattle.launch_text.proofs.Lists.{words-push}
 use Rattle.launch_grammar.proofs.Forth.{natural_forth, word_forth, parameter_forth}
 use Rattle.launch_grammar.proofs.LinesForth.{blank_forth, end_forth, buffer_word_due, head_forth, end_text_forth, groups_forth, fill_forth, argument_forth, each_goes, each_skips, each_ends, appended}
 use Rattle.launch_grammar.proofs.LaunchForth.{not_above}

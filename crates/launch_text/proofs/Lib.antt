@@ -1,9 +1,6 @@
-pub mod Sums
-pub mod Counts
 pub mod Rows
 pub mod Requirements
 pub mod Lists
-pub mod Texts
 pub mod Back
 pub mod Parameters
 pub mod FitsRead

@@ -1,6 +1,6 @@
 -- Lists of words, a word at a time.
-use Rattle.std.proofs.Common.{◌≡◌, ℕ, zero, suc, ◌+◌, ◌-◌, List, [], ◌∷◌, length, ◌++◌, true, false, map, Ok, refl, ap, arith, sub-one}
-use Rattle.std.specs.Prelude.{codes, replicate}
+use Rattle.std.proofs.Common.{◌≡◌, ℕ, zero, suc, ◌+◌, ◌-◌, List, [], ◌∷◌, length, ◌++◌, true, false, Ok, refl, arith, sub-one}
+use Rattle.std.specs.Prelude.{codes}
 use Rattle.std.proofs.lemmas.List.Sums.{sum_by-append, sum_by-cons}
 use Rattle.semantics.specs.Word.{Kind, Word}
 use Rattle.texts.specs.LaunchFaults.{Cursor, Step, LimitPassed, refused, then, sees, past}
@@ -29,12 +29,6 @@ list_spent k (suc room) ws t e = absurd cc
 pub list_more : (k : Kind) (room : ℕ) (ws : List Word) (t : Word × Cursor) → (room ≡ 0 → ⊥) → behind_word k room ws t ≡ list_at k (room - 1) (ws ++ t.0 ∷ []) t.1
 list_more k zero ws t e = absurd (e refl)
 list_more k (suc room) ws t e = rw sub-one refl
-
-pub map-filled : {A B : Type 0} (view : A → B) (n : ℕ) (a : A) → map view (replicate n a) ≡ replicate n (view a)
-map-filled view zero a = refl
-map-filled view (suc n) a = ap (λ xs. view a ∷ xs) (map-filled view n a)
-
-pub ruleset filled = (map-filled)
 
 -- one buffer more
 pub words-push : (buffers : List (List Word)) (ws : List Word) → words_of (buffers ++ ws ∷ []) ≡ words_of buffers + length ws

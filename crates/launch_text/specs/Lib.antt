@@ -1,5 +1,2 @@
-pub mod Answers
-pub mod Forms
-pub mod View
 pub mod Fits
 pub mod Parameters

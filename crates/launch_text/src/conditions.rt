@@ -1,19 +1,20 @@
 //! Conditions of their text.
 
-ghost use Rattle.std.specs.Prelude.{◌≡◌, ◌≤◌, ◌*◌, [], map, length};
+ghost use Rattle.std.specs.Prelude.{◌≡◌, ◌≤◌, [], map, length};
 ghost use Rattle.words.specs.View.{kind as kind_of, value_of};
 ghost use Rattle.texts.specs.Declarations.{most_names};
 ghost use Rattle.texts.specs.ConditionsReading as meaning;
 ghost use Rattle.syntax.specs.View.{parameter as parameter_of};
-ghost use Rattle.launch_text.specs.Answers.{cursor, read, same, Gives};
-ghost use Rattle.launch_text.specs.View as view;
+ghost use Rattle.launch_words.specs.Answers.{cursor, read, same, Gives};
+ghost use Rattle.launch_words.specs.View as view;
 
-use crate::cursor::Cursor;
-use crate::error::{LaunchFault, LaunchTextError};
-use crate::keyword::{Form, begins, due_blank, due_parameter, end_text, head_line};
-use crate::number::{natural, word};
-use crate::sum::sum;
-use launch::conditions::{ArgumentRange, Conditions, CountRange, CountRanges, Length, Requirement};
+use launch::conditions::{ArgumentRange, Conditions, Length, Requirement};
+use launch_lines::groups::groups_line;
+use launch_words::cursor::Cursor;
+use launch_words::error::{LaunchFault, LaunchTextError};
+use launch_words::keyword::{Form, begins, due_blank, due_parameter, end_text, head_line};
+use launch_words::number::{natural, word};
+use launch_words::sum::sum;
 use std::alloc::Global;
 use syntax::tree::Parameter;
 use words::Kind;
@@ -21,57 +22,9 @@ use words::Kind;
 /// The longest text that is read, in bytes.
 pub const CONDITIONS_LIMIT: usize = 65_536;
 
-const MOST_GROUPS: u64 = 65_536;
-
-const MOST_GROUPS_TOGETHER: u64 = 1_048_576;
-
 const MOST_REQUIREMENTS: usize = 16;
 
 const MOST_STEPS: u64 = 1_000_000_000_000;
-
-#[tactic(auto, unfolding(texts::specs::ConditionsReading::counts_at))]
-fn counts(at: Cursor<'_>) -> Result<(CountRange, Cursor<'_>), LaunchTextError>
-    ensures { Gives (read view.counts) result (meaning.counts_at (cursor at.entry)) }
-{
-    let (low, after) = natural(at, 1, MOST_GROUPS)?;
-    let (high, after) = natural(after.expect("..")?, 1, MOST_GROUPS)?;
-    if high < low {
-        return Err(after.refused(LaunchFault::EmptyRange));
-    }
-    let range = CountRange {
-        low: low as u32,
-        high: high as u32,
-    };
-    Ok((range, after))
-}
-
-#[tactic(auto, unfolding(texts::specs::ConditionsReading::three_counts_at))]
-fn three_counts(at: Cursor<'_>) -> Result<(CountRanges, Cursor<'_>), LaunchTextError>
-    ensures { Gives (read view.three_counts) result (meaning.three_counts_at (cursor at.entry)) }
-{
-    let (x, after) = counts(at)?;
-    let (y, after) = counts(after.expect(" ")?)?;
-    let (z, after) = counts(after.expect(" ")?)?;
-    Ok((CountRanges { x, y, z }, after))
-}
-
-#[tactic(auto, using(crate::proofs::Counts::fits))]
-fn most_groups(x: CountRange, y: CountRange, z: CountRange) -> u64
-    ensures { result ≡ x.high * y.high * z.high }
-{
-    x.high as u64 * y.high as u64 * z.high as u64
-}
-
-#[tactic(auto, unfolding(texts::specs::ConditionsReading::groups_line))]
-fn groups_line(at: Cursor<'_>) -> Result<(CountRanges, Cursor<'_>), LaunchTextError>
-    ensures { Gives (read view.three_counts) result (meaning.groups_line (cursor at.entry)) }
-{
-    let (ranges, after) = three_counts(due_blank(at, Form::Conditions, "groups")?)?;
-    if most_groups(ranges.x, ranges.y, ranges.z) > MOST_GROUPS_TOGETHER {
-        return Err(after.refused(LaunchFault::LimitPassed));
-    }
-    Ok((ranges, after.end_line()?))
-}
 
 #[tactic(auto, unfolding(texts::specs::ConditionsReading::argument_at))]
 fn argument(at: Cursor<'_>, kind: Kind) -> Result<(ArgumentRange, Cursor<'_>), LaunchTextError>

@@ -1,18 +1,19 @@
 //! Launches of their text.
 
-ghost use Rattle.std.specs.Prelude.{◌≡◌, ◌<◌, ◌^◌, [], map, replicate, IfOk};
-ghost use Rattle.words.specs.View.{kind as kind_of, word as word_seen};
+ghost use Rattle.std.specs.Prelude.{◌≡◌, ◌<◌, ◌^◌, [], map, IfOk};
+ghost use Rattle.words.specs.View.{kind as kind_of};
 ghost use Rattle.texts.specs.LaunchReading as meaning;
 ghost use Rattle.syntax.specs.View.{parameter as parameter_of};
-ghost use Rattle.launch_text.specs.Answers.{cursor, read, same, Gives};
-ghost use Rattle.launch_text.specs.View as view;
+ghost use Rattle.launch_words.specs.Answers.{cursor, read, same, Gives};
+ghost use Rattle.launch_words.specs.View as view;
 
-use crate::cursor::Cursor;
-use crate::error::{LaunchFault, LaunchTextError};
-use crate::keyword::{Form, due_blank, due_parameter, end_text, head_line};
-use crate::number::{natural, word};
 use launch::launches::{Buffers, Counts, Launch};
-use std::alloc::{AllocError, Global};
+use launch_lines::given::{argument_line, fill};
+use launch_words::cursor::Cursor;
+use launch_words::error::{LaunchFault, LaunchTextError};
+use launch_words::keyword::{Form, due_blank, due_parameter, end_text, head_line};
+use launch_words::number::{natural, word};
+use std::alloc::Global;
 use syntax::tree::Parameter;
 use words::{Kind, Word};
 
@@ -41,20 +42,6 @@ fn groups_line(at: Cursor<'_>) -> Result<(Counts, Cursor<'_>), LaunchTextError>
         z: z as u32,
     };
     Ok((counts, after))
-}
-
-#[tactic(auto, unfolding(texts::specs::LaunchReading::argument_line))]
-fn argument_line<'a>(
-    at: Cursor<'a>,
-    parameters: &[Parameter],
-    kind: Kind,
-    name: &str,
-) -> Result<(Word, Cursor<'a>), LaunchTextError>
-    ensures { Gives (read word_seen) result (meaning.argument_line (map parameter_of parameters.now) (kind_of kind) name.now (cursor at.entry)) }
-{
-    let after = due_parameter(at, Form::Launch, "arg", parameters, name)?;
-    let (word, after) = word(after, kind)?;
-    Ok((word, after.end_line()?))
 }
 
 fn argument_lines<'a>(
@@ -99,28 +86,6 @@ fn list<'a>(
         rest = after;
     }
     Ok((words, rest))
-}
-
-#[tactic(auto, using(crate::proofs::Lists::filled))]
-fn filled(alloc: Global, word: Word, count: usize) -> Result<Vec<Word>, AllocError>
-    ensures { IfOk result (λ v. view.words v ≡ replicate count (word_seen word)) }
-{
-    Ok(vec![in alloc; word; count]?)
-}
-
-#[tactic(auto, unfolding(texts::specs::LaunchReading::fill_at))]
-fn fill<'a>(
-    alloc: Global,
-    at: Cursor<'a>,
-    kind: Kind,
-    room: usize,
-) -> Result<(Vec<Word>, Cursor<'a>), LaunchTextError>
-    ensures { Gives (read view.words) result (meaning.fill_at (kind_of kind) room (cursor at.entry)) }
-{
-    let after = at.expect("fill ")?;
-    let (count, after) = natural(after, 0, room as u64)?;
-    let (word, after) = word(after.expect(" ")?, kind)?;
-    Ok((filled(alloc, word, count as usize)?, after))
 }
 
 #[tactic(auto, unfolding(texts::specs::LaunchReading::words_at))]

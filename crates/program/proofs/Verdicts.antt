@@ -3,7 +3,7 @@ use Rattle.std.proofs.Common.{ℕ, List, [], ◌∷◌, ◌++◌, inl, inr, refl
 use Rattle.std.specs.Prelude.{Option}
 use Rattle.std.specs.String.{string_bytes}
 use Rattle.reading.specs.Answers as kernels
-use Rattle.launch_text.specs.Answers as launches
+use Rattle.launch_words.specs.Answers as launches
 use Rattle.cert_check.specs.Numbers as checks
 use Rattle.executor.specs.Numbers as runs
 use Rattle.telling.specs.Refusals.{IsRefusalLine, place_seen}

@@ -5,7 +5,7 @@
 #![tactic(auto)]
 
 ghost use Rattle.std.specs.Prelude.{◌≡◌};
-ghost use Rattle.launch_text.specs.Answers as launches;
+ghost use Rattle.launch_words.specs.Answers as launches;
 ghost use Rattle.cert_check.specs.Numbers as checks;
 ghost use Rattle.cert_check.specs.Numbers.{at_line};
 ghost use Rattle.executor.specs.Numbers as runs;

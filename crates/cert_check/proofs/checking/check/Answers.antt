@@ -6,7 +6,7 @@ use Rattle.certificate_names.specs.Names.{is_for_others}
 use Rattle.core_code.specs.View.{kernel}
 use Rattle.core_code.specs.declared.tree.Core.{Core}
 use Rattle.launch.specs.View.{conditions}
-use Rattle.launch_text.specs.View.{lined}
+use Rattle.launch_words.specs.View.{lined}
 use Rattle.launch_text.proofs.LeastFits.{conditions_meant}
 use Rattle.plain_kernels.specs.Domains.{domain}
 use Rattle.entry_check.proofs.Unshown.{same_passed, same_told}

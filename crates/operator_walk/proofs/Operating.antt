@@ -1,8 +1,8 @@
 -- Steps of operators, composed.
 use Rattle.std.proofs.Common.{◌≡◌, Bool, true, ◌&&◌, ap, subst, ◌∙◌}
-use Rattle.std.specs.Prelude.{ℤ, pos, ◌+ℤ◌, ◌<ℤ◌, int_lt, Result, Ok, Err, MatchResult}
+use Rattle.std.specs.Prelude.{ℤ, pos, ◌<ℤ◌, int_lt, Result, Ok, Err, MatchResult}
 use Rattle.std.proofs.lemmas.Bool.{and_parts}
-use Rattle.semantics.specs.Word.{Kind, Int, Uint, Multiply}
+use Rattle.semantics.specs.Word.{Kind, Multiply}
 use Rattle.linear.specs.Exact.{multiple}
 use Rattle.linear.specs.Forms.{form}
 use Rattle.linear.specs.declared.form.Form.{Form}
@@ -77,13 +77,9 @@ pub by_number : {E : Type 0} (s : Setting E) (k : Kind) (x y : Fact) (z : ℤ) (
     MatchResult r (λ v. Leads m n (walks.ranged s k (multiple z x)) (view v)) (λ e. Stops ⊥ m e (walks.ranged s k (multiple z x)))
 by_number s k x y z m n view r d h = subst (λ u. MatchResult r (λ v. Leads m n (operators.binary s Multiply k x u) (view v)) (λ e. Stops ⊥ m e (operators.binary s Multiply k x u))) d h
 
--- what the tests of exact results say of the numbers
+-- where a quotient is exact, the divisor is above 0
 pub exact_above : {E : Type 0} (s : Setting E) (st : State E) (x y : Fact) → operators.is_exact s st x y ≡ true → pos 0 <ℤ y.constant
 exact_above s st x y e =
     let p = and_parts (walks.is_number y) (int_lt (pos 0) y.constant && is_from_zero (walks.bounds_of s st x).low) e in
     let q = and_parts (int_lt (pos 0) y.constant) (is_from_zero (walks.bounds_of s st x).low) p.1 in
     lt_test (pos 0) y.constant q.0
-
-pub mask_power : (k : Kind) (y : Fact) → operators.is_mask k y ≡ true → operators.is_power 32 (y.constant +ℤ pos 1) ≡ true
-mask_power Int y e = absurd cc
-mask_power Uint y e = (and_parts (walks.is_number y) (operators.is_power 32 (y.constant +ℤ pos 1)) e).1

@@ -1,6 +1,6 @@
 //! Section: Launch. Promises exactly the groups of conditions, an argument of a launch, and fills; stands on `launch_words`.
 //!
-//! Those lines of conditions and of launches whose edits are proved: a small crate, for the merge gate's time alone.
+//! Some lines of conditions and of launches, apart from `launch_text` so that the edits of their functions prove a small crate.
 #![tactic(auto)]
 
 pub mod given;

@@ -27,9 +27,9 @@ pub use exact::{
     ranged_complement, ranged_difference, ranged_negation, ranged_product, ranged_sum,
 };
 pub use halt::Halt;
-pub use held::element_from;
+pub use held::{element_at, element_from, settles};
 pub use ids::id_form;
 pub use path::{Access, Choice, Claim, Goal, Narrowed, Path, Sort, Spot, Target, Value};
-pub use ranges::{both_brought, brought, unknown};
+pub use ranges::{any_of, both_brought, brought, invent, unknown};
 pub use setting::Setting;
-pub use tests::{split, split_number};
+pub use tests::{is_number, split, split_number};

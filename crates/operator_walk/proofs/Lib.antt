@@ -1,0 +1,2 @@
+pub mod PowerSizes
+pub mod Operating

@@ -5,3 +5,4 @@ pub mod Growing
 pub mod Copies
 pub mod Showing
 pub mod Listing
+pub mod Gathering

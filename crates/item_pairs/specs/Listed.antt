@@ -1,14 +1,18 @@
 -- The obligations that were found, by their numbers: the claims of all paths, then the pairs.
 use Rattle.std.specs.Prelude.{ℕ, ◌-◌, List, [], ◌∷◌, ◌++◌, map, get_or, slice_index_or, Bool, true, false, ◌&&◌, Option, None, Some}
+use Rattle.semantics.specs.Launch.{Three}
+use Rattle.semantics.specs.Conditions.{Conditions}
 use Rattle.domain.specs.declared.Domain.{Ghosts}
 use Rattle.linear.specs.Forms.{forms}
+use Rattle.facts.specs.Symbols.{Fact}
+use Rattle.facts.specs.Elements.{Known}
 use Rattle.facts.specs.View.{known_seen}
 use Rattle.obligations.specs.Fitting.{denials_fit, pairs_fit}
 use Rattle.obligations.specs.Pairs as specs
-use Rattle.obligations.specs.Pairs.{pair_obligation}
+use Rattle.obligations.specs.Pairs.{pair_obligation, pairs_from}
 use Rattle.obligations.specs.Statements.{spot_of}
 use Rattle.obligations.specs.Trees as trees
-use Rattle.obligations.specs.Trees.{OfIndex, Obligation}
+use Rattle.obligations.specs.Trees.{OfIndex, Obligation, Access}
 use Rattle.path_walk.specs.Paths.{Claimed}
 use Rattle.path_walk.specs.View.{spot}
 use Rattle.path_walk.specs.declared.path.Spot.{Spot}
@@ -58,3 +62,11 @@ claims_fit (c ∷ cs) = denials_fit c.goal && claims_fit cs
 -- and so are the differences of the indexes of pairs
 abbrev pub made_fit : {E : Type 0} → Obligations E → Bool
 made_fit o = claims_fit (met_claims o.met) && pairs_fit (found_pairs o.met o.pairs.items)
+
+-- all that is to be shown of these claims and accesses, under conditions
+abbrev pub all_listed : {E A : Type 0} → Ghosts E → Known E → (launch : List Fact) → (sizes : Three ℕ) → Conditions → (buffers : List A) → List Claimed → List (Access E) → List Obligation
+all_listed g k launch sizes c buffers cs us = map (owed launch) cs ++ map (pair_obligation g k launch) (pairs_from sizes c 0 buffers us)
+
+-- all forms that are made to show it are of i64
+abbrev pub all_fit : {E A : Type 0} → (sizes : Three ℕ) → Conditions → (buffers : List A) → List Claimed → List (Access E) → Bool
+all_fit sizes c buffers cs us = claims_fit cs && pairs_fit (pairs_from sizes c 0 buffers us)

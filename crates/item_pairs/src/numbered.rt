@@ -9,12 +9,14 @@ use crate::claims::{claim_facts, is_needed, is_settled, sort_of, spot_of_claim, 
 use crate::clashing::{pair_facts, try_differences};
 use crate::manner::Manner;
 use crate::met::Met;
-use crate::pairs::{Pair, spot_of};
+use crate::pairs::{Pair, all_pairs, spot_of};
 use domain::Domain;
 use facts::{Known, WalkError};
+use launch::conditions::Conditions;
 use linear::Form;
-use path_walk::{Sort, Spot};
+use path_walk::{Path, Sort, Spot};
 use std::alloc::Global;
+use words::Kind;
 
 /// The obligations of a kernel, numbered from 1: the claims of one item, then the pairs of accesses of two items that may clash. There
 /// are at most 65,536.
@@ -29,14 +31,69 @@ pub struct Obligations<D> {
 }
 
 impl<D: Domain> Obligations<D> {
-    ghost use Rattle.std.specs.Prelude.{◌≡◌, ◌≤◌, ◌<◌, length, true, MatchResult};
+    ghost use Rattle.std.specs.Prelude.{◌≡◌, ◌≤◌, ◌<◌, length, true, IfOk, OnOk, IfErr, MatchResult};
+    ghost use Rattle.linear.specs.Forms.{forms};
+    ghost use Rattle.launch.specs.View.{conditions as conditions_seen};
+    ghost use Rattle.facts.specs.View.{known_seen, three};
     ghost use Rattle.obligations.specs.Fitting.{pairs_fit};
+    ghost use Rattle.obligations.specs.Seconds.{are_own_accesses};
     ghost use Rattle.obligations.specs.Trees.{facts_by};
     ghost use Rattle.path_walk.specs.View.{sort as sort_seen, spot as spot_seen};
     ghost use Rattle.item_pairs.specs.Goals.{manner as manner_seen, maybe_forms};
-    ghost use Rattle.item_pairs.specs.Refusals.{DoNotFit};
+    ghost use Rattle.item_pairs.specs.Paths.{all_claims, all_accesses};
+    ghost use Rattle.item_pairs.specs.Refusals.{DoNotFit, AreUngathered};
     ghost use Rattle.item_pairs.specs.View.{met_claims};
-    ghost use Rattle.item_pairs.specs.Listed.{listed, nth_obligation, made_fit, claims_fit, found_pairs, maybe_spot};
+    ghost use Rattle.item_pairs.specs.Listed.{listed, nth_obligation, made_fit, claims_fit, found_pairs, maybe_spot, all_listed, all_fit};
+
+    /// All that is to be shown of what was met along paths, whether or not its forms are of `i64`.
+    fn gather(
+        alloc: Global,
+        launch: Vec<Form>,
+        known: Known<D>,
+        paths: Vec<Path<D>>,
+        sizes: [u32; 3],
+        conditions: &Conditions,
+        buffers: &[Kind],
+    ) -> Result<Obligations<D>, WalkError>
+        requires { are_own_accesses (all_accesses paths.items) ≡ true }
+        ensures listed { IfOk result (λ o. listed D.Domain o ≡ all_listed D.Domain (known_seen known) (forms launch.items) (three sizes) (conditions_seen conditions.now) buffers.now (all_claims paths.items) (all_accesses paths.items)) }
+        ensures fits { IfOk result (λ o. made_fit o ≡ all_fit (three sizes) (conditions_seen conditions.now) buffers.now (all_claims paths.items) (all_accesses paths.items)) }
+        ensures ungathered { IfErr result (AreUngathered (all_listed D.Domain (known_seen known) (forms launch.items) (three sizes) (conditions_seen conditions.now) buffers.now (all_claims paths.items) (all_accesses paths.items)) (all_fit (three sizes) (conditions_seen conditions.now) buffers.now (all_claims paths.items) (all_accesses paths.items))) }
+    {
+        let met = Met::of(alloc, paths)?;
+        let pairs = all_pairs(alloc, sizes, conditions, buffers, &met)?;
+        if met.claims.len() + pairs.len() > 65_536 {
+            return Err(WalkError::TooMany);
+        }
+        Ok(Obligations {
+            launch,
+            known,
+            met,
+            pairs,
+        })
+    }
+
+    /// All that is to be shown of what was met along paths, whose accesses have no symbols of the second item. A form that is not of
+    /// `i64` is refused here, before an obligation is looked at.
+    pub fn of(
+        alloc: Global,
+        launch: Vec<Form>,
+        known: Known<D>,
+        paths: Vec<Path<D>>,
+        sizes: [u32; 3],
+        conditions: &Conditions,
+        buffers: &[Kind],
+    ) -> Result<Obligations<D>, WalkError>
+        requires { are_own_accesses (all_accesses paths.items) ≡ true }
+        ensures listed { IfOk result (λ o. listed D.Domain o ≡ all_listed D.Domain (known_seen known) (forms launch.items) (three sizes) (conditions_seen conditions.now) buffers.now (all_claims paths.items) (all_accesses paths.items)) }
+        ensures fits { OnOk result (all_fit (three sizes) (conditions_seen conditions.now) buffers.now (all_claims paths.items) (all_accesses paths.items) ≡ true) }
+        ensures made { IfOk result (λ o. made_fit o ≡ true) }
+        ensures ungathered { IfErr result (AreUngathered (all_listed D.Domain (known_seen known) (forms launch.items) (three sizes) (conditions_seen conditions.now) buffers.now (all_claims paths.items) (all_accesses paths.items)) (all_fit (three sizes) (conditions_seen conditions.now) buffers.now (all_claims paths.items) (all_accesses paths.items))) }
+    {
+        let found = Obligations::gather(alloc, launch, known, paths, sizes, conditions, buffers)?;
+        found.try_forms(alloc)?;
+        Ok(found)
+    }
 
     /// What denies each claim is of `i64`, or an error.
     fn try_denials(&self, alloc: Global) -> Result<(), WalkError>

@@ -1,0 +1,5 @@
+pub mod Next
+pub mod Rests
+pub mod Ends
+pub mod Onward
+pub mod Found

@@ -1,0 +1,4 @@
+pub mod View
+pub mod Rests
+pub mod Walked
+pub mod Refusals

@@ -1,0 +1,42 @@
+-- Operators at their sites, and the smaller or larger of two values.
+use Rattle.std.proofs.Common.{◌≡◌, Bool, sym, ap, ◌∙◌}
+use Rattle.std.specs.Prelude.{Result, IsErr, IsErrAnd}
+use Rattle.semantics.specs.Core.{Site}
+use Rattle.semantics.specs.Word.{Kind, Operator, UnaryOperator, Less}
+use Rattle.facts.specs.declared.error.WalkError.{WalkError}
+use Rattle.obligations.specs.Walks.{Setting, Value, Onward, spot_at, both_brought}
+use Rattle.obligations.specs.Operators.{unary, binary}
+use Rattle.obligations.specs.Tests.{split}
+use Rattle.obligations.specs.Terms.{chosen, pick}
+use Rattle.path_walk.specs.Paths.{Followed, collect, with_spot}
+use Rattle.path_walk.specs.Leads.{Leads, LeadsTwo}
+use Rattle.path_walk.specs.Refusals.{Stops}
+use Rattle.path_walk.specs.Halts.{Halts}
+use Rattle.path_walk.specs.declared.halt.Halt.{Halt}
+use Rattle.path_walk.specs.declared.halt.Halt.TheVariants as halts
+use Rattle.path_walk.proofs.Refusing.{refused_from}
+use Rattle.path_walk.proofs.Testing.{halted}
+use Rattle.kernel_walk.specs.Parts.{unary_at, binary_at}
+use Rattle.kernel_walk.proofs.Then.{Says}
+
+pub unary_stops : {E T : Type 0} (s : Setting E) (op : UnaryOperator) (k : Kind) (site : Site) (x : Value) (l m n : Followed E) (view : T → Value) (r : Result T Halt) (e : WalkError) → m ≡ with_spot l (spot_at site l.state) → IsErr r × IsErrAnd r (λ h. h ≡ halts.Refused e) → Stops ⊥ m e (unary s op k x) → Says l n (unary_at s op k site x) view r
+unary_stops s op k site x l m n view r e d i h = halted r (halts.Refused e) _ _ i (λ go. refused_from ⊥ e _ _ (ap (λ (u : Followed _). collect u.found (unary s op k x u.state go)) (sym d)) (h go))
+
+module _ {E : Type 0} (s : Setting E) (op : Operator) (k : Kind) (site : Site) (x y x' y' : Value) (l m n o : Followed E) where
+  both : m ≡ with_spot l (spot_at site l.state) → LeadsTwo m n (both_brought s k x y) x' y' → (go : Onward E) → collect l.found (binary_at s op k site x y l.state go) ≡ collect n.found (binary s op k x'.form y'.form n.state go)
+  both d a go =
+      ap (λ (u : Followed _). collect u.found (both_brought s k x y u.state (λ v w st. binary s op k v.form w.form st go))) (sym d)
+      ∙ a (λ v w st. binary s op k v.form w.form st go)
+
+  pub binary_leads : (v : Value) → m ≡ with_spot l (spot_at site l.state) → LeadsTwo m n (both_brought s k x y) x' y' → Leads n o (binary s op k x'.form y'.form) v → Leads l o (binary_at s op k site x y) v
+  binary_leads v d a b go = both d a go ∙ b go
+
+  pub binary_stops : {T : Type 0} (view : T → Value) (r : Result T Halt) (e : WalkError) → m ≡ with_spot l (spot_at site l.state) → IsErr r × IsErrAnd r (λ h. h ≡ halts.Refused e) → LeadsTwo m n (both_brought s k x y) x' y' → Stops ⊥ n e (binary s op k x'.form y'.form) → Says l o (binary_at s op k site x y) view r
+  binary_stops view r e d i a b = halted r (halts.Refused e) _ _ i (λ go. refused_from ⊥ e _ _ (both d a go) (b go))
+
+module _ {E : Type 0} (s : Setting E) (x y second first : Value) (l m : Followed E) where
+  pub picks : (b c : Bool) → Leads l m (split s Less x.form y.form) b → b ≡ c → Leads l m (pick s x y second first) (chosen c second first)
+  picks b c a d go = a (λ h st. go (chosen h second first) st) ∙ ap (λ h. collect m.found (go (chosen h second first) m.state)) d
+
+  pub pick_halts : {T : Type 0} (view : T → Value) (r : Result T Halt) (h : Halt) → IsErr r × IsErrAnd r (λ e. e ≡ h) → Halts ⊥ l m h (split s Less x.form y.form) → Says l m (pick s x y second first) view r
+  pick_halts view r h i a = halted r h _ _ i (λ go. a (λ b st. go (chosen b second first) st))

@@ -33,6 +33,7 @@ use launch_text::read_conditions;
 use loop_bounds::cost;
 use loop_bounds::laws::stores_are_steps;
 use product::Product;
+use proper_kernels::laws::what_is_read_is_proper;
 use reading::laws::local_sizes_are_within_limits;
 use reading::read_kernel;
 use reduction::headline;
@@ -124,5 +125,6 @@ pub fn check(
         Err(error) => return Err(CheckError::Show(error)),
     }
     headline();
+    what_is_read_is_proper();
     Ok(Accepted::of(typed, conditions))
 }

@@ -1,17 +1,20 @@
 //! Kernels that are accepted.
 
+ghost use Rattle.std.specs.Prelude.{◌≡◌, true};
 ghost use Rattle.core_code.specs.View.{kernel as core_seen};
 ghost use Rattle.launch.specs.View.{conditions as conditions_seen};
+ghost use Rattle.work_item.specs.Proper.{is_proper};
 ghost use Rattle.cert_check.specs.Accepting.{IsAccepted, IsCoveredUnder};
 
 use launch::conditions::Conditions;
 use types::typed::Typed;
 
-/// A kernel with conditions under which it was accepted: at each launch that meets them it is pair-safe within the budget.
+/// A kernel with conditions under which it was accepted: at each launch that meets them it is pair-safe within the budget. It is proper.
 #[derive(Drop)]
 pub struct Accepted {
     pub(crate) typed: Typed,
     pub(crate) conditions: Conditions,
     pub(crate) ghost promise: { IsAccepted (core_seen typed.1) (conditions_seen conditions) },
     pub(crate) ghost shape: { IsCoveredUnder (core_seen typed.1) (conditions_seen conditions) },
+    pub(crate) ghost proper: { is_proper (core_seen typed.1) ≡ true },
 }

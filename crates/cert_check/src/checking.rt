@@ -33,6 +33,7 @@ use launch_text::read_conditions;
 use loop_bounds::cost;
 use obligations::laws::what_is_shown_is_pair_safe;
 use product::Product;
+use proper_kernels::laws::what_is_read_is_proper;
 use reading::laws::local_sizes_are_within_limits;
 use reading::read_kernel;
 use reduction::headline;
@@ -122,5 +123,6 @@ pub fn check(
         Err(error) => return Err(CheckError::Show(error)),
     }
     headline();
+    what_is_read_is_proper();
     Ok(Accepted::of(typed, conditions))
 }

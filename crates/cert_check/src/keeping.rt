@@ -1,8 +1,9 @@
 //! What an accepted kernel keeps.
 
-ghost use Rattle.std.specs.Prelude.{◌≡◌};
+ghost use Rattle.std.specs.Prelude.{◌≡◌, true};
 ghost use Rattle.core_code.specs.View.{kernel as core_seen};
 ghost use Rattle.launch.specs.View.{conditions as conditions_seen};
+ghost use Rattle.work_item.specs.Proper.{is_proper};
 ghost use Rattle.cert_check.specs.Accepting.{IsAccepted, IsCoveredUnder};
 ghost use Rattle.cert_check.specs.View.{typed_of, kept};
 
@@ -15,6 +16,7 @@ impl Accepted {
     pub(crate) fn of(typed: Typed, conditions: Conditions) -> Accepted
         requires promise { IsAccepted (core_seen typed.1) (conditions_seen conditions) }
         requires shape { IsCoveredUnder (core_seen typed.1) (conditions_seen conditions) }
+        requires proper { is_proper (core_seen typed.1) ≡ true }
         ensures typed { typed_of result ≡ typed }
         ensures conditions { kept result ≡ conditions }
     {
@@ -26,6 +28,7 @@ impl Accepted {
         ensures value { result.now ≡ typed_of self.now }
         ensures accepted { IsAccepted (core_seen (typed_of self.now).1) (conditions_seen (kept self.now)) }
         ensures shape { IsCoveredUnder (core_seen (typed_of self.now).1) (conditions_seen (kept self.now)) }
+        ensures proper { is_proper (core_seen (typed_of self.now).1) ≡ true }
     {
         &self.typed
     }

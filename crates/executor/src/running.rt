@@ -13,7 +13,7 @@ ghost use Rattle.executor.specs.Ends.{IsResultOf, EndsEvery};
 ghost use Rattle.executor.specs.Results.{Answers};
 
 use crate::error::RunError;
-use crate::group::{product_of, run_group};
+use crate::group::run_group;
 use cert_check::Accepted;
 use launch::launches::{Buffers, Launch};
 use launch::meets::meets;
@@ -22,6 +22,7 @@ use std::alloc::{AllocError, Global};
 use std::sync::Wait;
 use std::thread::Threads;
 use words::Gate;
+use work_item::identity::product_of;
 use write_log::apply;
 
 /// The buffers of a launch once more.

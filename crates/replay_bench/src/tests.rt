@@ -1,18 +1,23 @@
-// Schedules of small kernels.
+// Schedules of small kernels, and a work-group by rounds.
 
+ghost use Rattle.std.specs.Prelude.{◌≡◌, true};
 ghost use Rattle.semantics.specs.Launch.{Fits};
 ghost use Rattle.core_code.specs.View.{kernel as core_seen};
 ghost use Rattle.launch.specs.View.{launch as launch_seen};
+ghost use Rattle.work_item.specs.Proper as proper;
 
 use crate::play::play;
+use group_rounds::run_group;
 use launch::launches::Launch;
 use launch_text::read_launch;
 use machine::world::{Event, World};
+use proper_kernels::kernel::read_proper_kernel;
 use reading::read_kernel;
 use replay::replay::replay as replay_events;
 use std::alloc::{AllocError, Global};
 use std::test::Fail;
 use types::typed::Typed;
+use words::Word;
 use work_item::proper::is_proper;
 
 const LAUNCH: &str = "launch 1\ngroups 1 1 1\nfill 0\n";
@@ -120,5 +125,41 @@ fn a_schedule_stops_at_what_is_not_possible(rt: HostRuntime) -> Result<(), Fail>
     };
     let count = applied(rt.alloc(), &typed, &launch)?;
     assert_eq!(rt; count, 2);
+    Ok(())
+}
+
+/// Each item reads in the second round what its neighbour told in the first.
+const TOLD: &str =
+    "__kernel __attribute__((reqd_work_group_size(4, 1, 1))) void k(__global uint *a) {\n\
+    __local uint told[4];\n  uint lid = get_local_id(0);\n  told[lid] = lid + 10u;\n\
+    barrier(CLK_LOCAL_MEM_FENCE);\n  a[lid] = told[(lid + 1u) & 3u];\n}\n";
+
+/// The word that the first group stores to an element of the first buffer.
+fn stored(
+    alloc: Global,
+    typed: &Typed,
+    launch: &Launch,
+    index: u32,
+) -> Result<Option<Word>, AllocError>
+    requires proper { proper.is_proper (core_seen typed.now.1) ≡ true }
+    requires fits { Fits (core_seen typed.now.1) (launch_seen launch.now) }
+{
+    let log = run_group(alloc, typed.core(), launch, 100, 0)?;
+    Ok(log.word(0, index))
+}
+
+#[test]
+fn a_round_sees_what_the_one_before_stored(rt: HostRuntime) -> Result<(), Fail> {
+    let Ok(typed) = read_proper_kernel(rt.alloc(), TOLD.as_bytes()) else {
+        return Err(Fail::new(format_args!("a kernel is due")));
+    };
+    let text = "launch 1\ngroups 1 1 1\nbuffer a list 0 0 0 0\nfill 7\n";
+    let Ok(launch) = read_launch(rt.alloc(), &typed, text.as_bytes()) else {
+        return Err(Fail::new(format_args!("a launch is due")));
+    };
+    let first = stored(rt.alloc(), &typed, &launch, 0)?;
+    let last = stored(rt.alloc(), &typed, &launch, 3)?;
+    assert_eq!(rt; first, Some(Word::Uint(11)));
+    assert_eq!(rt; last, Some(Word::Uint(10)));
     Ok(())
 }

@@ -20,6 +20,9 @@ use Rattle.cert_check.proofs.Plainly.{tells_plain}
 use Rattle.cert_check.proofs.Headlines.{has_headline}
 use Rattle.cert_check.proofs.checking.check.Goals as goal
 
+pub of-requires-clause-proper : goal.of-requires-clause-proper
+of-requires-clause-proper c = c.what_is_read_is_proper.ensures c.args.kernel.now (kernel_seen c.in-Ok.typed) c.in-Ok.ensures
+
 pub returns-clause-headline : goal.returns-clause-headline
 returns-clause-headline c =
     let a : IsAccepted (kernel (typed_of c.of.result).1) (conditions (kept c.of.result)) = search rules in

@@ -1,6 +1,6 @@
 -- Kernels that the walk covers have no loops.
-use Rattle.std.proofs.Common.{◌≡◌, Bool, true, false, ◌&&◌}
-use Rattle.std.proofs.lemmas.Bool.{and_parts}
+use Rattle.std.proofs.Common.{◌≡◌, Bool, true, false, ◌&&◌, refl}
+use Rattle.std.proofs.lemmas.Bool.{and_parts, false≢true}
 use Rattle.semantics.specs.Core.{Statement, Set, Store, If, Loop, Barrier, Return, Break, Continue, Statements, none, one}
 use Rattle.semantics.specs.Launch.{Kernel}
 use Rattle.facts.specs.Launching.{are_sizes}
@@ -8,7 +8,9 @@ use Rattle.obligations.specs.Covered.{is_covered_term, is_covered_statement, are
 use Rattle.step_bounds.specs.LoopFree.{is_loop_free_statement, is_loop_free}
 
 both : (a b : Bool) → a ≡ true → b ≡ true → a && b ≡ true
-both a b p q = grind (p, q)
+both true true p q = refl
+both true false p q = absurd (false≢true q)
+both false b p q = absurd (false≢true p)
 
 mutual
   covered_free : (s : Statement) → is_covered_statement s ≡ true → is_loop_free_statement s ≡ true

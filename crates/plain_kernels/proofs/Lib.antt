@@ -4,5 +4,5 @@ mod Indexes
 mod Trees
 mod Stores
 mod Fitting
-mod Covering
+pub mod Covering
 pub mod Plainly

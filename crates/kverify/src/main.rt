@@ -7,6 +7,8 @@
 
 #[cfg(test)]
 mod check_tests;
+#[cfg(test)]
+mod choices;
 mod disk;
 #[cfg(test)]
 mod print_tests;

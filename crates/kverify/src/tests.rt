@@ -75,7 +75,7 @@ fn files(alloc: Global) -> Result<Held, Fail> {
     Ok(held)
 }
 
-fn put(held: &mut Held, name: &str, bytes: &[u8]) -> Result<(), Fail> {
+pub fn put(held: &mut Held, name: &str, bytes: &[u8]) -> Result<(), Fail> {
     match held.write(name, bytes) {
         Ok(()) => Ok(()),
         Err(_) => Err(Fail::from("memory")),
@@ -83,7 +83,7 @@ fn put(held: &mut Held, name: &str, bytes: &[u8]) -> Result<(), Fail> {
 }
 
 /// The status and what is written, of a line of words.
-fn told<R: Threads + Wait + Sync, F: Files>(
+pub fn told<R: Threads + Wait + Sync, F: Files>(
     rt: &R,
     alloc: Global,
     line: &str,

@@ -11,7 +11,7 @@ use Rattle.obligations.specs.Tests.{split}
 use Rattle.obligations.specs.Terms.{chosen, pick}
 use Rattle.path_walk.specs.Paths.{Followed, collect, with_spot}
 use Rattle.path_walk.specs.Leads.{Leads, LeadsTwo}
-use Rattle.path_walk.specs.Refusals.{Stops}
+use Rattle.path_walk.specs.Refusals.{Stops, StopsTwo}
 use Rattle.path_walk.specs.Halts.{Halts}
 use Rattle.path_walk.specs.declared.halt.Halt.{Halt}
 use Rattle.path_walk.specs.declared.halt.Halt.TheVariants as halts
@@ -40,6 +40,11 @@ module _ {E : Type 0} (s : Setting E) (op : Operator) (k : Kind) (site : Site) (
 
   pub binary_stops : {T : Type 0} (view : T → Value) (r : Result T Halt) (e : WalkError) → m ≡ with_spot l (spot_at site l.state) → IsErr r × IsErrAnd r (λ h. h ≡ halts.Refused e) → LeadsTwo m n (both_brought s k x y) x' y' → Stops ⊥ n e (binary s op k x'.form y'.form) → Says l o (binary_at s op k site x y) view r
   binary_stops view r e d i a b = halted r (halts.Refused e) _ _ i (λ go. refused_from ⊥ e _ _ (both d a go) (b go))
+
+pub both_stop : {E T : Type 0} (s : Setting E) (op : Operator) (k : Kind) (site : Site) (x y : Value) (l m n : Followed E) (view : T → Value) (r : Result T Halt) (e : WalkError) → m ≡ with_spot l (spot_at site l.state) → IsErr r × IsErrAnd r (λ h. h ≡ halts.Refused e) → StopsTwo ⊥ m e (both_brought s k x y) → Says l n (binary_at s op k site x y) view r
+both_stop {E} s op k site x y l m n view r e d i h =
+    let walk : State E → Onward E → Tree E = λ st go. both_brought s k x y st (λ v w st'. binary s op k v.form w.form st' go) in
+    site_stops walk site l m n d view r e i (λ go. h (λ v w st. binary s op k v.form w.form st go))
 
 -- the smaller or the larger of two values
 module _ {E : Type 0} (s : Setting E) (x y second first : Value) (l m : Followed E) where

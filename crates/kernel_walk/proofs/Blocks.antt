@@ -46,6 +46,11 @@ module _ {E : Type 0} (s : Setting E) (n x : ℕ) (e : core.Term) (l m k : Follo
   set_halts h r q f = halted r h _ _ q (λ go. ended_from ⊥ k.found h _ _ (from_spot go) (f (λ v st. go (assigned x v st))))
 
 -- a store
+pub index_halts : {E : Type 0} (s : Setting E) (n : ℕ) (a : core.Array) (site : core.Site) (index e : core.Term) (l m k : Followed E) (d : m ≡ with_spot l (spot_of n)) (h : Halt) (r : Result (Unit {0}) Halt) → IsErr r × IsErrAnd r (λ x. x ≡ h) → Halts ⊥ m k h (walk s index).value → Does l k (walk_store s n a site index e) r
+index_halts {E} s n a site index e l m k d h r q f = halted r h _ _ q (λ go. ended_from ⊥ k.found h _ _
+    (ap (λ (u : Followed E). collect u.found ((walk s index).value u.state (λ j st. (walk s e).value st (λ v st'. access s true a site j.form st' go)))) (sym d))
+    (f (λ j st. (walk s e).value st (λ v st'. access s true a site j.form st' go))))
+
 module _ {E : Type 0} (s : Setting E) (n : ℕ) (a : core.Array) (site : core.Site) (index e : core.Term) (l m k : Followed E) (i : Value) (d : m ≡ with_spot l (spot_of n)) (p : Leads m k (walk s index).value i) where
   indexed : (go : State E → Tree E) → collect l.found (walk_store s n a site index e l.state go) ≡ collect k.found ((walk s e).value k.state (λ v st. access s true a site i.form st go))
   indexed go =

@@ -1,4 +1,4 @@
--- Statements behind statements, a store, and an `if`.
+-- Statements behind statements, an assignment, a store, and an `if`.
 use Rattle.std.proofs.Common.{◌≡◌, ℕ, Bool, true, false, ◌&&◌, List, drop, refl, sym, ap, subst, ◌∙◌}
 use Rattle.std.specs.Prelude.{Result, Ok, Err, IsErr, IsErrAnd, MatchResult}
 use Rattle.std.proofs.lemmas.Bool.{and_parts}
@@ -10,7 +10,7 @@ use Rattle.obligations.specs.Covered.{is_covered_statement, are_covered}
 use Rattle.obligations.specs.Trees.{Spot, Tree}
 use Rattle.obligations.specs.Walks.{Setting, State, Value, stand}
 use Rattle.obligations.specs.Terms.{walk, access, chosen}
-use Rattle.obligations.specs.Statements.{spot_of, walk_store, walk_one, walk_all}
+use Rattle.obligations.specs.Statements.{spot_of, assigned, walk_store, walk_one, walk_all}
 use Rattle.path_walk.specs.Paths.{Followed, collect, with_spot}
 use Rattle.path_walk.specs.Leads.{Steps, Leads}
 use Rattle.path_walk.specs.Refusals.{StopsAtStep}
@@ -19,7 +19,7 @@ use Rattle.path_walk.specs.declared.halt.Halt.{Halt}
 use Rattle.path_walk.specs.declared.halt.Halt.TheVariants as halts
 use Rattle.path_walk.proofs.Refusing.{refused_from}
 use Rattle.path_walk.proofs.Testing.{ended_from, halted}
-use Rattle.kernel_walk.specs.Parts.{test_at}
+use Rattle.kernel_walk.specs.Parts.{test_at, with_assigned}
 use Rattle.kernel_walk.proofs.Then.{Says}
 
 -- so many statements are behind
@@ -34,7 +34,23 @@ Does l n walk r = MatchResult r (λ u. Steps l n walk) (λ h. HaltsAtStep ⊥ l 
 pub stood : {E A T : Type 0} (walk : State E → (A → State E → Tree E) → Tree E) (p : Spot) (l m n : Followed E) (view : T → A) (r : Result T Halt) → m ≡ with_spot l p → Says m n walk view r → Says l n (λ st go. walk (stand p st) go) view r
 stood walk p l m n view r d h = subst (λ u. Says u n walk view r) d h
 
+-- an assignment
+module _ {E : Type 0} (s : Setting E) (n x : ℕ) (e : core.Term) (l m k : Followed E) (d : m ≡ with_spot l (spot_of n)) where
+  from_spot : (go : State E → Tree E) → collect l.found (walk_one s (core.Set n x e) l.state go) ≡ collect m.found ((walk s e).value m.state (λ v st. go (assigned x v st)))
+  from_spot go = ap (λ (u : Followed E). collect u.found ((walk s e).value u.state (λ v st. go (assigned x v st)))) (sym d)
+
+  pub set_steps : (v : Value) (o : Followed E) → Leads m k (walk s e).value v → o ≡ with_assigned k x v → Steps l o (walk_one s (core.Set n x e))
+  set_steps v o p q go = from_spot go ∙ p (λ w st. go (assigned x w st)) ∙ ap (λ (u : Followed E). collect u.found (go u.state)) (sym q)
+
+  pub set_halts : (h : Halt) (r : Result (Unit {0}) Halt) → IsErr r × IsErrAnd r (λ y. y ≡ h) → Halts ⊥ m k h (walk s e).value → Does l k (walk_one s (core.Set n x e)) r
+  set_halts h r q f = halted r h _ _ q (λ go. ended_from ⊥ k.found h _ _ (from_spot go) (f (λ v st. go (assigned x v st))))
+
 -- a store
+pub index_halts : {E : Type 0} (s : Setting E) (n : ℕ) (a : core.Array) (site : core.Site) (index e : core.Term) (l m k : Followed E) (d : m ≡ with_spot l (spot_of n)) (h : Halt) (r : Result (Unit {0}) Halt) → IsErr r × IsErrAnd r (λ x. x ≡ h) → Halts ⊥ m k h (walk s index).value → Does l k (walk_store s n a site index e) r
+index_halts {E} s n a site index e l m k d h r q f = halted r h _ _ q (λ go. ended_from ⊥ k.found h _ _
+    (ap (λ (u : Followed E). collect u.found ((walk s index).value u.state (λ j st. (walk s e).value st (λ v st'. access s true a site j.form st' go)))) (sym d))
+    (f (λ j st. (walk s e).value st (λ v st'. access s true a site j.form st' go))))
+
 module _ {E : Type 0} (s : Setting E) (n : ℕ) (a : core.Array) (site : core.Site) (index e : core.Term) (l m k : Followed E) (i : Value) (d : m ≡ with_spot l (spot_of n)) (p : Leads m k (walk s index).value i) where
   indexed : (go : State E → Tree E) → collect l.found (walk_store s n a site index e l.state go) ≡ collect k.found ((walk s e).value k.state (λ v st. access s true a site i.form st go))
   indexed go =

@@ -129,8 +129,8 @@ fn are_sizes(sizes: &[u32; 3]) -> bool
     x <= 1_024 && y <= 1_024 && z <= 1_024
 }
 
-/// The walk covers the kernel: it has no loops, barriers, local arrays and exits, each literal is a number of its kind, and each shift is
-/// by 0 to 31.
+/// The walk covers the kernel: it has no loops, barriers, local arrays and exits, no local size is over 1,024, each literal is a number
+/// of its kind, and each shift is by 0 to 31, to the right of a `uint`.
 pub fn is_covered(core: &Core) -> bool
     ensures { result ≡ covered.is_covered (core_seen core.now) }
 {

@@ -129,6 +129,12 @@ const ROWS: &[(&str, &str, &str, &str)] = &[
      kernel __attribute__((reqd_work_group_size(2, 1, 1))) void k(__global uint *a, __global uint *b, uint n) { b[n] = 1u; a[get_local_id(0) + n] = b[n]; }\n",
         "conditions 1\ngroups 1..1 1..1 1..1\narg n 0..1\nlength a >= 2\nlength b >= 2\nbudget 9\n",
         "certificate 1\nend\n",
+        "52 8",
+    ),
+    (
+        "kernel __attribute__((reqd_work_group_size(2, 1, 1))) void k(__global uint *a) { while (a[0] < 1u) a[get_local_id(0)] = 1u; }\n",
+        "conditions 1\ngroups 1..1 1..1 1..1\nlength a >= 2\nbudget 9\n",
+        "certificate 1\nend\n",
         "52 0",
     ),
     (
@@ -208,7 +214,7 @@ const ROWS: &[(&str, &str, &str, &str)] = &[
 ];
 
 #[test]
-fn checks_straight_kernels(rt: HostRuntime) -> Result<(), Fail> {
+fn checks_kernels(rt: HostRuntime) -> Result<(), Fail> {
     for (kernel, conditions, certificate, want) in ROWS {
         let found = checked(rt.alloc(), kernel, conditions, certificate)?;
         assert_eq!(rt; found.as_str(), *want);

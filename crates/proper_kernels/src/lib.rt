@@ -1,4 +1,4 @@
-//! Section: Runs and program. Promises that kernels which are read are proper; stands on `reading` and `work_item`.
+//! Section: Work-items. Promises that kernels which are read are proper; stands on `reading` and `work_item`.
 //!
 //! Each literal of a kernel that is read is a number of its kind, shifts are of `uint` and by at most 31, and a group has 1 to 1,024
 //! work-items.

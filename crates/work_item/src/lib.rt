@@ -1,4 +1,4 @@
-//! Section: Runs and program. Promises the next step of a work-item exactly as defined; stands on `core_code` and `launch`.
+//! Section: Work-items. Promises the next step of a work-item exactly as defined; stands on `core_code` and `launch`.
 //!
 //! Work-items: what one asks for next, and how it stands afterwards. It is the one step that machines and runs share. A kernel has to
 //! be proper: its literals are numbers of their kinds, no shift is by more than 31 or of an `int`, and a group has 1 to

@@ -273,12 +273,21 @@ const LINES: &[(&str, &str)] = &[
     ("check guard guard.c1 guard.p", "1 refused 56\n "),
     ("check guard guard.c guard.pos", "1 refused 52 3\n "),
     ("check guard guard.c empty", "1 refused 52 2\n "),
-    ("run guard guard.c guard.p guard.l", "0 buffer a list 1 1 1 9\n "),
+    (
+        "run guard guard.c guard.p guard.l",
+        "0 buffer a list 1 1 1 9\n ",
+    ),
     ("check signs signs.c signs.p", "0 accepted\n "),
     ("check signs signs.c empty", "1 refused 52 15\n "),
-    ("run signs signs.c signs.p signs.l", "0 buffer a list -2\nbuffer b list 100\n "),
+    (
+        "run signs signs.c signs.p signs.l",
+        "0 buffer a list -2\nbuffer b list 100\n ",
+    ),
     ("check select select.c empty", "1 refused 52 56\n "),
-    ("run select select.c14 empty select.l", "0 buffer a list 9 3 9 9 9 9 9 9 9 9 9 9 9 9\n "),
+    (
+        "run select select.c14 empty select.l",
+        "0 buffer a list 9 3 9 9 9 9 9 9 9 9 9 9 9 9\n ",
+    ),
     ("check eight eight.c empty", "0 accepted\n "),
     ("check nine nine.c empty", "1 refused 53 1:1\n "),
 ];

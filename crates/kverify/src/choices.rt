@@ -256,6 +256,49 @@ const TEXTS: &[(&str, &str)] = &[
          budget 9\n",
     ),
     (
+        "never.c",
+        "conditions 1\n\
+         groups 1..1 1..1 1..1\n\
+         arg n 0..0\n\
+         length a >= n\n\
+         require n >= 1\n\
+         budget 2\n",
+    ),
+    (
+        "never.p",
+        "certificate 1\n\
+         ob 2 show\ng 11\ng 8\ns 1 1 1 2\n\
+         ob 3 show\ng 11\ng 8\ns 1 1 1 2\n\
+         ob 4 show\ng 11\ng 8\ns 1 1 1 2\n\
+         end\n",
+    ),
+    (
+        "never.l0",
+        "launch 1\n\
+         groups 1 1 1\n\
+         arg n 0\n\
+         buffer a list\n\
+         fill 0\n",
+    ),
+    (
+        "never.l1",
+        "launch 1\n\
+         groups 1 1 1\n\
+         arg n 1\n\
+         buffer a list 7\n\
+         fill 0\n",
+    ),
+    (
+        "bare",
+        "__kernel __attribute__((reqd_work_group_size(64, 1, 1))) void k() { }\n",
+    ),
+    (
+        "bare.c",
+        "conditions 1\n\
+         groups 1..4 1..1 1..1\n\
+         budget 1\n",
+    ),
+    (
         "empty",
         "certificate 1\n\
          end\n",
@@ -277,6 +320,11 @@ const LINES: &[(&str, &str)] = &[
         "run guard guard.c guard.p guard.l",
         "0 buffer a list 1 1 1 9\n ",
     ),
+    ("check guard never.c never.p", "0 accepted\n "),
+    ("check guard never.c empty", "1 refused 52 2\n "),
+    ("run guard never.c never.p never.l0", "1 refused 40 5\n "),
+    ("run guard never.c never.p never.l1", "1 refused 40 3\n "),
+    ("check bare bare.c empty", "0 accepted\n "),
     ("check signs signs.c signs.p", "0 accepted\n "),
     ("check signs signs.c empty", "1 refused 52 15\n "),
     (

@@ -85,8 +85,8 @@ fn accept<D: Domain>(
 
 /// A kernel, launch conditions and a certificate, each by its text. What is accepted is pair-safe at each launch that meets the
 /// conditions, and the headline holds there. What is refused first, in this order: the kernel, the conditions, the certificate's text, what
-/// it tells of that the kernel lacks, over 256 paths, over 65,536 obligations or a number that is too large, the obligations by their numbers, entries past
-/// the last of them, the budget.
+/// it tells of that the kernel lacks, a kernel that the walk does not cover, over 256 paths, over 65,536 obligations or a number that is too
+/// large, the obligations by their numbers, entries past the last of them, the budget.
 pub fn check(
     alloc: Global,
     kernel: &[u8],

@@ -1,4 +1,5 @@
-//! Section: Gate. Promises that all obligations are shown, or names the first that is not; stands on `kernel_obligations` and `certificate_tree`.
+//! Section: Gate. Promises that all obligations are shown, or names the first that is not; stands on `kernel_obligations` and
+//! `certificate_tree`.
 //!
 //! The obligations of a kernel one by one, each settled by the domain or refuted by its entry in a certificate.
 #![tactic(auto)]

@@ -8,6 +8,7 @@ pub mod Walking
 pub mod Reaching
 pub mod Through
 pub mod Members
+pub mod Ranked
 pub mod Standing
 pub mod Rooted
 pub mod LoopBodies
@@ -22,6 +23,9 @@ pub mod Seen
 pub mod Apart
 pub mod Quiet
 pub mod Following
+pub mod Spots
+pub mod PlaceHeads
+pub mod Drawn
 pub mod Drawing
 pub mod Numbers
 pub mod Examples

@@ -9,11 +9,13 @@ use Rattle.semantics.specs.Ask.{Ask, on_value, stores}
 use Rattle.semantics.specs.Solo.{moved}
 use Rattle.arrivals.specs.Points.{Point}
 use Rattle.arrivals.specs.Trees.{Step, Turns, Later, End, Front, IsEnd, IsFront, walk_left, left}
+use Rattle.arrivals.specs.LoopTests.{IsEntering}
 use Rattle.arrivals.specs.Places.{Reach, Meets, is_barrier}
 use Rattle.arrivals.specs.Paths.{Held, held}
 use Rattle.arrivals.specs.Shown.{Notes, Came}
 use Rattle.arrivals.proofs.Counting.{Counts, counted}
 use Rattle.arrivals.proofs.Controlled.{bare, Controlled}
+use Rattle.arrivals.proofs.Ranked.{AreRan}
 use Rattle.arrivals.proofs.Standing.{all_points, Visited, Standing}
 
 -- a barrier is in front
@@ -62,9 +64,9 @@ stores_fine s k i n it a site Outside v rest h = λ z. somewhere s k i n rest it
 
 -- on the same path, with other statements left
 module _ (s : Setup) (k : Notes) (i n : ℕ) where
-  pub going : (left next : List Entry) (vars : List Word) (here there : Later) → ((c : Counts) → Controlled (all_points s) c left → Controlled (all_points s) c next) → ((l : List ℕ) (x : Reach) → Meets x (walk_left true (bare next) (Some l)) → Meets x (walk_left true (bare left) (Some l)))
-      → ((u : End) (path : List Step) (t : Turns) → IsEnd u path (there t) → IsEnd u path (here t)) → ((f : Front) (path : List Step) (t : Turns) → IsFront f path (there t) → IsFront f path (here t)) → Standing s k i n left vars here → Standing s k i n next vars there
-  going left next vars here there c m e f h = record {
+  pub going : (left next : List Entry) (vars : List Word) (here there : Later) → ((c : Counts) → Controlled (all_points s) c left → Controlled (all_points s) c next) → ((ranks : ℕ → ℤ) → AreRan s k i ranks left → AreRan s k i ranks next) → ((l : List ℕ) (x : Reach) → Meets x (walk_left true (bare next) (Some l)) → Meets x (walk_left true (bare left) (Some l)))
+      → ((u : End) (path : List Step) (t : Turns) → IsEnd u path (there t) → IsEnd u path (here t)) → ((f : Front) (path : List Step) (t : Turns) → IsFront f path (there t) → IsFront f path (here t)) → ((m : ℕ) (end path : List Step) (t : Turns) → IsEntering m end path (there t) → IsEntering m end path (here t)) → Standing s k i n left vars here → Standing s k i n next vars there
+  going left next vars here there c a m e f g h = record {
     anchor = h.anchor;
     base = h.base;
     start = h.start;
@@ -81,16 +83,18 @@ module _ (s : Setup) (k : Notes) (i n : ℕ) where
     agrees = h.agrees;
     path = h.path;
     ranks = h.ranks;
+    ran = a h.ranks h.ran;
     came = h.came;
     ends = λ u q. h.ends u (e u h.path h.turns q);
     fronts = λ u q. h.fronts u (f u h.path h.turns q);
+    enters = λ m end q. h.enters m end (g m end h.path h.turns q);
   }
 
   -- one step along the path
   pub stepping : (left next : List Entry) (vars there_vars : List Word) (here there : Later) (st : Step) → ((path : List Step) (p : _) (a : Held) (ranks : ℕ → ℤ) → Came s k p i path a (held vars ranks) → Came s k p i (st ∷ path) a (held there_vars ranks))
-      → ((c : Counts) → Controlled (all_points s) c left → Controlled (all_points s) c next) → ((l : List ℕ) (x : Reach) → Meets x (walk_left true (bare next) (Some l)) → Meets x (walk_left true (bare left) (Some l)))
-      → ((u : End) (path : List Step) (t : Turns) → IsEnd u (st ∷ path) (there t) → IsEnd u path (here t)) → ((f : Front) (path : List Step) (t : Turns) → IsFront f (st ∷ path) (there t) → IsFront f path (here t)) → Standing s k i n left vars here → Standing s k i n next there_vars there
-  stepping left next vars there_vars here there st w c m e f h = record {
+      → ((c : Counts) → Controlled (all_points s) c left → Controlled (all_points s) c next) → ((ranks : ℕ → ℤ) → AreRan s k i ranks left → AreRan s k i ranks next) → ((l : List ℕ) (x : Reach) → Meets x (walk_left true (bare next) (Some l)) → Meets x (walk_left true (bare left) (Some l)))
+      → ((u : End) (path : List Step) (t : Turns) → IsEnd u (st ∷ path) (there t) → IsEnd u path (here t)) → ((f : Front) (path : List Step) (t : Turns) → IsFront f (st ∷ path) (there t) → IsFront f path (here t)) → ((m : ℕ) (end path : List Step) (t : Turns) → IsEntering m end (st ∷ path) (there t) → IsEntering m end path (here t)) → Standing s k i n left vars here → Standing s k i n next there_vars there
+  stepping left next vars there_vars here there st w c a m e f g h = record {
     anchor = h.anchor;
     base = h.base;
     start = h.start;
@@ -107,7 +111,9 @@ module _ (s : Setup) (k : Notes) (i n : ℕ) where
     agrees = h.agrees;
     path = st ∷ h.path;
     ranks = h.ranks;
+    ran = a h.ranks h.ran;
     came = w h.path h.place h.start h.ranks h.came;
     ends = λ u q. h.ends u (e u h.path h.turns q);
     fronts = λ u q. h.fronts u (f u h.path h.turns q);
+    enters = λ m end q. h.enters m end (g m end h.path h.turns q);
   }

@@ -9,6 +9,7 @@ use Rattle.semantics.specs.Ask.{passes, by_status, ask}
 use Rattle.semantics.specs.Solo.{moved, opening, after, passed, is_waiting}
 use Rattle.arrivals.specs.Points.{Has, Point, point, join}
 use Rattle.arrivals.specs.Trees.{AtBarrier, IsEnd, IsFront, walk_left}
+use Rattle.arrivals.specs.LoopTests.{IsEntering}
 use Rattle.arrivals.specs.Places.{Place, Meets, places_from, from_barriers, own_place, is_barrier}
 use Rattle.arrivals.specs.Paths.{held}
 use Rattle.arrivals.specs.Shown.{Notes, Shown, IsSound, at_opening}
@@ -16,6 +17,7 @@ use Rattle.arrivals.proofs.Counting.{counted, fits_all-new}
 use Rattle.arrivals.proofs.Joined.{has_left, has_right}
 use Rattle.arrivals.proofs.Controlled.{bare, bare-enter, controlled-rest, controlled-enter, nothing_left}
 use Rattle.arrivals.proofs.Members.{barriers-have}
+use Rattle.arrivals.proofs.Ranked.{ran-enter}
 use Rattle.arrivals.proofs.Standing.{all_points, no_turns}
 use Rattle.arrivals.proofs.Placing.{IsAtBarrier, Stands, Placed, IsPlaced, placed_by}
 use Rattle.arrivals.proofs.Moves.{front_fine}
@@ -57,6 +59,7 @@ module _ (s : Setup) (k : Notes) (shown : Shown s k) (i : ℕ) (is_item : i < it
         agrees = λ l e. by l e;
         path = [];
         ranks = h.ranks;
+        ran = h.ran.1;
         came = record {
           root = held vars h.ranks;
           line = shown.at_barriers h.place b (record { stop = AtBarrier m; turns = h.turns; path = h.path }) h.is_place is_place is_leaf refl i h.start (held vars h.ranks) is_item h.came;
@@ -65,6 +68,7 @@ module _ (s : Setup) (k : Notes) (shown : Shown s k) (i : ℕ) (is_item : i < it
         };
         ends = λ u q. q;
         fronts = λ f q. q;
+        enters = λ m end q. q;
       }
     where
       by : (l : List ℕ) → Some [] ≡ Some l → l ≡ []
@@ -111,9 +115,11 @@ module _ (s : Setup) (k : Notes) (shown : Shown s k) (i : ℕ) (is_item : i < it
         agrees = λ l e. by l e;
         path = [];
         ranks = λ n. pos 0;
+        ran = ran-enter s k i (λ n. pos 0) s.kernel.body [] tt;
         came = record { root = at_opening s i; line = shown.opens i is_item; own = λ e. refl; follows = refl };
         ends = λ u q. subst (λ left. IsEnd u [] (walk_left false left (Some []))) same q;
         fronts = λ f q. subst (λ left. IsFront f [] (walk_left false left (Some []))) same q;
+        enters = λ m end q. subst (λ left. IsEntering m end [] (walk_left false left (Some []))) same q;
       }
     where
       by : (l : List ℕ) → Some [] ≡ Some l → l ≡ []

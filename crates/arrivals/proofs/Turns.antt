@@ -1,20 +1,23 @@
 -- A loop's test, seen from where the item stands.
-use Rattle.std.proofs.Common.{◌≡◌, ℕ, ◌+◌, Bool, true, false, not, ◌||◌, List, ◌∷◌, map, Some, refl, ap, ◌∙◌, inl, inr, subst, ℤ}
+use Rattle.std.proofs.Common.{◌≡◌, ℕ, ◌+◌, Bool, true, false, not, ◌||◌, List, ◌∷◌, map, Some, refl, ap, ◌∙◌, inl, inr, subst, ℤ, nat_eq, eq-eqb}
 use Rattle.semantics.specs.Word.{Word, is_zero}
 use Rattle.semantics.specs.Core.{Term, Loop, Statements, number}
 use Rattle.semantics.specs.Setup.{Setup}
 use Rattle.semantics.specs.Item.{Entry, enter}
 use Rattle.semantics.specs.Ask.{choose}
 use Rattle.arrivals.specs.Loops.{have_barrier, slip, skip, first_of, loop_fault, unmet}
-use Rattle.arrivals.specs.Points.{point, join, turning}
+use Rattle.arrivals.specs.Points.{point, join, turning, have_loop}
 use Rattle.arrivals.specs.Trees.{Step, End, Front, Tests, turned, Later, IsEnd, IsFront, ways, walk_left, left, Enters}
+use Rattle.arrivals.specs.LoopTests.{IsEntering}
 use Rattle.arrivals.specs.Places.{Meets}
 use Rattle.arrivals.specs.Paths.{CanBe, Held, held, ranked}
 use Rattle.arrivals.specs.Shown.{Notes, Came}
 use Rattle.arrivals.proofs.Counting.{counted}
-use Rattle.arrivals.proofs.Controlled.{bare, bare-enter, first_none, controlled-rest, has_turned, turned-once_more}
+use Rattle.arrivals.proofs.Tests.{or_left}
+use Rattle.arrivals.proofs.Controlled.{Controlled, bare, bare-enter, first_none, controlled-rest, has_turned, turned-once_more}
 use Rattle.arrivals.proofs.Turning.{controlled-turn, controlled-again}
 use Rattle.arrivals.proofs.Through.{through_head, whether_turned}
+use Rattle.arrivals.proofs.Ranked.{AtTest, Entering, AreRan, ran-enter, ran-turn}
 use Rattle.arrivals.proofs.Standing.{all_points, Standing, front_loop}
 use Rattle.arrivals.proofs.LoopBodies.{walk-body, met_inside, met_behind, agrees-turn}
 
@@ -30,9 +33,17 @@ module _ (s : Setup) (k : Notes) (i c : ℕ) (n : ℕ) (e : Term) (b u : Stateme
   entered_on : {p : _} {a : Held} {ranks : ℕ → ℤ} {path : List Step} → Came s k p i path a (held vars ranks) → Came s k p i (Enters n ∷ path) a (ranked k.rank n i (held vars ranks))
   entered_on {ranks = ranks} h = record { root = h.root; line = h.line; own = h.own; follows = (held vars ranks, (h.follows, refl)) }
 
+  -- ranked by the turn
+  ran_on : {all : _} {counts : _} (ranks : ℕ → ℤ) → Controlled all counts (record { statement = Loop n e b u; turns = t } ∷ r) → AtTest s k i n (has_turned t) (held vars ranks) → Entering s k i n (held vars ranks) → AreRan s k i ranks (record { statement = Loop n e b u; turns = t } ∷ r) → AreRan s k i (ranked k.rank n i (held vars ranks)).ranks after_turn
+  ran_on {counts = counts} ranks control a x h =
+      let out = control.separate.1.0 n (or_left (nat_eq n n) (have_loop n b || have_loop n u) (eq-eqb n n refl)) in
+      let later = (ranked k.rank n i (held vars ranks)).ranks in
+      let left = record { statement = Loop n e b u; turns = t + 1 } ∷ r in
+      ran-enter s k i later b (enter u left) (ran-enter s k i later u left (ran-turn s k i counts n e b u t r (held vars ranks) out control.fits.1 a x h))
+
   -- a true test of a loop with a barrier
-  turned_on : (have_barrier b || have_barrier u) ≡ true → is_zero v.value ≡ false → Standing s k i c (record { statement = Loop n e b u; turns = t } ∷ r) vars (front_loop true n e b u (has_turned t) (bare r)) → Standing s k i c after_turn vars (walk_left false (bare after_turn))
-  turned_on hb z h =
+  turned_on : (have_barrier b || have_barrier u) ≡ true → is_zero v.value ≡ false → (h : Standing s k i c (record { statement = Loop n e b u; turns = t } ∷ r) vars (front_loop true n e b u (has_turned t) (bare r))) → AtTest s k i n (has_turned t) (held vars h.ranks) → Standing s k i c after_turn vars (walk_left false (bare after_turn))
+  turned_on hb z h a =
       let d = h.control.separate.0 in
       let f = first_none (loop_fault (have_barrier b || have_barrier u) (slip b || skip b) n) (first_of (unmet b) (unmet u)) h.control.met.0 in
       let same = walk-body false n e b u (t + 1) r d hb f in
@@ -54,14 +65,16 @@ module _ (s : Setup) (k : Notes) (i c : ℕ) (n : ℕ) (e : Term) (b u : Stateme
         agrees = agrees-turn n (Loop n e b u) h.turns h.ls refl h.agrees;
         path = Enters n ∷ Tests e true ∷ h.path;
         ranks = (ranked k.rank n i (held vars h.ranks)).ranks;
+        ran = ran_on h.ranks h.control a (record { place = h.place; is_place = h.is_place; path = Tests e true ∷ h.path; is_entering = h.enters n (Tests e true ∷ h.path) (inl (inr (inl (refl, refl)))); start = h.start; came = tested_on true z h.came }) h.ran;
         came = entered_on (tested_on true z h.came);
         ends = λ x q. h.ends x (inl (subst (λ (g : Later). IsEnd x (Enters n ∷ Tests e true ∷ h.path) (g (turned n h.turns))) same q));
         fronts = λ x q. h.fronts x (inr (inl (subst (λ (g : Later). IsFront x (Enters n ∷ Tests e true ∷ h.path) (g (turned n h.turns))) same q)));
+        enters = λ m end q. h.enters m end (inl (inr (inr (subst (λ (g : Later). IsEntering m end (Enters n ∷ Tests e true ∷ h.path) (g (turned n h.turns))) same q))));
       }
 
   -- a true test at a head
-  again_on : (have_barrier b || have_barrier u) ≡ false → is_zero v.value ≡ false → Standing s k i c (record { statement = Loop n e b u; turns = t } ∷ r) vars (front_loop false n e b u (has_turned t) (bare r)) → Standing s k i c after_turn vars (walk_left false (bare after_turn))
-  again_on hb z h =
+  again_on : (have_barrier b || have_barrier u) ≡ false → is_zero v.value ≡ false → (h : Standing s k i c (record { statement = Loop n e b u; turns = t } ∷ r) vars (front_loop false n e b u (has_turned t) (bare r))) → AtTest s k i n (has_turned t) (held vars h.ranks) → Standing s k i c after_turn vars (walk_left false (bare after_turn))
+  again_on hb z h a =
       let d = h.control.separate.0 in
       let same : bare after_turn ≡ join b (join u (turning (Loop n e b u) ∷ bare r)) = bare-enter b (enter u (record { statement = Loop n e b u; turns = t + 1 } ∷ r)) ∙ ap (join b) (bare-enter u (record { statement = Loop n e b u; turns = t + 1 } ∷ r)) ∙ ap (λ x. join b (join u (left (Loop n e b u) x ∷ bare r))) (turned-once_more t) in
       record {
@@ -81,9 +94,11 @@ module _ (s : Setup) (k : Notes) (i c : ℕ) (n : ℕ) (e : Term) (b u : Stateme
         agrees = h.agrees;
         path = Enters n ∷ Tests e true ∷ h.path;
         ranks = (ranked k.rank n i (held vars h.ranks)).ranks;
+        ran = ran_on h.ranks h.control a (record { place = h.place; is_place = h.is_place; path = Tests e true ∷ h.path; is_entering = h.enters n (Tests e true ∷ h.path) (inl (inr (inl (refl, refl)))); start = h.start; came = tested_on true z h.came }) h.ran;
         came = entered_on (tested_on true z h.came);
         ends = λ x q. h.ends x (inl (subst (λ left. IsEnd x (Enters n ∷ Tests e true ∷ h.path) (walk_left false left h.turns)) same q));
         fronts = λ x q. h.fronts x (inr (inl (subst (λ left. IsFront x (Enters n ∷ Tests e true ∷ h.path) (walk_left false left h.turns)) same q)));
+        enters = λ m end q. h.enters m end (inl (inr (inr (subst (λ left. IsEntering m end (Enters n ∷ Tests e true ∷ h.path) (walk_left false left h.turns)) same q))));
       }
 
   -- a false test
@@ -105,9 +120,11 @@ module _ (s : Setup) (k : Notes) (i c : ℕ) (n : ℕ) (e : Term) (b u : Stateme
     agrees = h.agrees;
     path = Tests e false ∷ h.path;
     ranks = h.ranks;
+    ran = h.ran.1;
     came = tested_on false z h.came;
     ends = λ y q. h.ends y (behind_end x y q);
     fronts = λ y q. h.fronts y (behind_front x y q);
+    enters = λ m end q. h.enters m end (behind_entering x m end q);
   }
     where
       behind_end : (x : Bool) (y : End) → IsEnd y (Tests e false ∷ h.path) (walk_left false (bare r) h.turns) → IsEnd y h.path (front_loop x n e b u (has_turned t) (bare r) h.turns)
@@ -118,8 +135,12 @@ module _ (s : Setup) (k : Notes) (i c : ℕ) (n : ℕ) (e : Term) (b u : Stateme
       behind_front true y q = inr (inr q)
       behind_front false y q = inr (inr q)
 
-  pub loop_on : (x z : Bool) → (have_barrier b || have_barrier u) ≡ x → is_zero v.value ≡ z → Standing s k i c (record { statement = Loop n e b u; turns = t } ∷ r) vars (front_loop x n e b u (has_turned t) (bare r)) → Standing s k i c (choose z r after_turn) vars (walk_left false (bare (choose z r after_turn)))
-  loop_on true false hb z h = turned_on hb z h
-  loop_on false false hb z h = again_on hb z h
-  loop_on true true hb z h = left_on true z h
-  loop_on false true hb z h = left_on false z h
+      behind_entering : (x : Bool) (m : ℕ) (end : List Step) → IsEntering m end (Tests e false ∷ h.path) (walk_left false (bare r) h.turns) → IsEntering m end h.path (front_loop x n e b u (has_turned t) (bare r) h.turns)
+      behind_entering true m end q = inr (inr q)
+      behind_entering false m end q = inr (inr q)
+
+  pub loop_on : (x z : Bool) → (have_barrier b || have_barrier u) ≡ x → is_zero v.value ≡ z → (h : Standing s k i c (record { statement = Loop n e b u; turns = t } ∷ r) vars (front_loop x n e b u (has_turned t) (bare r))) → AtTest s k i n (has_turned t) (held vars h.ranks) → Standing s k i c (choose z r after_turn) vars (walk_left false (bare (choose z r after_turn)))
+  loop_on true false hb z h a = turned_on hb z h a
+  loop_on false false hb z h a = again_on hb z h a
+  loop_on true true hb z h a = left_on true z h
+  loop_on false true hb z h a = left_on false z h

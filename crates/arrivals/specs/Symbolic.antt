@@ -14,8 +14,8 @@ use Rattle.arrivals.specs.Paths.{CanBe, Held, held, Ranking, ranked}
 -- a walk of terms, over its trees, its states and its forms: a value's form, a test either way, and what becomes of a variable; what is
 -- claimed where an item comes to a loop's test and where that was true; a store's access; and where a tree ends
 pub record Terms (T S F : Type 0) : Type 0 where
-  pub value : Term → S → (F → S → T) → T
-  pub test : Term → S → (taken skipped : S → T) → T
+  pub value : (statement : ℕ) → Term → S → (F → S → T) → T
+  pub test : (statement : ℕ) → Term → S → (taken skipped : S → T) → T
   pub set : S → ℕ → F → S
   pub arrive : (loop : ℕ) (again : Bool) → S → (S → T) → T
   pub enter : (loop : ℕ) → S → (S → T) → T
@@ -37,14 +37,14 @@ abbrev pub inside : {T S F : Type 0} → Terms T S F → Drawn T S → Courses T
 inside k go = record { go = finish k; out = λ m. go; back = λ m. finish k }
 
 abbrev pub draw_loop : {T S F : Type 0} → Terms T S F → Bool → ℕ → (again : Bool) → Term → (body go : Drawn T S) → Drawn T S
-draw_loop k true n a e body go t st = k.arrive n a st (λ st1. k.test e st1 (λ st2. k.enter n st2 (λ st3. body (turned n t) st3)) (λ st2. go t st2))
+draw_loop k true n a e body go t st = k.arrive n a st (λ st1. k.test n e st1 (λ st2. k.enter n st2 (λ st3. body (turned n t) st3)) (λ st2. go t st2))
 draw_loop k false n a e body go t st = k.arrive n a st (λ st1. k.stops (AtHead n a) t st1)
 
 abbrev mutual
   pub draw_one : {T S F : Type 0} → Terms T S F → (again : Bool) → Statement → Courses T S → Drawn T S
-  draw_one k a (Set n x e) w t st = k.value e st (λ f st'. w.go t (k.set st' x f))
-  draw_one k a (Store n y site i e) w t st = k.value i st (λ f st'. k.value e st' (λ g st''. k.store (Store n y site i e) f st'' (λ st'''. w.go t st''')))
-  draw_one k a (If n e yeses noes) w t st = k.test e st (λ st'. draw k yeses w t st') (λ st'. draw k noes w t st')
+  draw_one k a (Set n x e) w t st = k.value n e st (λ f st'. w.go t (k.set st' x f))
+  draw_one k a (Store n y site i e) w t st = k.value n i st (λ f st'. k.value n e st' (λ g st''. k.store (Store n y site i e) f st'' (λ st'''. w.go t st''')))
+  draw_one k a (If n e yeses noes) w t st = k.test n e st (λ st'. draw k yeses w t st') (λ st'. draw k noes w t st')
   draw_one k a (Loop n e b u) w t st = draw_loop k (have_barrier b || have_barrier u) n a e (λ t' st'. draw k b (inside k w.go) t' st') w.go t st
   draw_one k a (Barrier n l g) w t st = k.stops (AtBarrier n) t st
   draw_one k a (Return n) w t st = k.stops AtEnd t st
@@ -68,7 +68,7 @@ courses k (s ∷ ss) = ahead k s (courses k ss)
 
 -- at a head the test comes first, then what is really left
 abbrev pub draw_head : {T S F : Type 0} → Terms T S F → Statement → List Left → Drawn T S
-draw_head k (Loop n e b u) rest t st = k.test e st (λ st1. k.enter n st1 (λ st'. (courses k (join b (join u (turning (Loop n e b u) ∷ rest)))).go t st')) (λ st'. (courses k rest).go t st')
+draw_head k (Loop n e b u) rest t st = k.test n e st (λ st1. k.enter n st1 (λ st'. (courses k (join b (join u (turning (Loop n e b u) ∷ rest)))).go t st')) (λ st'. (courses k rest).go t st')
 draw_head k s rest t st = (courses k (fresh s ∷ rest)).go t st
 
 abbrev pub sketch_from : {T S F : Type 0} → Terms T S F → Statements → (anchor head : Option Point) → Drawn T S
@@ -80,17 +80,24 @@ abbrev pub sketch : {T S F : Type 0} → Terms T S F → Statements → Place �
 sketch k body p st = sketch_from k body p.anchor p.head p.turns st
 
 -- the walk of terms goes along with what terms can be. `At` says that an item with these variables stands at a point of the sketch,
--- with this state; `Means` says that a form has a value there
-pub record Faithful (s : Setup) (r : Ranking) (i : ℕ) (T S F : Type 0) (k : Terms T S F) (At : T → S → Held → Type 0) (Means : F → S → Word → Held → Type 0) : Type 0 where
-  pub value : (e : Term) (st : S) (from : Held) (v : Word) (go : F → S → T) → At (k.value e st go) st from → CanBe s i e from.variables v → (f : F) × ((st' : S) × (At (go f st') st' from × Means f st' v from))
-  pub taken : (e : Term) (st : S) (from : Held) (v : Word) (yeses noes : S → T) → At (k.test e st yeses noes) st from → CanBe s i e from.variables v → is_zero v.value ≡ false → (st' : S) × At (yeses st') st' from
-  pub skipped : (e : Term) (st : S) (from : Held) (v : Word) (yeses noes : S → T) → At (k.test e st yeses noes) st from → CanBe s i e from.variables v → is_zero v.value ≡ true → (st' : S) × At (noes st') st' from
-  pub set : (f : F) (st : S) (v : Word) (from : Held) (x : ℕ) (rest : T) → At rest st from → Means f st v from → At rest (k.set st x f) (held (slice_set from.variables x v) from.ranks)
+-- with this state
+pub record Faithful (s : Setup) (r : Ranking) (i : ℕ) (T S F : Type 0) (k : Terms T S F) (At : T → S → Held → Type 0) : Type 0 where
+  pub value : (n : ℕ) (e : Term) (st : S) (from : Held) (v : Word) (go : F → S → T) → At (k.value n e st go) st from → CanBe s i e from.variables v → (f : F) × ((st' : S) × At (go f st') st' from)
+  pub taken : (n : ℕ) (e : Term) (st : S) (from : Held) (v : Word) (yeses noes : S → T) → At (k.test n e st yeses noes) st from → CanBe s i e from.variables v → is_zero v.value ≡ false → (st' : S) × At (yeses st') st' from
+  pub skipped : (n : ℕ) (e : Term) (st : S) (from : Held) (v : Word) (yeses noes : S → T) → At (k.test n e st yeses noes) st from → CanBe s i e from.variables v → is_zero v.value ≡ true → (st' : S) × At (noes st') st' from
+  pub set : (n : ℕ) (e : Term) (x : ℕ) (st : S) (from : Held) (v : Word) (go : S → T) → At (k.value n e st (λ f st'. go (k.set st' x f))) st from → CanBe s i e from.variables v → (st' : S) × At (go st') st' (held (slice_set from.variables x v) from.ranks)
   pub arrive : (n : ℕ) (again : Bool) (st : S) (from : Held) (go : S → T) → At (k.arrive n again st go) st from → (st' : S) × At (go st') st' from
   pub enter : (n : ℕ) (st : S) (from : Held) (go : S → T) → At (k.enter n st go) st from → (st' : S) × At (go st') st' (ranked r n i from)
   pub store : (a : Statement) (f : F) (st : S) (from : Held) (go : S → T) → At (k.store a f st go) st from → (st' : S) × At (go st') st' from
 
 -- an item stands in front of a statement: at a loop, of its test
 abbrev pub AtFront : {T S F : Type 0} → Terms T S F → (At : T → S → Held → Type 0) → Statement → (here : Held) → Type 0
-AtFront {T} {S} k At (Loop n e b u) here = (st : S) × ((yeses : (S → T)) × ((noes : (S → T)) × At (k.test e st yeses noes) st here))
+AtFront {T} {S} k At (Loop n e b u) here = (st : S) × ((yeses : (S → T)) × ((noes : (S → T)) × At (k.test n e st yeses noes) st here))
 AtFront {T} {S} k At a here = (again : Bool) × ((st : S) × ((t : Turns) × ((c : Courses T S) × At (draw_one k again a c t st) st here)))
+
+-- it has come to the test of a loop, where the claim on its rank is made; the test was true, and the loop is entered next
+abbrev pub AtArrival : {T S F : Type 0} → Terms T S F → (At : T → S → Held → Type 0) → (loop : ℕ) (again : Bool) (here : Held) → Type 0
+AtArrival {T} {S} k At n again here = (st : S) × ((go : (S → T)) × At (k.arrive n again st go) st here)
+
+abbrev pub AtEntering : {T S F : Type 0} → Terms T S F → (At : T → S → Held → Type 0) → (loop : ℕ) (here : Held) → Type 0
+AtEntering {T} {S} k At n here = (st : S) × ((go : (S → T)) × At (k.enter n st go) st here)

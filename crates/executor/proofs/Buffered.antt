@@ -14,7 +14,7 @@ use Rattle.write_log.proofs.Entries.{row-length}
 use Rattle.executor.specs.Ends.{buffer_cell as cell}
 use Rattle.executor.specs.Ends.{HasBuffers, IsResultOf, EndsEvery}
 
-rows-alike : (xs ys : List (List ℤ)) (b : ℕ) → map length xs ≡ map length ys → length (slice_index_or xs b []) ≡ length (slice_index_or ys b [])
+pub rows-alike : (xs ys : List (List ℤ)) (b : ℕ) → map length xs ≡ map length ys → length (slice_index_or xs b []) ≡ length (slice_index_or ys b [])
 rows-alike xs ys b h = row-length xs b ∙ ap (λ l. slice_index_or l b 0) h ∙ sym (row-length ys b)
 
 -- one group more

@@ -1,2 +1,3 @@
 pub mod Kernels
 pub mod Buffered
+pub mod Typed

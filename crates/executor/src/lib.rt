@@ -6,6 +6,7 @@
 
 mod error;
 mod group;
+mod kinds;
 mod running;
 
 pub use error::RunError;

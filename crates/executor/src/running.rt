@@ -9,11 +9,13 @@ ghost use Rattle.cert_check.specs.View.{typed_of, kept};
 ghost use Rattle.cert_check.specs.Accepting.{at_launch};
 ghost use Rattle.semantics.specs.Rounds.{IsDefined};
 ghost use Rattle.write_log.specs.Written.{words_of};
-ghost use Rattle.executor.specs.Ends.{IsResultOf, EndsEvery};
+ghost use Rattle.executor.specs.Ends.{IsResultOf, EndsEvery, HaveKinds};
+ghost use Rattle.executor.specs.Kinds.{typed};
 ghost use Rattle.executor.specs.Results.{Answers};
 
 use crate::error::RunError;
 use crate::group::run_group;
+use crate::kinds::of_parameters;
 use cert_check::Accepted;
 use launch::launches::{Buffers, Launch};
 use launch::meets::meets;
@@ -52,7 +54,7 @@ fn run_groups(alloc: Global, accepted: &Accepted, launch: &Launch) -> Result<Buf
 
 /// Runs an accepted kernel at a launch that fits it: the result by rounds, whatever the number of workers, and so what each
 /// interleaving of all work-items that is over ends with. The groups run one after another on the calling thread, and the gate is
-/// told nothing.
+/// told nothing. Each word that is answered has the kind of its buffer's parameter, whatever kind the launch's word has.
 pub fn run<R: Threads + Wait + Sync, G: Gate>(
     _rt: &R,
     alloc: Global,
@@ -64,6 +66,7 @@ pub fn run<R: Threads + Wait + Sync, G: Gate>(
     requires { Fits (core_seen (typed_of accepted.now).1) (launch_seen launch.now) }
     ensures answers { Answers (kept accepted.now) (launch_seen launch.now) workers result }
     ensures value { IfOk result (λ b. IsResultOf (at_launch (core_seen (typed_of accepted.now).1) (launch_seen launch.now)) (kept accepted.now).budget (words_of b)) }
+    ensures kinds { IfOk result (λ b. HaveKinds (core_seen (typed_of accepted.now).1).buffers (typed b)) }
     ensures every { IfOk result (λ b. EndsEvery (at_launch (core_seen (typed_of accepted.now).1) (launch_seen launch.now)) (words_of b)) }
     ensures meets { IfOk result (λ _. Meets (conditions_seen (kept accepted.now)) (launch_seen launch.now)) }
     ensures defined { IfOk result (λ _. IsDefined (at_launch (core_seen (typed_of accepted.now).1) (launch_seen launch.now)) (kept accepted.now).budget) }
@@ -75,5 +78,6 @@ pub fn run<R: Threads + Wait + Sync, G: Gate>(
     let buffers = run_groups(alloc, accepted, launch)?;
     headline();
     result_is_defined();
-    Ok(buffers)
+    let answer = of_parameters(alloc, accepted, &buffers)?;
+    Ok(answer)
 }

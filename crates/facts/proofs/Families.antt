@@ -23,7 +23,8 @@ late g e (suc (suc (suc (suc (suc (suc (suc (suc (suc (suc zero)))))))))) i h = 
 late g e (suc (suc (suc (suc (suc (suc (suc (suc (suc (suc (suc zero))))))))))) i h = absurd (omega arith)
 late g e (suc (suc (suc (suc (suc (suc (suc (suc (suc (suc (suc (suc zero)))))))))))) i h = refl
 late g e (suc (suc (suc (suc (suc (suc (suc (suc (suc (suc (suc (suc (suc zero))))))))))))) i h = refl
-late g e (suc (suc (suc (suc (suc (suc (suc (suc (suc (suc (suc (suc (suc (suc f)))))))))))))) i h = refl
+late g e (suc (suc (suc (suc (suc (suc (suc (suc (suc (suc (suc (suc (suc (suc zero)))))))))))))) i h = refl
+late g e (suc (suc (suc (suc (suc (suc (suc (suc (suc (suc (suc (suc (suc (suc (suc f))))))))))))))) i h = refl
 
 pub of_late : {E : Type 0} (g : Ghosts E) (e : Elements E) (n : ℕ) → 12 ≤ n % 16 → element g e (symbol_of n) ≡ g.top_of
 unfolding symbol_of

@@ -18,7 +18,7 @@ use Rattle.facts.proofs.Integers.{le_test}
 use Rattle.facts.proofs.Naming.{symbol_of-number}
 use Rattle.facts.proofs.Members.{Lawful, Members, by_number, between-has, element_of-has}
 use Rattle.facts.proofs.Launched.{local-below, group_id-below, sum_form-value}
-use Rattle.facts.proofs.Worlds.{Walked, setup_of, meaning, groups_at}
+use Rattle.facts.proofs.Worlds.{Walked, setup_of, Root, opening_root, meaning, groups_at}
 
 -- numbers are members of elements, place by place
 abbrev pub Fit : {E : Type 0} → Ghosts E → List E → List ℤ → Type 0
@@ -94,7 +94,7 @@ module _ {E : Type 0} (g : Ghosts E) (laws : Lawful g) where
   groups-has s c m i h (suc (suc (suc d))) = laws.top (pos 0)
 
   -- counts and arguments alone
-  so_far-has : (s : Setup) (c : Conditions) → Meets c s.launch → Members g (known_so_far g c) (meaning s 0 0 [] [])
+  so_far-has : (s : Setup) (c : Conditions) → Meets c s.launch → Members g (known_so_far g c) (meaning s 0 0 opening_root opening_root [] [])
   so_far-has s c m (symbols.Groups d) = counts-has c s.launch m d
   so_far-has s c m (ArgumentOf n) = arguments-has c.arguments s.launch.arguments m.arguments n
   so_far-has s c m (Length b) = laws.top _
@@ -110,21 +110,21 @@ module _ {E : Type 0} (g : Ghosts E) (laws : Lawful g) where
 
   sums-has : (s : Setup) (c : Conditions) → Meets c s.launch → (xs : List Summand) → g.has (element_of g (known_so_far g c) (sum_form xs)) (sum_value s.launch xs) ≡ true
   sums-has s c m xs =
-      let w = meaning s 0 0 [] [] in
+      let w = meaning s 0 0 opening_root opening_root [] [] in
       subst (λ z. g.has (element_of g (known_so_far g c) (sum_form xs)) z ≡ true) (sum_form-value (by_number w) s.launch (λ d. ap w (symbol_of-number (symbols.Groups d))) (λ n. ap w (symbol_of-number (ArgumentOf n))) xs)
       (element_of-has g laws (known_so_far g c) w (so_far-has s c m) (sum_form xs))
 
 -- of two items, with the new numbers of each
-pub members : {E : Type 0} (c : Walked E) (i j : ℕ) → i < item_count (setup_of c) → j < item_count (setup_of c) → (es fs : List E) (news more : List ℤ) → Fit c.domain es news → Fit c.domain fs more → Members c.domain (record { known = known c.domain c.kernel.sizes c.conditions; first = es; second = fs }) (meaning (setup_of c) i j news more)
-members c i j hi hj es fs news more p q (symbols.Groups d) = counts-has c.domain c.lawful c.conditions c.launch c.meets d
-members c i j hi hj es fs news more p q (ArgumentOf n) = arguments-has c.domain c.lawful c.conditions.arguments c.launch.arguments c.meets.arguments n
-members c i j hi hj es fs news more p q (Length b) = lengths-has c.domain c.lawful c.conditions c.launch (sums-has c.domain c.lawful (setup_of c) c.conditions c.meets) c.conditions.lengths c.kernel.buffers c.launch.buffers c.meets.lengths c.fits.buffers b
-members c i j hi hj es fs news more p q (Local First d) = locals-has c.domain c.lawful (setup_of c) i hi d
-members c i j hi hj es fs news more p q (Local Second d) = locals-has c.domain c.lawful (setup_of c) j hj d
-members c i j hi hj es fs news more p q (Group First d) = groups-has c.domain c.lawful (setup_of c) c.conditions c.meets i hi d
-members c i j hi hj es fs news more p q (Group Second d) = groups-has c.domain c.lawful (setup_of c) c.conditions c.meets j hj d
-members c i j hi hj es fs news more p q (New First k) = fit-nth c.domain c.lawful es news p k
-members c i j hi hj es fs news more p q (New Second k) = fit-nth c.domain c.lawful fs more q k
-members c i j hi hj es fs news more p q (Variable w x) = c.lawful.top _
-members c i j hi hj es fs news more p q (AtAnchor w x) = c.lawful.top _
-members c i j hi hj es fs news more p q (Turns w k) = c.lawful.top _
+pub members : {E : Type 0} (c : Walked E) (i j : ℕ) (root other : Root) → i < item_count (setup_of c) → j < item_count (setup_of c) → (es fs : List E) (news more : List ℤ) → Fit c.domain es news → Fit c.domain fs more → Members c.domain (record { known = known c.domain c.kernel.sizes c.conditions; first = es; second = fs }) (meaning (setup_of c) i j root other news more)
+members c i j root other hi hj es fs news more p q (symbols.Groups d) = counts-has c.domain c.lawful c.conditions c.launch c.meets d
+members c i j root other hi hj es fs news more p q (ArgumentOf n) = arguments-has c.domain c.lawful c.conditions.arguments c.launch.arguments c.meets.arguments n
+members c i j root other hi hj es fs news more p q (Length b) = lengths-has c.domain c.lawful c.conditions c.launch (sums-has c.domain c.lawful (setup_of c) c.conditions c.meets) c.conditions.lengths c.kernel.buffers c.launch.buffers c.meets.lengths c.fits.buffers b
+members c i j root other hi hj es fs news more p q (Local First d) = locals-has c.domain c.lawful (setup_of c) i hi d
+members c i j root other hi hj es fs news more p q (Local Second d) = locals-has c.domain c.lawful (setup_of c) j hj d
+members c i j root other hi hj es fs news more p q (Group First d) = groups-has c.domain c.lawful (setup_of c) c.conditions c.meets i hi d
+members c i j root other hi hj es fs news more p q (Group Second d) = groups-has c.domain c.lawful (setup_of c) c.conditions c.meets j hj d
+members c i j root other hi hj es fs news more p q (New First k) = fit-nth c.domain c.lawful es news p k
+members c i j root other hi hj es fs news more p q (New Second k) = fit-nth c.domain c.lawful fs more q k
+members c i j root other hi hj es fs news more p q (Variable w x) = c.lawful.top _
+members c i j root other hi hj es fs news more p q (AtAnchor w x) = c.lawful.top _
+members c i j root other hi hj es fs news more p q (Turns w k) = c.lawful.top _

@@ -4,7 +4,8 @@ use Rattle.std.specs.Prelude.{ℤ, pos}
 use Rattle.std.specs.List.{All}
 use lib.ListN.{get_or-append}
 use lib.Seq.{get_or-append_seam}
-use Rattle.semantics.specs.Word.{zero_word}
+use Rattle.semantics.specs.Word.{Word, zero_word}
+use Rattle.semantics.specs.Core.{Space}
 use Rattle.semantics.specs.Launch.{Kernel, Launch, Fits}
 use Rattle.semantics.specs.Setup.{Setup, along, item_count, local_id, group_id}
 use Rattle.semantics.specs.Conditions.{Conditions, Meets}
@@ -16,13 +17,14 @@ use Rattle.facts.specs.Launching.{are_sizes}
 use Rattle.facts.proofs.Naming.{symbol_of-number}
 use Rattle.facts.proofs.Members.{Lawful, by_number}
 
--- a kernel that is walked under conditions, at a launch that meets them
+-- a kernel that is walked under conditions, at a launch that meets them; its arrays are of these spaces
 pub record Walked (E : Type 0) : Type 1 where
   pub domain : Ghosts E
   pub lawful : Lawful domain
   pub kernel : Kernel
   pub conditions : Conditions
   pub has_entry : ℕ → Bool
+  pub spaces : Space → Bool
   pub launch : Launch
   pub sized : are_sizes kernel.sizes ≡ true
   pub fits : Fits kernel launch
@@ -31,12 +33,23 @@ pub record Walked (E : Type 0) : Type 1 where
 abbrev pub setup_of : {E : Type 0} → Walked E → Setup
 setup_of k = record { kernel = k.kernel; launch = k.launch }
 
+-- what an item has where its path begins: its variables, those at the anchor before, and what ranked each loop
+pub record Root : Type 0 where
+  pub variables : List Word
+  pub anchor : List Word
+  pub ranks : ℕ → ℤ
+
+-- as it opens
+abbrev pub opening_root : Root
+opening_root = record { variables = []; anchor = []; ranks = λ n. pos 0 }
+
 -- one of its items
 pub record View (E : Type 0) : Type 1 where
   pub walked : Walked E
   pub open walked use *
   pub item : ℕ
   pub place : item < item_count (setup_of walked)
+  pub root : Root
 
 abbrev pub setup : {E : Type 0} → View E → Setup
 setup c = setup_of c.walked
@@ -54,20 +67,26 @@ length_at l b = pos (length (slice_index_or l.buffers b []))
 abbrev pub new_at : List ℤ → ℕ → ℤ
 new_at news k = slice_index_or news k (pos 0)
 
--- those of two items; variables and turns stand for no number as yet
-abbrev pub meaning : Setup → (i j : ℕ) → (news more : List ℤ) → Symbol → ℤ
-meaning s i j news more (symbols.Groups d) = groups_at s.launch d
-meaning s i j news more (ArgumentOf n) = given_at s.launch n
-meaning s i j news more (Length b) = length_at s.launch b
-meaning s i j news more (Local First d) = pos (local_id s i d)
-meaning s i j news more (Group First d) = pos (group_id s i d)
-meaning s i j news more (New First k) = new_at news k
-meaning s i j news more (Local Second d) = pos (local_id s j d)
-meaning s i j news more (Group Second d) = pos (group_id s j d)
-meaning s i j news more (New Second k) = new_at more k
-meaning s i j news more (Variable w x) = pos 0
-meaning s i j news more (AtAnchor w x) = pos 0
-meaning s i j news more (Turns w k) = pos 0
+abbrev pub variable_at : List Word → ℕ → ℤ
+variable_at vars x = (slice_index_or vars x zero_word).value
+
+-- those of two items
+abbrev pub meaning : Setup → (i j : ℕ) → (root other : Root) → (news more : List ℤ) → Symbol → ℤ
+meaning s i j root other news more (symbols.Groups d) = groups_at s.launch d
+meaning s i j root other news more (ArgumentOf n) = given_at s.launch n
+meaning s i j root other news more (Length b) = length_at s.launch b
+meaning s i j root other news more (Local First d) = pos (local_id s i d)
+meaning s i j root other news more (Group First d) = pos (group_id s i d)
+meaning s i j root other news more (New First k) = new_at news k
+meaning s i j root other news more (Local Second d) = pos (local_id s j d)
+meaning s i j root other news more (Group Second d) = pos (group_id s j d)
+meaning s i j root other news more (New Second k) = new_at more k
+meaning s i j root other news more (Variable First x) = variable_at root.variables x
+meaning s i j root other news more (AtAnchor First x) = variable_at root.anchor x
+meaning s i j root other news more (Turns First k) = root.ranks k
+meaning s i j root other news more (Variable Second x) = variable_at other.variables x
+meaning s i j root other news more (AtAnchor Second x) = variable_at other.anchor x
+meaning s i j root other news more (Turns Second k) = other.ranks k
 
 pub record Agrees {E : Type 0} (c : View E) (news : List ℤ) (v : ℕ → ℤ) : Type 0 where
   pub groups : (d : ℕ) → v (number (symbols.Groups d)) ≡ groups_at c.launch d
@@ -75,6 +94,9 @@ pub record Agrees {E : Type 0} (c : View E) (news : List ℤ) (v : ℕ → ℤ) 
   pub lengths : (b : ℕ) → v (number (Length b)) ≡ length_at c.launch b
   pub local : (d : ℕ) → v (number (Local First d)) ≡ pos (local_id (setup c) c.item d)
   pub group : (d : ℕ) → v (number (Group First d)) ≡ pos (group_id (setup c) c.item d)
+  pub variable : (x : ℕ) → v (number (Variable First x)) ≡ variable_at c.root.variables x
+  pub at_anchor : (x : ℕ) → v (number (AtAnchor First x)) ≡ variable_at c.root.anchor x
+  pub turns : (k : ℕ) → v (number (Turns First k)) ≡ c.root.ranks k
   pub new : (k : ℕ) → k < length news → v (number (New First k)) ≡ new_at news k
 
 -- the form has that value in each valuation that agrees; the facts hold in each
@@ -86,7 +108,7 @@ Knows c news facts = (v : ℕ → ℤ) → Agrees c news v → All (IsMet v) fac
 
 -- an item's own numbers
 abbrev pub own : {E : Type 0} → View E → List ℤ → Symbol → ℤ
-own c news = meaning (setup c) c.item c.item news []
+own c news = meaning (setup c) c.item c.item c.root c.root news []
 
 pub agrees_itself : {E : Type 0} (c : View E) (news : List ℤ) → Agrees c news (by_number (own c news))
 agrees_itself c news = record {
@@ -95,6 +117,9 @@ agrees_itself c news = record {
   lengths = λ b. ap (own c news) (symbol_of-number (Length b));
   local = λ d. ap (own c news) (symbol_of-number (Local First d));
   group = λ d. ap (own c news) (symbol_of-number (Group First d));
+  variable = λ x. ap (own c news) (symbol_of-number (Variable First x));
+  at_anchor = λ x. ap (own c news) (symbol_of-number (AtAnchor First x));
+  turns = λ k. ap (own c news) (symbol_of-number (Turns First k));
   new = λ k h. ap (own c news) (symbol_of-number (New First k));
 }
 
@@ -105,6 +130,9 @@ agrees_before c news z v a = record {
   lengths = a.lengths;
   local = a.local;
   group = a.group;
+  variable = a.variable;
+  at_anchor = a.at_anchor;
+  turns = a.turns;
   new = λ k h. a.new k (omega (arith, length-append news (z ∷ []))) ∙ get_or-append news (z ∷ []) (pos 0) k h;
 }
 

@@ -40,7 +40,7 @@ number (Variable Second x) = 12 + 16 * x
 number (AtAnchor Second x) = 13 + 16 * x
 number (Turns Second k) = 14 + 16 * k
 
--- a family's symbol; there is none past the fifteenth family
+-- a family's symbol; no symbol has a number of the sixteenth family
 abbrev pub of_family : (family index : ℕ) → Symbol
 of_family zero i = Groups i
 of_family (suc zero) i = ArgumentOf i
@@ -56,7 +56,8 @@ of_family (suc (suc (suc (suc (suc (suc (suc (suc (suc (suc zero)))))))))) i = G
 of_family (suc (suc (suc (suc (suc (suc (suc (suc (suc (suc (suc zero))))))))))) i = New Second i
 of_family (suc (suc (suc (suc (suc (suc (suc (suc (suc (suc (suc (suc zero)))))))))))) i = Variable Second i
 of_family (suc (suc (suc (suc (suc (suc (suc (suc (suc (suc (suc (suc (suc zero))))))))))))) i = AtAnchor Second i
-of_family (suc (suc (suc (suc (suc (suc (suc (suc (suc (suc (suc (suc (suc (suc f)))))))))))))) i = Turns Second i
+of_family (suc (suc (suc (suc (suc (suc (suc (suc (suc (suc (suc (suc (suc (suc zero)))))))))))))) i = Turns Second i
+of_family (suc (suc (suc (suc (suc (suc (suc (suc (suc (suc (suc (suc (suc (suc (suc f))))))))))))))) i = Turns First i
 
 unfoldable pub symbol_of : ℕ → Symbol
 symbol_of n = of_family (n % 16) (n / 16)

@@ -2,7 +2,7 @@
 use Rattle.std.proofs.Common.{◌≡◌, ◌++◌, ◌∙◌, List, [], ◌∷◌, Option, None, Some, refl, sym, ap, subst}
 use Rattle.facts.specs.Symbols.{Fact}
 use Rattle.facts.specs.declared.error.WalkError.{WalkError}
-use Rattle.obligations.specs.Trees.{Manner, Plainly, ByPositive, ByNegative, Goal, AtLeastZero, Either, added, with_facts, facts_by}
+use Rattle.obligations.specs.Trees.{Manner, Plainly, ByPositive, ByNegative, ByQuotient, Goal, AtLeastZero, Either, Replaced, Divided, added, with_facts, facts_by}
 use Rattle.path_walk.specs.Paths.{Claimed}
 use Rattle.obligations.specs.Fitting.{denials_fit}
 use Rattle.item_pairs.specs.Goals.{manner, owed, denial_by}
@@ -21,6 +21,16 @@ added_is ByPositive (AtLeastZero f) = refl
 added_is ByPositive (Either p n) = refl
 added_is ByNegative (AtLeastZero f) = refl
 added_is ByNegative (Either p n) = refl
+added_is Plainly (Replaced made f) = refl
+added_is Plainly (Divided made f) = refl
+added_is ByPositive (Replaced made f) = refl
+added_is ByPositive (Divided made f) = refl
+added_is ByNegative (Replaced made f) = refl
+added_is ByNegative (Divided made f) = refl
+added_is ByQuotient (AtLeastZero f) = refl
+added_is ByQuotient (Either p n) = refl
+added_is ByQuotient (Replaced made f) = refl
+added_is ByQuotient (Divided made f) = refl
 
 -- `g` is the claim's goal
 pub facts_are : (launch : List Fact) (c : Claimed) (m : Manner) (g : Goal) (o : Option Fact) → g ≡ c.goal → o ≡ denial_by m g → with_facts (launch ++ c.facts) (added_by o) ≡ facts_by m (owed launch c)
@@ -34,3 +44,4 @@ pub pair_otherwise : (m : code.Manner) (facts : List Fact) → (m ≡ codes.Plai
 pair_otherwise codes.Plainly facts h = absurd (h refl)
 pair_otherwise codes.ByPositive facts h = refl
 pair_otherwise codes.ByNegative facts h = refl
+pair_otherwise codes.ByQuotient facts h = refl

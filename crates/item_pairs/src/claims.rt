@@ -81,11 +81,13 @@ fn denial_of(alloc: Global, goal: &Goal, manner: Manner) -> Result<Option<Form>,
     ensures { MatchResult result (λ o. maybe_form o ≡ denial_by (manner_seen manner) (goal_seen goal.now)) (DoNotFit (denials_fit (goal_seen goal.now))) }
 {
     match (goal, manner) {
-        (Goal::AtLeastZero(form), Manner::Plainly) => Ok(Some(denial(alloc, form)?)),
-        (Goal::AtLeastZero(_), _) => Ok(None),
-        (Goal::Either(_, _), Manner::Plainly) => Ok(None),
-        (Goal::Either(positive, _), Manner::ByPositive) => Ok(Some(denial(alloc, positive)?)),
-        (Goal::Either(_, negative), Manner::ByNegative) => Ok(Some(denial(alloc, negative)?)),
+        (Goal::AtLeastZero(form), Manner::Plainly)
+        | (Goal::Either(form, _), Manner::ByPositive)
+        | (Goal::Either(_, form), Manner::ByNegative)
+        | (Goal::Replaced { form, .. }, Manner::Plainly)
+        | (Goal::Divided { form, .. }, Manner::ByQuotient) => Ok(Some(denial(alloc, form)?)),
+        (Goal::AtLeastZero(_) | Goal::Either(_, _), _)
+        | (Goal::Replaced { .. } | Goal::Divided { .. }, _) => Ok(None),
     }
 }
 
@@ -94,7 +96,7 @@ fn try_goal(alloc: Global, goal: &Goal) -> Result<(), WalkError>
     ensures { MatchResult result (λ _. denials_fit (goal_seen goal.now) ≡ true) (DoNotFit (denials_fit (goal_seen goal.now))) }
 {
     match goal {
-        Goal::AtLeastZero(form) => {
+        Goal::AtLeastZero(form) | Goal::Replaced { form, .. } | Goal::Divided { form, .. } => {
             denial(alloc, form)?;
         }
         Goal::Either(positive, negative) => {

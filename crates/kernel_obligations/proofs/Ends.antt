@@ -1,36 +1,16 @@
--- Counts of ends and of claims, and what denies claims.
+-- Counts of claims, and what denies claims.
 use Rattle.std.proofs.Common.{◌≡◌, ℕ, suc, ◌+◌, List, [], ◌∷◌, ◌++◌, Bool, true, false, ◌&&◌, length, arith, refl, ap, ◌∙◌}
 use Rattle.std.proofs.lemmas.List.{length-append}
 use Rattle.facts.specs.Symbols.{Fact}
 use Rattle.obligations.specs.Fitting.{denials_fit, tree_denials_fit}
 use Rattle.obligations.specs.Trees.{Tree, Leaf, Dead, Claim, Know, Touch, Fork, after, claims}
-use Rattle.path_walk.specs.Paths.{Choice, First, Other, front, behind, by_choice, Claimed, Found, collect, add_claim, add_fact, add_access, take_first, take_other}
-use Rattle.path_walk.specs.Turns.{if_new, along, from, listed_claims, listed_ends}
+use Rattle.path_walk.specs.Paths.{Claimed}
+use Rattle.path_walk.specs.Turns.{from, listed_claims}
 use Rattle.item_pairs.specs.Listed.{claims_fit}
-
-nothing : {A : Type 0} (cs : List Choice) (rest : List A) → rest ≡ if_new cs [] ++ rest
-nothing [] rest = refl
-nothing (c ∷ cs) rest = refl
-
--- a path that comes to an end is counted
-pub found_ends : {E : Type 0} (m : Found E) (t : Tree E) → (collect m t).leaves ≡ m.leaves + length (along listed_ends m.facts m.left m.count t)
-unfolding collect
-found_ends m Leaf = omega arith
-found_ends m Dead = omega arith
-found_ends m (Claim o needed settled g rest) = found_ends (add_claim m o needed settled g) rest ∙ ap (λ l. m.leaves + length l) (nothing m.left (along listed_ends m.facts m.left (suc m.count) rest))
-found_ends m (Know f rest) = found_ends (add_fact m f) rest
-found_ends m (Touch t i h rest) = found_ends (add_access m t i h) rest ∙ ap (λ l. m.leaves + length l) (nothing m.left (along listed_ends m.facts m.left m.count rest))
-found_ends m (Fork a b) = at (front m.left) (found_ends (take_first m) a) (λ k. found_ends (take_other k m) (b k))
-  where
-    at : (c : Choice) → (collect (take_first m) a).leaves ≡ m.leaves + length (along listed_ends m.facts (behind m.left) m.count a) →
-        ((k : ℕ) → (collect (take_other k m) (b k)).leaves ≡ m.leaves + length (along listed_ends m.facts (behind m.left) k (b k))) →
-        (by_choice c (collect (take_first m) a) (λ k. collect (take_other k m) (b k))).leaves ≡ m.leaves + length (by_choice c (along listed_ends m.facts (behind m.left) m.count a) (λ k. along listed_ends m.facts (behind m.left) k (b k)))
-    at First f g = f
-    at (Other k) f g = g k
 
 -- before the end of a tree stand all its claims
 pub claims_counted : {E : Type 0} (launch facts : List Fact) (n : ℕ) (t : Tree E) → n + length (claims launch facts n t) ≡ after n t
-claims_counted launch facts n Leaf = omega arith
+claims_counted launch facts n (Leaf end) = omega arith
 claims_counted launch facts n Dead = omega arith
 claims_counted launch facts n (Claim o needed settled g rest) = let h = claims_counted launch facts (suc n) rest in omega (arith, h)
 claims_counted launch facts n (Know f rest) = claims_counted launch (facts ++ f ∷ []) n rest
@@ -50,7 +30,7 @@ both_fit (x ∷ xs) ys = ap (λ b. denials_fit x.goal && b) (both_fit xs ys) ∙
 
 -- what denies the claims that are listed is what denies those of the tree
 pub denials_listed : {E : Type 0} (facts : List Fact) (n : ℕ) (t : Tree E) → claims_fit (from listed_claims facts [] n t) ≡ tree_denials_fit n t
-denials_listed facts n Leaf = refl
+denials_listed facts n (Leaf end) = refl
 denials_listed facts n Dead = refl
 denials_listed facts n (Claim o needed settled g rest) = ap (λ b. denials_fit g && b) (denials_listed facts (suc n) rest)
 denials_listed facts n (Know f rest) = denials_listed (facts ++ f ∷ []) n rest

@@ -6,7 +6,7 @@ use Rattle.semantics.specs.Launch.{Kernel, Three}
 use Rattle.domain.specs.declared.Domain.{Ghosts}
 use Rattle.words.specs.View.{kind}
 use Rattle.words.specs.declared.word.Kind.{Kind}
-use Rattle.core_code.specs.View.{kernel}
+use Rattle.core_code.specs.View.{kernel, local_array}
 use Rattle.core_code.specs.declared.tree.Core.{Core}
 use Rattle.facts.specs.Launching.{launch_facts, item_facts, known}
 use Rattle.facts.specs.Symbols.{Fact, First}
@@ -60,7 +60,7 @@ module _ {E : Type 0} (g : Ghosts E) (k : Kernel) (c : Conditions) (h : ℕ → 
 
 -- the code's setting
 module _ {E : Type 0} (g : Ghosts E) (core : Core) (c : Conditions) (entries : List Bool) (s : code.Setting E)
-    (has_known : known_seen s.known ≡ known g (kernel core).sizes c) (has_sizes : s.sizes ≡ core.sizes) (has_buffers : map kind s.buffers.items ≡ (kernel core).buffers) (has_entries : s.entries.items ≡ entries) where
+    (has_known : known_seen s.known ≡ known g (kernel core).sizes c) (has_sizes : s.sizes ≡ core.sizes) (has_buffers : map kind s.buffers.items ≡ (kernel core).buffers) (has_arrays : map local_array s.arrays.items ≡ (kernel core).arrays) (has_entries : s.entries.items ≡ entries) where
   abbrev k : Kernel
   k = kernel core
 
@@ -71,7 +71,7 @@ module _ {E : Type 0} (g : Ghosts E) (core : Core) (c : Conditions) (entries : L
   walked = tree (views.setting g s) k
 
   walked_is : walked ≡ whole g k c h
-  walked_is = λ i. tree (record { domain = g; known = has_known i; sizes = ap three has_sizes i; buffers = has_buffers i; has_entry = flagged (has_entries i) }) k
+  walked_is = λ i. tree (record { domain = g; known = has_known i; sizes = ap three has_sizes i; buffers = has_buffers i; arrays = has_arrays i; has_entry = flagged (has_entries i) }) k
 
   pub few_paths : leaves 0 walked ≤ 256 → leaves 0 (whole g k c h) ≤ 256
   few_paths l = subst (λ t. leaves 0 t ≤ 256) walked_is l

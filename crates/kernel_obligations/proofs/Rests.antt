@@ -4,7 +4,7 @@ use Rattle.std.specs.Prelude.{Option, Some, None}
 use Rattle.linear.specs.Exact.{fits}
 use Rattle.facts.specs.Symbols.{Fact}
 use Rattle.obligations.specs.Fitting.{goal_fits, tree_fits}
-use Rattle.obligations.specs.Trees.{Goal, AtLeastZero, Either, Tree, Leaf, Dead, Claim, Know, Touch, Fork, after}
+use Rattle.obligations.specs.Trees.{Goal, Tree, Leaf, Dead, Claim, Know, Touch, Fork, after}
 use Rattle.path_walk.specs.Paths.{Choice, First, Other, front, behind, by_choice, is_goal_fit, Found, collect, add_claim, add_fact, add_access, take_first, take_other}
 use Rattle.path_walk.specs.Turns.{taken_in, count_in, turned, next_choices, RightAt, AreRight, is_tree_fit}
 use Rattle.path_walk.proofs.Turning.{ended, next_right}
@@ -28,7 +28,7 @@ other_left n a b k (Some cs) m = refl
 
 -- a path is one of those that are left
 pub one_fewer : {E : Type 0} (cs : List Choice) (n : ℕ) (t : Tree E) → AreRight cs n t → paths_from cs n t ≡ suc (paths_left n t (next_choices (taken_in cs t) (count_in cs n t)))
-one_fewer cs n Leaf r = refl
+one_fewer cs n (Leaf end) r = refl
 one_fewer cs n Dead r = refl
 one_fewer cs n (Claim o needed settled g rest) r = one_fewer cs (suc n) rest r ∙ ap suc (sym (claim_left n o needed settled g rest (next_choices (taken_in cs rest) (count_in cs (suc n) rest))))
 one_fewer cs n (Know f rest) r = one_fewer cs n rest r ∙ ap suc (sym (fact_left n f rest (next_choices (taken_in cs rest) (count_in cs n rest))))
@@ -68,22 +68,18 @@ true_and : (a b : Bool) → a ≡ true → (a && b) ≡ b
 true_and true b e = refl
 true_and false b e = absurd cc
 
-goal_same : (g : Goal) → is_goal_fit g ≡ goal_fits g
-goal_same (AtLeastZero f) = refl
-goal_same (Either p n) = refl
-
 -- both say the same
 pub tree_same : {E : Type 0} (n : ℕ) (t : Tree E) → is_tree_fit n t ≡ tree_fits n t
-tree_same n Leaf = refl
+tree_same n (Leaf end) = refl
 tree_same n Dead = refl
-tree_same n (Claim o needed settled g rest) = λ i. goal_same g i && tree_same (suc n) rest i
+tree_same n (Claim o needed settled g rest) = ap (λ b. goal_fits g && b) (tree_same (suc n) rest)
 tree_same n (Know f rest) = ap (λ b. fits f && b) (tree_same n rest)
 tree_same n (Touch t i h rest) = ap (λ b. fits i && b) (tree_same n rest)
 tree_same n (Fork a b) = λ i. tree_same n a i && tree_same (after n a) (b (after n a)) i
 
 -- from the first choices on it is the whole tree
 pub all_fits : {E : Type 0} (n : ℕ) (t : Tree E) → fits_from [] n t ≡ tree_fits n t
-all_fits n Leaf = refl
+all_fits n (Leaf end) = refl
 all_fits n Dead = refl
 all_fits n (Claim o needed settled g rest) = ap (λ b. goal_fits g && b) (all_fits (suc n) rest)
 all_fits n (Know f rest) = ap (λ b. fits f && b) (all_fits n rest)
@@ -93,7 +89,7 @@ all_fits n (Fork a b) = λ i. all_fits n a i && all_fits (after n a) (b (after n
 -- where all forms to the end fit, those before it do
 pub fit_before : {E : Type 0} (m : Found E) (t : Tree E) → (collect m t).is_fit ≡ true → m.is_fit ≡ true
 unfolding collect
-fit_before m Leaf h = h
+fit_before m (Leaf end) h = h
 fit_before m Dead h = h
 fit_before m (Claim o needed settled g rest) h = left_true m.is_fit (is_goal_fit g) (fit_before (add_claim m o needed settled g) rest h)
 fit_before m (Know f rest) h = left_true m.is_fit (fits f) (fit_before (add_fact m f) rest h)
@@ -124,10 +120,10 @@ other_rest n a b k (Some cs) m = refl
 -- where all forms along a path fit, what is left decides
 pub rest_decides : {E : Type 0} (m : Found E) (t : Tree E) → (collect m t).is_fit ≡ true → AreRight m.left m.count t → rest_fits m.count t (next_choices (taken_in m.left t) (count_in m.left m.count t)) ≡ fits_from m.left m.count t
 unfolding collect
-rest_decides m Leaf h r = refl
+rest_decides m (Leaf end) h r = refl
 rest_decides m Dead h r = refl
 rest_decides m (Claim o needed settled g rest) h r =
-    let f = sym (goal_same g) ∙ right_true m.is_fit (is_goal_fit g) (fit_before (add_claim m o needed settled g) rest h) in
+    let f = right_true m.is_fit (is_goal_fit g) (fit_before (add_claim m o needed settled g) rest h) in
     claim_rest m.count o needed settled g rest (next_choices (taken_in m.left rest) (count_in m.left (suc m.count) rest)) f
     ∙ rest_decides (add_claim m o needed settled g) rest h r ∙ sym (true_and (goal_fits g) (fits_from m.left (suc m.count) rest) f)
 rest_decides m (Know x rest) h r =

@@ -8,7 +8,7 @@ use Rattle.path_walk.specs.Turns.{AreRight}
 
 -- how many paths there are from these choices on, also those along which nobody goes on
 abbrev pub paths_from : {E : Type 0} → List Choice → ℕ → Tree E → ℕ
-paths_from cs n Leaf = 1
+paths_from cs n (Leaf e) = 1
 paths_from cs n Dead = 1
 paths_from cs n (Claim o needed settled g rest) = paths_from cs (suc n) rest
 paths_from cs n (Know f rest) = paths_from cs n rest
@@ -21,7 +21,7 @@ paths_left n t (Some cs) = paths_from cs n t
 
 -- all forms along those paths are of i64
 abbrev pub fits_from : {E : Type 0} → List Choice → ℕ → Tree E → Bool
-fits_from cs n Leaf = true
+fits_from cs n (Leaf e) = true
 fits_from cs n Dead = true
 fits_from cs n (Claim o needed settled g rest) = goal_fits g && fits_from cs (suc n) rest
 fits_from cs n (Know f rest) = fits f && fits_from cs n rest

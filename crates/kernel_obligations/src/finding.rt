@@ -2,7 +2,7 @@
 
 ghost use Rattle.std.specs.Prelude.{◌≡◌, ◌≤◌, map, true, IfOk, OnOk, IfErr};
 ghost use Rattle.words.specs.View.{kind};
-ghost use Rattle.core_code.specs.View.{kernel as core_seen};
+ghost use Rattle.core_code.specs.View.{kernel as core_seen, local_array};
 ghost use Rattle.launch.specs.View.{conditions as conditions_seen};
 ghost use Rattle.facts.specs.Launching as launching;
 ghost use Rattle.facts.specs.Refusals.{IsMemory};
@@ -35,15 +35,18 @@ fn setting_of<D: Domain>(
     ensures known { IfOk result (λ s. known_seen s.known ≡ launching.known D.Domain (core_seen core.now).sizes (conditions_seen conditions.now)) }
     ensures sizes { IfOk result (λ s. s.sizes ≡ core.now.sizes) }
     ensures buffers { IfOk result (λ s. map kind s.buffers.items ≡ (core_seen core.now).buffers) }
+    ensures arrays { IfOk result (λ s. map local_array s.arrays.items ≡ (core_seen core.now).arrays) }
     ensures entries { IfOk result (λ s. s.entries.items ≡ entries.items) }
     ensures memory { IfErr result IsMemory }
 {
     let known = known::<D>(alloc, core.sizes, conditions)?;
     let buffers = Vec::from_slice(alloc, core.buffers.as_slice())?;
+    let arrays = Vec::from_slice(alloc, core.arrays.as_slice())?;
     Ok(Setting {
         known,
         sizes: core.sizes,
         buffers,
+        arrays,
         entries,
     })
 }

@@ -8,11 +8,11 @@ ghost use Rattle.facts.specs.Symbols.{First, Fact};
 ghost use Rattle.obligations.specs.Covered as coverage;
 ghost use Rattle.obligations.specs.Fitting.{tree_fits, tree_denials_fit};
 ghost use Rattle.obligations.specs.Statements.{tree};
-ghost use Rattle.obligations.specs.Trees.{leaves, claims, accesses};
+ghost use Rattle.obligations.specs.Trees.{leaves, claims, accesses, ends};
 ghost use Rattle.path_walk.specs.View.{setting as setting_seen, choice as choice_seen};
 ghost use Rattle.item_pairs.specs.Goals.{owed};
 ghost use Rattle.item_pairs.specs.Listed.{claims_fit};
-ghost use Rattle.item_pairs.specs.Paths.{all_claims, all_accesses};
+ghost use Rattle.item_pairs.specs.Paths.{all_claims, all_accesses, all_ends};
 ghost use Rattle.kernel_obligations.specs.Refusals.{IsUnlisted};
 ghost use Rattle.kernel_obligations.specs.Rests.{paths_left};
 ghost use Rattle.kernel_obligations.specs.View.{maybe_choices};
@@ -60,7 +60,8 @@ fn turn<D: Domain>(
     ensures unlisted { IfErr result (IsUnlisted (tree (setting_seen D.Domain setting.now) (core_seen core.now))) }
 {
     let path = walk_path(alloc, setting, core, given)?;
-    let ends = count_ends(so_far.ends, path.leaves)?;
+    let more = path.ends.len();
+    let ends = count_ends(so_far.ends, more)?;
     let next = next_choices(alloc, path.taken.as_slice(), path.count)?;
     so_far.paths.push(path)?;
     so_far.ends = ends;
@@ -76,6 +77,7 @@ pub fn walk_paths<D: Domain>(
     requires covered { coverage.is_covered (core_seen core.now) ≡ true }
     ensures claims { IfOk result (λ ps. (launch : List Fact) → map (owed launch) (all_claims ps.items) ≡ claims launch (item_facts (core_seen core.now).sizes First) 0 (tree (setting_seen D.Domain setting.now) (core_seen core.now))) }
     ensures accesses { IfOk result (λ ps. all_accesses ps.items ≡ accesses (item_facts (core_seen core.now).sizes First) 0 (tree (setting_seen D.Domain setting.now) (core_seen core.now))) }
+    ensures ends { IfOk result (λ ps. all_ends ps.items ≡ ends (item_facts (core_seen core.now).sizes First) 0 (tree (setting_seen D.Domain setting.now) (core_seen core.now))) }
     ensures denials { IfOk result (λ ps. claims_fit (all_claims ps.items) ≡ tree_denials_fit 0 (tree (setting_seen D.Domain setting.now) (core_seen core.now))) }
     ensures few { OnOk result (leaves 0 (tree (setting_seen D.Domain setting.now) (core_seen core.now)) ≤ 256) }
     ensures fits { OnOk result (tree_fits 0 (tree (setting_seen D.Domain setting.now) (core_seen core.now)) ≡ true) }

@@ -5,7 +5,8 @@ use Rattle.semantics.specs.Core.{Site}
 use Rattle.semantics.specs.Word.{Kind, Operator, Less}
 use Rattle.facts.specs.declared.error.WalkError.{WalkError}
 use Rattle.obligations.specs.Trees.{Tree}
-use Rattle.obligations.specs.Walks.{Setting, State, Value, Onward, spot_at, at_site, both_brought}
+use Rattle.obligations.specs.Values.{Value}
+use Rattle.obligations.specs.Walks.{Setting, State, Onward, spot_at, at_site, both_brought}
 use Rattle.obligations.specs.Operators.{binary}
 use Rattle.obligations.specs.Tests.{split}
 use Rattle.obligations.specs.Terms.{chosen, pick}

@@ -8,7 +8,8 @@ use Rattle.core_code.specs.declared.tree.Statement.{Statement}
 use Rattle.facts.specs.declared.error.WalkError.{WalkError}
 use Rattle.obligations.specs.Covered.{is_covered_statement, are_covered}
 use Rattle.obligations.specs.Trees.{Spot, Tree}
-use Rattle.obligations.specs.Walks.{Setting, State, Value, stand}
+use Rattle.obligations.specs.Values.{Value}
+use Rattle.obligations.specs.Walks.{Setting, State, stand}
 use Rattle.obligations.specs.Terms.{walk, access, chosen}
 use Rattle.obligations.specs.Statements.{spot_of, assigned, walk_store, walk_one, walk_all}
 use Rattle.path_walk.specs.Paths.{Followed, collect, with_spot}

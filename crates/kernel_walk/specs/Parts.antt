@@ -3,7 +3,8 @@ use Rattle.std.specs.Prelude.{ℕ}
 use Rattle.semantics.specs.Word.{Kind, Operator, UnaryOperator, Relation}
 use Rattle.semantics.specs.Core.{Site, Term}
 use Rattle.obligations.specs.Trees.{Tree}
-use Rattle.obligations.specs.Walks.{Setting, State, Value, Onward, stand, at_site, brought, both_brought}
+use Rattle.obligations.specs.Values.{Value}
+use Rattle.obligations.specs.Walks.{Setting, State, Onward, stand, at_site, brought, both_brought}
 use Rattle.obligations.specs.Tests.{Outcomes, split}
 use Rattle.obligations.specs.Operators.{unary, binary}
 use Rattle.obligations.specs.Terms.{walk}

@@ -8,6 +8,7 @@ ghost use Rattle.facts.specs.Refusals.{IsMemory};
 ghost use Rattle.facts.specs.Symbols.{constant};
 ghost use Rattle.obligations.specs.Covered.{is_covered_unary};
 ghost use Rattle.obligations.specs.Terms as terms;
+ghost use Rattle.obligations.specs.Values as values;
 ghost use Rattle.obligations.specs.Walks as walks;
 ghost use Rattle.path_walk.specs.Halts.{Halts};
 ghost use Rattle.path_walk.specs.Leads.{Leads};
@@ -26,7 +27,7 @@ use words::Kind;
 
 /// A number of a kind.
 pub fn literal(alloc: Global, kind: Kind, number: u32) -> Value
-    ensures { value_seen result ≡ walks.value (kind_seen kind) (constant (pos number)) }
+    ensures { value_seen result ≡ values.value (kind_seen kind) (constant (pos number)) }
 {
     Value {
         kind,
@@ -78,7 +79,7 @@ pub fn id_value<D: Domain>(
     function: Function,
     dimension: u32,
 ) -> Result<Value, WalkError>
-    ensures { MatchResult result (λ v. value_seen v ≡ walks.value Uint (terms.id_form (seen D.Domain setting.now) (function_seen function) dimension)) IsMemory }
+    ensures { MatchResult result (λ v. value_seen v ≡ values.value Uint (terms.id_form (seen D.Domain setting.now) (function_seen function) dimension)) IsMemory }
 {
     let form = id_form(alloc, setting, function, dimension)?;
     Ok(Value {

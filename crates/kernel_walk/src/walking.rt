@@ -1,16 +1,17 @@
 //! The walk of a kernel along one path.
 
-ghost use Rattle.std.specs.Prelude.{◌≡◌, ◌++◌, true, map, MatchResult};
+ghost use Rattle.std.specs.Prelude.{◌≡◌, ◌++◌, [], Some, true, map, MatchResult};
+ghost use Rattle.arrivals.specs.Trees.{AtEnd};
 ghost use Rattle.words.specs.View.{kind as kind_seen};
 ghost use Rattle.core_code.specs.View.{kernel as core_seen};
 ghost use Rattle.facts.specs.Launching as launching;
 ghost use Rattle.facts.specs.Refusals.{IsMemory};
 ghost use Rattle.facts.specs.Symbols.{First, ArgumentOf, once};
 ghost use Rattle.obligations.specs.Covered.{is_covered};
-ghost use Rattle.obligations.specs.Walks as walks;
+ghost use Rattle.obligations.specs.Values as values;
 ghost use Rattle.obligations.specs.Statements as statements;
 ghost use Rattle.obligations.specs.Statements.{tree};
-ghost use Rattle.path_walk.specs.Paths.{collect, opening, with_leaf};
+ghost use Rattle.path_walk.specs.Paths.{collect, opening, stopped};
 ghost use Rattle.path_walk.specs.Refusals.{Refused};
 ghost use Rattle.path_walk.specs.View.{followed, choice as choice_seen, setting as seen, value as value_seen};
 
@@ -19,13 +20,13 @@ use crate::statements::walk_statements;
 use core_code::tree::Core;
 use domain::Domain;
 use facts::{Side, WalkError, item_facts, once_given};
-use path_walk::{Choice, Halt, Path, Setting, Value};
+use path_walk::{Choice, Halt, Path, Setting, Stop, Value};
 use std::alloc::Global;
 use words::Kind;
 
 /// A value parameter is its argument. There is no memory for 2^59 of them.
 fn argument(alloc: Global, kind: Kind, parameter: usize) -> Result<Value, WalkError>
-    ensures { MatchResult result (λ v. value_seen v ≡ walks.value (kind_seen kind) (once (ArgumentOf parameter))) IsMemory }
+    ensures { MatchResult result (λ v. value_seen v ≡ values.value (kind_seen kind) (once (ArgumentOf parameter))) IsMemory }
 {
     if parameter >= 1 << 59 {
         return Err(WalkError::Memory);
@@ -74,13 +75,13 @@ fn begun<D: Domain>(alloc: Global, core: &Core, given: Vec<Choice>) -> Result<Pa
     Ok(Path::opening(alloc, facts, variables, given))
 }
 
-#[tactic(auto, unfolding(path_walk::specs::View::followed))]
-/// The path ends.
-fn end<D: Domain>(path: &mut Path<D>)
-    requires { (followed path.old).found.leaves ≡ 0 }
-    ensures { followed path.new ≡ with_leaf (followed path.old) }
+/// The path comes to its end.
+fn end<D: Domain>(alloc: Global, path: Path<D>) -> Result<Path<D>, WalkError>
+    ensures { MatchResult result (λ p. (followed p).found ≡ stopped (followed path) AtEnd (Some [])) IsMemory }
 {
-    path.leaves += 1;
+    let mut path = path;
+    path.arrive(alloc, Stop::End, Some(Vec::new(alloc)))?;
+    Ok(path)
 }
 
 /// One path of a kernel, along these choices.
@@ -95,10 +96,7 @@ pub fn walk_path<D: Domain>(
 {
     let mut path = begun(alloc, core, given)?;
     match walk_statements(alloc, setting, &mut path, core.body.as_slice()) {
-        Ok(()) => {
-            end(&mut path);
-            Ok(path)
-        }
+        Ok(()) => end(alloc, path),
         Err(Halt::Dead) => Ok(path),
         Err(Halt::Refused(error)) => Err(error),
     }

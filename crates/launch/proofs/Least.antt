@@ -26,6 +26,10 @@ pub map-replicate : (n : ℕ) (w : Code) (z : ℤ) → value_of w ≡ z → map 
 map-replicate zero w z h = refl
 map-replicate (suc n) w z h = rw (h, map-replicate n w z h) refl
 
+pub words-replicate : (n : ℕ) (w : Code) (z : Word) → word w ≡ z → map word (replicate n w) ≡ replicate n z
+words-replicate zero w z h = refl
+words-replicate (suc n) w z h = rw (h, words-replicate n w z h) refl
+
 -- no sum reads the buffers
 summand-same : (c : Conditions) (a b : List (List ℤ)) (x : Summand) → summand_value (least_with c a) x ≡ summand_value (least_with c b) x
 summand-same c a b (Constant n) = refl
@@ -83,4 +87,4 @@ probe-meets c (Some l) h = probed-meets c (unmet_requirements (least_with c []) 
 
 pub ruleset least = (probe-meets)
 
-pub ruleset zeroes = (map-replicate)
+pub ruleset zeroes = (map-replicate, words-replicate)

@@ -2,9 +2,10 @@
 use Rattle.std.specs.Prelude.{ℕ, ℤ, pos, List, [], map, replicate, nat_le, sum, cond, Option, Some, None}
 use Rattle.std.specs.Prelude.{Vec}
 use Rattle.std.specs.declared.alloc.Global.{Global}
+use Rattle.semantics.specs.Word.{Word as Typed, word as typed}
 use Rattle.semantics.specs.Launch as launches
 use Rattle.semantics.specs.Conditions.{sum_value}
-use Rattle.words.specs.View.{word}
+use Rattle.words.specs.View.{kind, word}
 use Rattle.words.specs.declared.word.Word.{Word}
 use Rattle.launch.specs.View.{length_sum, buffer}
 use Rattle.launch.specs.Differences.{above_zero}
@@ -38,6 +39,10 @@ zeros n = replicate n (pos 0)
 abbrev pub zero_buffers : launches.Launch → List Length → Option (List (List ℤ))
 zero_buffers l ns = cond (nat_le (sum (least_lengths l ns)) 1048576) (Some (map zeros (least_lengths l ns))) None
 
+-- zeros as words of the kind of a length
+abbrev pub typed_zeros : launches.Launch → Length → List Typed
+typed_zeros l n = replicate (least_length l n) (typed (kind n.kind) (pos 0))
+
 -- nothing where a requirement is not met there, or where the lengths together pass 1,048,576
 abbrev pub probed : Option ℕ → Conditions → Option (List (List ℤ)) → Option launches.Launch
 probed None c (Some buffers) = Some (least_with c buffers)
@@ -51,3 +56,10 @@ probe c =
 -- the buffers of the code
 abbrev pub buffers_seen : Vec (Vec Word Global) Global → List (List ℤ)
 buffers_seen bs = map buffer bs.items
+
+-- and their words, with kinds
+abbrev pub words : Vec Word Global → List Typed
+words b = map word b.items
+
+abbrev pub words_seen : Vec (Vec Word Global) Global → List (List Typed)
+words_seen bs = map words bs.items

@@ -23,15 +23,15 @@ left_of_most : (b : Bound) → left b (most b) ≡ turns b
 left_of_most (bounds.Down form step n) = refl
 left_of_most (bounds.Halving form n) = refl
 
-ceil_falls : (m n s : ℕ) → 0 < s → n + s ≤ m → div_ceil n s < div_ceil m s
+pub ceil_falls : (m n s : ℕ) → 0 < s → n + s ≤ m → div_ceil n s < div_ceil m s
 ceil_falls m n s p h = lt_of_mul-lt-mul_right s (omega (arith, div_ceil_times n s p, div_ceil_times m s p))
 
-ceil_grows : (m n s : ℕ) → 0 < s → m ≤ n → div_ceil m s ≤ div_ceil n s
+pub ceil_grows : (m n s : ℕ) → 0 < s → m ≤ n → div_ceil m s ≤ div_ceil n s
 ceil_grows m n s p h =
     let k : div_ceil m s < div_ceil n s + 1 = lt_of_mul-lt-mul_right s (omega (arith, div_ceil_times n s p, div_ceil_times m s p, add-mul (div_ceil n s) 1 s)) in
     omega (arith, k)
 
-ceil_some : (n s : ℕ) → 0 < s → 0 < n → 0 < div_ceil n s
+pub ceil_some : (n s : ℕ) → 0 < s → 0 < n → 0 < div_ceil n s
 ceil_some n s p h = lt_of_mul-lt-mul_right s (omega (arith, div_ceil_times n s p))
 
 exponent : (a b : ℕ) → 2 ^ a < 2 ^ b → a < b
@@ -43,23 +43,26 @@ digits_are n p h =
     let t = leading_top 64 n p h in
     (t.0, omega (arith, t.1), t.2, t.3)
 
-digits_fall : (m n : ℕ) → 0 < n → n + n ≤ m → m < 2 ^ 64 → digits n < digits m
+pub digits_fall : (m n : ℕ) → 0 < n → n + n ≤ m → m < 2 ^ 64 → digits n < digits m
 digits_fall m n p h k =
     let a = digits_are n p (omega (arith, h, k)) in
     let b = digits_are m (omega (arith, p, h)) k in
     let e : suc a.0 < suc b.0 = exponent (suc a.0) (suc b.0) (omega (arith, pow-suc 2 a.0, a.2, h, b.3)) in
     omega (arith, a.1, b.1, e)
 
-digits_grow : (m n : ℕ) → 0 < m → m ≤ n → n < 2 ^ 64 → digits m ≤ digits n
+pub digits_grow : (m n : ℕ) → 0 < m → m ≤ n → n < 2 ^ 64 → digits m ≤ digits n
 digits_grow m n p h k =
     let a = digits_are m p (omega (arith, h, k)) in
     let b = digits_are n (omega (arith, p, h)) k in
     let e : a.0 < suc b.0 = exponent a.0 (suc b.0) (omega (arith, a.2, h, b.3)) in
     omega (arith, a.1, b.1, e)
 
+pub digits_some : (n : ℕ) → 0 < n → n < 2 ^ 64 → 0 < digits n
+digits_some n p h = omega (arith, (digits_are n p h).1)
+
 left_some : (b : Bound) (n : ℕ) → 0 < n → n < 2 ^ 64 → 0 < left b (pos n)
 left_some (bounds.Down form step k) n p h = ceil_some n step.size step.falls p
-left_some (bounds.Halving form k) n p h = omega (arith, (digits_are n p h).1)
+left_some (bounds.Halving form k) n p h = digits_some n p h
 
 left_falls : (b : Bound) (m n : ℕ) → 0 < n → m < 2 ^ 64 → Falls b (pos m) (pos n) → left b (pos n) < left b (pos m)
 left_falls (bounds.Down form step k) m n p h f = ceil_falls m n step.size step.falls (omega (arith, ints, f))

@@ -1,2 +1,2 @@
 mod Products
-mod Enough
+pub mod Enough

@@ -17,12 +17,13 @@ use Rattle.facts.proofs.Integers.{le_test, lt_test}
 use Rattle.facts.proofs.Members.{between-has}
 use Rattle.facts.proofs.Worlds.{View}
 use Rattle.obligations.specs.Trees.{Tree, Know}
-use Rattle.obligations.specs.Walks.{State, Value, value, Onward, claimed_once, element_of, bounds_of, least, greatest, any_of, unknown, is_number, ranged}
+use Rattle.obligations.specs.Values.{Value, value}
+use Rattle.obligations.specs.Walks.{State, Onward, claimed_once, element_of, bounds_of, least, greatest, any_of, unknown, is_number, ranged}
 use Rattle.obligations.specs.Operators.{product, is_over, is_under, lacks, claim_quotient, claim_divisor, left_over, quotient, is_exact, divided, remaining, is_power, is_mask, are_from_zero, masked_by, masked, binary, complement, shifted, unary}
 use Rattle.obligations.specs.Covered.{is_covered_unary}
 use Rattle.obligations.proofs.KindEnds.{in_kind-ends}
 use Rattle.obligations.proofs.Holding.{form-has, held_settles}
-use Rattle.obligations.proofs.Standing.{walks, Stands, Comes, way_then, over_claim, over_fact, past_claim, past_fact, at_once, comes_from, onward, arriving, told_either}
+use Rattle.obligations.proofs.Standing.{walks, Stands, Comes, way_then, over_claim, over_fact, past_claim, past_fact, at_once, comes_from, onward, arriving, told_either, Owns, owns}
 use Rattle.obligations.proofs.Ranges.{IsForm, IsValue, form_kept, form-is, form_constant, form-sum, form-multiple, form-minus, invent_sound, unknown_sound, Settles, ranged_sound}
 use Rattle.obligations.proofs.Splits.{int_eq-not, value-known}
 use Rattle.obligations.proofs.Divisions.{settle_in, uint-quotient, IsSafe, quotient-in, remainder-in, left-is, left-low, left-high, bits-in, and-below, or-below, xor-below, power_of, mask-left, and-plain, complement-bits, complement_uint-bits}
@@ -34,7 +35,7 @@ pub record DividesLawfully {E : Type 0} (g : Ghosts E) : Type 0 where
   pub mask : (a b : E) (m n : ℕ) → g.has a (pos m) ≡ true → g.has b (pos n) ≡ true → g.has (g.mask_of a b) (pos (bit_and m n)) ≡ true
 
 -- a result is a word of its kind, whose value arrives
-pub record Yields {E : Type 0} (c : View E) (launch facts : List Fact) (n : ℕ) (tree : Tree E) (go : Onward E) (news : List ℤ) (variables : List Value) (r : Result Word Fault) : Type 0 where
+pub record Yields {E : Type 0} (c : View E) (launch facts : List Fact) (n : ℕ) (tree : Tree E) (go : Onward E) (news : List ℤ) (variables : Owns) (r : Result Word Fault) : Type 0 where
   pub result : Word
   pub is : r ≡ Ok result
   pub right : in_kind result.kind result.value ≡ true
@@ -56,18 +57,18 @@ lacks-not b y z h e q =
 
 module _ {E : Type 0} (c : View E) (launch : List Fact) where
   -- a settled result
-  pub settled_yields : {facts : List Fact} {n : ℕ} {tree : Tree E} {news : List ℤ} {variables : List Value} (k : Kind) (y : ℤ) (go : Onward E) → Settles c launch facts n tree k go news variables y → Yields c launch facts n tree go news variables (settle k y)
+  pub settled_yields : {facts : List Fact} {n : ℕ} {tree : Tree E} {news : List ℤ} {variables : Owns} (k : Kind) (y : ℤ) (go : Onward E) → Settles c launch facts n tree k go news variables y → Yields c launch facts n tree go news variables (settle k y)
   settled_yields k y go s = record { result = word k (as_kind k y); is = s.settles; right = as_kind-in_kind k y; comes = s.comes }
 
   -- a number of its kind, whose form arrives
-  form_yields : {facts : List Fact} {n : ℕ} {tree : Tree E} {news : List ℤ} {variables : List Value} {r : Result Word Fault} (k : Kind) (z : ℤ) (go : Onward E) → in_kind k z ≡ true → r ≡ Ok (word k z) → Comes c launch facts n tree (λ f st. go (value k f) st) news variables (λ more f. IsForm c more f z) → Yields c launch facts n tree go news variables r
+  form_yields : {facts : List Fact} {n : ℕ} {tree : Tree E} {news : List ℤ} {variables : Owns} {r : Result Word Fault} (k : Kind) (z : ℤ) (go : Onward E) → in_kind k z ≡ true → r ≡ Ok (word k z) → Comes c launch facts n tree (λ f st. go (value k f) st) news variables (λ more f. IsForm c more f z) → Yields c launch facts n tree go news variables r
   form_yields k z go h e p = record { result = word k z; is = e; right = h; comes = arriving c launch go (value k) (λ more x. IsValue c more (word k z) x) (λ more f kept m. record { kind = refl; form = m }) p }
 
   -- products
   by_constant : {news : List ℤ} (f g : Fact) (x y : ℤ) → f.terms ≡ [] → IsForm c news f x → IsForm c news g y → IsForm c news (multiple f.constant g) (x *ℤ y)
   by_constant f g x y e mf mg = form-is c (x *ℤ y) (ap (λ z. z *ℤ y) (value-known c launch f x mf (ap (λ ts. is_number (record { terms = ts; constant = f.constant })) e))) (form-multiple c f.constant g y mg)
 
-  pub product_sound : (ts us : Terms) {facts : List Fact} {n : ℕ} {news : List ℤ} (f g : Fact) (x y : ℤ) (st : State E) (go : Fact → State E → Tree E) → f.terms ≡ ts → g.terms ≡ us → IsForm c news f x → IsForm c news g y → Stands c launch facts n (product (walks c) ts us f g st go) news st.held → Comes c launch facts n (product (walks c) ts us f g st go) go news st.variables (λ more h. IsForm c more h (x *ℤ y))
+  pub product_sound : (ts us : Terms) {facts : List Fact} {n : ℕ} {news : List ℤ} (f g : Fact) (x y : ℤ) (st : State E) (go : Fact → State E → Tree E) → f.terms ≡ ts → g.terms ≡ us → IsForm c news f x → IsForm c news g y → Stands c launch facts n (product (walks c) ts us f g st go) news st.held → Comes c launch facts n (product (walks c) ts us f g st go) go news (owns st) (λ more h. IsForm c more h (x *ℤ y))
   product_sound ts [] f g x y st go e k mf mg s = at_once c launch go (λ more h. IsForm c more h (x *ℤ y)) (multiple g.constant f) st (form-is c (x *ℤ y) (omega (arith, ints)) (by_constant g f y x k mg mf)) s
   product_sound [] (u ∷ us) f g x y st go e k mf mg s = at_once c launch go (λ more h. IsForm c more h (x *ℤ y)) (multiple f.constant g) st (by_constant f g x y e mf mg) s
   product_sound (t ∷ ts) (u ∷ us) {news = news} f g x y st go e k mf mg s =
@@ -80,19 +81,19 @@ module _ {E : Type 0} (c : View E) (launch : List Fact) where
   lacks-value {news = news} st f y z m s e = lacks-not (bounds_of (walks c) st f) y z (c.lawful.bounds (element_of (walks c) st f) y (form-has c news st.held f y s.fit m.means)) e
 
   -- the claims of a divisor
-  pub record Divides (facts : List Fact) (n : ℕ) (tree : Tree E) (go : State E → Tree E) (news : List ℤ) (variables : List Value) (k : Kind) (x y : ℤ) : Type 0 where
+  pub record Divides (facts : List Fact) (n : ℕ) (tree : Tree E) (go : State E → Tree E) (news : List ℤ) (variables : Owns) (k : Kind) (x y : ℤ) : Type 0 where
     pub nonzero : y ≡ pos 0 → ⊥
     pub safe : IsSafe k x y
     pub comes : Comes c launch facts n tree (λ (u : Unit {0}) st. go st) news variables (λ more u. Unit {0})
 
-  goes : {facts : List Fact} {n : ℕ} {news : List ℤ} (st : State E) (go : State E → Tree E) → Stands c launch facts n (go st) news st.held → Comes c launch facts n (go st) (λ (u : Unit {0}) st'. go st') news st.variables (λ more u. Unit {0})
+  goes : {facts : List Fact} {n : ℕ} {news : List ℤ} (st : State E) (go : State E → Tree E) → Stands c launch facts n (go st) news st.held → Comes c launch facts n (go st) (λ (u : Unit {0}) st'. go st') news (owns st) (λ more u. Unit {0})
   goes st go s = at_once c launch (λ (u : Unit {0}) st'. go st') (λ more u. Unit {0}) tt st tt s
 
-  record Quotes (facts : List Fact) (n : ℕ) (tree : Tree E) (go : State E → Tree E) (news : List ℤ) (variables : List Value) (k : Kind) (x y : ℤ) : Type 0 where
+  record Quotes (facts : List Fact) (n : ℕ) (tree : Tree E) (go : State E → Tree E) (news : List ℤ) (variables : Owns) (k : Kind) (x y : ℤ) : Type 0 where
     safe : IsSafe k x y
     comes : Comes c launch facts n tree (λ (u : Unit {0}) st. go st) news variables (λ more u. Unit {0})
 
-  quotes : (k : Kind) {facts : List Fact} {n : ℕ} {news : List ℤ} (f g : Fact) (x y : ℤ) (st : State E) (go : State E → Tree E) → IsForm c news f x → IsForm c news g y → Stands c launch facts n (claim_quotient (walks c) k f g st go) news st.held → Quotes facts n (claim_quotient (walks c) k f g st go) go news st.variables k x y
+  quotes : (k : Kind) {facts : List Fact} {n : ℕ} {news : List ℤ} (f g : Fact) (x y : ℤ) (st : State E) (go : State E → Tree E) → IsForm c news f x → IsForm c news g y → Stands c launch facts n (claim_quotient (walks c) k f g st go) news st.held → Quotes facts n (claim_quotient (walks c) k f g st go) go news (owns st) k x y
   quotes Uint f g x y st go mf mg s = record { safe = tt; comes = goes st go s }
   quotes Int {news = news} f g x y st go mf mg s =
       let t = told_either c launch g (minus f (constant (negsuc 2147483646))) y (x -ℤ negsuc 2147483646) s mg.means (form-minus c f (constant (negsuc 2147483646)) x (negsuc 2147483646) (x -ℤ negsuc 2147483646) mf (form_constant c news (negsuc 2147483646)) (omega (arith, ints))).means in
@@ -104,7 +105,7 @@ module _ {E : Type 0} (c : View E) (launch : List Fact) where
         comes = comes_from c launch (over_claim c launch) (goes (claimed_once st) go (past_claim c launch s));
       }
 
-  pub divides : (k : Kind) {facts : List Fact} {n : ℕ} {news : List ℤ} (f g : Fact) (x y : ℤ) (st : State E) (go : State E → Tree E) → IsForm c news f x → IsForm c news g y → Stands c launch facts n (claim_divisor (walks c) k f g st go) news st.held → Divides facts n (claim_divisor (walks c) k f g st go) go news st.variables k x y
+  pub divides : (k : Kind) {facts : List Fact} {n : ℕ} {news : List ℤ} (f g : Fact) (x y : ℤ) (st : State E) (go : State E → Tree E) → IsForm c news f x → IsForm c news g y → Stands c launch facts n (claim_divisor (walks c) k f g st go) news st.held → Divides facts n (claim_divisor (walks c) k f g st go) go news (owns st) k x y
   divides k {news = news} f g x y st go mf mg s =
       let t = told_either c launch (minus g (constant (pos 1))) (minus (constant (negsuc 0)) g) (y -ℤ pos 1) (negsuc 0 -ℤ y) s (form-minus c g (constant (pos 1)) y (pos 1) (y -ℤ pos 1) mg (form_constant c news (pos 1)) (omega (arith, ints))).means (form-minus c (constant (negsuc 0)) g (negsuc 0) y (negsuc 0 -ℤ y) (form_constant c news (negsuc 0)) mg (omega (arith, ints))).means in
       let q = quotes k f g x y (claimed_once st) go mf mg (past_claim c launch s) in
@@ -119,7 +120,7 @@ module _ {E : Type 0} (c : View E) (launch : List Fact) where
 
   -- a quotient and what it leaves
   pub quotient_sound : (k : Kind) {facts : List Fact} {n : ℕ} {news : List ℤ} (f : Fact) (x d : ℤ) (st : State E) (go : Fact → Fact → State E → Tree E) → IsForm c news f x → pos 0 ≤ℤ x → pos 0 <ℤ d → in_kind k (int_div x d) ≡ true → Stands c launch facts n (quotient (walks c) k f d st go) news st.held →
-      Comes c launch facts n (quotient (walks c) k f d st go) (λ (p : Fact × Fact) st'. go p.0 p.1 st') news st.variables (λ more p. IsForm c more p.0 (int_div x d) × IsForm c more p.1 (int_rem x d))
+      Comes c launch facts n (quotient (walks c) k f d st go) (λ (p : Fact × Fact) st'. go p.0 p.1 st') news (owns st) (λ more p. IsForm c more p.0 (int_div x d) × IsForm c more p.1 (int_rem x d))
   quotient_sound k f x d st go m hx hd h s =
       let z = int_div x d in
       let ends = in_kind-ends k z h in
@@ -145,7 +146,7 @@ module _ {E : Type 0} (c : View E) (launch : List Fact) where
       let q = and_parts (int_lt (pos 0) g.constant) (is_from_zero (bounds_of (walks c) st f).low) p.1 in
       record { constant = value-known c launch g y mg p.0; low = held_settles c news st.held f x s.fit mf.means q.1; above = lt_test (pos 0) g.constant q.0 }
 
-  divided_sound : (b : Bool) (more : DividesLawfully c.domain) (k : Kind) {facts : List Fact} {n : ℕ} {news : List ℤ} (f g : Fact) (x y : ℤ) (st : State E) (go : Fact → State E → Tree E) → is_exact (walks c) st f g ≡ b → in_kind k (int_div x y) ≡ true → (y ≡ pos 0 → ⊥) → IsForm c news f x → IsForm c news g y → Stands c launch facts n (divided (walks c) b k f g st go) news st.held → Comes c launch facts n (divided (walks c) b k f g st go) go news st.variables (λ more h. IsForm c more h (int_div x y))
+  divided_sound : (b : Bool) (more : DividesLawfully c.domain) (k : Kind) {facts : List Fact} {n : ℕ} {news : List ℤ} (f g : Fact) (x y : ℤ) (st : State E) (go : Fact → State E → Tree E) → is_exact (walks c) st f g ≡ b → in_kind k (int_div x y) ≡ true → (y ≡ pos 0 → ⊥) → IsForm c news f x → IsForm c news g y → Stands c launch facts n (divided (walks c) b k f g st go) news st.held → Comes c launch facts n (divided (walks c) b k f g st go) go news (owns st) (λ more h. IsForm c more h (int_div x y))
   divided_sound true laws k f g x y st go e h z mf mg s =
       let w = exactly f g x y st mf mg s e in
       let p = quotient_sound k f x g.constant st (λ q r st'. go q st') mf w.low w.above (ap (λ d. in_kind k (int_div x d)) w.constant ∙ h) s in
@@ -155,7 +156,7 @@ module _ {E : Type 0} (c : View E) (launch : List Fact) where
       let eg = element_of (walks c) st g in
       invent_sound c launch (c.domain.div_of ef eg) st go (int_div x y) (laws.div ef eg x y (form-has c news st.held f x s.fit mf.means) (form-has c news st.held g y s.fit mg.means) z) s
 
-  remaining_sound : (b : Bool) (more : DividesLawfully c.domain) (k : Kind) {facts : List Fact} {n : ℕ} {news : List ℤ} (f g : Fact) (x y : ℤ) (st : State E) (go : Fact → State E → Tree E) → is_exact (walks c) st f g ≡ b → in_kind k (int_div x y) ≡ true → (y ≡ pos 0 → ⊥) → IsForm c news f x → IsForm c news g y → Stands c launch facts n (remaining (walks c) b k f g st go) news st.held → Comes c launch facts n (remaining (walks c) b k f g st go) go news st.variables (λ more h. IsForm c more h (int_rem x y))
+  remaining_sound : (b : Bool) (more : DividesLawfully c.domain) (k : Kind) {facts : List Fact} {n : ℕ} {news : List ℤ} (f g : Fact) (x y : ℤ) (st : State E) (go : Fact → State E → Tree E) → is_exact (walks c) st f g ≡ b → in_kind k (int_div x y) ≡ true → (y ≡ pos 0 → ⊥) → IsForm c news f x → IsForm c news g y → Stands c launch facts n (remaining (walks c) b k f g st go) news st.held → Comes c launch facts n (remaining (walks c) b k f g st go) go news (owns st) (λ more h. IsForm c more h (int_rem x y))
   remaining_sound true laws k f g x y st go e h z mf mg s =
       let w = exactly f g x y st mf mg s e in
       let p = quotient_sound k f x g.constant st (λ q r st'. go r st') mf w.low w.above (ap (λ d. in_kind k (int_div x d)) w.constant ∙ h) s in
@@ -167,14 +168,14 @@ module _ {E : Type 0} (c : View E) (launch : List Fact) where
 
   -- the bits of both
   masked_by_sound : (b : Bool) (laws : DividesLawfully c.domain) (k : Kind) {facts : List Fact} {n : ℕ} {news : List ℤ} (f g : Fact) (x y : ℤ) (st : State E) (go : Fact → State E → Tree E) → are_from_zero (walks c) st f g ≡ b → in_kind k x ≡ true → in_kind k y ≡ true → IsForm c news f x → IsForm c news g y → Stands c launch facts n (masked_by (walks c) b k f g st go) news st.held →
-      Comes c launch facts n (masked_by (walks c) b k f g st go) go news st.variables (λ more h. IsForm c more h (read_bits k (bit_and (bits_of x) (bits_of y))))
+      Comes c launch facts n (masked_by (walks c) b k f g st go) go news (owns st) (λ more h. IsForm c more h (read_bits k (bit_and (bits_of x) (bits_of y))))
   masked_by_sound true laws k {facts = facts} {n = n} {news = news} f g x y st go e hx hy mf mg s =
       let p = and_parts (is_from_zero (bounds_of (walks c) st f).low) (is_from_zero (bounds_of (walks c) st g).low) e in
       let ef = element_of (walks c) st f in
       let eg = element_of (walks c) st g in
       by x y hx hy (held_settles c news st.held f x s.fit mf.means p.0) (held_settles c news st.held g y s.fit mg.means p.1) (form-has c news st.held f x s.fit mf.means) (form-has c news st.held g y s.fit mg.means)
     where
-      by : (x y : ℤ) → in_kind k x ≡ true → in_kind k y ≡ true → pos 0 ≤ℤ x → pos 0 ≤ℤ y → c.domain.has (element_of (walks c) st f) x ≡ true → c.domain.has (element_of (walks c) st g) y ≡ true → Comes c launch facts n (masked_by (walks c) true k f g st go) go news st.variables (λ more h. IsForm c more h (read_bits k (bit_and (bits_of x) (bits_of y))))
+      by : (x y : ℤ) → in_kind k x ≡ true → in_kind k y ≡ true → pos 0 ≤ℤ x → pos 0 ≤ℤ y → c.domain.has (element_of (walks c) st f) x ≡ true → c.domain.has (element_of (walks c) st g) y ≡ true → Comes c launch facts n (masked_by (walks c) true k f g st go) go news (owns st) (λ more h. IsForm c more h (read_bits k (bit_and (bits_of x) (bits_of y))))
       by (pos m) (pos j) hx hy lx ly ix iy = invent_sound c launch (c.domain.mask_of (element_of (walks c) st f) (element_of (walks c) st g)) st go (read_bits k (bit_and (bits_of (pos m)) (bits_of (pos j))))
           (subst (λ z. c.domain.has (c.domain.mask_of (element_of (walks c) st f) (element_of (walks c) st g)) z ≡ true) (sym (and-plain k m j hx hy)) (laws.mask (element_of (walks c) st f) (element_of (walks c) st g) m j ix iy)) s
       by (pos m) (negsuc j) hx hy lx ly ix iy = absurd (omega (arith, ints))
@@ -185,7 +186,7 @@ module _ {E : Type 0} (c : View E) (launch : List Fact) where
       invent_sound c launch (any_of c.domain k) st go z (between-has c.domain c.lawful (least k) (greatest k) z ends.0 ends.1) s
 
   masked_sound : (b : Bool) (laws : DividesLawfully c.domain) (k : Kind) {facts : List Fact} {n : ℕ} {news : List ℤ} (f g : Fact) (x y : ℤ) (st : State E) (go : Fact → State E → Tree E) → is_mask k g ≡ b → in_kind k x ≡ true → in_kind k y ≡ true → IsForm c news f x → IsForm c news g y → Stands c launch facts n (masked (walks c) b k f g st go) news st.held →
-      Comes c launch facts n (masked (walks c) b k f g st go) go news st.variables (λ more h. IsForm c more h (read_bits k (bit_and (bits_of x) (bits_of y))))
+      Comes c launch facts n (masked (walks c) b k f g st go) go news (owns st) (λ more h. IsForm c more h (read_bits k (bit_and (bits_of x) (bits_of y))))
   masked_sound true laws Int f g x y st go e hx hy mf mg s = cc
   masked_sound true laws Uint f g x y st go e hx hy mf mg s =
       let p = and_parts (is_number g) (is_power 32 (g.constant +ℤ pos 1)) e in
@@ -199,11 +200,11 @@ module _ {E : Type 0} (c : View E) (launch : List Fact) where
   masked_sound false laws k f g x y st go e hx hy mf mg s = masked_by_sound (are_from_zero (walks c) st f g) laws k f g x y st go refl hx hy mf mg s
 
   -- a value of which no more is known than its kind
-  unknown_yields : (k : Kind) {facts : List Fact} {n : ℕ} {news : List ℤ} {r : Result Word Fault} (z : ℤ) (st : State E) (go : Onward E) → in_kind k z ≡ true → r ≡ Ok (word k z) → Stands c launch facts n (unknown (walks c) k st go) news st.held → Yields c launch facts n (unknown (walks c) k st go) go news st.variables r
+  unknown_yields : (k : Kind) {facts : List Fact} {n : ℕ} {news : List ℤ} {r : Result Word Fault} (z : ℤ) (st : State E) (go : Onward E) → in_kind k z ≡ true → r ≡ Ok (word k z) → Stands c launch facts n (unknown (walks c) k st go) news st.held → Yields c launch facts n (unknown (walks c) k st go) go news (owns st) r
   unknown_yields k z st go h e s = record { result = word k z; is = e; right = h; comes = unknown_sound c launch k st go z h s }
 
   -- an operator on two numbers of its kind
-  pub binary_sound : (op : Operator) (laws : DividesLawfully c.domain) (k : Kind) {facts : List Fact} {n : ℕ} {news : List ℤ} (f g : Fact) (x y : ℤ) (st : State E) (go : Onward E) → in_kind k x ≡ true → in_kind k y ≡ true → IsForm c news f x → IsForm c news g y → Stands c launch facts n (binary (walks c) op k f g st go) news st.held → Yields c launch facts n (binary (walks c) op k f g st go) go news st.variables (calculate op k x y)
+  pub binary_sound : (op : Operator) (laws : DividesLawfully c.domain) (k : Kind) {facts : List Fact} {n : ℕ} {news : List ℤ} (f g : Fact) (x y : ℤ) (st : State E) (go : Onward E) → in_kind k x ≡ true → in_kind k y ≡ true → IsForm c news f x → IsForm c news g y → Stands c launch facts n (binary (walks c) op k f g st go) news st.held → Yields c launch facts n (binary (walks c) op k f g st go) go news (owns st) (calculate op k x y)
   binary_sound Add laws k f g x y st go hx hy mf mg s = settled_yields k (x +ℤ y) go (ranged_sound c launch k (sum f g) st go (x +ℤ y) s (form-sum c f g x y mf mg))
   binary_sound Subtract laws k f g x y st go hx hy mf mg s = settled_yields k (x -ℤ y) go (ranged_sound c launch k (minus f g) st go (x -ℤ y) s (form-minus c f g x y (x -ℤ y) mf mg (omega (arith, ints))))
   binary_sound Multiply laws k f g x y st go hx hy mf mg s =
@@ -234,7 +235,7 @@ module _ {E : Type 0} (c : View E) (launch : List Fact) where
   binary_sound BitXor laws k f g x y st go hx hy mf mg s = unknown_yields k (read_bits k (bit_xor (bits_of x) (bits_of y))) st go (bits-in k (bit_xor (bits_of x) (bits_of y)) (xor-below x y)) refl s
 
   -- an operator on one value
-  complement_sound : (k : Kind) {facts : List Fact} {n : ℕ} {news : List ℤ} (w : Word) (f : Fact) (st : State E) (go : Onward E) → in_kind w.kind w.value ≡ true → IsForm c news f w.value → Stands c launch facts n (ranged (walks c) k (complement k f) st go) news st.held → Yields c launch facts n (ranged (walks c) k (complement k f) st go) go news st.variables (calculate_unary Complement k w.value)
+  complement_sound : (k : Kind) {facts : List Fact} {n : ℕ} {news : List ℤ} (w : Word) (f : Fact) (st : State E) (go : Onward E) → in_kind w.kind w.value ≡ true → IsForm c news f w.value → Stands c launch facts n (ranged (walks c) k (complement k f) st go) news st.held → Yields c launch facts n (ranged (walks c) k (complement k f) st go) go news (owns st) (calculate_unary Complement k w.value)
   complement_sound Int {news = news} w f st go h m s =
       let y = negsuc 0 -ℤ w.value in
       let t = ranged_sound c launch Int (minus (constant (negsuc 0)) f) st go y s (form-minus c (constant (negsuc 0)) f (negsuc 0) w.value y (form_constant c news (negsuc 0)) m (omega (arith, ints))) in
@@ -244,7 +245,7 @@ module _ {E : Type 0} (c : View E) (launch : List Fact) where
       let t = ranged_sound c launch Uint (minus (constant (pos 4294967295)) f) st go y s (form-minus c (constant (pos 4294967295)) f (pos 4294967295) w.value y (form_constant c news (pos 4294967295)) m (omega (arith, ints))) in
       record { result = word Uint (as_kind Uint y); is = ap (λ n. Ok (word Uint (read_bits Uint n))) (sym (complement_uint-bits w.kind w.value h)); right = as_kind-in_kind Uint y; comes = t.comes }
 
-  shifted_sound : (from : Kind) {facts : List Fact} {n : ℕ} {news : List ℤ} (f : Fact) (x : ℤ) (by : ℕ) (st : State E) (go : Onward E) → in_kind from x ≡ true → IsForm c news f x → Stands c launch facts n (shifted (walks c) from Uint f by st go) news st.held → Yields c launch facts n (shifted (walks c) from Uint f by st go) go news st.variables (settle Uint (int_div x (pos (2 ^ by))))
+  shifted_sound : (from : Kind) {facts : List Fact} {n : ℕ} {news : List ℤ} (f : Fact) (x : ℤ) (by : ℕ) (st : State E) (go : Onward E) → in_kind from x ≡ true → IsForm c news f x → Stands c launch facts n (shifted (walks c) from Uint f by st go) news st.held → Yields c launch facts n (shifted (walks c) from Uint f by st go) go news (owns st) (settle Uint (int_div x (pos (2 ^ by))))
   shifted_sound Int f x by st go h m s = unknown_yields Uint (as_kind Uint (int_div x (pos (2 ^ by)))) st go (as_kind-in_kind Uint (int_div x (pos (2 ^ by)))) refl s
   shifted_sound Uint f x by st go h m s =
       let d = pos (2 ^ by) in
@@ -252,7 +253,7 @@ module _ {E : Type 0} (c : View E) (launch : List Fact) where
       let p = quotient_sound Uint f x d st (λ q r st'. go (value Uint q) st') m (in_kind-ends Uint x h).0 (let l = pow_pos by in omega (arith, ints, l)) i s in
       form_yields Uint (int_div x d) go i (settle_in Uint (int_div x d) i) (arriving c launch (λ q st'. go (value Uint q) st') (λ (p : Fact × Fact). p.0) (λ more q. IsForm c more q (int_div x d)) (λ more q kept m. m.0) p)
 
-  pub unary_sound : (op : UnaryOperator) (k : Kind) → is_covered_unary op k ≡ true → {facts : List Fact} {n : ℕ} {news : List ℤ} (w : Word) (x : Value) (st : State E) (go : Onward E) → in_kind w.kind w.value ≡ true → IsValue c news w x → Stands c launch facts n (unary (walks c) op k x st go) news st.held → Yields c launch facts n (unary (walks c) op k x st go) go news st.variables (calculate_unary op k w.value)
+  pub unary_sound : (op : UnaryOperator) (k : Kind) → is_covered_unary op k ≡ true → {facts : List Fact} {n : ℕ} {news : List ℤ} (w : Word) (x : Value) (st : State E) (go : Onward E) → in_kind w.kind w.value ≡ true → IsValue c news w x → Stands c launch facts n (unary (walks c) op k x st go) news st.held → Yields c launch facts n (unary (walks c) op k x st go) go news (owns st) (calculate_unary op k w.value)
   unary_sound Negate k e w x st go h m s = settled_yields k (neg_ℤ w.value) go (ranged_sound c launch k (multiple (negsuc 0) x.form) st go (neg_ℤ w.value) s (form-is c (neg_ℤ w.value) (omega (arith, ints)) (form-multiple c (negsuc 0) x.form w.value m.form)))
   unary_sound Complement k e w x st go h m s = complement_sound k w x.form st go h m.form s
   unary_sound (ShiftLeft by) k e w x st go h m s = settled_yields k (w.value *ℤ pos (2 ^ by)) go (ranged_sound c launch k (multiple (pos (2 ^ by)) x.form) st go (w.value *ℤ pos (2 ^ by)) s (form-is c (w.value *ℤ pos (2 ^ by)) (mul_comm (pos (2 ^ by)) w.value) (form-multiple c (pos (2 ^ by)) x.form w.value m.form)))

@@ -12,7 +12,8 @@ use Rattle.arrivals.specs.Places.{own_place, tree}
 use Rattle.arrivals.specs.Paths.{CanBe, Follows, Held, held, Ranking}
 use Rattle.arrivals.proofs.Following.{ComesTo, comes_of}
 use Rattle.obligations.specs.Trees as obligations
-use Rattle.obligations.specs.Walks.{Setting, State, Value, Onward, stand}
+use Rattle.obligations.specs.Values.{Value}
+use Rattle.obligations.specs.Walks.{Setting, State, Onward, stand}
 use Rattle.obligations.specs.Tests.{Outcomes}
 use Rattle.obligations.specs.Terms.{walk, access, chosen}
 use Rattle.obligations.specs.Statements.{spot_of, assigned, walk_store, walk_one, walk_all, ended}

@@ -14,27 +14,30 @@ use Rattle.semantics.specs.Solo as solo
 use Rattle.semantics.specs.Solo.{moved, touch}
 use Rattle.facts.specs.Symbols.{Fact}
 use Rattle.facts.proofs.Worlds.{View, setup}
-use Rattle.obligations.specs.Trees.{Spot, Tree, Access, accesses}
-use Rattle.obligations.specs.Walks.{State, Value, Onward, claimed_once, at_site, stand}
+use Rattle.obligations.specs.Trees.{Spot, Tree, Access, accesses, Ended, ends}
+use Rattle.obligations.specs.Values.{Value}
+use Rattle.obligations.specs.Walks.{State, Onward, claimed_once, at_site, stand, rank_form}
 use Rattle.obligations.specs.Tests.{Outcomes}
 use Rattle.obligations.specs.Terms.{no_value, access, walk}
 use Rattle.obligations.specs.Statements.{spot_of, assigned, walk_store}
-use Rattle.obligations.specs.Covered.{is_global, is_covered_term, is_covered_statement}
+use Rattle.obligations.specs.Covered.{covers_term}
 use Rattle.obligations.proofs.Each.{Has}
-use Rattle.obligations.proofs.Standing.{walks, Noted, noted, Seen, seen_in, Stands, Comes, Goes, gives, asks, past_claim, past_access}
-use Rattle.obligations.proofs.Ranges.{IsValue, form_kept}
+use Rattle.obligations.proofs.Standing.{walks, Noted, noted, Seen, seen_in, Stands, Comes, Goes, gives, asks, past_claim, past_access, Owns, owns}
+use Rattle.obligations.proofs.Ranges.{IsForm, IsValue, form_kept}
 use Rattle.obligations.proofs.Arithmetic.{DividesLawfully}
-use Rattle.obligations.proofs.Accesses.{is-global, within-at, extent-buffer, inside}
+use Rattle.obligations.proofs.Accesses.{within-at, inside}
 use Rattle.obligations.proofs.TermSound.{AreForms, forms_kept, forms_same, term_sound}
 
 -- an item stands before a tree, with these variables, and all accesses of the tree are among these
-pub record Stood {E : Type 0} (c : View E) (launch : List Fact) (all : List (Access E)) (tree : Tree E) (st : State E) (vars : List Word) : Type 0 where
+pub record Stood {E : Type 0} (c : View E) (launch : List Fact) (all : List (Access E)) (last : List (Ended E)) (tree : Tree E) (st : State E) (vars : List Word) (ranks : ℕ → ℤ) : Type 0 where
   pub facts : List Fact
   pub count : ℕ
   pub news : List ℤ
   pub stands : Stands c launch facts count tree news st.held
   pub forms : AreForms c news vars st.variables
+  pub ranked : (n : ℕ) → IsForm c news (rank_form st.ranks n) (ranks n)
   pub touched : (a : Access E) → Has a (accesses facts count tree) → Has a all
+  pub ended : (e : Ended E) → Has e (ends facts count tree) → Has e last
 
 -- after what is asked the item is not stopped, unless it was, and an access of it is noted
 pub record IsFine {E : Type 0} (c : View E) (all : List (Access E)) (it : Item) (q : Ask) : Type 0 where
@@ -75,31 +78,34 @@ none-not a e = cc
 some-same : (a b : solo.Access) → Some a ≡ Some b → a ≡ b
 some-same a b e = cc
 
-module _ {E : Type 0} (c : View E) (launch : List Fact) (laws : DividesLawfully c.domain) (all : List (Access E)) where
+module _ {E : Type 0} (c : View E) (launch : List Fact) (laws : DividesLawfully c.domain) (all : List (Access E)) (last : List (Ended E)) where
   -- the walk stands elsewhere
-  pub stood_at : {tree : Tree E} {st : State E} {vars : List Word} (p : Spot) → Stood c launch all tree st vars → Stood c launch all tree (stand p st) vars
-  stood_at p s = record { facts = s.facts; count = s.count; news = s.news; stands = s.stands; forms = s.forms; touched = s.touched }
+  pub stood_at : {tree : Tree E} {st : State E} {vars : List Word} {ranks : ℕ → ℤ} (p : Spot) → Stood c launch all last tree st vars ranks → Stood c launch all last tree (stand p st) vars ranks
+  stood_at p s = record { facts = s.facts; count = s.count; news = s.news; stands = s.stands; forms = s.forms; ranked = s.ranked; touched = s.touched; ended = s.ended }
 
-  came : {A : Type 0} {tree : Tree E} {st : State E} {vars : List Word} {go : A → State E → Tree E} {P : List ℤ → A → Type 0} (s : Stood c launch all tree st vars) (p : Comes c launch s.facts s.count tree go s.news st.variables P) → Stood c launch all (go p.arrived p.state) p.state vars
-  came s p = record { facts = p.path; count = p.count; news = p.more; stands = p.stands; forms = forms_same c p.same (forms_kept c p.way.kept s.forms); touched = λ a h. s.touched a (p.way.touched a h) }
+  ranks_at : {A : Type 0} {tree : Tree E} {st : State E} {vars : List Word} {ranks : ℕ → ℤ} {go : A → State E → Tree E} {P : List ℤ → A → Type 0} (s : Stood c launch all last tree st vars ranks) (p : Comes c launch s.facts s.count tree go s.news (owns st) P) → (n : ℕ) → IsForm c p.more (rank_form p.state.ranks n) (ranks n)
+  ranks_at {ranks = ranks} s p n = subst (λ (o : Owns). IsForm c p.more (rank_form o.ranks n) (ranks n)) (sym p.same) (form_kept c p.way.kept (s.ranked n))
+
+  came : {A : Type 0} {tree : Tree E} {st : State E} {vars : List Word} {ranks : ℕ → ℤ} {go : A → State E → Tree E} {P : List ℤ → A → Type 0} (s : Stood c launch all last tree st vars ranks) (p : Comes c launch s.facts s.count tree go s.news (owns st) P) → Stood c launch all last (go p.arrived p.state) p.state vars ranks
+  came s p = record { facts = p.path; count = p.count; news = p.more; stands = p.stands; forms = forms_same c (ap (λ o. o.variables) p.same) (forms_kept c p.way.kept s.forms); ranked = ranks_at s p; touched = λ a h. s.touched a (p.way.touched a h); ended = λ e h. s.ended e (p.way.ended e h) }
 
   -- of a value that is known
-  known_comes : {A : Type 0} {facts : List Fact} {n : ℕ} {tree : Tree E} {go : A → State E → Tree E} {news : List ℤ} {variables : List Value} {P : Word → List ℤ → A → Type 0} {o : Outcome} (v : Word) (rest : List Word) → Goes c launch facts n tree go news variables P o → o ≡ Gives v rest → (in_kind v.kind v.value ≡ true) × Comes c launch facts n tree go news variables (P v)
+  known_comes : {A : Type 0} {facts : List Fact} {n : ℕ} {tree : Tree E} {go : A → State E → Tree E} {news : List ℤ} {variables : Owns} {P : Word → List ℤ → A → Type 0} {o : Outcome} (v : Word) (rest : List Word) → Goes c launch facts n tree go news variables P o → o ≡ Gives v rest → (in_kind v.kind v.value ≡ true) × Comes c launch facts n tree go news variables (P v)
   known_comes {facts = facts} {n = n} {tree = tree} {go = go} {news = news} {variables = variables} {P = P} v rest (gives w r is right comes) e =
       let q : w ≡ v = gives-value w v r rest (sym is ∙ e) in
       (subst (λ (x : Word). in_kind x.kind x.value ≡ true) q right, subst (λ (x : Word). Comes c launch facts n tree go news variables (P x)) q comes)
   known_comes v rest (asks a k site is seen) e = absurd (needs-not a k site v rest (sym is ∙ e))
 
-  pub value_stood : (e : Term) → is_covered_term e ≡ true → {st : State E} {vars : List Word} (go : Onward E) (answers : List Word) (v : Word) (rest : List Word) → Stood c launch all ((walk (walks c) e).value st go) st vars → evaluate (setup c) c.item e vars answers ≡ Gives v rest → (x : Value) × ((st' : State E) × Stood c launch all (go x st') st' vars)
-  value_stood e h {st = st} {vars = vars} go answers v rest s is =
+  pub value_stood : (e : Term) → covers_term c.spaces e ≡ true → {st : State E} {vars : List Word} {ranks : ℕ → ℤ} (go : Onward E) (answers : List Word) (v : Word) (rest : List Word) → Stood c launch all last ((walk (walks c) e).value st go) st vars ranks → evaluate (setup c) c.item e vars answers ≡ Gives v rest → (x : Value) × ((st' : State E) × Stood c launch all last (go x st') st' vars ranks)
+  value_stood e h {st = st} {vars = vars} {ranks = ranks} go answers v rest s is =
       let p = (known_comes v rest ((term_sound c launch laws e h).value s.facts s.count s.news st go vars answers s.forms s.stands) is).1 in
       (p.arrived, (p.state, came s p))
 
-  pub set_stood : (e : Term) → is_covered_term e ≡ true → {st : State E} {vars : List Word} (slot : ℕ) (go : State E → Tree E) (answers : List Word) (v : Word) (rest : List Word) → Stood c launch all ((walk (walks c) e).value st (λ x st'. go (assigned slot x st'))) st vars → evaluate (setup c) c.item e vars answers ≡ Gives v rest → (st' : State E) × Stood c launch all (go st') st' (slice_set vars slot v)
-  set_stood e h {st = st} {vars = vars} slot go answers v rest s is =
+  pub set_stood : (e : Term) → covers_term c.spaces e ≡ true → {st : State E} {vars : List Word} {ranks : ℕ → ℤ} (slot : ℕ) (go : State E → Tree E) (answers : List Word) (v : Word) (rest : List Word) → Stood c launch all last ((walk (walks c) e).value st (λ x st'. go (assigned slot x st'))) st vars ranks → evaluate (setup c) c.item e vars answers ≡ Gives v rest → (st' : State E) × Stood c launch all last (go st') st' (slice_set vars slot v) ranks
+  set_stood e h {st = st} {vars = vars} {ranks = ranks} slot go answers v rest s is =
       let k = known_comes v rest ((term_sound c launch laws e h).value s.facts s.count s.news st (λ x st'. go (assigned slot x st')) vars answers s.forms s.stands) is in
       let p = k.1 in
-      let t = forms_same c p.same (forms_kept c p.way.kept s.forms) in (
+      let t = forms_same c (ap (λ o. o.variables) p.same) (forms_kept c p.way.kept s.forms) in (
         assigned slot p.arrived p.state,
         record {
           facts = p.path;
@@ -111,16 +117,18 @@ module _ {E : Type 0} (c : View E) (launch : List Fact) (laws : DividesLawfully 
             right = set-right (λ (w : Word). in_kind w.kind w.value ≡ true) vars zero_word slot v k.0 t.right;
             each = set-each (IsValue c p.more) vars p.state.variables zero_word no_value slot v p.arrived t.lengths p.right t.each;
           };
+          ranked = ranks_at s p;
           touched = λ a i. s.touched a (p.way.touched a i);
+          ended = λ e i. s.ended e (p.way.ended e i);
         },
       )
 
-  pub test_stood : (e : Term) → is_covered_term e ≡ true → {st : State E} {vars : List Word} (go : Outcomes E) (answers : List Word) (v : Word) (rest : List Word) → Stood c launch all ((walk (walks c) e).test st go) st vars → evaluate (setup c) c.item e vars answers ≡ Gives v rest → (st' : State E) × Stood c launch all (go (not (is_zero v.value)) st') st' vars
-  test_stood e h {st = st} {vars = vars} go answers v rest s is =
+  pub test_stood : (e : Term) → covers_term c.spaces e ≡ true → {st : State E} {vars : List Word} {ranks : ℕ → ℤ} (go : Outcomes E) (answers : List Word) (v : Word) (rest : List Word) → Stood c launch all last ((walk (walks c) e).test st go) st vars ranks → evaluate (setup c) c.item e vars answers ≡ Gives v rest → (st' : State E) × Stood c launch all last (go (not (is_zero v.value)) st') st' vars ranks
+  test_stood e h {st = st} {vars = vars} {ranks = ranks} go answers v rest s is =
       let p = (known_comes v rest ((term_sound c launch laws e h).test s.facts s.count s.news st go vars answers s.forms s.stands) is).1 in
-      (p.state, subst (λ b. Stood c launch all (go b p.state) p.state vars) p.right (came s p))
+      (p.state, subst (λ b. Stood c launch all last (go b p.state) p.state vars ranks) p.right (came s p))
 
-  pub store_stood : {st : State E} {vars : List Word} (a : Array) (site : Site) (f : Fact) (go : State E → Tree E) → Stood c launch all (access (walks c) true a site f st go) st vars → (st' : State E) × Stood c launch all (go st') st' vars
+  pub store_stood : {st : State E} {vars : List Word} {ranks : ℕ → ℤ} (a : Array) (site : Site) (f : Fact) (go : State E → Tree E) → Stood c launch all last (access (walks c) true a site f st go) st vars ranks → (st' : State E) × Stood c launch all last (go st') st' vars ranks
   store_stood {st = st} a site f go s = (
     claimed_once (claimed_once (at_site site st)),
     record {
@@ -129,51 +137,52 @@ module _ {E : Type 0} (c : View E) (launch : List Fact) (laws : DividesLawfully 
       news = s.news;
       stands = past_access c launch (past_claim c launch (past_claim c launch s.stands));
       forms = s.forms;
+      ranked = s.ranked;
       touched = λ x h. s.touched x (inr h);
+      ended = λ e h. s.ended e h;
     },
   )
 
   -- what is asked
-  fine_done : (it : Item) (left : List Entry) (vars : List Word) → IsFine c all it (ask.Goes (finished it left vars))
+  pub fine_done : (it : Item) (left : List Entry) (vars : List Word) → IsFine c all it (ask.Goes (finished it left vars))
   fine_done it left vars = record { runs = λ answer f site u e. done-not left f site e; noted = λ a e. absurd (none-not a e) }
 
-  fine_load : (it : Item) (a : Array) (k : ℕ) (site : Site) → Seen c all false a k → IsFine c all it (loads (setup c) (cell (setup c) c.item a k) site)
+  pub fine_load : (it : Item) (a : Array) (k : ℕ) (site : Site) → Seen c all false a k → IsFine c all it (loads (setup c) (cell (setup c) c.item a k) site)
   fine_load it a k site s = record {
     runs = λ answer f site' u e. u e;
     noted = λ x e. let q = some-same _ x e in noted c x (ap (λ (y : solo.Access). y.at) (sym q)) (ap (λ (y : solo.Access). y.is_store) (sym q)) s;
   }
 
-  fine_value : {A : Type 0} {facts : List Fact} {n : ℕ} {tree : Tree E} {go : A → State E → Tree E} {news : List ℤ} {variables : List Value} {P : Word → List ℤ → A → Type 0} {o : Outcome} (it : Item) (f : Word → List Word → Ask) → ((x : Access E) → Has x (accesses facts n tree) → Has x all) → Goes c launch facts n tree go news variables P o → ((w : Word) (rest : List Word) → Comes c launch facts n tree go news variables (P w) → IsFine c all it (f w rest)) → IsFine c all it (on_value (setup c) c.item it o f)
+  pub fine_value : {A : Type 0} {facts : List Fact} {n : ℕ} {tree : Tree E} {go : A → State E → Tree E} {news : List ℤ} {variables : Owns} {P : Word → List ℤ → A → Type 0} {o : Outcome} (it : Item) (f : Word → List Word → Ask) → ((x : Access E) → Has x (accesses facts n tree) → Has x all) → Goes c launch facts n tree go news variables P o → ((w : Word) (rest : List Word) → Comes c launch facts n tree go news variables (P w) → IsFine c all it (f w rest)) → IsFine c all it (on_value (setup c) c.item it o f)
   fine_value it f touched (gives w rest is right p) later = subst (λ q. IsFine c all it (on_value (setup c) c.item it q f)) (sym is) (later w rest p)
   fine_value it f touched (asks a k site is seen) later = subst (λ q. IsFine c all it (on_value (setup c) c.item it q f)) (sym is) (fine_load it a k site (seen_in c touched seen))
 
-  fine_store : (it : Item) (a : Array) (k : ℕ) (site : Site) (z : ℤ) (left : List Entry) → Seen c all true a k → IsFine c all it (stores (setup c) c.item it a site (At k) z left)
+  pub fine_store : (it : Item) (a : Array) (k : ℕ) (site : Site) (z : ℤ) (left : List Entry) → Seen c all true a k → IsFine c all it (stores (setup c) c.item it a site (At k) z left)
   fine_store it a k site z left s = record {
     runs = λ answer f site' u e. done-not left f site' e;
     noted = λ x e. let q = some-same _ x e in noted c x (ap (λ (y : solo.Access). y.at) (sym q)) (ap (λ (y : solo.Access). y.is_store) (sym q)) s;
   }
 
   -- the statement in front
-  pub set_front : (e : Term) → is_covered_term e ≡ true → {st : State E} {vars : List Word} (p : Spot) (go : Onward E) (it : Item) (n slot turns : ℕ) (rest : List Entry) → it.variables ≡ vars → Stood c launch all ((walk (walks c) e).value (stand p st) go) st vars → IsFine c all it (act (setup c) c.item it (Set n slot e) turns rest)
-  set_front e h {st = st} {vars = vars} p go it n slot turns rest same s =
+  pub set_front : (e : Term) → covers_term c.spaces e ≡ true → {st : State E} {vars : List Word} {ranks : ℕ → ℤ} (p : Spot) (go : Onward E) (it : Item) (n slot turns : ℕ) (rest : List Entry) → it.variables ≡ vars → Stood c launch all last ((walk (walks c) e).value (stand p st) go) st vars ranks → IsFine c all it (act (setup c) c.item it (Set n slot e) turns rest)
+  set_front e h {st = st} {vars = vars} {ranks = ranks} p go it n slot turns rest same s =
       let forms = subst (λ vs. AreForms c s.news vs st.variables) (sym same) s.forms in
       fine_value it (λ v later. ask.Goes (finished it rest (slice_set it.variables slot v))) s.touched ((term_sound c launch laws e h).value s.facts s.count s.news (stand p st) go it.variables it.answers forms s.stands) (λ w later q. fine_done it rest (slice_set it.variables slot w))
 
-  pub if_front : (e : Term) → is_covered_term e ≡ true → {st : State E} {vars : List Word} (p : Spot) (go : Outcomes E) (it : Item) (n : ℕ) (taken skipped : Statements) (turns : ℕ) (rest : List Entry) → it.variables ≡ vars → Stood c launch all ((walk (walks c) e).test (stand p st) go) st vars → IsFine c all it (act (setup c) c.item it (If n e taken skipped) turns rest)
-  if_front e h {st = st} {vars = vars} p go it n taken skipped turns rest same s =
+  pub if_front : (e : Term) → covers_term c.spaces e ≡ true → {st : State E} {vars : List Word} {ranks : ℕ → ℤ} (p : Spot) (go : Outcomes E) (it : Item) (n : ℕ) (taken skipped : Statements) (turns : ℕ) (rest : List Entry) → it.variables ≡ vars → Stood c launch all last ((walk (walks c) e).test (stand p st) go) st vars ranks → IsFine c all it (act (setup c) c.item it (If n e taken skipped) turns rest)
+  if_front e h {st = st} {vars = vars} {ranks = ranks} p go it n taken skipped turns rest same s =
       let forms = subst (λ vs. AreForms c s.news vs st.variables) (sym same) s.forms in
       fine_value it _ s.touched ((term_sound c launch laws e h).test s.facts s.count s.news (stand p st) go it.variables it.answers forms s.stands) (λ w later q. fine_done it _ it.variables)
 
-  pub store_front : (n : ℕ) (a : Array) (site : Site) (index e : Term) → is_covered_statement (Store n a site index e) ≡ true → {st : State E} {vars : List Word} (go : State E → Tree E) (it : Item) (turns : ℕ) (rest : List Entry) → it.variables ≡ vars → Stood c launch all (walk_store (walks c) n a site index e st go) st vars → IsFine c all it (act (setup c) c.item it (Store n a site index e) turns rest)
-  store_front n a site index e h {st = st} {vars = vars} go it turns rest same s =
-      let p = and_parts (is_global a.space) (is_covered_term index && is_covered_term e) h in
-      let q = and_parts (is_covered_term index) (is_covered_term e) p.1 in
+  pub store_front : (n : ℕ) (a : Array) (site : Site) (index e : Term) → (c.spaces a.space && (covers_term c.spaces index && covers_term c.spaces e)) ≡ true → {st : State E} {vars : List Word} {ranks : ℕ → ℤ} (go : State E → Tree E) (it : Item) (turns : ℕ) (rest : List Entry) → it.variables ≡ vars → Stood c launch all last (walk_store (walks c) n a site index e st go) st vars ranks → IsFine c all it (act (setup c) c.item it (Store n a site index e) turns rest)
+  store_front n a site index e h {st = st} {vars = vars} {ranks = ranks} go it turns rest same s =
+      let p = and_parts (c.spaces a.space) (covers_term c.spaces index && covers_term c.spaces e) h in
+      let q = and_parts (covers_term c.spaces index) (covers_term c.spaces e) p.1 in
       let forms = subst (λ vs. AreForms c s.news vs st.variables) (sym same) s.forms in
       let last : Fact → Onward E = λ f v st2. access (walks c) true a site f st2 go in
       let mid : Onward E = λ i st1. (walk (walks c) e).value st1 (last i.form) in
-      let global = is-global a.space p.0 in
       fine_value it (λ x later. on_value (setup c) c.item it (evaluate (setup c) c.item e it.variables later) (λ v left. stores (setup c) c.item it a site (within (extent (setup c) a) x.value) v.value rest)) s.touched ((term_sound c launch laws index q.0).value s.facts s.count s.news (stand (spot_of n) st) mid it.variables it.answers forms s.stands) (λ x later u.
-      fine_value it (λ v left. stores (setup c) c.item it a site (within (extent (setup c) a) x.value) v.value rest) (λ b i. s.touched b (u.way.touched b i)) ((term_sound c launch laws e q.1).value u.path u.count u.more u.state (last u.arrived.form) it.variables later (forms_same c u.same (forms_kept c u.way.kept forms)) u.stands) (λ v left w.
-      let i = inside c launch true a site u.arrived.form x.value w.state go global (form_kept c w.way.kept u.right.form) w.stands in
-      let at = ap (λ j. within j x.value) (extent-buffer (setup c) a global) ∙ within-at (length (slice_index_or c.launch.buffers a.number [])) i.index x.value i.same i.below in
+      fine_value it (λ v left. stores (setup c) c.item it a site (within (extent (setup c) a) x.value) v.value rest) (λ b i. s.touched b (u.way.touched b i)) ((term_sound c launch laws e q.1).value u.path u.count u.more u.state (last u.arrived.form) it.variables later (forms_same c (ap (λ o. o.variables) u.same) (forms_kept c u.way.kept forms)) u.stands) (λ v left w.
+      let i = inside c launch true a site u.arrived.form x.value w.state go p.0 (form_kept c w.way.kept u.right.form) w.stands in
+      let at = within-at (extent (setup c) a) i.index x.value i.same i.below in
       subst (λ j. IsFine c all it (stores (setup c) c.item it a site j v.value rest)) (sym at) (fine_store it a i.index site v.value rest (seen_in c (λ b k. s.touched b (u.way.touched b (w.way.touched b k))) i.seen))))

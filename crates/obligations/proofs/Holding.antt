@@ -126,7 +126,7 @@ module _ {E : Type 0} (c : View E) where
   opening-has m u s = by s
     where
       given : (s : Symbol) → c.domain.has (at s) (own c [] s) ≡ true
-      given s = members c.walked c.item c.item c.place c.place [] [] [] [] tt tt s
+      given s = members c.walked c.item c.item c.root c.root c.place c.place [] [] [] [] tt tt s
 
       by : (s : Symbol) → c.domain.has (at s) (m s) ≡ true
       by (symbols.Groups d) = by_symbol m (symbols.Groups d) _ (at (symbols.Groups d)) (u.agrees.groups d) (given (symbols.Groups d))
@@ -183,7 +183,7 @@ module _ {E : Type 0} (c : View E) where
   form-has news h f z k means = subst (λ y. c.domain.has (element_at c.domain (known_of c) h f) y ≡ true) (means (by_number (own c news)) (agrees_itself c news)) (value-has news h (own c news) (suits_itself c news) k f)
 
   -- narrowed to what a symbol's number is a member of
-  narrowed-held : (news : List ℤ) (h : Held E) (s : ℕ) (e : E) → ((m : Symbol → ℤ) → Suits c news m → c.domain.has e (by_number m s) ≡ true) → IsHeld c news h → IsHeld c news (with_narrowed s e h)
+  pub narrowed-held : (news : List ℤ) (h : Held E) (s : ℕ) (e : E) → ((m : Symbol → ℤ) → Suits c news m → c.domain.has e (by_number m s) ≡ true) → IsHeld c news h → IsHeld c news (with_narrowed s e h)
   narrowed-held news h s e i k m u n =
       let found = element c.domain (record { known = known_of c; first = h.news; second = [] }) (symbol_of n) in
       subst (λ x. c.domain.has x (by_number m n) ≡ true) (sym (latest-append found h.narrowed (record { symbol = s; element = e }) n))

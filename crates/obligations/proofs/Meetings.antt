@@ -8,23 +8,23 @@ use Rattle.std.proofs.lemmas.List.Elements.{All-append, All-cons, All-nil}
 use Rattle.semantics.specs.Setup.{Setup, along, group_of, item_count, local_id, group_id, place}
 use Rattle.semantics.specs.Linear.{value_of, IsMet}
 use Rattle.facts.specs.Symbols as symbols
-use Rattle.facts.specs.Symbols.{Side, First, Second, Symbol, ArgumentOf, Length, Local, Group, New, number, symbol_of, Fact, constant, once, minus, equals}
+use Rattle.facts.specs.Symbols.{Side, First, Second, Symbol, ArgumentOf, Length, Local, Group, New, Variable, AtAnchor, Turns, number, symbol_of, Fact, constant, once, minus, equals}
 use Rattle.facts.specs.Launching.{launch_facts, known, count_range}
 use Rattle.facts.proofs.Integers.{lt_true}
 use Rattle.facts.proofs.Naming.{symbol_of-number}
 use Rattle.facts.proofs.Values.{value-minus, value-constant, value-once, met_equals}
 use Rattle.facts.proofs.Members.{by_number, zero_lacks}
-use Rattle.facts.proofs.Worlds.{Walked, setup_of, View, meaning, Agrees}
+use Rattle.facts.proofs.Worlds.{Walked, Root, setup_of, View, meaning, Agrees}
 use Rattle.facts.proofs.Launched.{each_dimension-all, local-below, group_id-below, count_in, launch_known}
 use Rattle.obligations.specs.Held.{element_with}
-use Rattle.obligations.specs.Trees.{Target, Access, Manner, Plainly, ByPositive, ByNegative, added, with_facts}
+use Rattle.obligations.specs.Trees.{Target, Access, Manner, Plainly, ByPositive, ByNegative, ByQuotient, added, with_facts}
 use Rattle.obligations.specs.Tests.{below}
 use Rattle.obligations.specs.Covered.{is_global}
 use Rattle.obligations.specs.Seconds.{second, second_form, second_forms, element_of_two}
 use Rattle.obligations.specs.Pairs.{Scope, Within, Across, Order, Below, Above, Pair, id, order_fact, same_group, scope_facts, pair_facts, is_apart, pair_obligation, differs, two_orders, all_orders, is_buffer, conflict, with_one}
 use Rattle.obligations.specs.Shown.{IsShown, IsRefuted}
 use Rattle.obligations.proofs.Each.{Each, each-dimension, each-where}
-use Rattle.obligations.proofs.Seconds.{second-groups, second-given, second-length, second-local, second-group, second-new, second-value, second-met}
+use Rattle.obligations.proofs.Seconds.{second-groups, second-given, second-length, second-local, second-group, second-new, second-variable, second-at_anchor, second-turns, second-value, second-met}
 use Rattle.obligations.proofs.Made.{Made}
 use Rattle.obligations.proofs.TwoElements.{two-has}
 
@@ -43,20 +43,21 @@ refuted : (v : ℕ → ℤ) (facts : List Fact) → All (IsMet v) facts → (n :
 refuted v facts h Plainly e = e v (All-append (IsMet v) facts [] h (All-nil (IsMet v)))
 refuted v facts h ByPositive e = e
 refuted v facts h ByNegative e = e
+refuted v facts h ByQuotient e = e
 
-module _ {E : Type 0} (w : Walked E) (i j : ℕ) (hi : i < item_count (setup_of w)) (hj : j < item_count (setup_of w)) (all more : List (Access E)) (t u : Bool) (b x : ℕ) (p : Made (record { walked = w; item = i; place = hi }) all t b x) (q : Made (record { walked = w; item = j; place = hj }) more u b x) (stored : (t ≡ true) ⊎ (u ≡ true)) where
+module _ {E : Type 0} (w : Walked E) (i j : ℕ) (hi : i < item_count (setup_of w)) (hj : j < item_count (setup_of w)) (root other : Root) (all more : List (Access E)) (t u : Bool) (b x : ℕ) (p : Made (record { walked = w; item = i; place = hi; root = root }) all t b x) (q : Made (record { walked = w; item = j; place = hj; root = other }) more u b x) (stored : (t ≡ true) ⊎ (u ≡ true)) where
   abbrev one : View E
-  one = record { walked = w; item = i; place = hi }
+  one = record { walked = w; item = i; place = hi; root = root }
 
   abbrev two : View E
-  two = record { walked = w; item = j; place = hj }
+  two = record { walked = w; item = j; place = hj; root = other }
 
   abbrev s : Setup
   s = setup_of w
 
   -- the numbers of both
   abbrev m : Symbol → ℤ
-  m = meaning s i j p.news q.news
+  m = meaning s i j root other p.news q.news
 
   abbrev v : ℕ → ℤ
   v = by_number m
@@ -68,6 +69,9 @@ module _ {E : Type 0} (w : Walked E) (i j : ℕ) (hi : i < item_count (setup_of 
     lengths = λ n. ap m (symbol_of-number (Length n));
     local = λ d. ap m (symbol_of-number (Local First d));
     group = λ d. ap m (symbol_of-number (Group First d));
+    variable = λ x. ap m (symbol_of-number (Variable First x));
+    at_anchor = λ x. ap m (symbol_of-number (AtAnchor First x));
+    turns = λ k. ap m (symbol_of-number (Turns First k));
     new = λ k h. ap m (symbol_of-number (New First k));
   }
 
@@ -81,6 +85,9 @@ module _ {E : Type 0} (w : Walked E) (i j : ℕ) (hi : i < item_count (setup_of 
     lengths = λ n. copy-is (number (Length n)) (Length n) (second-length n);
     local = λ d. copy-is (number (Local First d)) (Local Second d) (second-local d);
     group = λ d. copy-is (number (Group First d)) (Group Second d) (second-group d);
+    variable = λ x. copy-is (number (Variable First x)) (Variable Second x) (second-variable x);
+    at_anchor = λ x. copy-is (number (AtAnchor First x)) (AtAnchor Second x) (second-at_anchor x);
+    turns = λ k. copy-is (number (Turns First k)) (Turns Second k) (second-turns k);
     new = λ k h. copy-is (number (New First k)) (New Second k) (second-new k);
   }
 
@@ -113,7 +120,7 @@ module _ {E : Type 0} (w : Walked E) (i j : ℕ) (hi : i < item_count (setup_of 
       let f = minus p.node.index there in
       let e = element_with w.domain (element_of_two w.domain k p.node.held q.node.held) f in
       let z : value_of v f ≡ pos 0 = omega (arith, ints, value-minus v p.node.index there, first-index, second-index) in
-      zero_lacks w.domain w.lawful e h (subst (λ y. w.domain.has e y ≡ true) z (two-has w i j hi hj p.node.held q.node.held p.news q.news p.fit q.fit f))
+      zero_lacks w.domain w.lawful e h (subst (λ y. w.domain.has e y ≡ true) z (two-has w i j hi hj root other p.node.held q.node.held p.news q.news p.fit q.fit f))
 
   abbrev IsPairShown : Pair E → Type 0
   IsPairShown r = IsShown (pair_obligation w.domain (known w.domain w.kernel.sizes w.conditions) (launch_facts w.conditions) r)

@@ -5,11 +5,11 @@ use Rattle.std.specs.List.{All, AllZip}
 use Rattle.semantics.specs.Word.{Kind, Int, Uint, Word, word, zero_word, in_kind}
 use Rattle.semantics.specs.Launch.{IsArgument}
 use Rattle.semantics.specs.Solo.{opening}
-use Rattle.facts.specs.Symbols.{First, ArgumentOf, number, once}
+use Rattle.facts.specs.Symbols.{First, ArgumentOf, number, once, Turns}
 use Rattle.facts.specs.Launching.{launch_facts, item_facts}
 use Rattle.facts.proofs.Launched.{launch_known, item_known}
 use Rattle.facts.proofs.Worlds.{View, setup}
-use Rattle.obligations.specs.Walks.{Value}
+use Rattle.obligations.specs.Values.{Value}
 use Rattle.obligations.specs.Terms.{no_value}
 use Rattle.obligations.specs.Statements.{argument_values, zero_value, opening_values, opening_state, tree}
 use Rattle.obligations.specs.Shown.{item_accesses, item_claims, IsShown}
@@ -17,6 +17,7 @@ use Rattle.obligations.proofs.Holding.{held_opening}
 use Rattle.obligations.proofs.Standing.{walks}
 use Rattle.obligations.proofs.Ranges.{IsForm, IsValue, form_constant, form_once}
 use Rattle.obligations.proofs.TermSound.{AreForms}
+use Rattle.obligations.specs.Trees.{ends}
 use Rattle.obligations.proofs.Fronts.{Stood}
 
 zero_in : (k : Kind) → in_kind k (pos 0) ≡ true
@@ -60,12 +61,14 @@ module _ {E : Type 0} (c : View E) where
       record { lengths = same_lengths 0 c.kernel.arguments c.launch.arguments c.kernel.variables c.fits.arguments; right = λ x. (slots x).0; each = λ x. (slots x).1 }
 
   -- where all claims of its tree are shown
-  pub opening_stood : All IsShown (item_claims c.domain c.kernel c.conditions c.has_entry) → Stood c (launch_facts c.conditions) (item_accesses c.domain c.kernel c.conditions c.has_entry) (tree (walks c) c.kernel) (opening_state c.kernel) (opening (setup c) c.item).variables
+  pub opening_stood : All IsShown (item_claims c.domain c.kernel c.conditions c.has_entry) → Stood c (launch_facts c.conditions) (item_accesses c.domain c.kernel c.conditions c.has_entry) (ends (item_facts c.kernel.sizes First) 0 (tree (walks c) c.kernel)) (tree (walks c) c.kernel) (opening_state c.kernel) (opening (setup c) c.item).variables c.root.ranks
   opening_stood shown = record {
     facts = item_facts c.kernel.sizes First;
     count = 0;
     news = [];
     stands = record { fit = held_opening c; counted = refl; launched = launch_known c []; known = item_known c []; shown = shown };
     forms = opening_forms;
+    ranked = λ n. form_once c [] (Turns First n) (c.root.ranks n) (λ v a. a.turns n);
     touched = λ a h. h;
+    ended = λ e h. h;
   }

@@ -11,29 +11,15 @@ use Rattle.facts.specs.Symbols as symbols
 use Rattle.facts.specs.Symbols.{First, ArgumentOf, Length, Local, Group, New, Fact, constant, once, minus}
 use Rattle.facts.specs.Launching.{item_facts}
 use Rattle.obligations.specs.Trees.{Tree, Leaf, Dead, Claim, Know, Touch, Fork, Access, after, accesses}
-use Rattle.obligations.specs.Walks.{Setting, State, Value, value, Onward, claimed_once, counted, lower_fact, upper_fact, know_all, newest, invent, unknown, any_of, is_kept, kept_or_new, ranged, brought_from, both_brought, at_site, fork, is_dead, unless_dead, know_test, know_two}
+use Rattle.obligations.specs.Values.{Value, value}
+use Rattle.obligations.specs.Walks.{Setting, State, Onward, claimed_once, counted, lower_fact, upper_fact, know_all, newest, invent, unknown, any_of, is_kept, kept_or_new, ranged, brought_from, both_brought, at_site, fork, is_dead, unless_dead, know_test, know_two}
 use Rattle.obligations.specs.Operators.{product, claim_divisor, claim_quotient, left_over, quotient, is_exact, divided, remaining, is_mask, are_from_zero, masked_by, masked, binary, complement, shifted, unary}
 use Rattle.obligations.specs.Tests.{Outcomes, below, split_below, split, split_number}
-use Rattle.obligations.specs.Terms.{Walks, walk, no_value, truth_value, id_inside, id_outside, id_form, access, buffer_kind, chosen, pick}
+use Rattle.obligations.specs.Terms.{Walks, walk, no_value, truth_value, id_inside, id_outside, id_form, access, array_kind, chosen, pick}
 use Rattle.obligations.specs.Statements.{assigned, walk_one, walk_all, argument_values, zero_value, opening_state, ended, tree}
 use Rattle.obligations.specs.Seconds.{is_own_symbol, are_own_terms, is_own, are_own, is_own_access, are_own_accesses}
 use Rattle.obligations.proofs.Each.{Each}
 use Rattle.obligations.proofs.OwnForms.{IsOwn, AreOwn, own-sum, own-multiple, own-minus, own-groups, own-given, own-local, own-group, own-new, own-items}
-
-abbrev the_leaf : (E : Type 0) → Tree E
-the_leaf E = Leaf
-
-unfoldable pub IsOwnTree : {E : Type 0} → Tree E → Type 0
-IsOwnTree Leaf = Unit {0}
-IsOwnTree Dead = Unit {0}
-IsOwnTree (Claim o needed settled g rest) = IsOwnTree rest
-IsOwnTree (Know f rest) = IsOwn f × IsOwnTree rest
-IsOwnTree (Touch t i h rest) = IsOwn i × IsOwnTree rest
-IsOwnTree (Fork first second) = IsOwnTree first × ((n : ℕ) → IsOwnTree (second n))
-
-leaf-own : (E : Type 0) → IsOwnTree (the_leaf E)
-unfolding IsOwnTree
-leaf-own E = tt
 
 abbrev pub IsOwnValue : Value → Type 0
 IsOwnValue v = IsOwn v.form
@@ -45,15 +31,27 @@ AreOwnValues (v ∷ vs) = IsOwnValue v × AreOwnValues vs
 abbrev pub HasOwn : {E : Type 0} → State E → Type 0
 HasOwn st = AreOwnValues st.variables
 
+unfoldable pub IsOwnTree : {E : Type 0} → Tree E → Type 0
+IsOwnTree (Leaf e) = AreOwnValues e.variables
+IsOwnTree Dead = Unit {0}
+IsOwnTree (Claim o needed settled g rest) = IsOwnTree rest
+IsOwnTree (Know f rest) = IsOwn f × IsOwnTree rest
+IsOwnTree (Touch t i h rest) = IsOwn i × IsOwnTree rest
+IsOwnTree (Fork first second) = IsOwnTree first × ((n : ℕ) → IsOwnTree (second n))
+
+leaf-own : {E : Type 0} (st : State E) → HasOwn st → IsOwnTree (ended st)
+unfolding IsOwnTree
+leaf-own st h = h
+
 module _ {E : Type 0} (s : Setting E) where
   -- what goes on from an own form, from an own value, from an outcome
-  abbrev GoesOn : (Fact → State E → Tree E) → Type 0
+  abbrev pub GoesOn : (Fact → State E → Tree E) → Type 0
   GoesOn go = (f : Fact) (st : State E) → IsOwn f → HasOwn st → IsOwnTree (go f st)
 
-  abbrev GoesOnBy : Onward E → Type 0
+  abbrev pub GoesOnBy : Onward E → Type 0
   GoesOnBy go = (v : Value) (st : State E) → IsOwnValue v → HasOwn st → IsOwnTree (go v st)
 
-  abbrev GoesEither : Outcomes E → Type 0
+  abbrev pub GoesEither : Outcomes E → Type 0
   GoesEither go = (b : Bool) (st : State E) → HasOwn st → IsOwnTree (go b st)
 
   lower : (f : Fact) (o : Option ℤ) (rest : List Fact) (t : Tree E) → IsOwn f → IsOwnTree (know_all rest t) → IsOwnTree (know_all (lower_fact f o rest) t)
@@ -219,7 +217,7 @@ module _ {E : Type 0} (s : Setting E) where
   own-variable (v ∷ vs) zero h = h.0
   own-variable (v ∷ vs) (suc x) h = own-variable vs x h.1
 
-  accesses_on : (b : Bool) (a : Array) (site : Site) (i : Fact) (st : State E) (go : State E → Tree E) → IsOwn i → HasOwn st → ((c : State E) → HasOwn c → IsOwnTree (go c)) → IsOwnTree (access s b a site i st go)
+  pub accesses_on : (b : Bool) (a : Array) (site : Site) (i : Fact) (st : State E) (go : State E → Tree E) → IsOwn i → HasOwn st → ((c : State E) → HasOwn c → IsOwnTree (go c)) → IsOwnTree (access s b a site i st go)
   unfolding IsOwnTree
   accesses_on b a site i st go j h g = (j, g (claimed_once (claimed_once (at_site site st))) h)
 
@@ -230,9 +228,9 @@ module _ {E : Type 0} (s : Setting E) where
       of true = k
       of false = l
 
-  record Own (w : Walks E) : Type 0 where
-    as_value : (st : State E) (go : Onward E) → HasOwn st → GoesOnBy go → IsOwnTree (w.value st go)
-    as_test : (st : State E) (go : Outcomes E) → HasOwn st → GoesEither go → IsOwnTree (w.test st go)
+  pub record Own (w : Walks E) : Type 0 where
+    pub as_value : (st : State E) (go : Onward E) → HasOwn st → GoesOnBy go → IsOwnTree (w.value st go)
+    pub as_test : (st : State E) (go : Outcomes E) → HasOwn st → GoesEither go → IsOwnTree (w.test st go)
 
   of_value : (v : State E → Onward E → Tree E) → ((st : State E) (go : Onward E) → HasOwn st → GoesOnBy go → IsOwnTree (v st go)) → Own (record { value = v; test = λ st go. v st (λ x st'. split_number s x.form st' go) })
   of_value v f = record { as_value = f; as_test = λ st go h g. f st _ h (λ x st' i h'. splits_number x.form st' go i h' g) }
@@ -243,15 +241,15 @@ module _ {E : Type 0} (s : Setting E) where
   of_test : (t : State E → Outcomes E → Tree E) → ((st : State E) (go : Outcomes E) → HasOwn st → GoesEither go → IsOwnTree (t st go)) → Own (record { value = λ st go. t st (λ b st'. go (truth_value b) st'); test = t })
   of_test t f = record { as_value = λ st go h g. f st _ h (λ b st' h'. g (truth_value b) st' (own-truth b) h'); as_test = f }
 
-  selects : (b : Bool) (t u : Tree E) → IsOwnTree t → IsOwnTree u → IsOwnTree (chosen b t u)
+  pub selects : (b : Bool) (t u : Tree E) → IsOwnTree t → IsOwnTree u → IsOwnTree (chosen b t u)
   selects true t u h k = h
   selects false t u h k = k
 
-  own : (e : Term) → Own (walk s e)
+  pub own : (e : Term) → Own (walk s e)
   own (Literal k z) = of_value _ (λ st go h g. g (value k (constant z)) st tt h)
   own (Variable x) = of_value _ (λ st go h g. g _ st (own-variable st.variables x h) h)
   own (Id f d) = of_value _ (λ st go h g. g (value Uint (id_form s f d)) st (either (nat_lt d 3) (id_inside s f d) (id_outside f) (own-inside f d) (own-outside f)) h)
-  own (Load a site e) = of_value _ (λ st go h g. (own e).as_value st _ h (λ x st1 i h1. accesses_on false a site x.form st1 (λ st2. unknown s (buffer_kind s a) st2 go) i h1 (λ st2 h2. unknowns (buffer_kind s a) st2 go h2 g)))
+  own (Load a site e) = of_value _ (λ st go h g. (own e).as_value st _ h (λ x st1 i h1. accesses_on false a site x.form st1 (λ st2. unknown s (array_kind s a) st2 go) i h1 (λ st2 h2. unknowns (array_kind s a) st2 go h2 g)))
   own (Unary op k site e) = of_value _ (λ st go h g. (own e).as_value st _ h (λ x st1 i h1. unaries op k x (at_site site st1) go i h1 g))
   own (Binary op k site a b) = of_value _ (λ st go h g. (own a).as_value st _ h (λ x st1 i h1. (own b).as_value st1 _ h1 (λ y st2 j h2.
       brings_both k x y (at_site site st2) _ i j h2 (λ v w st3 p q h3. binaries op k v.form w.form st3 go p q h3 g))))
@@ -265,7 +263,7 @@ module _ {E : Type 0} (s : Setting E) where
   own (Minimum a b) = of_value _ (λ st go h g. (own a).as_value st _ h (λ x st1 i h1. (own b).as_value st1 _ h1 (λ y st2 j h2. picks y x y x st2 go j i j i h2 g)))
   own (Maximum a b) = of_value _ (λ st go h g. (own a).as_value st _ h (λ x st1 i h1. (own b).as_value st1 _ h1 (λ y st2 j h2. picks x y y x st2 go i j j i h2 g)))
 
-  own-set : (vs : List Value) (x : ℕ) (v : Value) → AreOwnValues vs → IsOwnValue v → AreOwnValues (slice_set vs x v)
+  pub own-set : (vs : List Value) (x : ℕ) (v : Value) → AreOwnValues vs → IsOwnValue v → AreOwnValues (slice_set vs x v)
   own-set [] x v h i = tt
   own-set (w ∷ vs) zero v h i = (i, h.1)
   own-set (w ∷ vs) (suc x) v h i = (h.0, own-set vs x v h.1 i)
@@ -275,42 +273,42 @@ module _ {E : Type 0} (s : Setting E) where
     own_one (Set n x e) st go h g = (own e).as_value _ _ h (λ v st1 i h1. g (assigned x v st1) (own-set st1.variables x v h1 i))
     own_one (Store n a site k e) st go h g = (own k).as_value _ _ h (λ i st1 p h1. (own e).as_value st1 _ h1 (λ v st2 q h2. accesses_on true a site i.form st2 go p h2 g))
     own_one (If n e t f) st go h g = (own e).as_test _ _ h (λ c st1 h1. selects c _ _ (own_all t st1 go h1 g) (own_all f st1 go h1 g))
-    own_one (Loop n e b u) st go h g = leaf-own E
-    own_one (Barrier n l k) st go h g = leaf-own E
-    own_one (Return n) st go h g = leaf-own E
-    own_one (Break n k) st go h g = leaf-own E
-    own_one (Continue n k) st go h g = leaf-own E
+    own_one (Loop n e b u) st go h g = leaf-own st h
+    own_one (Barrier n l k) st go h g = leaf-own st h
+    own_one (Return n) st go h g = leaf-own st h
+    own_one (Break n k) st go h g = leaf-own st h
+    own_one (Continue n k) st go h g = leaf-own st h
 
     own_all : (xs : Statements) (st : State E) (go : State E → Tree E) → HasOwn st → ((a : State E) → HasOwn a → IsOwnTree (go a)) → IsOwnTree (walk_all s xs st go)
     own_all none st go h g = g st h
     own_all (one x xs) st go h g = own_one x st _ h (λ a ha. own_all xs a go ha g)
 
-  own-arguments : (n : ℕ) (ks : List Kind) (rest : List Value) → AreOwnValues rest → AreOwnValues (argument_values n ks ++ rest)
+  pub own-arguments : (n : ℕ) (ks : List Kind) (rest : List Value) → AreOwnValues rest → AreOwnValues (argument_values n ks ++ rest)
   own-arguments n [] rest h = h
   own-arguments n (k ∷ ks) rest h = (own-given n, own-arguments (suc n) ks rest h)
 
-  own-zeros : (ks : List Kind) → AreOwnValues (map zero_value ks)
+  pub own-zeros : (ks : List Kind) → AreOwnValues (map zero_value ks)
   own-zeros [] = tt
   own-zeros (k ∷ ks) = (tt, own-zeros ks)
 
   pub own-tree : (k : Kernel) → IsOwnTree (tree s k)
-  own-tree k = own_all k.body (opening_state k) ended (own-arguments 0 k.arguments (map zero_value k.variables) (own-zeros k.variables)) (λ a ha. leaf-own E)
+  own-tree k = own_all k.body (opening_state k) ended (own-arguments 0 k.arguments (map zero_value k.variables) (own-zeros k.variables)) (λ a ha. leaf-own a ha)
 
 -- so do the accesses
 abbrev pub IsOwnAccess : {E : Type 0} → Access E → Type 0
 IsOwnAccess a = IsOwn a.index × Each IsOwn a.facts
 
-one_more : (fs : List Fact) (f : Fact) → Each IsOwn fs → IsOwn f → Each IsOwn (fs ++ f ∷ [])
+pub one_more : (fs : List Fact) (f : Fact) → Each IsOwn fs → IsOwn f → Each IsOwn (fs ++ f ∷ [])
 one_more [] f h i = (i, tt)
 one_more (x ∷ fs) f h i = (h.0, one_more fs f h.1 i)
 
-joined : {A : Type 0} (P : A → Type 0) (xs ys : List A) → Each P xs → Each P ys → Each P (xs ++ ys)
+pub joined : {A : Type 0} (P : A → Type 0) (xs ys : List A) → Each P xs → Each P ys → Each P (xs ++ ys)
 joined P [] ys h k = k
 joined P (x ∷ xs) ys h k = (h.0, joined P xs ys h.1 k)
 
-own-accesses : {E : Type 0} (fs : List Fact) (n : ℕ) (t : Tree E) → Each IsOwn fs → IsOwnTree t → Each IsOwnAccess (accesses fs n t)
+pub own-accesses : {E : Type 0} (fs : List Fact) (n : ℕ) (t : Tree E) → Each IsOwn fs → IsOwnTree t → Each IsOwnAccess (accesses fs n t)
 unfolding IsOwnTree
-own-accesses fs n Leaf h k = tt
+own-accesses fs n (Leaf e) h k = tt
 own-accesses fs n Dead h k = tt
 own-accesses fs n (Claim o needed settled g rest) h k = own-accesses fs (suc n) rest h k
 own-accesses fs n (Know f rest) h k = own-accesses (fs ++ f ∷ []) n rest (one_more fs f h k.0) k.1
@@ -321,11 +319,11 @@ own-of-kernel : {E : Type 0} (s : Setting E) (k : Kernel) → Each IsOwnAccess (
 own-of-kernel s k = own-accesses (item_facts k.sizes First) 0 (tree s k) (own-items k.sizes) (own-tree s k)
 
 -- the same as a test
-own-terms-test : (ts : Terms) → AreOwn ts → are_own_terms ts ≡ true
+pub own-terms-test : (ts : Terms) → AreOwn ts → are_own_terms ts ≡ true
 own-terms-test [] h = refl
 own-terms-test (t ∷ ts) h = and_from (is_own_symbol t.symbol) (are_own_terms ts) (lt-ltb (t.symbol % 16) 9 h.0) (own-terms-test ts h.1)
 
-own-test : (fs : List Fact) → Each IsOwn fs → are_own fs ≡ true
+pub own-test : (fs : List Fact) → Each IsOwn fs → are_own fs ≡ true
 own-test [] h = refl
 own-test (f ∷ fs) h = and_from (is_own f) (are_own fs) (own-terms-test f.terms h.0) (own-test fs h.1)
 

@@ -19,10 +19,11 @@ use Rattle.facts.proofs.Members.{between-has}
 use Rattle.facts.proofs.Worlds.{View, Agrees, Means, agrees_new}
 use Rattle.obligations.specs.Held.{with_new}
 use Rattle.obligations.specs.Trees.{Sort, OfRange, Tree}
-use Rattle.obligations.specs.Walks.{State, Value, value, Onward, claimed_once, holding, claim_form, lower_fact, upper_fact, bound_facts, newest, invent, least, greatest, any_of, unknown, low_end, high_end, in_range, is_kept, kept_or_new, ranged, brought_from, brought, both_brought}
+use Rattle.obligations.specs.Values.{Value, value}
+use Rattle.obligations.specs.Walks.{State, Onward, claimed_once, holding, claim_form, lower_fact, upper_fact, bound_facts, newest, invent, least, greatest, any_of, unknown, low_end, high_end, in_range, is_kept, kept_or_new, ranged, brought_from, brought, both_brought}
 use Rattle.obligations.proofs.KindEnds.{in_kind-between, in_kind-ends, settle-same}
 use Rattle.obligations.proofs.Holding.{held_settles}
-use Rattle.obligations.proofs.Standing.{walks, Stands, Way, Comes, way_then, over_claim, over_new, over_facts, past_claim, past_new, past_facts, at_once, comes_from, onward, arriving, told}
+use Rattle.obligations.proofs.Standing.{walks, Stands, Way, Comes, way_then, over_claim, over_new, over_facts, past_claim, past_new, past_facts, at_once, comes_from, onward, arriving, told, Owns, owns}
 
 -- the form has that value, and its symbols rise
 pub record IsForm {E : Type 0} (c : View E) (news : List ℤ) (f : Fact) (z : ℤ) : Type 0 where
@@ -74,7 +75,7 @@ bounds_hold v f b z e h =
     lower_holds v f b.low (upper_fact f b.high) z e p.0 (upper_holds v f b.high z e p.1)
 
 -- an exact result settles to the word of its bits, which is the value of what goes on
-pub record Settles {E : Type 0} (c : View E) (launch facts : List Fact) (n : ℕ) (tree : Tree E) (k : Kind) (go : Onward E) (news : List ℤ) (variables : List Value) (y : ℤ) : Type 0 where
+pub record Settles {E : Type 0} (c : View E) (launch facts : List Fact) (n : ℕ) (tree : Tree E) (k : Kind) (go : Onward E) (news : List ℤ) (variables : Owns) (y : ℤ) : Type 0 where
   pub settles : settle k y ≡ Ok (word k (as_kind k y))
   pub comes : Comes c launch facts n tree go news variables (λ more x. IsValue c more (word k (as_kind k y)) x)
 
@@ -82,7 +83,7 @@ module _ {E : Type 0} (c : View E) (launch : List Fact) where
   form_new : (news : List ℤ) (n : ℕ) (z : ℤ) → length news ≡ n → IsForm c (news ++ z ∷ []) (once (New First n)) z
   form_new news n z e = form_once c (news ++ z ∷ []) (New First n) z (λ v a. ap (λ k. v (number (New First k))) (sym e) ∙ agrees_new c news z v a)
 
-  pub invent_sound : {facts : List Fact} {n : ℕ} {news : List ℤ} (e : E) (st : State E) (go : Fact → State E → Tree E) (z : ℤ) → c.domain.has e z ≡ true → Stands c launch facts n (invent (walks c) e st go) news st.held → Comes c launch facts n (invent (walks c) e st go) go news st.variables (λ more f. IsForm c more f z)
+  pub invent_sound : {facts : List Fact} {n : ℕ} {news : List ℤ} (e : E) (st : State E) (go : Fact → State E → Tree E) (z : ℤ) → c.domain.has e z ≡ true → Stands c launch facts n (invent (walks c) e st go) news st.held → Comes c launch facts n (invent (walks c) e st go) go news (owns st) (λ more f. IsForm c more f z)
   invent_sound {news = news} e st go z h s =
       let new = newest st in
       let b = c.domain.bounds_of e in
@@ -91,7 +92,7 @@ module _ {E : Type 0} (c : View E) (launch : List Fact) where
       comes_from c launch (way_then c launch (over_new c launch z) (over_facts c launch (bound_facts new b)))
       (at_once c launch go (λ more f. IsForm c more f z) new (holding (with_new e st.held) st) is s1)
 
-  pub unknown_sound : {facts : List Fact} {n : ℕ} {news : List ℤ} (k : Kind) (st : State E) (go : Onward E) (z : ℤ) → in_kind k z ≡ true → Stands c launch facts n (unknown (walks c) k st go) news st.held → Comes c launch facts n (unknown (walks c) k st go) go news st.variables (λ more x. IsValue c more (word k z) x)
+  pub unknown_sound : {facts : List Fact} {n : ℕ} {news : List ℤ} (k : Kind) (st : State E) (go : Onward E) (z : ℤ) → in_kind k z ≡ true → Stands c launch facts n (unknown (walks c) k st go) news st.held → Comes c launch facts n (unknown (walks c) k st go) go news (owns st) (λ more x. IsValue c more (word k z) x)
   unknown_sound k st go z h s =
       let ends = in_kind-ends k z h in
       arriving c launch go (value k) (λ more x. IsValue c more (word k z) x) (λ more f kept m. record { kind = refl; form = m })
@@ -114,7 +115,7 @@ module _ {E : Type 0} (c : View E) (launch : List Fact) where
   over_range needed k f st go = way_then c launch (over_claim c launch) (over_claim c launch)
 
   kept_sound : (b : Bool) {facts : List Fact} {n : ℕ} {news : List ℤ} (f : Fact) (st : State E) (go : Onward E) (y : ℤ) → Stands c launch facts n (in_range (walks c) b Uint f st (λ st'. kept_or_new (walks c) b f st' go)) news st.held → IsForm c news f y →
-      Comes c launch facts n (in_range (walks c) b Uint f st (λ st'. kept_or_new (walks c) b f st' go)) go news st.variables (λ more x. IsValue c more (word Uint (as_kind Uint y)) x)
+      Comes c launch facts n (in_range (walks c) b Uint f st (λ st'. kept_or_new (walks c) b f st' go)) go news (owns st) (λ more x. IsValue c more (word Uint (as_kind Uint y)) x)
   kept_sound true f st go y s m =
       let next : State E → Tree E = λ st'. kept_or_new (walks c) true f st' go in
       comes_from c launch (over_range true Uint f st next)
@@ -124,7 +125,7 @@ module _ {E : Type 0} (c : View E) (launch : List Fact) where
       let next : State E → Tree E = λ st'. kept_or_new (walks c) false f st' go in
       comes_from c launch (over_range false Uint f st next) (unknown_sound Uint (claimed_once (claimed_once st)) go (as_kind Uint y) (as_kind-in_kind Uint y) (past_range false Uint f st next s))
 
-  pub ranged_sound : (k : Kind) {facts : List Fact} {n : ℕ} {news : List ℤ} (f : Fact) (st : State E) (go : Onward E) (y : ℤ) → Stands c launch facts n (ranged (walks c) k f st go) news st.held → IsForm c news f y → Settles c launch facts n (ranged (walks c) k f st go) k go news st.variables y
+  pub ranged_sound : (k : Kind) {facts : List Fact} {n : ℕ} {news : List ℤ} (f : Fact) (st : State E) (go : Onward E) (y : ℤ) → Stands c launch facts n (ranged (walks c) k f st go) news st.held → IsForm c news f y → Settles c launch facts n (ranged (walks c) k f st go) k go news (owns st) y
   ranged_sound Int f st go y s m =
       let next : State E → Tree E = λ st'. go (value Int f) st' in
       let h = bounded Int f st next y s m in
@@ -137,22 +138,22 @@ module _ {E : Type 0} (c : View E) (launch : List Fact) where
   ranged_sound Uint f st go y s m = record { settles = refl; comes = kept_sound (is_kept (walks c) f st) f st go y s m }
 
   -- a number of its kind goes on as it is
-  pub same_kind : (k : Kind) {facts : List Fact} {n : ℕ} {news : List ℤ} (f : Fact) (st : State E) (go : Onward E) (y : ℤ) → in_kind k y ≡ true → Stands c launch facts n (go (value k f) st) news st.held → IsForm c news f y → Settles c launch facts n (go (value k f) st) k go news st.variables y
+  pub same_kind : (k : Kind) {facts : List Fact} {n : ℕ} {news : List ℤ} (f : Fact) (st : State E) (go : Onward E) (y : ℤ) → in_kind k y ≡ true → Stands c launch facts n (go (value k f) st) news st.held → IsForm c news f y → Settles c launch facts n (go (value k f) st) k go news (owns st) y
   same_kind k f st go y h s m = record { settles = settle-same k y h; comes = at_once c launch go (λ more x. IsValue c more (word k (as_kind k y)) x) (value k f) st (record { kind = refl; form = form-is c (as_kind k y) (sym (as_kind-same k y h)) m }) s }
 
-  brought_from_sound : (to from : Kind) {facts : List Fact} {n : ℕ} {news : List ℤ} (f : Fact) (st : State E) (go : Onward E) (y : ℤ) → in_kind from y ≡ true → Stands c launch facts n (brought_from (walks c) to from f st go) news st.held → IsForm c news f y → Settles c launch facts n (brought_from (walks c) to from f st go) to go news st.variables y
+  brought_from_sound : (to from : Kind) {facts : List Fact} {n : ℕ} {news : List ℤ} (f : Fact) (st : State E) (go : Onward E) (y : ℤ) → in_kind from y ≡ true → Stands c launch facts n (brought_from (walks c) to from f st go) news st.held → IsForm c news f y → Settles c launch facts n (brought_from (walks c) to from f st go) to go news (owns st) y
   brought_from_sound Int Int f st go y h s m = same_kind Int f st go y h s m
   brought_from_sound Int Uint f st go y h s m = ranged_sound Int f st go y s m
   brought_from_sound Uint Int f st go y h s m = ranged_sound Uint f st go y s m
   brought_from_sound Uint Uint f st go y h s m = same_kind Uint f st go y h s m
 
   -- a value brought to a kind
-  pub brought_sound : (k : Kind) {facts : List Fact} {n : ℕ} {news : List ℤ} (w : Word) (x : Value) (st : State E) (go : Onward E) → in_kind w.kind w.value ≡ true → IsValue c news w x → Stands c launch facts n (brought (walks c) k x st go) news st.held → Settles c launch facts n (brought (walks c) k x st go) k go news st.variables w.value
+  pub brought_sound : (k : Kind) {facts : List Fact} {n : ℕ} {news : List ℤ} (w : Word) (x : Value) (st : State E) (go : Onward E) → in_kind w.kind w.value ≡ true → IsValue c news w x → Stands c launch facts n (brought (walks c) k x st go) news st.held → Settles c launch facts n (brought (walks c) k x st go) k go news (owns st) w.value
   brought_sound k w x st go h m s = brought_from_sound k x.kind x.form st go w.value (subst (λ j. in_kind j w.value ≡ true) (sym m.kind) h) s m.form
 
   -- two values
   pub both_sound : (k : Kind) {facts : List Fact} {n : ℕ} {news : List ℤ} (a b : Word) (x y : Value) (st : State E) (go : Value → Value → State E → Tree E) → in_kind a.kind a.value ≡ true → in_kind b.kind b.value ≡ true → IsValue c news a x → IsValue c news b y → Stands c launch facts n (both_brought (walks c) k x y st go) news st.held →
-      Comes c launch facts n (both_brought (walks c) k x y st go) (λ (p : Value × Value) st'. go p.0 p.1 st') news st.variables (λ more p. IsValue c more (word k (as_kind k a.value)) p.0 × IsValue c more (word k (as_kind k b.value)) p.1)
+      Comes c launch facts n (both_brought (walks c) k x y st go) (λ (p : Value × Value) st'. go p.0 p.1 st') news (owns st) (λ more p. IsValue c more (word k (as_kind k a.value)) p.0 × IsValue c more (word k (as_kind k b.value)) p.1)
   both_sound k a b x y st go ha hb mx my s =
       let u = (brought_sound k a x st (λ x' st1. brought (walks c) k y st1 (λ y' st2. go x' y' st2)) ha mx s).comes in
       let w = (brought_sound k b y u.state (λ y' st2. go u.arrived y' st2) hb (value_kept c u.way.kept my) u.stands).comes in

@@ -10,7 +10,7 @@ use Rattle.semantics.specs.Solo.{Access, opening}
 use Rattle.semantics.specs.Safety.{IsPairSafe}
 use Rattle.facts.specs.Launching.{launch_facts, known}
 use Rattle.facts.proofs.Launched.{buffers-length}
-use Rattle.facts.proofs.Worlds.{Walked, View, setup_of}
+use Rattle.facts.proofs.Worlds.{Walked, View, opening_root, setup_of}
 use Rattle.arrivals.specs.Points.{Has}
 use Rattle.arrivals.specs.Trees.{AtEnd, Front, IsFront, End, IsEnd}
 use Rattle.arrivals.specs.Places.{Place, own_place, places, tree}
@@ -46,7 +46,7 @@ module _ {E : Type 0} (w : Walked E) (covered : are_covered w.kernel.body ≡ tr
     (AtFront : (i : ℕ) → i < item_count (setup_of w) → Statement → List Word → Type 0)
     (in_front : (i : ℕ) (h : i < item_count (setup_of w)) (f : Front) (root here : Held) → root.variables ≡ (opening (setup_of w) i).variables → IsFront f [] (tree w.kernel.body (own_place None)) → Follows (setup_of w) (notes (setup_of w)).rank i f.path root here → AtFront i h f.statement.statement here.variables)
     (never_stops : (i : ℕ) (h : i < item_count (setup_of w)) (a : Statement) (vars : List Word) → AtFront i h a vars → Stops (setup_of w) i a vars → ⊥)
-    (found : (i : ℕ) (h : i < item_count (setup_of w)) (a : Statement) (vars : List Word) (x : Access) → AtFront i h a vars → Makes (setup_of w) i a vars x → Found (record { walked = w; item = i; place = h }) (item_accesses w.domain w.kernel w.conditions w.has_entry) x)
+    (found : (i : ℕ) (h : i < item_count (setup_of w)) (a : Statement) (vars : List Word) (x : Access) → AtFront i h a vars → Makes (setup_of w) i a vars x → Found (record { walked = w; item = i; place = h; root = opening_root }) (item_accesses w.domain w.kernel w.conditions w.has_entry) x)
   where
     abbrev s : Setup
     s = setup_of w
@@ -55,7 +55,7 @@ module _ {E : Type 0} (w : Walked E) (covered : are_covered w.kernel.body ≡ tr
     k = notes s
 
     abbrev at : (i : ℕ) → i < item_count s → View E
-    at i h = record { walked = w; item = i; place = h }
+    at i h = record { walked = w; item = i; place = h; root = opening_root }
 
     abbrev all : List (trees.Access E)
     all = item_accesses w.domain w.kernel w.conditions w.has_entry
@@ -90,14 +90,14 @@ module _ {E : Type 0} (w : Walked E) (covered : are_covered w.kernel.body ≡ tr
         by (inl g) =
             let d = locals-differ s i j hi hj n g in
             elim (of Within (buffer-shown b p.inside).0) [
-              | inl f ↦ not-within w i j hi hj all all t u b x p q stored g d.0 d.1 d.2 f
-              | inr f ↦ not-within w j i hj hi all all u t b x q p (other_way stored) (sym g) d.0 d.1 (λ e. d.2 (sym e)) f
+              | inl f ↦ not-within w i j hi hj opening_root opening_root all all t u b x p q stored g d.0 d.1 d.2 f
+              | inr f ↦ not-within w j i hj hi opening_root opening_root all all u t b x q p (other_way stored) (sym g) d.0 d.1 (λ e. d.2 (sym e)) f
             ]
         by (inr g) =
             let d = groups-differ s i j hi hj g in
             elim (of Across (buffer-shown b p.inside).1) [
-              | inl f ↦ not-across w i j hi hj all all t u b x p q stored d.0 d.1 d.2 f
-              | inr f ↦ not-across w j i hj hi all all u t b x q p (other_way stored) d.0 d.1 (λ e. d.2 (sym e)) f
+              | inl f ↦ not-across w i j hi hj opening_root opening_root all all t u b x p q stored d.0 d.1 d.2 f
+              | inr f ↦ not-across w j i hj hi opening_root opening_root all all u t b x q p (other_way stored) d.0 d.1 (λ e. d.2 (sym e)) f
             ]
 
     -- an item that has come to a front stands there

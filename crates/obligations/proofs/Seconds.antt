@@ -6,7 +6,7 @@ use Rattle.std.proofs.lemmas.Bool.{le-ltb}
 use Rattle.std.proofs.lemmas.List.Elements.{All-cons, All-nil, All-head, All-tail}
 use Rattle.semantics.specs.Linear.{Weighted, terms_value, value_of, IsMet}
 use Rattle.facts.specs.Symbols as symbols
-use Rattle.facts.specs.Symbols.{First, Second, Symbol, ArgumentOf, Length, Local, Group, New, number, Fact}
+use Rattle.facts.specs.Symbols.{First, Second, Symbol, ArgumentOf, Length, Local, Group, New, Variable, AtAnchor, Turns, number, Fact}
 use Rattle.obligations.specs.Seconds.{second, second_terms, second_form, second_forms}
 
 shared : (n : ℕ) → n % 16 < 3 → second n ≡ n
@@ -32,6 +32,15 @@ second-group d = copied (number (Group First d)) (number (Group Second d)) (omeg
 
 pub second-new : (k : ℕ) → second (number (New First k)) ≡ number (New Second k)
 second-new k = copied (number (New First k)) (number (New Second k)) (omega arith) (omega arith)
+
+pub second-variable : (x : ℕ) → second (number (Variable First x)) ≡ number (Variable Second x)
+second-variable x = copied (number (Variable First x)) (number (Variable Second x)) (omega arith) (omega arith)
+
+pub second-at_anchor : (x : ℕ) → second (number (AtAnchor First x)) ≡ number (AtAnchor Second x)
+second-at_anchor x = copied (number (AtAnchor First x)) (number (AtAnchor Second x)) (omega arith) (omega arith)
+
+pub second-turns : (k : ℕ) → second (number (Turns First k)) ≡ number (Turns Second k)
+second-turns k = copied (number (Turns First k)) (number (Turns Second k)) (omega arith) (omega arith)
 
 -- a copy has the value that the form has where each symbol is its copy
 second-terms : (v : ℕ → ℤ) (ts : List (Weighted ℕ)) → terms_value v (second_terms ts) ≡ terms_value (λ n. v (second n)) ts

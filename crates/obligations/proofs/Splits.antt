@@ -17,7 +17,7 @@ use Rattle.obligations.specs.Trees.{Tree}
 use Rattle.obligations.specs.Walks.{State, counted, holding, fork, is_none, is_number, is_dead, unless_dead, know_test, know_two}
 use Rattle.obligations.specs.Tests.{Outcomes, below, split_below, split, split_number}
 use Rattle.obligations.proofs.Holding.{known_of}
-use Rattle.obligations.proofs.Standing.{walks, Stands, Comes, over_fact, over_first, over_second, past_fact, narrowed, past_first, past_second, at_once, comes_from, onward, restated}
+use Rattle.obligations.proofs.Standing.{walks, Stands, Comes, over_fact, over_first, over_second, past_fact, narrowed, past_first, past_second, at_once, comes_from, onward, restated, Owns, owns}
 use Rattle.obligations.proofs.Ranges.{IsForm, form_kept, form_constant, form-multiple, form-minus}
 
 pub alone : (ts : List (Weighted ℕ)) → is_none ts ≡ true → (v : ℕ → ℤ) → terms_value v ts ≡ pos 0
@@ -64,37 +64,37 @@ module _ {E : Type 0} (c : View E) (launch : List Fact) where
       omega (arith, ints, k, l, h)
 
   -- a fact of a test that holds
-  pub know_sound : {A : Type 0} {facts : List Fact} {n : ℕ} {news : List ℤ} (f : Fact) (z : ℤ) (st : State E) (x : A) (go : A → State E → Tree E) → IsForm c news f z → pos 0 ≤ℤ z → Stands c launch facts n (know_test (walks c) f st (go x)) news st.held → Comes c launch facts n (know_test (walks c) f st (go x)) go news st.variables (λ more y. y ≡ x)
+  pub know_sound : {A : Type 0} {facts : List Fact} {n : ℕ} {news : List ℤ} (f : Fact) (z : ℤ) (st : State E) (x : A) (go : A → State E → Tree E) → IsForm c news f z → pos 0 ≤ℤ z → Stands c launch facts n (know_test (walks c) f st (go x)) news st.held → Comes c launch facts n (know_test (walks c) f st (go x)) go news (owns st) (λ more y. y ≡ x)
   know_sound {facts = facts} {n = n} {news = news} f z st x go m h s = by (is_dead f) refl s
     where
       next : State E
       next = holding (narrow c.domain (known_of c) f st.held) st
 
-      by : (b : Bool) → is_dead f ≡ b → Stands c launch facts n (unless_dead b f (go x (holding (narrow c.domain (known_of c) f st.held) st))) news st.held → Comes c launch facts n (unless_dead b f (go x (holding (narrow c.domain (known_of c) f st.held) st))) go news st.variables (λ more y. y ≡ x)
+      by : (b : Bool) → is_dead f ≡ b → Stands c launch facts n (unless_dead b f (go x (holding (narrow c.domain (known_of c) f st.held) st))) news st.held → Comes c launch facts n (unless_dead b f (go x (holding (narrow c.domain (known_of c) f st.held) st))) go news (owns st) (λ more y. y ≡ x)
       by true e s = absurd (is_alive f z m h e)
       by false e s =
           let met : (v : ℕ → ℤ) → Agrees c news v → pos 0 ≤ℤ value_of v f = λ v a. omega (arith, ints, m.means v a, h) in
           comes_from c launch (over_fact c launch) (at_once c launch go (λ more y. y ≡ x) x (holding (narrow c.domain (known_of c) f st.held) st) refl (past_fact c launch met (narrowed c launch f m.rising met s)))
 
-  know_two_sound : {A : Type 0} {facts : List Fact} {n : ℕ} {news : List ℤ} (f g : Fact) (y z : ℤ) (st : State E) (x : A) (go : A → State E → Tree E) → IsForm c news f y → pos 0 ≤ℤ y → IsForm c news g z → pos 0 ≤ℤ z → Stands c launch facts n (know_two (walks c) f g st (go x)) news st.held → Comes c launch facts n (know_two (walks c) f g st (go x)) go news st.variables (λ more t. t ≡ x)
+  know_two_sound : {A : Type 0} {facts : List Fact} {n : ℕ} {news : List ℤ} (f g : Fact) (y z : ℤ) (st : State E) (x : A) (go : A → State E → Tree E) → IsForm c news f y → pos 0 ≤ℤ y → IsForm c news g z → pos 0 ≤ℤ z → Stands c launch facts n (know_two (walks c) f g st (go x)) news st.held → Comes c launch facts n (know_two (walks c) f g st (go x)) go news (owns st) (λ more t. t ≡ x)
   know_two_sound f g y z st x go mf hf mg hg s =
       let p = know_sound f y st x (λ t st'. know_test (walks c) g st' (go t)) mf hf s in
       let q = know_sound g z p.state p.arrived go (form_kept c p.way.kept mg) hg p.stands in
       onward c launch p (restated c launch (λ more t kept e. e ∙ p.right) q)
 
   -- the first way of a fork, or the second one
-  fork_first : {A : Type 0} {facts : List Fact} {n : ℕ} {news : List ℤ} (st : State E) (first second : State E → Tree E) (go : A → State E → Tree E) (P : List ℤ → A → Type 0) → Stands c launch facts n (fork st first second) news st.held → (Stands c launch facts n (first st) news st.held → Comes c launch facts n (first st) go news st.variables P) → Comes c launch facts n (fork st first second) go news st.variables P
+  fork_first : {A : Type 0} {facts : List Fact} {n : ℕ} {news : List ℤ} (st : State E) (first second : State E → Tree E) (go : A → State E → Tree E) (P : List ℤ → A → Type 0) → Stands c launch facts n (fork st first second) news st.held → (Stands c launch facts n (first st) news st.held → Comes c launch facts n (first st) go news (owns st) P) → Comes c launch facts n (fork st first second) go news (owns st) P
   fork_first st first second go P s later = comes_from c launch (over_first c launch) (later (past_first c launch s))
 
-  fork_second : {A : Type 0} {facts : List Fact} {n : ℕ} {news : List ℤ} (st : State E) (first second : State E → Tree E) (go : A → State E → Tree E) (P : List ℤ → A → Type 0) → Stands c launch facts n (fork st first second) news st.held → ((m : ℕ) → Stands c launch facts m (second (counted m st)) news st.held → Comes c launch facts m (second (counted m st)) go news st.variables P) → Comes c launch facts n (fork st first second) go news st.variables P
+  fork_second : {A : Type 0} {facts : List Fact} {n : ℕ} {news : List ℤ} (st : State E) (first second : State E → Tree E) (go : A → State E → Tree E) (P : List ℤ → A → Type 0) → Stands c launch facts n (fork st first second) news st.held → ((m : ℕ) → Stands c launch facts m (second (counted m st)) news st.held → Comes c launch facts m (second (counted m st)) go news (owns st) P) → Comes c launch facts n (fork st first second) go news (owns st) P
   fork_second st first second go P s later = comes_from c launch (over_second c launch) (later _ (past_second c launch s))
 
   -- one is below the other, or not
-  split_below_first : {facts : List Fact} {n : ℕ} {news : List ℤ} (first otherwise : Bool) (f g : Fact) (z : ℤ) (st : State E) (go : Outcomes E) → IsForm c news f z → pos 0 ≤ℤ z → Stands c launch facts n (split_below (walks c) first otherwise f g st go) news st.held → Comes c launch facts n (split_below (walks c) first otherwise f g st go) go news st.variables (λ more t. t ≡ first)
+  split_below_first : {facts : List Fact} {n : ℕ} {news : List ℤ} (first otherwise : Bool) (f g : Fact) (z : ℤ) (st : State E) (go : Outcomes E) → IsForm c news f z → pos 0 ≤ℤ z → Stands c launch facts n (split_below (walks c) first otherwise f g st go) news st.held → Comes c launch facts n (split_below (walks c) first otherwise f g st go) go news (owns st) (λ more t. t ≡ first)
   split_below_first first otherwise f g z st go m h s =
       fork_first st (λ a. know_test (walks c) f a (go first)) (λ a. know_test (walks c) g a (go otherwise)) go (λ more t. t ≡ first) s (know_sound f z st first go m h)
 
-  split_below_other : {facts : List Fact} {n : ℕ} {news : List ℤ} (first otherwise : Bool) (f g : Fact) (z : ℤ) (st : State E) (go : Outcomes E) → IsForm c news g z → pos 0 ≤ℤ z → Stands c launch facts n (split_below (walks c) first otherwise f g st go) news st.held → Comes c launch facts n (split_below (walks c) first otherwise f g st go) go news st.variables (λ more t. t ≡ otherwise)
+  split_below_other : {facts : List Fact} {n : ℕ} {news : List ℤ} (first otherwise : Bool) (f g : Fact) (z : ℤ) (st : State E) (go : Outcomes E) → IsForm c news g z → pos 0 ≤ℤ z → Stands c launch facts n (split_below (walks c) first otherwise f g st go) news st.held → Comes c launch facts n (split_below (walks c) first otherwise f g st go) go news (owns st) (λ more t. t ≡ otherwise)
   split_below_other first otherwise f g z st go m h s =
       fork_second st (λ a. know_test (walks c) f a (go first)) (λ a. know_test (walks c) g a (go otherwise)) go (λ more t. t ≡ otherwise) s (λ k. know_sound g z (counted k st) otherwise go m h)
 
@@ -105,7 +105,7 @@ module _ {E : Type 0} (c : View E) (launch : List Fact) where
   form_from f g x y mf mg = form-minus c f g x y (x -ℤ y) mf mg (omega (arith, ints))
 
   -- a comparison
-  pub split_sound : (r : Relation) {facts : List Fact} {n : ℕ} {news : List ℤ} (f g : Fact) (x y : ℤ) (st : State E) (go : Outcomes E) → IsForm c news f x → IsForm c news g y → Stands c launch facts n (split (walks c) r f g st go) news st.held → Comes c launch facts n (split (walks c) r f g st go) go news st.variables (λ more t. t ≡ holds r x y)
+  pub split_sound : (r : Relation) {facts : List Fact} {n : ℕ} {news : List ℤ} (f g : Fact) (x y : ℤ) (st : State E) (go : Outcomes E) → IsForm c news f x → IsForm c news g y → Stands c launch facts n (split (walks c) r f g st go) news st.held → Comes c launch facts n (split (walks c) r f g st go) go news (owns st) (λ more t. t ≡ holds r x y)
   split_sound Less f g x y st go mf mg s = by_lt_z x y
       (λ l. restated c launch (λ more t kept e. e ∙ sym (lt_true x y l)) (split_below_first true false (below f g) (minus f g) ((y -ℤ x) -ℤ pos 1) st go (form_below f g x y mf mg) (omega (arith, ints, l)) s))
       (λ l. restated c launch (λ more t kept e. e ∙ sym (int_lt-not x y l)) (split_below_other true false (below f g) (minus f g) (x -ℤ y) st go (form_from f g x y mf mg) (omega (arith, ints, l)) s))
@@ -139,7 +139,7 @@ module _ {E : Type 0} (c : View E) (launch : List Fact) where
       ]
 
   -- a number as a test
-  pub split_number_sound : {facts : List Fact} {n : ℕ} {news : List ℤ} (f : Fact) (z : ℤ) (st : State E) (go : Outcomes E) → IsForm c news f z → Stands c launch facts n (split_number (walks c) f st go) news st.held → Comes c launch facts n (split_number (walks c) f st go) go news st.variables (λ more t. t ≡ not (is_zero z))
+  pub split_number_sound : {facts : List Fact} {n : ℕ} {news : List ℤ} (f : Fact) (z : ℤ) (st : State E) (go : Outcomes E) → IsForm c news f z → Stands c launch facts n (split_number (walks c) f st go) news st.held → Comes c launch facts n (split_number (walks c) f st go) go news (owns st) (λ more t. t ≡ not (is_zero z))
   split_number_sound {news = news} f z st go m s =
       let late : State E → Tree E = λ b. know_two (walks c) f (multiple (negsuc 0) f) b (go false) in
       let under : State E → Tree E = λ b. know_test (walks c) (minus (constant (negsuc 0)) f) b (go true) in

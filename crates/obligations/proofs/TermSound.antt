@@ -10,17 +10,18 @@ use Rattle.semantics.proofs.Words.{as_kind-in_kind}
 use Rattle.facts.specs.Symbols.{Fact, constant}
 use Rattle.facts.proofs.Worlds.{View, setup, Agrees}
 use Rattle.obligations.specs.Trees.{Tree}
-use Rattle.obligations.specs.Walks.{State, Value, value, Onward, at_site, brought, both_brought}
+use Rattle.obligations.specs.Values.{Value, value}
+use Rattle.obligations.specs.Walks.{State, Onward, at_site, brought, both_brought}
 use Rattle.obligations.specs.Operators.{unary, binary}
 use Rattle.obligations.specs.Tests.{Outcomes, split, split_number}
 use Rattle.obligations.specs.Terms.{Walks, by_value, by_test, truth_value, no_value, variable, id_form, load, chosen, pick, walk}
-use Rattle.obligations.specs.Covered.{is_global, is_covered_unary, is_covered_term}
-use Rattle.obligations.proofs.Standing.{walks, Stands, Comes, Goes, gives, at_once, onward, arriving, restated, goes_then, goes_further, goes_as}
+use Rattle.obligations.specs.Covered.{is_covered_unary, covers_term}
+use Rattle.obligations.proofs.Standing.{walks, Stands, Comes, Goes, gives, at_once, onward, arriving, restated, goes_then, goes_further, goes_as, Owns, owns}
 use Rattle.obligations.proofs.Ranges.{IsForm, IsValue, value_kept, form_constant, brought_sound, both_sound}
 use Rattle.obligations.proofs.Splits.{split_sound, split_number_sound}
 use Rattle.obligations.proofs.Arithmetic.{DividesLawfully, Yields, settled_yields, binary_sound, unary_sound}
 use Rattle.obligations.proofs.Identities.{id-below, form_id}
-use Rattle.obligations.proofs.Accesses.{is-global, load_sound}
+use Rattle.obligations.proofs.Accesses.{load_sound}
 
 -- each slot's word is of its kind, and the slot's value is of that kind and has its number
 pub record AreForms {E : Type 0} (c : View E) (news : List ℤ) (words : List Word) (values : List Value) : Type 0 where
@@ -64,13 +65,13 @@ truth-test w more b e = by b ∙ ap (λ (x : Word). not (is_zero x.value)) (sym 
 module _ {E : Type 0} (c : View E) (launch : List Fact) (laws : DividesLawfully c.domain) where
   -- what is promised of a walk as a value, as a test, and of one whose value is a truth value
   abbrev pub IsValueWalk : (State E → Onward E → Tree E) → (List Word → List Word → Outcome) → Type 0
-  IsValueWalk walk ev = (facts : List Fact) (n : ℕ) (news : List ℤ) (st : State E) (go : Onward E) (vars answers : List Word) → AreForms c news vars st.variables → Stands c launch facts n (walk st go) news st.held → Goes c launch facts n (walk st go) go news st.variables (ArrivesAsValue c) (ev vars answers)
+  IsValueWalk walk ev = (facts : List Fact) (n : ℕ) (news : List ℤ) (st : State E) (go : Onward E) (vars answers : List Word) → AreForms c news vars st.variables → Stands c launch facts n (walk st go) news st.held → Goes c launch facts n (walk st go) go news (owns st) (ArrivesAsValue c) (ev vars answers)
 
   abbrev pub IsTestWalk : (State E → Outcomes E → Tree E) → (List Word → List Word → Outcome) → Type 0
-  IsTestWalk walk ev = (facts : List Fact) (n : ℕ) (news : List ℤ) (st : State E) (go : Outcomes E) (vars answers : List Word) → AreForms c news vars st.variables → Stands c launch facts n (walk st go) news st.held → Goes c launch facts n (walk st go) go news st.variables ArrivesAsTest (ev vars answers)
+  IsTestWalk walk ev = (facts : List Fact) (n : ℕ) (news : List ℤ) (st : State E) (go : Outcomes E) (vars answers : List Word) → AreForms c news vars st.variables → Stands c launch facts n (walk st go) news st.held → Goes c launch facts n (walk st go) go news (owns st) ArrivesAsTest (ev vars answers)
 
   abbrev IsTruthWalk : (State E → Outcomes E → Tree E) → (List Word → List Word → Outcome) → Type 0
-  IsTruthWalk walk ev = (facts : List Fact) (n : ℕ) (news : List ℤ) (st : State E) (go : Outcomes E) (vars answers : List Word) → AreForms c news vars st.variables → Stands c launch facts n (walk st go) news st.held → Goes c launch facts n (walk st go) go news st.variables ArrivesAsTruth (ev vars answers)
+  IsTruthWalk walk ev = (facts : List Fact) (n : ℕ) (news : List ℤ) (st : State E) (go : Outcomes E) (vars answers : List Word) → AreForms c news vars st.variables → Stands c launch facts n (walk st go) news st.held → Goes c launch facts n (walk st go) go news (owns st) ArrivesAsTruth (ev vars answers)
 
   pub record IsSound (w : Walks E) (ev : List Word → List Word → Outcome) : Type 0 where
     pub value : IsValueWalk w.value ev
@@ -92,42 +93,42 @@ module _ {E : Type 0} (c : View E) (launch : List Fact) (laws : DividesLawfully 
   }
 
   -- the slots where the item came to
-  forms_at : {A : Type 0} {facts : List Fact} {n : ℕ} {tree : Tree E} {go : A → State E → Tree E} {news : List ℤ} {variables : List Value} {P : List ℤ → A → Type 0} (p : Comes c launch facts n tree go news variables P) (vars : List Word) → AreForms c news vars variables → AreForms c p.more vars p.state.variables
-  forms_at p vars m = forms_same c p.same (forms_kept c p.way.kept m)
+  forms_at : {A : Type 0} {facts : List Fact} {n : ℕ} {tree : Tree E} {go : A → State E → Tree E} {news : List ℤ} {variables : Owns} {P : List ℤ → A → Type 0} (p : Comes c launch facts n tree go news variables P) (vars : List Word) → AreForms c news vars variables.variables → AreForms c p.more vars p.state.variables
+  forms_at p vars m = forms_same c (ap (λ o. o.variables) p.same) (forms_kept c p.way.kept m)
 
   -- two operands, one after the other
   pair_sound : (wa wb : Walks E) (ea eb : List Word → List Word → Outcome) → IsSound wa ea → IsSound wb eb → {B : Type 0} (facts : List Fact) (n : ℕ) (news : List ℤ) (st : State E) (go : Value → Value → State E → Tree E) (onto : B → State E → Tree E) (Q : Word → List ℤ → B → Type 0) (op : Word → Word → List Word → Outcome) (vars answers : List Word) → AreForms c news vars st.variables →
-      ((path : List Fact) (k : ℕ) (more : List ℤ) (st2 : State E) (x y : Value) (a b : Word) (rest : List Word) → in_kind a.kind a.value ≡ true → in_kind b.kind b.value ≡ true → IsValue c more a x → IsValue c more b y → Stands c launch path k (go x y st2) more st2.held → Goes c launch path k (go x y st2) onto more st2.variables Q (op a b rest)) →
+      ((path : List Fact) (k : ℕ) (more : List ℤ) (st2 : State E) (x y : Value) (a b : Word) (rest : List Word) → in_kind a.kind a.value ≡ true → in_kind b.kind b.value ≡ true → IsValue c more a x → IsValue c more b y → Stands c launch path k (go x y st2) more st2.held → Goes c launch path k (go x y st2) onto more (owns st2) Q (op a b rest)) →
       Stands c launch facts n (wa.value st (λ x st1. wb.value st1 (λ y st2. go x y st2))) news st.held →
-      Goes c launch facts n (wa.value st (λ x st1. wb.value st1 (λ y st2. go x y st2))) onto news st.variables Q (and_then (ea vars answers) (λ a r. and_then (eb vars r) (λ b r'. op a b r')))
+      Goes c launch facts n (wa.value st (λ x st1. wb.value st1 (λ y st2. go x y st2))) onto news (owns st) Q (and_then (ea vars answers) (λ a r. and_then (eb vars r) (λ b r'. op a b r')))
   pair_sound wa wb ea eb sa sb facts n news st go onto Q op vars answers m later s =
       goes_then c launch (λ a r. and_then (eb vars r) (λ b r'. op a b r')) (sa.value facts n news st (λ x st1. wb.value st1 (λ y st2. go x y st2)) vars answers m s) (λ a r ia p.
       goes_then c launch (λ b r'. op a b r') (sb.value p.path p.count p.more p.state (λ y st2. go p.arrived y st2) vars r (forms_at p vars m) p.stands) (λ b r' ib q.
       later q.path q.count q.more q.state p.arrived q.arrived a b r' ia ib (value_kept c q.way.kept p.right) q.right q.stands))
 
   -- a result is an outcome
-  yields_goes : {facts : List Fact} {n : ℕ} {tree : Tree E} {go : Onward E} {news : List ℤ} {variables : List Value} {r : Result Word Fault} (site : Site) (rest : List Word) → Yields c launch facts n tree go news variables r → Goes c launch facts n tree go news variables (ArrivesAsValue c) (settled r site rest)
+  yields_goes : {facts : List Fact} {n : ℕ} {tree : Tree E} {go : Onward E} {news : List ℤ} {variables : Owns} {r : Result Word Fault} (site : Site) (rest : List Word) → Yields c launch facts n tree go news variables r → Goes c launch facts n tree go news variables (ArrivesAsValue c) (settled r site rest)
   yields_goes site rest y = gives y.result rest (ap (λ q. settled q site rest) y.is) y.right y.comes
 
   -- one of two, by a test
-  chosen_goes : {A : Type 0} (z t : Bool) (st : State E) {facts : List Fact} {n : ℕ} {news : List ℤ} {go : A → State E → Tree E} {P : Word → List ℤ → A → Type 0} {u v : Outcome} (first second : Tree E) → t ≡ z → Stands c launch facts n (chosen t first second) news st.held → (Stands c launch facts n first news st.held → Goes c launch facts n first go news st.variables P u) → (Stands c launch facts n second news st.held → Goes c launch facts n second go news st.variables P v) → Goes c launch facts n (chosen t first second) go news st.variables P (decide z u v)
+  chosen_goes : {A : Type 0} (z t : Bool) (st : State E) {facts : List Fact} {n : ℕ} {news : List ℤ} {go : A → State E → Tree E} {P : Word → List ℤ → A → Type 0} {u v : Outcome} (first second : Tree E) → t ≡ z → Stands c launch facts n (chosen t first second) news st.held → (Stands c launch facts n first news st.held → Goes c launch facts n first go news (owns st) P u) → (Stands c launch facts n second news st.held → Goes c launch facts n second go news (owns st) P v) → Goes c launch facts n (chosen t first second) go news (owns st) P (decide z u v)
   chosen_goes true true st first second e s yes' no' = yes' s
   chosen_goes true false st first second e s yes' no' = cc
   chosen_goes false true st first second e s yes' no' = cc
   chosen_goes false false st first second e s yes' no' = no' s
 
-  other_goes : {A : Type 0} (z t : Bool) (st : State E) {facts : List Fact} {n : ℕ} {news : List ℤ} {go : A → State E → Tree E} {P : Word → List ℤ → A → Type 0} {u v : Outcome} (first second : Tree E) → t ≡ not z → Stands c launch facts n (chosen t first second) news st.held → (Stands c launch facts n first news st.held → Goes c launch facts n first go news st.variables P u) → (Stands c launch facts n second news st.held → Goes c launch facts n second go news st.variables P v) → Goes c launch facts n (chosen t first second) go news st.variables P (decide z v u)
+  other_goes : {A : Type 0} (z t : Bool) (st : State E) {facts : List Fact} {n : ℕ} {news : List ℤ} {go : A → State E → Tree E} {P : Word → List ℤ → A → Type 0} {u v : Outcome} (first second : Tree E) → t ≡ not z → Stands c launch facts n (chosen t first second) news st.held → (Stands c launch facts n first news st.held → Goes c launch facts n first go news (owns st) P u) → (Stands c launch facts n second news st.held → Goes c launch facts n second go news (owns st) P v) → Goes c launch facts n (chosen t first second) go news (owns st) P (decide z v u)
   other_goes true true st first second e s yes' no' = cc
   other_goes true false st first second e s yes' no' = no' s
   other_goes false true st first second e s yes' no' = yes' s
   other_goes false false st first second e s yes' no' = cc
 
   -- a truth value that is known
-  truth_goes : {facts : List Fact} {n : ℕ} {news : List ℤ} (z b : Bool) (st : State E) (go : Outcomes E) (rest : List Word) → b ≡ z → Stands c launch facts n (go b st) news st.held → Goes c launch facts n (go b st) go news st.variables ArrivesAsTruth (Gives (truth z) rest)
+  truth_goes : {facts : List Fact} {n : ℕ} {news : List ℤ} (z b : Bool) (st : State E) (go : Outcomes E) (rest : List Word) → b ≡ z → Stands c launch facts n (go b st) news st.held → Goes c launch facts n (go b st) go news (owns st) ArrivesAsTruth (Gives (truth z) rest)
   truth_goes z b st go rest e s = gives (truth z) rest refl (truth-in z) (at_once c launch go (ArrivesAsTruth (truth z)) b st (ap truth (sym e)) s)
 
   -- a test's value as a truth value
-  tested_goes : (w : Walks E) (ev : List Word → List Word → Outcome) → IsSound w ev → {facts : List Fact} {n : ℕ} {news : List ℤ} (st : State E) (go : Outcomes E) (vars answers : List Word) → AreForms c news vars st.variables → Stands c launch facts n (w.test st go) news st.held → Goes c launch facts n (w.test st go) go news st.variables ArrivesAsTruth (and_then (ev vars answers) (λ b r. Gives (truth (not (is_zero b.value))) r))
+  tested_goes : (w : Walks E) (ev : List Word → List Word → Outcome) → IsSound w ev → {facts : List Fact} {n : ℕ} {news : List ℤ} (st : State E) (go : Outcomes E) (vars answers : List Word) → AreForms c news vars st.variables → Stands c launch facts n (w.test st go) news st.held → Goes c launch facts n (w.test st go) go news (owns st) ArrivesAsTruth (and_then (ev vars answers) (λ b r. Gives (truth (not (is_zero b.value))) r))
   tested_goes w ev h {facts = facts} {n = n} {news = news} st go vars answers m s =
       goes_then c launch (λ b r. Gives (truth (not (is_zero b.value))) r) (h.test facts n news st go vars answers m s) (λ b r ib p. truth_goes (not (is_zero b.value)) p.arrived p.state go r p.right p.stands)
 
@@ -143,13 +144,13 @@ module _ {E : Type 0} (c : View E) (launch : List Fact) (laws : DividesLawfully 
 
   -- the second where one is less than another
   picked : {facts : List Fact} {n : ℕ} {news : List ℤ} (x y : Fact) (u v : Word) (p q : Value) (a b : ℤ) (st : State E) (go : Onward E) (rest : List Word) → IsForm c news x a → IsForm c news y b → in_kind u.kind u.value ≡ true → in_kind v.kind v.value ≡ true → IsValue c news u p → IsValue c news v q →
-      Stands c launch facts n (split (walks c) Less x y st (λ t st'. go (chosen t q p) st')) news st.held → Goes c launch facts n (split (walks c) Less x y st (λ t st'. go (chosen t q p) st')) go news st.variables (ArrivesAsValue c) (Gives (cond (int_lt a b) v u) rest)
+      Stands c launch facts n (split (walks c) Less x y st (λ t st'. go (chosen t q p) st')) news st.held → Goes c launch facts n (split (walks c) Less x y st (λ t st'. go (chosen t q p) st')) go news (owns st) (ArrivesAsValue c) (Gives (cond (int_lt a b) v u) rest)
   picked x y u v p q a b st go rest mx my iu iv mp mq s =
       gives (cond (int_lt a b) v u) rest refl (pick-in (int_lt a b) u v iu iv)
       (arriving c launch go (λ t. chosen t q p) (ArrivesAsValue c (cond (int_lt a b) v u)) (λ more t kept e. pick-is t (int_lt a b) more u v p q e (value_kept c kept mp) (value_kept c kept mq))
       (split_sound c launch Less x y a b st (λ t st'. go (chosen t q p) st') mx my s))
 
-  pub term_sound : (e : Term) → is_covered_term e ≡ true → IsSound (walk (walks c) e) (evaluate (setup c) c.item e)
+  pub term_sound : (e : Term) → covers_term c.spaces e ≡ true → IsSound (walk (walks c) e) (evaluate (setup c) c.item e)
   unfolding evaluate
   term_sound (Literal k z) h = value_sound _ (evaluate (setup c) c.item (Literal k z)) (λ facts n news st go vars answers m s.
       gives (word k z) answers refl h (at_once c launch go (ArrivesAsValue c (word k z)) (value k (constant z)) st (record { kind = refl; form = form_constant c news z }) s))
@@ -160,19 +161,19 @@ module _ {E : Type 0} (c : View E) (launch : List Fact) (laws : DividesLawfully 
       let i = identity (setup c) c.item f d in
       gives (word Uint (pos i)) answers refl (lt-ltb i 4294967296 (id-below c f d)) (at_once c launch go (ArrivesAsValue c (word Uint (pos i))) (value Uint (id_form (walks c) f d)) st (record { kind = refl; form = form_id c news f d }) s))
   term_sound (Load a site e) h =
-      let p = and_parts (is_global a.space) (is_covered_term e) h in
+      let p = and_parts (c.spaces a.space) (covers_term c.spaces e) h in
       let t = term_sound e p.1 in
       value_sound _ (evaluate (setup c) c.item (Load a site e)) (λ facts n news st go vars answers m s.
       goes_then c launch (λ k r. loaded (setup c) a site k.value r) (t.value facts n news st (λ x st1. load (walks c) a site x.form st1 go) vars answers m s) (λ k r i p'.
-      load_sound c launch r a site p'.arrived.form k.value p'.state go (is-global a.space p.0) p'.right.form p'.stands))
+      load_sound c launch r a site p'.arrived.form k.value p'.state go p.0 p'.right.form p'.stands))
   term_sound (Unary op k site e) h =
-      let p = and_parts (is_covered_unary op k) (is_covered_term e) h in
+      let p = and_parts (is_covered_unary op k) (covers_term c.spaces e) h in
       let t = term_sound e p.1 in
       value_sound _ (evaluate (setup c) c.item (Unary op k site e)) (λ facts n news st go vars answers m s.
       goes_then c launch (λ a r. settled (calculate_unary op k a.value) site r) (t.value facts n news st (λ x st1. unary (walks c) op k x (at_site site st1) go) vars answers m s) (λ a r i q.
       yields_goes site r (unary_sound c launch op k p.0 a q.arrived (at_site site q.state) go i q.right q.stands)))
   term_sound (Binary op k site a b) h =
-      let p = and_parts (is_covered_term a) (is_covered_term b) h in
+      let p = and_parts (covers_term c.spaces a) (covers_term c.spaces b) h in
       let ta = term_sound a p.0 in
       let tb = term_sound b p.1 in
       value_sound _ (evaluate (setup c) c.item (Binary op k site a b)) (λ facts n news st go vars answers m s.
@@ -187,7 +188,7 @@ module _ {E : Type 0} (c : View E) (launch : List Fact) (laws : DividesLawfully 
       goes_then c launch (λ a r. settled (convert k a.value) site r) (t.value facts n news st (λ x st1. brought (walks c) k x (at_site site st1) go) vars answers m s) (λ a r i q.
       yields_goes site r (settled_yields c launch k a.value go (brought_sound c launch k a q.arrived (at_site site q.state) go i q.right q.stands))))
   term_sound (Compare r k a b) h =
-      let p = and_parts (is_covered_term a) (is_covered_term b) h in
+      let p = and_parts (covers_term c.spaces a) (covers_term c.spaces b) h in
       let ta = term_sound a p.0 in
       let tb = term_sound b p.1 in
       truth_sound _ (evaluate (setup c) c.item (Compare r k a b)) (λ facts n news st go vars answers m s.
@@ -202,7 +203,7 @@ module _ {E : Type 0} (c : View E) (launch : List Fact) (laws : DividesLawfully 
       goes_then c launch (λ a r. Gives (truth (is_zero a.value)) r) (t.test facts n news st (λ b st1. go (not b) st1) vars answers m s) (λ a r i q.
       truth_goes (is_zero a.value) (not q.arrived) q.state go r (sym (not-not (is_zero a.value) q.arrived q.right)) q.stands))
   term_sound (And a b) h =
-      let p = and_parts (is_covered_term a) (is_covered_term b) h in
+      let p = and_parts (covers_term c.spaces a) (covers_term c.spaces b) h in
       let ta = term_sound a p.0 in
       let tb = term_sound b p.1 in
       truth_sound _ (evaluate (setup c) c.item (And a b)) (λ facts n news st go vars answers m s.
@@ -211,7 +212,7 @@ module _ {E : Type 0} (c : View E) (launch : List Fact) (laws : DividesLawfully 
       (λ s'. tested_goes (walk (walks c) b) (evaluate (setup c) c.item b) tb q.state go vars r (forms_at q vars m) s')
       (λ s'. truth_goes false false q.state go r refl s')))
   term_sound (Or a b) h =
-      let p = and_parts (is_covered_term a) (is_covered_term b) h in
+      let p = and_parts (covers_term c.spaces a) (covers_term c.spaces b) h in
       let ta = term_sound a p.0 in
       let tb = term_sound b p.1 in
       truth_sound _ (evaluate (setup c) c.item (Or a b)) (λ facts n news st go vars answers m s.
@@ -220,8 +221,8 @@ module _ {E : Type 0} (c : View E) (launch : List Fact) (laws : DividesLawfully 
       (λ s'. truth_goes true true q.state go r refl s')
       (λ s'. tested_goes (walk (walks c) b) (evaluate (setup c) c.item b) tb q.state go vars r (forms_at q vars m) s')))
   term_sound (Select t a b) h =
-      let p = and_parts (is_covered_term t) (is_covered_term a && is_covered_term b) h in
-      let p' = and_parts (is_covered_term a) (is_covered_term b) p.1 in
+      let p = and_parts (covers_term c.spaces t) (covers_term c.spaces a && covers_term c.spaces b) h in
+      let p' = and_parts (covers_term c.spaces a) (covers_term c.spaces b) p.1 in
       let tt' = term_sound t p.0 in
       let ta = term_sound a p'.0 in
       let tb = term_sound b p'.1 in
@@ -231,14 +232,14 @@ module _ {E : Type 0} (c : View E) (launch : List Fact) (laws : DividesLawfully 
       (λ s'. ta.value q.path q.count q.more q.state go vars r (forms_at q vars m) s')
       (λ s'. tb.value q.path q.count q.more q.state go vars r (forms_at q vars m) s')))
   term_sound (Minimum a b) h =
-      let p = and_parts (is_covered_term a) (is_covered_term b) h in
+      let p = and_parts (covers_term c.spaces a) (covers_term c.spaces b) h in
       let ta = term_sound a p.0 in
       let tb = term_sound b p.1 in
       value_sound _ (evaluate (setup c) c.item (Minimum a b)) (λ facts n news st go vars answers m s.
       pair_sound (walk (walks c) a) (walk (walks c) b) (evaluate (setup c) c.item a) (evaluate (setup c) c.item b) ta tb facts n news st (λ x y st2. pick (walks c) y x y x st2 go) go (ArrivesAsValue c) (λ u v r. Gives (smaller u v) r) vars answers m
       (λ path j more st2 x y u v rest iu iv mx my s'. picked y.form x.form u v x y v.value u.value st2 go rest my.form mx.form iu iv mx my s') s)
   term_sound (Maximum a b) h =
-      let p = and_parts (is_covered_term a) (is_covered_term b) h in
+      let p = and_parts (covers_term c.spaces a) (covers_term c.spaces b) h in
       let ta = term_sound a p.0 in
       let tb = term_sound b p.1 in
       value_sound _ (evaluate (setup c) c.item (Maximum a b)) (λ facts n news st go vars answers m s.

@@ -20,21 +20,25 @@ is_covered_unary Complement k = true
 is_covered_unary (ShiftLeft by) k = nat_lt by 32
 is_covered_unary (ShiftRight by) k = nat_lt by 32 && is_uint k
 
+-- with loads of arrays of these spaces alone
+abbrev pub covers_term : (spaces : Space → Bool) → Term → Bool
+covers_term sp (Literal k z) = in_kind k z
+covers_term sp (Variable x) = true
+covers_term sp (Id f d) = true
+covers_term sp (Load a site i) = sp a.space && covers_term sp i
+covers_term sp (Unary op k site e) = is_covered_unary op k && covers_term sp e
+covers_term sp (Binary op k site a b) = covers_term sp a && covers_term sp b
+covers_term sp (Convert k site e) = covers_term sp e
+covers_term sp (Compare r k a b) = covers_term sp a && covers_term sp b
+covers_term sp (Not e) = covers_term sp e
+covers_term sp (And a b) = covers_term sp a && covers_term sp b
+covers_term sp (Or a b) = covers_term sp a && covers_term sp b
+covers_term sp (Select t a b) = covers_term sp t && (covers_term sp a && covers_term sp b)
+covers_term sp (Minimum a b) = covers_term sp a && covers_term sp b
+covers_term sp (Maximum a b) = covers_term sp a && covers_term sp b
+
 abbrev pub is_covered_term : Term → Bool
-is_covered_term (Literal k z) = in_kind k z
-is_covered_term (Variable x) = true
-is_covered_term (Id f d) = true
-is_covered_term (Load a site i) = is_global a.space && is_covered_term i
-is_covered_term (Unary op k site e) = is_covered_unary op k && is_covered_term e
-is_covered_term (Binary op k site a b) = is_covered_term a && is_covered_term b
-is_covered_term (Convert k site e) = is_covered_term e
-is_covered_term (Compare r k a b) = is_covered_term a && is_covered_term b
-is_covered_term (Not e) = is_covered_term e
-is_covered_term (And a b) = is_covered_term a && is_covered_term b
-is_covered_term (Or a b) = is_covered_term a && is_covered_term b
-is_covered_term (Select t a b) = is_covered_term t && (is_covered_term a && is_covered_term b)
-is_covered_term (Minimum a b) = is_covered_term a && is_covered_term b
-is_covered_term (Maximum a b) = is_covered_term a && is_covered_term b
+is_covered_term e = covers_term is_global e
 
 abbrev mutual
   pub is_covered_statement : Statement → Bool

@@ -1,4 +1,5 @@
 pub mod Held
+pub mod Values
 pub mod Trees
 pub mod Walks
 pub mod Operators

@@ -7,7 +7,8 @@ use Rattle.domain.specs.declared.Bounds.{Bounds}
 use Rattle.facts.specs.Symbols.{Fact, constant, minus}
 use Rattle.facts.specs.Elements.{is_from_zero}
 use Rattle.obligations.specs.Trees.{OfDivisor, OfQuotient, Goal, Either, Tree, Know}
-use Rattle.obligations.specs.Walks.{Setting, State, Value, value, Onward, element_of, bounds_of, claim, invent, any_of, unknown, ranged, is_number}
+use Rattle.obligations.specs.Values.{Value, value}
+use Rattle.obligations.specs.Walks.{Setting, State, Onward, element_of, bounds_of, claim, invent, any_of, unknown, ranged, is_number}
 
 -- by a constant form exactly, else a new symbol
 abbrev pub product : {E : Type 0} → Setting E → (left right : Terms) → Fact → Fact → State E → (Fact → State E → Tree E) → Tree E

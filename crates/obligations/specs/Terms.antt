@@ -1,13 +1,15 @@
 -- The walk of a term, as a value and as a test.
 use Rattle.std.specs.Prelude.{ℕ, pos, Bool, true, false, not, cond, nat_lt, slice_index_or}
 use Rattle.semantics.specs.Word.{Kind, Int, Uint, Less}
-use Rattle.semantics.specs.Core.{Array, Site, Function, GlobalId, LocalId, GroupId, GlobalSize, LocalSize, NumGroups, Term, Literal, Variable, Id, Load, Unary, Binary, Convert, Compare, Not, And, Or, Select, Minimum, Maximum}
+use Rattle.semantics.specs.Memory.{no_array}
+use Rattle.semantics.specs.Core.{Space, Global, Local, Array, Site, Function, GlobalId, LocalId, GroupId, GlobalSize, LocalSize, NumGroups, Term, Literal, Variable, Id, Load, Unary, Binary, Convert, Compare, Not, And, Or, Select, Minimum, Maximum}
 use Rattle.semantics.specs.Setup.{along}
 use Rattle.linear.specs.Exact.{sum, multiple}
 use Rattle.facts.specs.Symbols as symbols
 use Rattle.facts.specs.Symbols.{First, Length, Fact, constant, once, minus}
 use Rattle.obligations.specs.Trees.{OfIndex, Target, Tree, Touch}
-use Rattle.obligations.specs.Walks.{Setting, State, Value, value, Onward, spot_at, at_site, claim_form, unknown, brought, both_brought}
+use Rattle.obligations.specs.Values.{Value, value}
+use Rattle.obligations.specs.Walks.{Setting, State, Onward, spot_at, at_site, claim_form, unknown, brought, both_brought}
 use Rattle.obligations.specs.Operators.{unary, binary}
 use Rattle.obligations.specs.Tests.{Outcomes, split, split_number}
 
@@ -52,23 +54,36 @@ id_outside NumGroups = constant (pos 1)
 abbrev pub id_form : {E : Type 0} → Setting E → Function → ℕ → Fact
 id_form s f d = cond (nat_lt d 3) (id_inside s f d) (id_outside f)
 
--- an index is at least 0, and below its buffer's length
-abbrev pub in_buffer : {E : Type 0} → Setting E → ℕ → Fact → State E → (State E → Tree E) → Tree E
-in_buffer s b i st go = claim_form s OfIndex true i st (λ st'. claim_form s OfIndex true (minus (minus (once (Length b)) (constant (pos 1))) i) st' go)
+-- how many elements an array has: a buffer's length is a symbol, a local array's a number
+abbrev pub length_in : {E : Type 0} → Setting E → Space → ℕ → Fact
+length_in s Global b = once (Length b)
+length_in s Local b = constant (pos (slice_index_or s.arrays b no_array).length)
+
+abbrev pub length_form : {E : Type 0} → Setting E → Array → Fact
+length_form s a = length_in s a.space a.number
+
+-- an index is at least 0, and below its array's length
+abbrev pub in_array : {E : Type 0} → Setting E → Array → Fact → State E → (State E → Tree E) → Tree E
+in_array s a i st go = claim_form s OfIndex true i st (λ st'. claim_form s OfIndex true (minus (minus (length_form s a) (constant (pos 1))) i) st' go)
 
 abbrev pub target_at : {E : Type 0} → Bool → Array → Site → State E → Target
 target_at is_store a site st = record { is_store = is_store; array = a; spot = spot_at site st }
 
 -- an access, where its array is named
 abbrev pub access : {E : Type 0} → Setting E → Bool → Array → Site → Fact → State E → (State E → Tree E) → Tree E
-access s is_store a site i st go = in_buffer s a.number i (at_site site st) (λ st'. Touch (target_at is_store a site st') i st'.held (go st'))
+access s is_store a site i st go = in_array s a i (at_site site st) (λ st'. Touch (target_at is_store a site st') i st'.held (go st'))
 
-abbrev pub buffer_kind : {E : Type 0} → Setting E → Array → Kind
-buffer_kind s a = slice_index_or s.buffers a.number Int
+abbrev pub kind_in : {E : Type 0} → Setting E → Space → ℕ → Kind
+kind_in s Global b = slice_index_or s.buffers b Int
+kind_in s Local b = (slice_index_or s.arrays b no_array).kind
 
--- the access, then any number of the buffer's kind
+-- the kind of an array's elements
+abbrev pub array_kind : {E : Type 0} → Setting E → Array → Kind
+array_kind s a = kind_in s a.space a.number
+
+-- the access, then any number of the array's kind
 abbrev pub load : {E : Type 0} → Setting E → Array → Site → Fact → State E → Onward E → Tree E
-load s a site i st go = access s false a site i st (λ st'. unknown s (buffer_kind s a) st' go)
+load s a site i st go = access s false a site i st (λ st'. unknown s (array_kind s a) st' go)
 
 -- one of two
 abbrev pub chosen : {A : Type 0} → Bool → A → A → A

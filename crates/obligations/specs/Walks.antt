@@ -1,37 +1,40 @@
 -- The steps of a walk: claims, facts, new symbols, and the ranges of kinds. A walk is written with what goes on from its form.
-use Rattle.std.specs.Prelude.{ℕ, suc, ◌+◌, ℤ, pos, negsuc, List, [], ◌∷◌, length, Bool, true, false, ◌&&◌, ◌||◌, Option, Some, None, int_lt}
+use Rattle.std.specs.Prelude.{ℕ, suc, ◌+◌, ℤ, pos, negsuc, List, [], ◌∷◌, length, Bool, true, false, ◌&&◌, ◌||◌, Option, Some, None, int_lt, cond, nat_eq}
 use Rattle.semantics.specs.Word.{Kind, Int, Uint}
 use Rattle.semantics.specs.Core.{Site}
-use Rattle.semantics.specs.Launch.{Three}
+use Rattle.semantics.specs.Launch.{Three, LocalArray}
 use Rattle.linear.specs.Exact.{fits_i64}
 use Rattle.domain.specs.declared.Domain.{Ghosts}
 use Rattle.domain.specs.declared.Bounds.{Bounds}
-use Rattle.facts.specs.Symbols.{First, New, Fact, constant, once, minus}
+use Rattle.facts.specs.Symbols.{First, New, Fact, constant, once, minus, Turns}
 use Rattle.facts.specs.Elements.{Known, between}
+use Rattle.obligations.specs.Values.{Value, value, Arrived}
+use Rattle.arrivals.specs.Trees as arrivals
+use Rattle.arrivals.specs.Trees.{Stop}
 use Rattle.obligations.specs.Held.{Held, with_new, element_at, is_settled_at, narrow}
 use Rattle.obligations.specs.Trees.{Sort, OfRange, Spot, Demand, Goal, AtLeastZero, Tree, Dead, Claim, Know, Fork}
 
--- what a walk is of: a domain with what it knows, the local sizes, the kinds of the buffers, and the numbers of the obligations that have
--- an entry
+-- what a walk is of: a domain with what it knows, the local sizes, the kinds of the buffers, the local arrays, and the numbers of the
+-- obligations that have an entry
 pub record Setting (E : Type 0) : Type 1 where
   pub domain : Ghosts E
   pub known : Known E
   pub sizes : Three ℕ
   pub buffers : List Kind
+  pub arrays : List LocalArray
   pub has_entry : ℕ → Bool
 
--- a form with the kind of its value
-pub record Value : Type 0 where
-  pub kind : Kind
+-- what ranked a loop when its test was last true on the path
+pub record Ranked : Type 0 where
+  pub loop : ℕ
   pub form : Fact
 
-abbrev pub value : Kind → Fact → Value
-value k f = record { kind = k; form = f }
-
--- how many claims were made, what the value parameters and private variables are, what the domain holds, and where the walk stands
+-- how many claims were made, what the value parameters and private variables are, what ranked loops, the latest first, what the domain
+-- holds, and where the walk stands
 pub record State (E : Type 0) : Type 0 where
   pub claims : ℕ
   pub variables : List Value
+  pub ranks : List Ranked
   pub held : Held E
   pub at : Spot
 
@@ -39,21 +42,34 @@ abbrev pub Onward : Type 0 → Type 0
 Onward E = Value → State E → Tree E
 
 abbrev pub claimed_once : {E : Type 0} → State E → State E
-claimed_once st = record { claims = suc st.claims; variables = st.variables; held = st.held; at = st.at }
+claimed_once st = record { claims = suc st.claims; variables = st.variables; ranks = st.ranks; held = st.held; at = st.at }
 
 -- with so many claims
 abbrev pub counted : {E : Type 0} → ℕ → State E → State E
-counted n st = record { claims = n; variables = st.variables; held = st.held; at = st.at }
+counted n st = record { claims = n; variables = st.variables; ranks = st.ranks; held = st.held; at = st.at }
 
 abbrev pub holding : {E : Type 0} → Held E → State E → State E
-holding h st = record { claims = st.claims; variables = st.variables; held = h; at = st.at }
+holding h st = record { claims = st.claims; variables = st.variables; ranks = st.ranks; held = h; at = st.at }
 
 abbrev pub with_variables : {E : Type 0} → List Value → State E → State E
-with_variables vs st = record { claims = st.claims; variables = vs; held = st.held; at = st.at }
+with_variables vs st = record { claims = st.claims; variables = vs; ranks = st.ranks; held = st.held; at = st.at }
+
+-- a loop's test was true
+abbrev pub with_rank : {E : Type 0} → ℕ → Fact → State E → State E
+with_rank n f st = record { claims = st.claims; variables = st.variables; ranks = record { loop = n; form = f } ∷ st.ranks; held = st.held; at = st.at }
+
+-- what ranked a loop when its test was last true: on the path, or before it
+abbrev pub rank_form : List Ranked → ℕ → Fact
+rank_form [] n = once (Turns First n)
+rank_form (r ∷ rs) n = cond (nat_eq r.loop n) r.form (rank_form rs n)
+
+-- what an item has where it stops
+abbrev pub arrived : {E : Type 0} → Stop → arrivals.Turns → State E → Arrived E
+arrived stop turns st = record { stop = stop; turns = turns; variables = st.variables; held = st.held }
 
 -- the walk stands elsewhere
 abbrev pub stand : {E : Type 0} → Spot → State E → State E
-stand p st = record { claims = st.claims; variables = st.variables; held = st.held; at = p }
+stand p st = record { claims = st.claims; variables = st.variables; ranks = st.ranks; held = st.held; at = p }
 
 -- at another site of its statement
 abbrev pub spot_at : {E : Type 0} → Site → State E → Spot

@@ -11,6 +11,7 @@ use Rattle.facts.specs.Elements.{is_from_zero}
 use Rattle.facts.specs.declared.error.WalkError.{WalkError}
 use Rattle.facts.proofs.Integers.{lt_test}
 use Rattle.obligations.specs.Trees.{Tree}
+use Rattle.obligations.specs.Values as values
 use Rattle.obligations.specs.Walks as walks
 use Rattle.obligations.specs.Walks.{Setting, State}
 use Rattle.obligations.specs.Operators as operators
@@ -54,25 +55,25 @@ module _ {E : Type 0} (walk : State E → (Fact → Fact → State E → Tree E)
   second_stops m e h go = h (λ x y st'. go y st')
 
 -- a form as a value
-pub as_value : {E : Type 0} (walk : State E → (Fact → State E → Tree E) → Tree E) (k : Kind) (f : Fact) (m n : Followed E) → Leads m n walk f → Leads m n (λ st go. walk st (λ g st'. go (walks.value k g) st')) (walks.value k f)
-as_value walk k f m n h go = h (λ g st'. go (walks.value k g) st')
+pub as_value : {E : Type 0} (walk : State E → (Fact → State E → Tree E) → Tree E) (k : Kind) (f : Fact) (m n : Followed E) → Leads m n walk f → Leads m n (λ st go. walk st (λ g st'. go (values.value k g) st')) (values.value k f)
+as_value walk k f m n h go = h (λ g st'. go (values.value k g) st')
 
-pub as_value_stops : {E : Type 0} (walk : State E → (Fact → State E → Tree E) → Tree E) (k : Kind) (m : Followed E) (e : WalkError) → Stops ⊥ m e walk → Stops ⊥ m e (λ st go. walk st (λ g st'. go (walks.value k g) st'))
-as_value_stops walk k m e h go = h (λ g st'. go (walks.value k g) st')
+pub as_value_stops : {E : Type 0} (walk : State E → (Fact → State E → Tree E) → Tree E) (k : Kind) (m : Followed E) (e : WalkError) → Stops ⊥ m e walk → Stops ⊥ m e (λ st go. walk st (λ g st'. go (values.value k g) st'))
+as_value_stops walk k m e h go = h (λ g st'. go (values.value k g) st')
 
 -- behind a step
 module _ {E : Type 0} (step : State E → (State E → Tree E) → Tree E) (walk : State E → (Fact → State E → Tree E) → Tree E) (k : Kind) where
-  pub value_behind : (f : Fact) (l m n : Followed E) → Steps l m step → Leads m n walk f → Leads l n (λ st go. step st (λ st1. walk st1 (λ g st'. go (walks.value k g) st'))) (walks.value k f)
-  value_behind f l m n a h go = a (λ st1. walk st1 (λ g st'. go (walks.value k g) st')) ∙ h (λ g st'. go (walks.value k g) st')
+  pub value_behind : (f : Fact) (l m n : Followed E) → Steps l m step → Leads m n walk f → Leads l n (λ st go. step st (λ st1. walk st1 (λ g st'. go (values.value k g) st'))) (values.value k f)
+  value_behind f l m n a h go = a (λ st1. walk st1 (λ g st'. go (values.value k g) st')) ∙ h (λ g st'. go (values.value k g) st')
 
-  pub stops_before : (l : Followed E) (e : WalkError) → StopsAtStep ⊥ l e step → Stops ⊥ l e (λ st go. step st (λ st1. walk st1 (λ g st'. go (walks.value k g) st')))
-  stops_before l e h go = h (λ st1. walk st1 (λ g st'. go (walks.value k g) st'))
+  pub stops_before : (l : Followed E) (e : WalkError) → StopsAtStep ⊥ l e step → Stops ⊥ l e (λ st go. step st (λ st1. walk st1 (λ g st'. go (values.value k g) st')))
+  stops_before l e h go = h (λ st1. walk st1 (λ g st'. go (values.value k g) st'))
 
-  pub stops_behind : (l m : Followed E) (e : WalkError) → Steps l m step → Stops ⊥ m e walk → Stops ⊥ l e (λ st go. step st (λ st1. walk st1 (λ g st'. go (walks.value k g) st')))
-  stops_behind l m e a h go = refused_from ⊥ e _ _ (a (λ st1. walk st1 (λ g st'. go (walks.value k g) st'))) (h (λ g st'. go (walks.value k g) st'))
+  pub stops_behind : (l m : Followed E) (e : WalkError) → Steps l m step → Stops ⊥ m e walk → Stops ⊥ l e (λ st go. step st (λ st1. walk st1 (λ g st'. go (values.value k g) st')))
+  stops_behind l m e a h go = refused_from ⊥ e _ _ (a (λ st1. walk st1 (λ g st'. go (values.value k g) st'))) (h (λ g st'. go (values.value k g) st'))
 
 -- a product by a number
-pub by_number : {E : Type 0} (s : Setting E) (k : Kind) (x y : Fact) (z : ℤ) (m n : Followed E) (view : Value → walks.Value) (r : Result Value WalkError) → y ≡ constant z →
+pub by_number : {E : Type 0} (s : Setting E) (k : Kind) (x y : Fact) (z : ℤ) (m n : Followed E) (view : Value → values.Value) (r : Result Value WalkError) → y ≡ constant z →
     MatchResult r (λ v. Leads m n (operators.binary s Multiply k x y) (view v)) (λ e. Stops ⊥ m e (operators.binary s Multiply k x y)) →
     MatchResult r (λ v. Leads m n (walks.ranged s k (multiple z x)) (view v)) (λ e. Stops ⊥ m e (walks.ranged s k (multiple z x)))
 by_number s k x y z m n view r d h = subst (λ u. MatchResult r (λ v. Leads m n (operators.binary s Multiply k x u) (view v)) (λ e. Stops ⊥ m e (operators.binary s Multiply k x u))) d h

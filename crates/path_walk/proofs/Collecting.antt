@@ -1,13 +1,12 @@
--- What is found along a path is what is listed along it; what is listed from the first choice on is the tree's.
-use Rattle.std.proofs.Common.{◌≡◌, ◌<◌, ◌≤◌, ℕ, suc, ◌+◌, Bool, true, false, ◌&&◌, nat_lt, List, [], ◌∷◌, ◌++◌, map, length, refl, sym, ap, subst, ◌∙◌, append-nil, arith}
+-- What is found along a path is what is listed along it; what a path has too many of or too large, the tree has.
+use Rattle.std.proofs.Common.{◌≡◌, ◌<◌, ◌≤◌, ℕ, suc, Bool, true, false, ◌&&◌, nat_lt, List, [], ◌∷◌, ◌++◌, refl, sym, ap, subst, ◌∙◌, append-nil, arith}
 use Rattle.std.proofs.lemmas.Bool.Decides.{nat_tests}
-use Rattle.std.proofs.lemmas.List.{append_assoc, map-append, length-append}
+use Rattle.std.proofs.lemmas.List.{append_assoc}
 use Rattle.linear.specs.Exact.{fits}
-use Rattle.facts.specs.Symbols.{Fact}
 use Rattle.facts.proofs.Tests.{and_left, and_right}
-use Rattle.obligations.specs.Trees.{Tree, Leaf, Dead, Claim, Know, Touch, Fork, after, leaves, claims, accesses}
+use Rattle.obligations.specs.Trees.{Tree, Leaf, Dead, Claim, Know, Touch, Fork, after}
 use Rattle.path_walk.specs.Paths.{Choice, First, Other, front, behind, by_choice, noted, is_goal_fit, Found, collect, add_claim, add_fact, add_access, take_first, take_other}
-use Rattle.path_walk.specs.Turns.{if_new, along, from, taken_in, count_in, RightAt, AreRight, listed_claims, listed_accesses, listed_ends, obliged, is_tree_fit}
+use Rattle.path_walk.specs.Turns.{if_new, along, taken_in, count_in, RightAt, AreRight, listed_claims, listed_accesses, listed_ends, is_tree_fit}
 
 noted_in : {A : Type 0} (cs : List Choice) (x : A) (xs rest : List A) → noted cs x xs ++ rest ≡ xs ++ (if_new cs (x ∷ []) ++ rest)
 noted_in [] x xs rest = append_assoc xs (x ∷ []) rest
@@ -17,9 +16,17 @@ nothing : {A : Type 0} (cs : List Choice) (rest : List A) → rest ≡ if_new cs
 nothing [] rest = refl
 nothing (c ∷ cs) rest = refl
 
+no_new : {A : Type 0} (cs : List Choice) → [] ≡ if_new {A = A} cs []
+no_new [] = refl
+no_new (c ∷ cs) = refl
+
+noted_here : {A : Type 0} (cs : List Choice) (x : A) (xs : List A) → noted cs x xs ≡ xs ++ if_new cs (x ∷ [])
+noted_here [] x xs = refl
+noted_here (c ∷ cs) x xs = sym (append-nil xs)
+
 pub found_claims : {E : Type 0} (m : Found E) (t : Tree E) → (collect m t).claims ≡ m.claims ++ along listed_claims m.facts m.left m.count t
 unfolding collect
-found_claims m Leaf = sym (append-nil m.claims)
+found_claims m (Leaf end) = sym (append-nil m.claims) ∙ ap (λ l. m.claims ++ l) (no_new m.left)
 found_claims m Dead = sym (append-nil m.claims)
 found_claims m (Claim o needed settled g rest) = found_claims (add_claim m o needed settled g) rest ∙ noted_in m.left (record { demand = o; needed = needed; settled = settled; goal = g; facts = m.facts }) m.claims (along listed_claims m.facts m.left (suc m.count) rest)
 found_claims m (Know f rest) = found_claims (add_fact m f) rest
@@ -34,7 +41,7 @@ found_claims m (Fork a b) = at (front m.left) (found_claims (take_first m) a) (�
 
 pub found_accesses : {E : Type 0} (m : Found E) (t : Tree E) → (collect m t).accesses ≡ m.accesses ++ along listed_accesses m.facts m.left m.count t
 unfolding collect
-found_accesses m Leaf = sym (append-nil m.accesses)
+found_accesses m (Leaf end) = sym (append-nil m.accesses) ∙ ap (λ l. m.accesses ++ l) (no_new m.left)
 found_accesses m Dead = sym (append-nil m.accesses)
 found_accesses m (Claim o needed settled g rest) = found_accesses (add_claim m o needed settled g) rest ∙ ap (λ l. m.accesses ++ l) (nothing m.left (along listed_accesses m.facts m.left (suc m.count) rest))
 found_accesses m (Know f rest) = found_accesses (add_fact m f) rest
@@ -47,9 +54,24 @@ found_accesses m (Fork a b) = at (front m.left) (found_accesses (take_first m) a
     at First f g = f
     at (Other k) f g = g k
 
+pub found_ends : {E : Type 0} (m : Found E) (t : Tree E) → (collect m t).ends ≡ m.ends ++ along listed_ends m.facts m.left m.count t
+unfolding collect
+found_ends m (Leaf end) = noted_here m.left (record { arrived = end; facts = m.facts }) m.ends
+found_ends m Dead = sym (append-nil m.ends)
+found_ends m (Claim o needed settled g rest) = found_ends (add_claim m o needed settled g) rest ∙ ap (λ l. m.ends ++ l) (nothing m.left (along listed_ends m.facts m.left (suc m.count) rest))
+found_ends m (Know f rest) = found_ends (add_fact m f) rest
+found_ends m (Touch t i h rest) = found_ends (add_access m t i h) rest ∙ ap (λ l. m.ends ++ l) (nothing m.left (along listed_ends m.facts m.left m.count rest))
+found_ends m (Fork a b) = at (front m.left) (found_ends (take_first m) a) (λ k. found_ends (take_other k m) (b k))
+  where
+    at : (c : Choice) → (collect (take_first m) a).ends ≡ m.ends ++ along listed_ends m.facts (behind m.left) m.count a →
+        ((k : ℕ) → (collect (take_other k m) (b k)).ends ≡ m.ends ++ along listed_ends m.facts (behind m.left) k (b k)) →
+        (by_choice c (collect (take_first m) a) (λ k. collect (take_other k m) (b k))).ends ≡ m.ends ++ by_choice c (along listed_ends m.facts (behind m.left) m.count a) (λ k. along listed_ends m.facts (behind m.left) k (b k))
+    at First f g = f
+    at (Other k) f g = g k
+
 pub found_taken : {E : Type 0} (m : Found E) (t : Tree E) → (collect m t).taken ≡ m.taken ++ taken_in m.left t
 unfolding collect
-found_taken m Leaf = sym (append-nil m.taken)
+found_taken m (Leaf end) = sym (append-nil m.taken)
 found_taken m Dead = sym (append-nil m.taken)
 found_taken m (Claim o needed settled g rest) = found_taken (add_claim m o needed settled g) rest
 found_taken m (Know f rest) = found_taken (add_fact m f) rest
@@ -64,7 +86,7 @@ found_taken m (Fork a b) = at (front m.left) (found_taken (take_first m) a) (λ 
 
 pub found_count : {E : Type 0} (m : Found E) (t : Tree E) → (collect m t).count ≡ count_in m.left m.count t
 unfolding collect
-found_count m Leaf = refl
+found_count m (Leaf end) = refl
 found_count m Dead = refl
 found_count m (Claim o needed settled g rest) = found_count (add_claim m o needed settled g) rest
 found_count m (Know f rest) = found_count (add_fact m f) rest
@@ -77,38 +99,9 @@ found_count m (Fork a b) = at (front m.left) (found_count (take_first m) a) (λ 
     at First f g = f
     at (Other k) f g = g k
 
--- from the first choice on it is all that the tree has
-pub tree_claims : {E : Type 0} (launch facts : List Fact) (n : ℕ) (t : Tree E) → map (obliged launch) (from listed_claims facts [] n t) ≡ claims launch facts n t
-tree_claims launch facts n Leaf = refl
-tree_claims launch facts n Dead = refl
-tree_claims launch facts n (Claim o needed settled g rest) = ap (λ l. obliged launch (record { demand = o; needed = needed; settled = settled; goal = g; facts = facts }) ∷ l) (tree_claims launch facts (suc n) rest)
-tree_claims launch facts n (Know f rest) = tree_claims launch (facts ++ f ∷ []) n rest
-tree_claims launch facts n (Touch t i h rest) = tree_claims launch facts n rest
-tree_claims launch facts n (Fork a b) =
-    map-append (obliged launch) (from listed_claims facts [] n a) (from listed_claims facts [] (after n a) (b (after n a)))
-    ∙ (λ i. tree_claims launch facts n a i ++ tree_claims launch facts (after n a) (b (after n a)) i)
-
-pub tree_accesses : {E : Type 0} (facts : List Fact) (n : ℕ) (t : Tree E) → from listed_accesses facts [] n t ≡ accesses facts n t
-tree_accesses facts n Leaf = refl
-tree_accesses facts n Dead = refl
-tree_accesses facts n (Claim o needed settled g rest) = tree_accesses facts (suc n) rest
-tree_accesses facts n (Know f rest) = tree_accesses (facts ++ f ∷ []) n rest
-tree_accesses facts n (Touch t i h rest) = ap (λ l. record { target = t; index = i; held = h; facts = facts } ∷ l) (tree_accesses facts n rest)
-tree_accesses facts n (Fork a b) = λ i. tree_accesses facts n a i ++ tree_accesses facts (after n a) (b (after n a)) i
-
-pub tree_ends : {E : Type 0} (facts : List Fact) (n : ℕ) (t : Tree E) → length (from listed_ends facts [] n t) ≡ leaves n t
-tree_ends facts n Leaf = refl
-tree_ends facts n Dead = refl
-tree_ends facts n (Claim o needed settled g rest) = tree_ends facts (suc n) rest
-tree_ends facts n (Know f rest) = tree_ends (facts ++ f ∷ []) n rest
-tree_ends facts n (Touch t i h rest) = tree_ends facts n rest
-tree_ends facts n (Fork a b) =
-    length-append (from listed_ends facts [] n a) (from listed_ends facts [] (after n a) (b (after n a)))
-    ∙ (λ i. tree_ends facts n a i + tree_ends facts (after n a) (b (after n a)) i)
-
 -- no fewer claims stand behind a tree than in front of it
 pub after_more : {E : Type 0} (n : ℕ) (t : Tree E) → n ≤ after n t
-after_more n Leaf = omega arith
+after_more n (Leaf end) = omega arith
 after_more n Dead = omega arith
 after_more n (Claim o needed settled g rest) = omega (arith, after_more (suc n) rest)
 after_more n (Know f rest) = after_more n rest
@@ -118,7 +111,7 @@ after_more n (Fork a b) = omega (arith, after_more n a, after_more (after n a) (
 -- a claim that is one too many on a path is so in the tree
 pub too_many : {E : Type 0} (m : Found E) (t : Tree E) → (collect m t).is_few ≡ false → m.is_few ≡ true → AreRight m.left m.count t → 65536 < after m.count t
 unfolding collect
-too_many m Leaf h k r = absurd (cc (h, k))
+too_many m (Leaf end) h k r = absurd (cc (h, k))
 too_many m Dead h k r = absurd (cc (h, k))
 too_many m (Claim o needed settled g rest) h k r = by (nat_lt m.count 65536) refl (λ e. too_many (add_claim m o needed settled g) rest h e r)
   where
@@ -140,7 +133,7 @@ too_many m (Fork a b) h k r = at (front m.left) h r (λ h' r'. too_many (take_fi
 -- a form on a path that does not fit is one of the tree
 pub too_large : {E : Type 0} (m : Found E) (t : Tree E) → (collect m t).is_fit ≡ false → m.is_fit ≡ true → AreRight m.left m.count t → is_tree_fit m.count t ≡ false
 unfolding collect
-too_large m Leaf h k r = absurd (cc (h, k))
+too_large m (Leaf end) h k r = absurd (cc (h, k))
 too_large m Dead h k r = absurd (cc (h, k))
 too_large m (Claim o needed settled g rest) h k r = by (is_goal_fit g) refl (λ e. too_large (add_claim m o needed settled g) rest h e r)
   where

@@ -10,6 +10,7 @@ use Rattle.facts.specs.Symbols.{Fact}
 use Rattle.facts.specs.Refusals.{IsUnfit}
 use Rattle.facts.specs.declared.error.WalkError.{WalkError}
 use Rattle.facts.specs.declared.error.WalkError.TheVariants as errors
+use Rattle.obligations.specs.Values as values
 use Rattle.obligations.specs.Walks as walks
 use Rattle.obligations.specs.Walks.{Setting, State, is_none, low_end, high_end, element_of}
 use Rattle.obligations.specs.Operators as operators
@@ -26,7 +27,7 @@ range_unfit s needed k f m (inr h) = high_stops s needed k f m errors.TooLarge h
 
 -- a form that was not made is not in a kind's range
 unfit_ranged : {E : Type 0} (s : Setting E) (k : Kind) (f : Fact) (m : Followed E) → fits f ≡ false → Stops ⊥ m errors.TooLarge (walks.ranged s k f)
-unfit_ranged s Int f m h go = range_unfit s true Int f m (ends_unfit Int f (fits_i64 f.constant) (fits_terms f.terms) refl refl h) (λ st. go (walks.value Int f) st)
+unfit_ranged s Int f m h go = range_unfit s true Int f m (ends_unfit Int f (fits_i64 f.constant) (fits_terms f.terms) refl refl h) (λ st. go (values.value Int f) st)
 unfit_ranged s Uint f m h go = range_unfit s (walks.is_kept s f m.state) Uint f m (ends_unfit Uint f (fits_i64 f.constant) (fits_terms f.terms) refl refl h) (λ st. walks.kept_or_new s (walks.is_kept s f m.state) f st go)
 
 pub ranged_unfit : {E : Type 0} (s : Setting E) (k : Kind) (f : Fact) (m : Followed E) (e : WalkError) → IsUnfit e f → Stops ⊥ m e (walks.ranged s k f)
@@ -36,7 +37,7 @@ ranged_unfit s k f m errors.Outside h go = absurd h
 ranged_unfit s k f m errors.Memory h go = tt
 
 -- of a form that is it
-pub ranged_as : {E : Type 0} (s : Setting E) (k : Kind) (f fact : Fact) (m n : Followed E) (view : Value → walks.Value) (r : Result Value WalkError) → fact ≡ f →
+pub ranged_as : {E : Type 0} (s : Setting E) (k : Kind) (f fact : Fact) (m n : Followed E) (view : Value → values.Value) (r : Result Value WalkError) → fact ≡ f →
     MatchResult r (λ v. Leads m n (walks.ranged s k fact) (view v)) (λ e. Stops ⊥ m e (walks.ranged s k fact)) →
     MatchResult r (λ v. Leads m n (walks.ranged s k f) (view v)) (λ e. Stops ⊥ m e (walks.ranged s k f))
 ranged_as s k f fact m n view r d h = subst (λ x. MatchResult r (λ v. Leads m n (walks.ranged s k x) (view v)) (λ e. Stops ⊥ m e (walks.ranged s k x))) d h
@@ -68,7 +69,7 @@ new_product s [] (u ∷ us) f g m n x r p q d h = absurd cc
 new_product s (t ∷ ts) (u ∷ us) f g m n x (Ok y) p q d h = λ go. subst (λ z. collect m.found (walks.invent s z m.state go) ≡ collect n.found (go (form y) n.state)) d (h go)
 new_product s (t ∷ ts) (u ∷ us) f g m n x (Err e) p q d h = λ k go. subst (λ z. Refused ⊥ e (collect m.found (walks.invent s z m.state (λ y st. walks.ranged s k y st go)))) d (h (λ y st. walks.ranged s k y st go))
 
-pub ranged_product : {E : Type 0} (s : Setting E) (k : Kind) (x y f : Fact) (l m n : Followed E) (view : Value → walks.Value) (r : Result Value WalkError) → Leads l m (operators.product s x.terms y.terms x y) f →
+pub ranged_product : {E : Type 0} (s : Setting E) (k : Kind) (x y f : Fact) (l m n : Followed E) (view : Value → values.Value) (r : Result Value WalkError) → Leads l m (operators.product s x.terms y.terms x y) f →
     MatchResult r (λ v. Leads m n (walks.ranged s k f) (view v)) (λ e. Stops ⊥ m e (walks.ranged s k f)) →
     MatchResult r (λ v. Leads l n (operators.binary s Multiply k x y) (view v)) (λ e. Stops ⊥ l e (operators.binary s Multiply k x y))
 ranged_product s k x y f l m n view (Ok v) a h = λ go. a (λ g st. walks.ranged s k g st go) ∙ h go

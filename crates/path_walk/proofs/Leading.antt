@@ -6,6 +6,7 @@ use Rattle.domain.specs.declared.Bounds.{Bounds}
 use Rattle.facts.specs.Symbols.{Fact, constant, minus}
 use Rattle.obligations.specs.Held as held
 use Rattle.obligations.specs.Trees.{Tree, Know, Sort, OfRange, AtLeastZero}
+use Rattle.obligations.specs.Values as values
 use Rattle.obligations.specs.Walks as walks
 use Rattle.obligations.specs.Walks.{Setting, State, counted, claimed_once, settles, newest, know_all, bound_facts, lower_fact, upper_fact, low_end, high_end, demand}
 use Rattle.path_walk.specs.Paths.{Choice, Found, Followed, First, Other, front, by_choice, take_first, take_other, with_choice, choosing, collect, add_claim, with_claim, with_fact, with_element}
@@ -45,17 +46,17 @@ invents s e new bounds k l m n d b low p high q f go =
     ∙ ap (λ (st : State _). collect m.found (go new (walks.holding (held.with_new e st.held) st))) (sym (q ∙ p))
     ∙ ap (λ (x : Followed _). collect x.found (go new x.state)) (sym f)
 
-pub unknown_leads : {E : Type 0} (s : Setting E) (k : Kind) (x : E) (f : Fact) (m n : Followed E) → x ≡ walks.any_of s.domain k → Leads m n (walks.invent s x) f → Leads m n (walks.unknown s k) (walks.value k f)
-unknown_leads s k x f m n d h go = ap (λ y. collect m.found (walks.invent s y m.state (λ g st'. go (walks.value k g) st'))) (sym d) ∙ h (λ g st'. go (walks.value k g) st')
+pub unknown_leads : {E : Type 0} (s : Setting E) (k : Kind) (x : E) (f : Fact) (m n : Followed E) → x ≡ walks.any_of s.domain k → Leads m n (walks.invent s x) f → Leads m n (walks.unknown s k) (values.value k f)
+unknown_leads s k x f m n d h go = ap (λ y. collect m.found (walks.invent s y m.state (λ g st'. go (values.value k g) st'))) (sym d) ∙ h (λ g st'. go (values.value k g) st')
 
-pub wraps : {E : Type 0} (s : Setting E) (kept : Bool) (f : Fact) (v : walks.Value) (l m n : Followed E) → kept ≡ walks.is_kept s f l.state → kept ≡ false → Steps l m (walks.in_range s kept Uint f) → Leads m n (walks.unknown s Uint) v → Leads l n (walks.ranged s Uint f) v
+pub wraps : {E : Type 0} (s : Setting E) (kept : Bool) (f : Fact) (v : values.Value) (l m n : Followed E) → kept ≡ walks.is_kept s f l.state → kept ≡ false → Steps l m (walks.in_range s kept Uint f) → Leads m n (walks.unknown s Uint) v → Leads l n (walks.ranged s Uint f) v
 wraps s kept f v l m n d e a b go =
     (λ i. collect l.found (walks.in_range s (sym d i) Uint f l.state (λ st'. walks.kept_or_new s (sym d i) f st' go)))
     ∙ a (λ st'. walks.kept_or_new s kept f st' go)
     ∙ ap (λ c. collect m.found (walks.kept_or_new s c f m.state go)) e
     ∙ b go
 
-pub keeps : {E : Type 0} (s : Setting E) (kept : Bool) (f : Fact) (l m : Followed E) → kept ≡ walks.is_kept s f l.state → kept ≡ true → Steps l m (walks.in_range s kept Uint f) → Leads l m (walks.ranged s Uint f) (walks.value Uint f)
+pub keeps : {E : Type 0} (s : Setting E) (kept : Bool) (f : Fact) (l m : Followed E) → kept ≡ walks.is_kept s f l.state → kept ≡ true → Steps l m (walks.in_range s kept Uint f) → Leads l m (walks.ranged s Uint f) (values.value Uint f)
 keeps s kept f l m d e a go =
     (λ i. collect l.found (walks.in_range s (sym d i) Uint f l.state (λ st'. walks.kept_or_new s (sym d i) f st' go)))
     ∙ a (λ st'. walks.kept_or_new s kept f st' go)

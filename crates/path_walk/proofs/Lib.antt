@@ -1,4 +1,5 @@
 pub mod Moves
+pub mod Endings
 pub mod Leading
 pub mod Refusing
 pub mod Testing
@@ -8,3 +9,4 @@ pub mod Quotients
 pub mod Accessing
 pub mod Turning
 pub mod Collecting
+pub mod Listing

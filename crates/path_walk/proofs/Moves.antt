@@ -12,6 +12,7 @@ use Rattle.linear.specs.Forms.{form, forms}
 use Rattle.linear.specs.declared.form.Form.{Form}
 use Rattle.linear.proofs.FormLists.{length-forms, forms_more, form-fits}
 use Rattle.facts.specs.Symbols.{Fact}
+use Rattle.obligations.specs.Fitting.{all_fit}
 use Rattle.obligations.specs.Walks.{is_none}
 use Rattle.path_walk.specs.Before.{HasFacts, HasAll}
 use Rattle.path_walk.specs.Paths as paths
@@ -32,9 +33,15 @@ pub noted_none : {A : Type 0} (cs : List paths.Choice) (x : A) (xs : List A) →
 noted_none [] x xs h = absurd cc
 noted_none (c ∷ cs) x xs h = refl
 
+forms-fit : (fs : List Form) → all_fit (forms fs) ≡ true
+forms-fit [] = refl
+forms-fit (f ∷ fs) = ap (λ b. b && all_fit (forms fs)) (form-fits f) ∙ forms-fit fs
+
 pub goal_fits : (g : Goal) → is_goal_fit (goal_seen g) ≡ true
 goal_fits (goals.AtLeastZero f) = form-fits f
 goal_fits (goals.Either p n) = ap (λ b. b && fits (form n)) (form-fits p) ∙ form-fits n
+goal_fits (goals.Replaced made f) = ap (λ b. b && fits (form f)) (forms-fit made.items) ∙ form-fits f
+goal_fits (goals.Divided made f) = ap (λ b. b && fits (form f)) (forms-fit made.items) ∙ form-fits f
 
 pub few : (n : ℕ) → n < 65536 → nat_lt n 65536 ≡ true
 few n h = grind (arith, nat_tests)
@@ -69,10 +76,10 @@ left_more (suc n) (c ∷ cs) = left_more n cs
 pub taken_more : (cs ds given : List Choice) (c : Choice) → ds ≡ cs ++ c ∷ [] → map choice (drop (length ds) given) ≡ behind (map choice (drop (length cs) given))
 taken_more cs ds given c e = ap (λ n. map choice (drop n given)) (ap length e ∙ length-append cs (c ∷ []) ∙ add-one (length cs)) ∙ left_more (length cs) given
 
-whole : (fs : List Form) (n : ℕ) → n ≡ length fs → take n (forms fs) ≡ forms fs
+pub whole : (fs : List Form) (n : ℕ) → n ≡ length fs → take n (forms fs) ≡ forms fs
 whole fs n e = ap (λ k. take k (forms fs)) (e ∙ sym (length-forms fs)) ∙ take-length (forms fs)
 
-all_of : {A : Type 0} (xs : List A) (n : ℕ) → n ≡ length xs → take n xs ≡ xs
+pub all_of : {A : Type 0} (xs : List A) (n : ℕ) → n ≡ length xs → take n xs ≡ xs
 all_of xs n e = ap (λ k. take k xs) e ∙ take-length xs
 
 pub claims_more : (fs : List Form) (cs ds : List Claim) (c : Claim) → ds ≡ cs ++ c ∷ [] → c.facts ≡ length fs → map (claim_seen (forms fs)) ds ≡ map (claim_seen (forms fs)) cs ++ record { demand = record { sort = sort c.sort; spot = spot c.spot }; needed = c.needed; settled = c.settled; goal = goal_seen c.goal; facts = forms fs } ∷ []

@@ -11,6 +11,7 @@ use Rattle.facts.specs.declared.error.WalkError.TheVariants as errors
 use Rattle.facts.proofs.Tests.{and_left, and_right}
 use Rattle.obligations.specs.Held as held
 use Rattle.obligations.specs.Trees.{Sort, OfRange, Demand, Goal, AtLeastZero, Either, Tree, Leaf, Dead, Claim, Know, Touch, Fork}
+use Rattle.obligations.specs.Values as values
 use Rattle.obligations.specs.Walks as walks
 use Rattle.obligations.specs.Walks.{Setting, State, Onward, settles, newest, claimed_once, demand, know_all, bound_facts, lower_fact, upper_fact, low_end, high_end, least, greatest}
 use Rattle.path_walk.specs.Paths.{Choice, First, Other, front, by_choice, is_goal_fit, Found, Followed, collect, add_claim, add_fact, add_access, take_first, take_other, with_claim}
@@ -37,10 +38,10 @@ either P (Other n) x y h k = k n
 -- whatever is found behind it
 pub refused_stays : {E : Type 0} (o : Type 0) (e : WalkError) (m : Found E) (t : Tree E) → Refused o e m → Refused o e (collect m t)
 unfolding collect
-refused_stays o errors.TooMany m Leaf h = h
-refused_stays o errors.TooLarge m Leaf h = h
-refused_stays o errors.Outside m Leaf h = h
-refused_stays o errors.Memory m Leaf h = h
+refused_stays o errors.TooMany m (Leaf end) h = h
+refused_stays o errors.TooLarge m (Leaf end) h = h
+refused_stays o errors.Outside m (Leaf end) h = h
+refused_stays o errors.Memory m (Leaf end) h = h
 refused_stays o e m Dead h = h
 refused_stays o e m (Claim a needed settled g rest) h = refused_stays o e (add_claim m a needed settled g) rest (fell o e m (add_claim m a needed settled g) (record { unfit = and_left _ _; many = and_left _ _ }) h)
 refused_stays o e m (Know f rest) h = refused_stays o e (add_fact m f) rest (fell o e m (add_fact m f) (record { unfit = and_left _ _; many = λ x. x }) h)
@@ -141,14 +142,14 @@ invent_high s x new bounds k l e d b low h go =
     refused_from ⊥ e _ _ ((λ i. collect k.found (know_all (bound_facts (sym d i) (sym b i)) rest)) ∙ low (upper_fact new bounds.high) rest) (h rest)
 
 -- what an answer and a refusal say of the whole, where the last step is one for one
-pub wrapped : {E : Type 0} (s : Setting E) (kept : Bool) (f : Fact) (l m n : Followed E) (view : Value → walks.Value) (r : Result Value WalkError) → kept ≡ walks.is_kept s f l.state → kept ≡ false → Steps l m (walks.in_range s kept Uint f) →
+pub wrapped : {E : Type 0} (s : Setting E) (kept : Bool) (f : Fact) (l m n : Followed E) (view : Value → values.Value) (r : Result Value WalkError) → kept ≡ walks.is_kept s f l.state → kept ≡ false → Steps l m (walks.in_range s kept Uint f) →
     MatchResult r (λ v. Leads m n (walks.unknown s Uint) (view v)) (λ e. Stops ⊥ m e (walks.unknown s Uint)) →
     MatchResult r (λ v. Leads l n (walks.ranged s Uint f) (view v)) (λ e. Stops ⊥ l e (walks.ranged s Uint f))
 wrapped s kept f l m n view (Ok v) d p a h = wraps s kept f (view v) l m n d p a h
 wrapped s kept f l m n view (Err e) d p a h = wrapped_stops s kept f l m e d p a h
 
 pub unknown_stops : {E : Type 0} (s : Setting E) (k : Kind) (x : E) (m : Followed E) (e : WalkError) → x ≡ walks.any_of s.domain k → Stops ⊥ m e (walks.invent s x) → Stops ⊥ m e (walks.unknown s k)
-unknown_stops s k x m e d h go = subst (λ y. Refused ⊥ e (collect m.found (walks.invent s y m.state (λ g st'. go (walks.value k g) st')))) d (h (λ g st'. go (walks.value k g) st'))
+unknown_stops s k x m e d h go = subst (λ y. Refused ⊥ e (collect m.found (walks.invent s y m.state (λ g st'. go (values.value k g) st')))) d (h (λ g st'. go (values.value k g) st'))
 
 -- any goal as a claim
 pub goal_steps : {E : Type 0} (o : Sort) (needed b settled : Bool) (g goal : Goal) (m n : Followed E) → settled ≡ b → goal ≡ g → n ≡ with_claim m o needed settled goal → Steps m n (walks.claim o needed b g)

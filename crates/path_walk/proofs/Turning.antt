@@ -9,7 +9,7 @@ use Rattle.path_walk.specs.Turns.{Listed, if_new, along, from, taken_in, count_i
 
 -- no choices are right
 pub none_right : {E : Type 0} (n : ℕ) (t : Tree E) → AreRight [] n t
-none_right n Leaf = tt
+none_right n (Leaf end) = tt
 none_right n Dead = tt
 none_right n (Claim o needed settled g rest) = none_right (suc n) rest
 none_right n (Know f rest) = none_right n rest
@@ -26,7 +26,7 @@ other_none k (Some cs) n h = absurd cc
 
 -- where no path comes after it, all claims stand before a path's end
 pub ended : {E : Type 0} (cs : List Choice) (n : ℕ) (t : Tree E) → next_choices (taken_in cs t) (count_in cs n t) ≡ None → AreRight cs n t → count_in cs n t ≡ after n t
-ended cs n Leaf h r = refl
+ended cs n (Leaf end) h r = refl
 ended cs n Dead h r = refl
 ended cs n (Claim o needed settled g rest) h r = ended cs (suc n) rest h r
 ended cs n (Know f rest) h r = ended cs n rest h r
@@ -42,7 +42,7 @@ ended cs n (Fork a b) h r = at (front cs) h r (λ k h' r'. ended (behind cs) k (
 
 -- the choices of the next path are right
 pub next_right : {E : Type 0} (cs ds : List Choice) (n : ℕ) (t : Tree E) → next_choices (taken_in cs t) (count_in cs n t) ≡ Some ds → AreRight cs n t → AreRight ds n t
-next_right cs ds n Leaf h r = tt
+next_right cs ds n (Leaf end) h r = tt
 next_right cs ds n Dead h r = tt
 next_right cs ds n (Claim o needed settled g rest) h r = next_right cs ds (suc n) rest h r
 next_right cs ds n (Know f rest) h r = next_right cs ds n rest h r
@@ -102,7 +102,7 @@ module _ {E A : Type 0} (w : Listed E A) where
 
   -- a path and all that come after it
   pub turns : (facts : List Fact) (cs : List Choice) (n : ℕ) (t : Tree E) → AreRight cs n t → along w facts cs n t ++ rest_of w facts n t (next_choices (taken_in cs t) (count_in cs n t)) ≡ from w facts cs n t
-  turns facts cs n Leaf r = append-nil w.of_end
+  turns facts cs n (Leaf end) r = append-nil (if_new cs (w.of_end facts end))
   turns facts cs n Dead r = refl
   turns facts cs n (Claim o needed settled g rest) r =
       let x = if_new cs (w.of_claim facts o needed settled g) in

@@ -1,13 +1,15 @@
 //! Section: Walks. Promises exactly what one work-item finds along a path of its walk; stands on `core_code`, `facts` and `obligations`.
 //!
 //! The steps of one work-item's walk along a kernel with choices, one path at a time: what is to be shown on the way, what is known
-//! there, and the accesses. A step's contract holds whatever goes on (`specs/Leads.antt`), and each error says what is true of all that
-//! is found along the path (`specs/Refusals.antt`, `specs/Halts.antt`). The laws say of all paths in turn that they list the tree.
+//! there, the accesses, and where it stops. A step's contract holds whatever goes on (`specs/Leads.antt`), and each error says what is
+//! true of all that is found along the path (`specs/Refusals.antt`, `specs/Halts.antt`). The laws say of all paths in turn that they list
+//! the tree.
 #![tactic(auto)]
 
 mod accesses;
 mod dividing;
 mod divisors;
+mod ending;
 mod exact;
 mod halt;
 mod held;
@@ -29,7 +31,9 @@ pub use exact::{
 pub use halt::Halt;
 pub use held::{element_at, element_from, settles};
 pub use ids::id_form;
-pub use path::{Access, Choice, Claim, Goal, Narrowed, Path, Sort, Spot, Target, Value};
+pub use path::{
+    Access, Arrived, Choice, Claim, Goal, Narrowed, Path, Ranked, Sort, Spot, Stop, Target, Value,
+};
 pub use ranges::{any_of, both_brought, brought, invent, unknown};
 pub use setting::Setting;
 pub use tests::{is_number, split, split_number};

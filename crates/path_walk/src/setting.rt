@@ -1,13 +1,16 @@
 //! What a walk is of.
 
+use core_code::tree::LocalArray;
 use facts::Known;
 use words::Kind;
 
-/// What the domain knows, the local sizes, the kinds of the buffers, and, by its number, whether an obligation has an entry.
+/// What the domain knows, the local sizes, the kinds of the buffers, the local arrays, and, by its number, whether an obligation has an
+/// entry.
 #[derive(Drop)]
 pub struct Setting<D> {
     pub known: Known<D>,
     pub sizes: [u32; 3],
     pub buffers: Vec<Kind>,
+    pub arrays: Vec<LocalArray>,
     pub entries: Vec<bool>,
 }

@@ -5,7 +5,7 @@ ghost use Rattle.linear.specs.Forms.{form as form_seen, forms};
 ghost use Rattle.core_code.specs.View.{site as site_seen};
 ghost use Rattle.facts.specs.Refusals.{IsMemory};
 ghost use Rattle.obligations.specs.Walks.{spot_at, is_none};
-ghost use Rattle.path_walk.specs.Paths.{opening, with_claim, with_fact, with_element, with_narrowed, with_access, with_leaf, with_spot, with_choice, front, choosing};
+ghost use Rattle.path_walk.specs.Paths.{opening, with_claim, with_fact, with_element, with_narrowed, with_access, with_spot, with_choice, front, choosing};
 ghost use Rattle.path_walk.specs.Refusals.{Refused};
 ghost use Rattle.path_walk.specs.Leads.{Leads};
 ghost use Rattle.path_walk.specs.View.{followed, sort as sort_seen, spot as spot_seen, target as target_seen, goal_seen, choice as choice_seen, value as value_seen};
@@ -31,13 +31,14 @@ impl<D: Copy> Path<D> {
             facts,
             claims: Vec::new(alloc),
             accesses: Vec::new(alloc),
-            leaves: 0,
+            ends: Vec::new(alloc),
             count: 0,
             taken: Vec::new(alloc),
             given,
             news: Vec::new(alloc),
             narrowed: Vec::new(alloc),
             variables,
+            ranks: Vec::new(alloc),
             at: Spot {
                 statement: 0,
                 site: Site { line: 0, column: 0 },
@@ -65,7 +66,7 @@ impl<D: Copy> Path<D> {
     }
 
     /// No choice is left.
-    fn is_new(&self) -> bool
+    pub(crate) fn is_new(&self) -> bool
         ensures { result ≡ is_none (followed self.now).found.left }
     {
         self.taken.len() >= self.given.len()

@@ -9,7 +9,7 @@ use Rattle.linear.specs.Sizes.{terms_size}
 use Rattle.linear.proofs.Sizes.{size_difference, fits_small}
 use Rattle.facts.specs.Symbols.{Fact, constant, minus, denial}
 use Rattle.obligations.specs.Trees as trees
-use Rattle.obligations.specs.Trees.{Goal, AtLeastZero, Either, Tree, Leaf, Dead, Claim, Know, Touch, Fork, leaves, Obligation, Access}
+use Rattle.obligations.specs.Trees.{Goal, AtLeastZero, Either, Replaced, Divided, Tree, Leaf, Dead, Claim, Know, Touch, Fork, leaves, Obligation, Access}
 use Rattle.obligations.specs.Seconds.{second_terms, second_form}
 use Rattle.obligations.specs.Pairs.{Scope, Within, Across, Pair, two_orders, all_orders, differs, conflict, where_so, with_one, with_each, pairs_in, pairs_of, pairs_from}
 use Rattle.obligations.proofs.Each.{Each}
@@ -33,10 +33,14 @@ difference-fits f g h i = fits_small (minus f g) (omega (arith, h, i, size_diffe
 small-goal-fits : (g : Goal) → IsSmallGoal g → goal_fits g ≡ true
 small-goal-fits (AtLeastZero f) h = small-fits f h
 small-goal-fits (Either p n) h = two (fits p) (fits n) (small-fits p h.0) (small-fits n h.1)
+small-goal-fits (Replaced made f) h = absurd h
+small-goal-fits (Divided made f) h = absurd h
 
 small-denials-fit : (g : Goal) → IsSmallGoal g → denials_fit g ≡ true
 small-denials-fit (AtLeastZero f) h = denial-fits f h
 small-denials-fit (Either p n) h = two (fits (denial p)) (fits (denial n)) (denial-fits p h.0) (denial-fits n h.1)
+small-denials-fit (Replaced made f) h = absurd h
+small-denials-fit (Divided made f) h = absurd h
 
 abbrev pub IsSmallAccess : {E : Type 0} → Access E → Type 0
 IsSmallAccess a = IsSmall a.index
@@ -50,7 +54,7 @@ AreRight h signed (r ∷ rs) n (o ∷ os) = IsRight h signed r (suc n) o.needed 
 -- of a tame tree
 module _ {E : Type 0} (h : ℕ → Bool) (signed : Type 0) where
   pub tame-fits : (rs : List Bool) (n : ℕ) (t : Tree E) → IsTame h signed rs n t → tree_fits n t ≡ true
-  tame-fits rs n Leaf t = refl
+  tame-fits rs n (Leaf e) t = refl
   tame-fits rs n Dead t = absurd t
   tame-fits [] n (Claim o needed settled g rest) t = absurd t
   tame-fits (r ∷ rs) n (Claim o needed settled g rest) t = two (goal_fits g) (tree_fits (suc n) rest) (small-goal-fits g t.0) (tame-fits rs (suc n) rest t.2)
@@ -59,7 +63,7 @@ module _ {E : Type 0} (h : ℕ → Bool) (signed : Type 0) where
   tame-fits rs n (Fork first second) t = absurd t
 
   pub tame-path : (rs : List Bool) (n : ℕ) (t : Tree E) → IsTame h signed rs n t → (leaves n t ≡ 1) × (has_fork t ≡ false)
-  tame-path rs n Leaf t = (refl, refl)
+  tame-path rs n (Leaf e) t = (refl, refl)
   tame-path rs n Dead t = absurd t
   tame-path [] n (Claim o needed settled g rest) t = absurd t
   tame-path (r ∷ rs) n (Claim o needed settled g rest) t = tame-path rs (suc n) rest t.2
@@ -68,7 +72,7 @@ module _ {E : Type 0} (h : ℕ → Bool) (signed : Type 0) where
   tame-path rs n (Fork first second) t = absurd t
 
   pub tame-denials : (rs : List Bool) (n : ℕ) (t : Tree E) → IsTame h signed rs n t → tree_denials_fit n t ≡ true
-  tame-denials rs n Leaf t = refl
+  tame-denials rs n (Leaf e) t = refl
   tame-denials rs n Dead t = absurd t
   tame-denials [] n (Claim o needed settled g rest) t = absurd t
   tame-denials (r ∷ rs) n (Claim o needed settled g rest) t = two (denials_fit g) (tree_denials_fit (suc n) rest) (small-denials-fit g t.0) (tame-denials rs (suc n) rest t.2)
@@ -77,7 +81,7 @@ module _ {E : Type 0} (h : ℕ → Bool) (signed : Type 0) where
   tame-denials rs n (Fork first second) t = absurd t
 
   pub small-accesses : (rs : List Bool) (n : ℕ) (facts : List Fact) (t : Tree E) → IsTame h signed rs n t → Each IsSmallAccess (trees.accesses facts n t)
-  small-accesses rs n facts Leaf t = tt
+  small-accesses rs n facts (Leaf e) t = tt
   small-accesses rs n facts Dead t = absurd t
   small-accesses [] n facts (Claim o needed settled g rest) t = absurd t
   small-accesses (r ∷ rs) n facts (Claim o needed settled g rest) t = small-accesses rs (suc n) facts rest t.2
@@ -86,7 +90,7 @@ module _ {E : Type 0} (h : ℕ → Bool) (signed : Type 0) where
   small-accesses rs n facts (Fork first second) t = absurd t
 
   pub claims-right : (rs : List Bool) (n : ℕ) (launch facts : List Fact) (t : Tree E) (more : List Obligation) → IsTame h signed rs n t → AreRight h signed rs n (trees.claims launch facts n t ++ more)
-  claims-right rs n launch facts Leaf more t = subst (λ l. AreRight h signed l n more) (sym t) tt
+  claims-right rs n launch facts (Leaf e) more t = subst (λ l. AreRight h signed l n more) (sym t) tt
   claims-right rs n launch facts Dead more t = absurd t
   claims-right [] n launch facts (Claim o needed settled g rest) more t = absurd t
   claims-right (r ∷ rs) n launch facts (Claim o needed settled g rest) more t = (t.1, claims-right rs (suc n) launch facts rest more t.2)

@@ -13,7 +13,8 @@ use Rattle.linear.proofs.Sizes.{size-put, size_difference}
 use Rattle.facts.specs.Symbols.{Length, ArgumentOf, Fact, constant, once, minus}
 use Rattle.obligations.specs.Held.{with_new}
 use Rattle.obligations.specs.Trees.{Tree}
-use Rattle.obligations.specs.Walks.{Setting, State, Value, value, newest, holding, any_of, Onward, settles, claimed_once, stand, at_site, ranged, kept_or_new, brought, brought_from, both_brought}
+use Rattle.obligations.specs.Values.{Value, value}
+use Rattle.obligations.specs.Walks.{Setting, State, newest, holding, any_of, Onward, settles, claimed_once, stand, at_site, ranged, kept_or_new, brought, brought_from, both_brought}
 use Rattle.obligations.specs.Operators.{binary}
 use Rattle.obligations.specs.Terms.{no_value, variable, id_form, access, walk}
 use Rattle.obligations.specs.Statements.{setting, walk_all, spot_of, argument_values, zero_value, opening_state, ended}

@@ -4,8 +4,9 @@ use Rattle.std.specs.Prelude.{◌&&◌, ◌||◌}
 use Rattle.std.proofs.lemmas.Bool.{and_parts}
 use Rattle.semantics.specs.Word.{Uint}
 use Rattle.facts.specs.Symbols.{Fact}
-use Rattle.obligations.specs.Trees.{OfRange, Goal, AtLeastZero, Either, Tree, Leaf, Dead, Claim, Know, Touch, Fork}
-use Rattle.obligations.specs.Walks.{demand, Setting, State, value, Onward, settles, claimed_once, ranged, kept_or_new, in_range, is_kept, low_end, high_end}
+use Rattle.obligations.specs.Trees.{OfRange, Goal, AtLeastZero, Either, Replaced, Divided, Tree, Leaf, Dead, Claim, Know, Touch, Fork}
+use Rattle.obligations.specs.Values.{value}
+use Rattle.obligations.specs.Walks.{demand, Setting, State, Onward, settles, claimed_once, ranged, kept_or_new, in_range, is_kept, low_end, high_end}
 use Rattle.linear.specs.Sizes.{size}
 
 -- forms that are small: no sum of a few of them leaves i64
@@ -18,6 +19,8 @@ IsSmall f = size f ≤ most
 abbrev pub IsSmallGoal : Goal → Type 0
 IsSmallGoal (AtLeastZero f) = IsSmall f
 IsSmallGoal (Either p n) = IsSmall p × IsSmall n
+IsSmallGoal (Replaced made f) = ⊥
+IsSmallGoal (Divided made f) = ⊥
 
 -- a claim of a range is settled, or has an entry where it is needed, and then a value is an `int` parameter
 abbrev pub IsRight : (has_entry : ℕ → Bool) (signed : Type 0) (range : Bool) (number : ℕ) (needed settled : Bool) → Type 0
@@ -26,7 +29,7 @@ IsRight h signed true n needed settled = (settled ≡ true) ⊎ ((needed ≡ tru
 
 -- claims from the number after n on, marked where they are of ranges
 abbrev pub IsTame : {E : Type 0} (has_entry : ℕ → Bool) (signed : Type 0) (ranges : List Bool) (n : ℕ) → Tree E → Type 0
-IsTame h signed rs n Leaf = rs ≡ []
+IsTame h signed rs n (Leaf e) = rs ≡ []
 IsTame h signed rs n Dead = ⊥
 IsTame h signed [] n (Claim o needed settled g rest) = ⊥
 IsTame h signed (r ∷ rs) n (Claim o needed settled g rest) = IsSmallGoal g × IsRight h signed r (suc n) needed settled × IsTame h signed rs (suc n) rest

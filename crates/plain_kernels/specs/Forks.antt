@@ -4,7 +4,7 @@ use Rattle.obligations.specs.Trees.{Tree, Leaf, Dead, Claim, Know, Touch, Fork}
 
 -- there is a test
 abbrev pub has_fork : {E : Type 0} → Tree E → Bool
-has_fork Leaf = false
+has_fork (Leaf e) = false
 has_fork Dead = false
 has_fork (Claim o needed settled g rest) = has_fork rest
 has_fork (Know f rest) = has_fork rest

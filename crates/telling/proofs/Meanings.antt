@@ -28,7 +28,7 @@ use Rattle.reading.specs.Answers.{kernel_seen}
 use Rattle.reading.specs.Texts.{IsTextOf}
 use Rattle.cert_check.specs.Accepting.{at_launch, HasHeadline}
 use Rattle.write_log.specs.Written.{words_of}
-use Rattle.executor.specs.Ends.{IsResultOf, EndsEvery}
+use Rattle.executor.specs.Ends.{IsResultOf, EndsEvery, HaveKinds}
 use Rattle.telling.specs.Telling.{IsSafe, IsRun}
 
 row_seen : (ws : List Word) → map number (map word ws) ≡ map value_of ws
@@ -45,8 +45,8 @@ is_safe kernel conditions t c text said h = record { kernel_text = text; conditi
 
 pub is_run : (t : Kernel × Core) (c : Conditions) (launch written : List ℕ) (l : Launch) (b : Buffers) → IsLaunchText (tree_seen t.0).parameters launch (given.meant (view.launch l)) → Fits (core_seen t.1) (launch_seen l)
     → Meets (conditions_seen c) (launch_seen l) → IsDefined (at_launch (core_seen t.1) (launch_seen l)) c.budget → IsResultOf (at_launch (core_seen t.1) (launch_seen l)) c.budget (words_of b)
-    → EndsEvery (at_launch (core_seen t.1) (launch_seen l)) (words_of b) → written ≡ buffers_text (tree_seen t.0).parameters (view.buffers b.words) → IsRun (kernel_seen t) (conditions_seen c) launch written (launch_seen l) (view.buffers b.words)
-is_run t c launch written l b said fits meets defined result every text =
+    → EndsEvery (at_launch (core_seen t.1) (launch_seen l)) (words_of b) → HaveKinds (core_seen t.1).buffers (view.buffers b.words) → written ≡ buffers_text (tree_seen t.0).parameters (view.buffers b.words) → IsRun (kernel_seen t) (conditions_seen c) launch written (launch_seen l) (view.buffers b.words)
+is_run t c launch written l b said fits meets defined result every kinds text =
     let k = core_seen t.1 in
     let n = sym (rows_seen b.words.items) in
     record {
@@ -56,5 +56,6 @@ is_run t c launch written l b said fits meets defined result every text =
       defined = defined;
       result = subst (IsResultOf (at_launch k (launch_seen l)) c.budget) n result;
       every = subst (EndsEvery (at_launch k (launch_seen l))) n every;
+      kinds = kinds;
       text = text;
     }

@@ -14,7 +14,7 @@ use Rattle.texts.specs.LaunchText.{buffers_text}
 use Rattle.reading.specs.Kernels.{Kernel}
 use Rattle.reading.specs.Texts.{IsTextOf}
 use Rattle.cert_check.specs.Accepting.{at_launch, HasHeadline}
-use Rattle.executor.specs.Ends.{IsResultOf, EndsEvery}
+use Rattle.executor.specs.Ends.{IsResultOf, EndsEvery, HaveKinds}
 
 -- the bytes are the text of the kernel, by the grammar, and the text of the conditions, case by case; and at each launch that meets these
 -- the headline holds
@@ -31,7 +31,7 @@ abbrev pub launched : Kernel → Launch → Setup
 launched k l = at_launch k.core l
 
 -- the launch is that of the bytes, case by case, and meets the conditions; what is written are the buffers that have the numbers of the result by rounds,
--- which is defined, and with which every run that is over ends
+-- which is defined, and with which every run that is over ends, each number a word of its parameter's kind
 pub record IsRun (k : Kernel) (c : Conditions) (launch written : List ℕ) (l : Launch) (b : List (List Word)) : Type 0 where
   pub launch_text : IsLaunchText k.tree.parameters launch l
   pub fits : Fits k.core l
@@ -39,6 +39,7 @@ pub record IsRun (k : Kernel) (c : Conditions) (launch written : List ℕ) (l : 
   pub defined : IsDefined (launched k l) c.budget
   pub result : IsResultOf (launched k l) c.budget (map (map number) b)
   pub every : EndsEvery (launched k l) (map (map number) b)
+  pub kinds : HaveKinds k.core.buffers b
   pub text : written ≡ buffers_text k.tree.parameters b
 
 abbrev pub IsAcceptedText : (kernel conditions written : List ℕ) → Type 0

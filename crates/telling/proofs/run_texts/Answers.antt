@@ -35,6 +35,7 @@ returns-in-Ok-write_buffers g c =
           c.in-Ok-run.ensures.defined
           c.in-Ok-run.ensures.value
           c.in-Ok-run.ensures.every
+          c.in-Ok-run.ensures.kinds
           (subst (λ t. c.in-Ok-write_buffers.text.items ≡ buffers_text (kernel t.0).parameters (reading.buffers b.words)) c.typed-2.ensures.value c.in-Ok-write_buffers.ensures),
     )
 

@@ -7,6 +7,7 @@ use Rattle.cert_check.specs.View.{typed_of, kept}
 use Rattle.write_log.specs.Written.{words_of}
 use Rattle.executor.proofs.Kernels.{some-items, arguments-alike, buffers-alike}
 use Rattle.executor.proofs.Buffered.{every-end}
+use Rattle.executor.proofs.Typed.{stays-the-result, has-kinds}
 use Rattle.executor.proofs.running.run.Goals as goal
 
 pub meets-requires-clause-arguments : goal.meets-requires-clause-arguments
@@ -25,15 +26,31 @@ pub run_groups-requires-clause-meets : goal.run_groups-requires-clause-meets
 run_groups-requires-clause-meets g c =
     subst (λ x. Meets (conditions x) (launch c.args.launch.now)) c.conditions.ensures.value (c.in_ok-meets.ensures.met.0 refl)
 
+pub returns-clause-value : goal.returns-clause-value
+returns-clause-value g c =
+    let k = kernel (typed_of c.args.accepted.now).1 in
+    let l = launch c.args.launch.now in
+    let bound = (conditions (kept c.args.accepted.now)).budget in
+    let m : Meets (conditions (kept c.args.accepted.now)) l = subst (λ x. Meets (conditions x) l) c.conditions.ensures.value (c.in_ok-meets.ensures.met.0 refl) in
+    let h = c.headline.ensures (at_launch k l) bound (some-items k l c.conditions.ensures.accepted.has_items) (c.conditions.ensures.accepted.is_pair_safe l c.requires m) in
+    stays-the-result (at_launch k l) bound c.in_ok-buffers.buffers c.in_ok-answer.answer c.requires h c.in_ok-buffers.ensures c.in_ok-answer.ensures
+
+pub returns-clause-kinds : goal.returns-clause-kinds
+returns-clause-kinds g c =
+    let k = kernel (typed_of c.args.accepted.now).1 in
+    let l = launch c.args.launch.now in
+    let bound = (conditions (kept c.args.accepted.now)).budget in
+    has-kinds (at_launch k l) bound c.in_ok-buffers.buffers c.in_ok-answer.answer c.requires c.in_ok-buffers.ensures c.in_ok-answer.ensures
+
 pub returns-clause-every : goal.returns-clause-every
 returns-clause-every g c =
     let k = kernel (typed_of c.args.accepted.now).1 in
     let l = launch c.args.launch.now in
     let bound = (conditions (kept c.args.accepted.now)).budget in
     let m : Meets (conditions (kept c.args.accepted.now)) l = subst (λ x. Meets (conditions x) l) c.conditions.ensures.value (c.in_ok-meets.ensures.met.0 refl) in
-    every-end (at_launch k l) bound (words_of c.in_ok-buffers.buffers)
-    (c.headline.ensures (at_launch k l) bound (some-items k l c.conditions.ensures.accepted.has_items) (c.conditions.ensures.accepted.is_pair_safe l c.requires m))
-    c.in_ok-buffers.ensures
+    let h = c.headline.ensures (at_launch k l) bound (some-items k l c.conditions.ensures.accepted.has_items) (c.conditions.ensures.accepted.is_pair_safe l c.requires m) in
+    every-end (at_launch k l) bound (words_of c.in_ok-answer.answer) h
+    (stays-the-result (at_launch k l) bound c.in_ok-buffers.buffers c.in_ok-answer.answer c.requires h c.in_ok-buffers.ensures c.in_ok-answer.ensures)
 
 pub returns-clause-meets : goal.returns-clause-meets
 returns-clause-meets g c =

@@ -17,7 +17,7 @@ returns-in_err-paths-clause-unwalked g c =
     let s = c.in_ok-setting.ensures in
     let x = c.in_err-paths.field-0.0 in
     passed c.from_residual-in_err-paths.result x (IsUnwalked g.D.Domain (kernel core) cs (flagged entries)) c.from_residual-in_err-paths.ensures.1
-    (unlisted g.D.Domain core cs entries c.in_ok-setting.setting s.known s.sizes s.buffers s.entries x c.in_err-paths.ensures.unlisted)
+    (unlisted g.D.Domain core cs entries c.in_ok-setting.setting s.known s.sizes s.buffers s.arrays s.entries x c.in_err-paths.ensures.unlisted)
 
 pub of-requires : goal.of-requires
 of-requires g c =
@@ -27,7 +27,7 @@ of-requires g c =
     let s = c.in_ok-setting.ensures in
     let ps = c.in_ok-paths.paths.items in
     let p = c.in_ok-paths.ensures in
-    are_own g.D.Domain core cs entries c.in_ok-setting.setting s.known s.sizes s.buffers s.entries (all_claims ps) (all_accesses ps) p.claims p.accesses (c.accesses_have_own_symbols.ensures (kernel core) cs (flagged entries))
+    are_own g.D.Domain core cs entries c.in_ok-setting.setting s.known s.sizes s.buffers s.arrays s.entries (all_claims ps) (all_accesses ps) p.claims p.accesses (c.accesses_have_own_symbols.ensures (kernel core) cs (flagged entries))
 
 pub returns-in_err-found-clause-unwalked : goal.returns-in_err-found-clause-unwalked
 returns-in_err-found-clause-unwalked g c =
@@ -40,7 +40,7 @@ returns-in_err-found-clause-unwalked g c =
     let b = c.as_slice-buffers in
     let x = c.in_err-found.field-0.0 in
     passed c.from_residual-in_err-found.result x (IsUnwalked g.D.Domain (kernel core) cs (flagged entries)) c.from_residual-in_err-found.ensures.1
-    (ungathered g.D.Domain core cs entries c.in_ok-setting.setting s.known s.sizes s.buffers s.entries (all_claims ps) (all_accesses ps) p.claims p.accesses b.result.now b.ensures.value (forms c.in_ok-launch.launch.items) c.in_ok-launch.ensures p.fits p.denials x c.in_err-found.ensures.ungathered)
+    (ungathered g.D.Domain core cs entries c.in_ok-setting.setting s.known s.sizes s.buffers s.arrays s.entries (all_claims ps) (all_accesses ps) p.claims p.accesses b.result.now b.ensures.value (forms c.in_ok-launch.launch.items) c.in_ok-launch.ensures p.fits p.denials x c.in_err-found.ensures.ungathered)
 
 pub returns-clause-listed : goal.returns-clause-listed
 returns-clause-listed g c =
@@ -51,7 +51,7 @@ returns-clause-listed g c =
     let ps = c.in_ok-paths.paths.items in
     let p = c.in_ok-paths.ensures in
     let b = c.as_slice-buffers in
-    found_is g.D.Domain core cs entries c.in_ok-setting.setting s.known s.sizes s.buffers s.entries (all_claims ps) (all_accesses ps) p.claims p.accesses b.result.now b.ensures.value (forms c.in_ok-launch.launch.items) c.in_ok-launch.ensures _ c.in_ok-found.ensures.listed
+    found_is g.D.Domain core cs entries c.in_ok-setting.setting s.known s.sizes s.buffers s.arrays s.entries (all_claims ps) (all_accesses ps) p.claims p.accesses b.result.now b.ensures.value (forms c.in_ok-launch.launch.items) c.in_ok-launch.ensures _ c.in_ok-found.ensures.listed
 
 pub returns-clause-fits : goal.returns-clause-fits
 returns-clause-fits g c =
@@ -62,10 +62,10 @@ returns-clause-fits g c =
     let ps = c.in_ok-paths.paths.items in
     let p = c.in_ok-paths.ensures in
     let b = c.as_slice-buffers in
-    sym (all_fitting g.D.Domain core cs entries c.in_ok-setting.setting s.known s.sizes s.buffers s.entries (all_claims ps) (all_accesses ps) p.claims p.accesses b.result.now b.ensures.value (forms c.in_ok-launch.launch.items) c.in_ok-launch.ensures p.fits p.denials)
+    sym (all_fitting g.D.Domain core cs entries c.in_ok-setting.setting s.known s.sizes s.buffers s.arrays s.entries (all_claims ps) (all_accesses ps) p.claims p.accesses b.result.now b.ensures.value (forms c.in_ok-launch.launch.items) c.in_ok-launch.ensures p.fits p.denials)
     ∙ c.in_ok-found.ensures.fits
 
 pub returns-clause-few : goal.returns-clause-few
 returns-clause-few g c =
     let s = c.in_ok-setting.ensures in
-    few_paths g.D.Domain c.args.core.now (conditions c.args.conditions.now) c.args.entries.items c.in_ok-setting.setting s.known s.sizes s.buffers s.entries c.in_ok-paths.ensures.few
+    few_paths g.D.Domain c.args.core.now (conditions c.args.conditions.now) c.args.entries.items c.in_ok-setting.setting s.known s.sizes s.buffers s.arrays s.entries c.in_ok-paths.ensures.few

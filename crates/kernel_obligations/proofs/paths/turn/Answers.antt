@@ -1,4 +1,4 @@
-use Rattle.std.proofs.Common.{map, sym, subst}
+use Rattle.std.proofs.Common.{rules, ◌≡◌, ◌<◌, ◌∙◌, ◌+◌, map, length, sym, ap, subst}
 use Rattle.core_code.specs.View.{kernel}
 use Rattle.facts.specs.Launching.{item_facts}
 use Rattle.facts.specs.Symbols.{First}
@@ -24,8 +24,10 @@ returns-in_err-ends-clause-unlisted g c =
     let t = tree (setting g.D.Domain c.args.setting.now) k in
     let so_far = c.args.so_far.now in
     let said = c.in_err-ends.ensures in
+    let n : c.len-more.result ≡ length c.in_ok-path.path.ends.items = search rules in
+    let many = subst (λ k. 256 < so_far.ends + k) n said.1 in
     passed c.from_residual-in_err-ends.result c.in_err-ends.field-0.0 (IsUnlisted t) c.from_residual-in_err-ends.ensures.1
-    (subst (IsUnlisted t) (sym said.0) (many_end (item_facts k.sizes First) (opening_values k) t c.in_ok-path.path (map choice c.args.given.items) c.in_ok-path.ensures so_far.paths.items so_far.ends c.requires.walked said.1))
+    (subst (IsUnlisted t) (sym said.0) (many_end (item_facts k.sizes First) (opening_values k) t c.in_ok-path.path (map choice c.args.given.items) c.in_ok-path.ensures so_far.paths.items so_far.ends c.requires.walked many))
 
 pub returns-clause-walked : goal.returns-clause-walked
 returns-clause-walked g c =
@@ -33,9 +35,10 @@ returns-clause-walked g c =
     let t = tree (setting g.D.Domain c.args.setting.now) k in
     let so_far = c.args.so_far.now in
     let p = c.in_ok-path.path in
+    let n : c.len-more.result ≡ length p.ends.items = search rules in
     let next = maybe_choices c.in_ok-next.next in
     let e = next_from p next c.as_slice.result.now c.in_ok-next.ensures c.as_slice.ensures.value in
-    one_more (item_facts k.sizes First) (opening_values k) t p (map choice c.args.given.items) c.in_ok-path.ensures so_far.paths.items so_far.ends c.requires.walked c.push.new.self.items c.in_ok-ends.ends next c.in_ok-push.ensures.items c.in_ok-ends.ensures.0 e
+    one_more (item_facts k.sizes First) (opening_values k) t p (map choice c.args.given.items) c.in_ok-path.ensures so_far.paths.items so_far.ends c.requires.walked c.push.new.self.items c.in_ok-ends.ends next c.in_ok-push.ensures.items (c.in_ok-ends.ensures.0 ∙ ap (λ k. so_far.ends + k) n) e
 
 pub returns-clause-fewer : goal.returns-clause-fewer
 returns-clause-fewer g c =

@@ -2,7 +2,7 @@ use Rattle.std.proofs.Common.{ap, refl, ◌∙◌}
 use Rattle.words.specs.View.{kind}
 use Rattle.semantics.specs.Core as core
 use Rattle.core_code.specs.View.{term, operator, relation, site}
-use Rattle.obligations.specs.Walks as walks
+use Rattle.obligations.specs.Values as values
 use Rattle.obligations.specs.Terms.{walk, pick}
 use Rattle.obligations.specs.Tests.{split_number}
 use Rattle.path_walk.specs.View.{followed, value, setting as seen}
@@ -30,14 +30,14 @@ test_of-returns-in_ok-value-in_default g t c =
     let s = seen g.D.Domain c.args.setting.now in
     let u = term c.args.term.now in
     let d = by_number s c.args.term.now c.in_default.not-Compare c.in_default.not-Not c.in_default.not-And c.in_default.not-Or in
-    then_goes (walk s u).value (λ (x : walks.Value). split_number s x.form) (walk s u).test (followed c.args.path.now) (followed c.value_of.new.path) (λ h. h) c.split_number.result d (followed c.split_number.new.path) (value c.in_ok-value-in_default.value) c.in_ok-value-in_default.ensures c.split_number.ensures
+    then_goes (walk s u).value (λ (x : values.Value). split_number s x.form) (walk s u).test (followed c.args.path.now) (followed c.value_of.new.path) (λ h. h) c.split_number.result d (followed c.split_number.new.path) (value c.in_ok-value-in_default.value) c.in_ok-value-in_default.ensures c.split_number.ensures
 
 pub test_of-returns-in_err-value-in_default : goal.test_of-returns-in_err-value-in_default
 test_of-returns-in_err-value-in_default g t c =
     let s = seen g.D.Domain c.args.setting.now in
     let u = term c.args.term.now in
     let d = by_number s c.args.term.now c.in_default.not-Compare c.in_default.not-Not c.in_default.not-And c.in_default.not-Or in
-    then_halts (walk s u).value (λ (x : walks.Value). split_number s x.form) (walk s u).test (followed c.args.path.now) (followed c.value_of.new.path) (λ h. h) c.from_residual-in_err-value-in_default.result d c.in_err-value-in_default.field-0.0 c.from_residual-in_err-value-in_default.ensures c.in_err-value-in_default.ensures
+    then_halts (walk s u).value (λ (x : values.Value). split_number s x.form) (walk s u).test (followed c.args.path.now) (followed c.value_of.new.path) (λ h. h) c.from_residual-in_err-value-in_default.result d c.in_err-value-in_default.field-0.0 c.from_residual-in_err-value-in_default.ensures c.in_err-value-in_default.ensures
 
 pub value_of-returns-in_ok-first-in-Binary : goal.value_of-returns-in_ok-first-in-Binary
 value_of-returns-in_ok-first-in-Binary g t c =

@@ -1,6 +1,6 @@
 use Rattle.std.proofs.lemmas.Bool.{and_parts}
 use Rattle.facts.specs.Launching.{are_sizes}
-use Rattle.obligations.specs.Covered.{are_covered}
+use Rattle.obligations.specs.Covered.{is_global, are_covered}
 use Rattle.obligations.proofs.CoveredSafe.{covered_pair_safe}
 use Rattle.obligations.proofs.laws.what_is_shown_is_pair_safe.Goals as goal
 
@@ -14,6 +14,7 @@ returns g c = λ k conditions has_entry l bound covered shown fits meets short.
       kernel = k;
       conditions = conditions;
       has_entry = has_entry;
+      spaces = is_global;
       launch = l;
       sized = p.0;
       fits = fits;

@@ -7,7 +7,7 @@ use Rattle.path_walk.proofs.Accessing.{load_after, load_stops}
 use Rattle.path_walk.proofs.accesses.load.Goals as goal
 
 pub returns : goal.returns
-returns g c = load_after (seen g.D.Domain c.args.setting.now) (array c.args.array) (site c.args.site) (form c.args.index) (kind c.buffer_kind.result) (followed c.args.path.now) (followed c.access.new.path) (followed c.unknown.new.path) value c.unknown.result c.buffer_kind.ensures c.in_ok-access.ensures c.unknown.ensures
+returns g c = load_after (seen g.D.Domain c.args.setting.now) (array c.args.array) (site c.args.site) (form c.args.index) (kind c.array_kind.result) (followed c.args.path.now) (followed c.access.new.path) (followed c.unknown.new.path) value c.unknown.result c.array_kind.ensures c.in_ok-access.ensures c.unknown.ensures
 
 pub returns-in_err-access : goal.returns-in_err-access
 returns-in_err-access g c =

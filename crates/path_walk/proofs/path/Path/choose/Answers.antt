@@ -17,7 +17,7 @@ returns-in_ok-push-in-First g c =
         facts = p.found.facts;
         claims = p.found.claims;
         accesses = p.found.accesses;
-        leaves = p.found.leaves;
+        ends = p.found.ends;
         count = p.found.count;
         taken = map choice c.push.new.self.items;
         left = map choice (drop (length c.push.new.self.items) s.given.items);
@@ -31,7 +31,7 @@ returns-in_ok-push-in-First g c =
         facts = p.found.facts;
         claims = p.found.claims;
         accesses = p.found.accesses;
-        leaves = p.found.leaves;
+        ends = p.found.ends;
         count = p.found.count;
         taken = choices_more s.taken.items c.push.new.self.items choices.First e i;
         left = taken_more s.taken.items c.push.new.self.items s.given.items choices.First e i;
@@ -53,26 +53,26 @@ returns-in_ok-push-in-Other g c =
         facts = p.found.facts;
         claims = p.found.claims;
         accesses = p.found.accesses;
-        leaves = p.found.leaves;
+        ends = p.found.ends;
         count = k;
         taken = map choice c.push-in-Other.new.self.items;
         left = map choice (drop (length c.push-in-Other.new.self.items) s.given.items);
         is_fit = p.found.is_fit;
         is_few = p.found.is_few;
       };
-      state = record { claims = k; variables = p.state.variables; held = p.state.held; at = p.state.at };
+      state = record { claims = k; variables = p.state.variables; ranks = p.state.ranks; held = p.state.held; at = p.state.at };
     } in
     chose_other k p n (sym (ap choice c.in-Other.is) ∙ c.next.ensures) (λ i. record {
       found = record {
         facts = p.found.facts;
         claims = p.found.claims;
         accesses = p.found.accesses;
-        leaves = p.found.leaves;
+        ends = p.found.ends;
         count = k;
         taken = choices_more s.taken.items c.push-in-Other.new.self.items (choices.Other k) e i;
         left = taken_more s.taken.items c.push-in-Other.new.self.items s.given.items (choices.Other k) e i;
         is_fit = p.found.is_fit;
         is_few = p.found.is_few;
       };
-      state = record { claims = k; variables = p.state.variables; held = p.state.held; at = p.state.at };
+      state = record { claims = k; variables = p.state.variables; ranks = p.state.ranks; held = p.state.held; at = p.state.at };
     })

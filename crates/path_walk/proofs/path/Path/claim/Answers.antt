@@ -18,14 +18,14 @@ returns-in_ok-push g c =
         facts = p.found.facts;
         claims = n i;
         accesses = p.found.accesses;
-        leaves = p.found.leaves;
+        ends = p.found.ends;
         count = add-one s.count i;
         taken = p.found.taken;
         left = p.found.left;
         is_fit = sym (goal_fits c.args.goal) i;
         is_few = sym (few s.count h) i;
       };
-      state = record { claims = add-one s.count i; variables = p.state.variables; held = p.state.held; at = p.state.at };
+      state = record { claims = add-one s.count i; variables = p.state.variables; ranks = p.state.ranks; held = p.state.held; at = p.state.at };
     }
 
 pub returns-else-is_new : goal.returns-else-is_new
@@ -39,14 +39,14 @@ returns-else-is_new g c =
         facts = p.found.facts;
         claims = sym (noted_none p.found.left (record { demand = record { sort = sort c.args.sort; spot = spot s.at }; needed = c.args.needed; settled = c.args.settled; goal = goal_seen c.args.goal; facts = forms s.facts.items }) p.found.claims (sym c.is_new-is_new.ensures ∙ c.if-is_new.false)) i;
         accesses = p.found.accesses;
-        leaves = p.found.leaves;
+        ends = p.found.ends;
         count = add-one s.count i;
         taken = p.found.taken;
         left = p.found.left;
         is_fit = sym (goal_fits c.args.goal) i;
         is_few = sym (few s.count h) i;
       };
-      state = record { claims = add-one s.count i; variables = p.state.variables; held = p.state.held; at = p.state.at };
+      state = record { claims = add-one s.count i; variables = p.state.variables; ranks = p.state.ranks; held = p.state.held; at = p.state.at };
     }
 
 pub returns-then-self-ge65536 : goal.returns-then-self-ge65536

@@ -2,6 +2,7 @@ use Rattle.std.proofs.Common.{sym}
 use Rattle.linear.proofs.FormLists.{forms_more, form-fits}
 use Rattle.path_walk.specs.View.{followed}
 use Rattle.path_walk.proofs.Moves.{claims_kept, accesses_kept}
+use Rattle.path_walk.proofs.Endings.{ends_kept}
 use Rattle.path_walk.proofs.path.Path.know.Goals as goal
 
 pub returns : goal.returns
@@ -15,7 +16,7 @@ returns g c =
         facts = forms_more s.facts.items c.push.new.self.items c.args.fact e i;
         claims = claims_kept s.facts.items c.push.new.self.items c.args.fact s.claims.items e s.claims_in i;
         accesses = accesses_kept s.facts.items c.push.new.self.items c.args.fact s.news.items s.narrowed.items s.accesses.items e s.accesses_in i;
-        leaves = p.found.leaves;
+        ends = ends_kept s.facts.items c.push.new.self.items c.args.fact s.news.items s.narrowed.items s.ends.items e s.ends_in i;
         count = p.found.count;
         taken = p.found.taken;
         left = p.found.left;

@@ -1,5 +1,6 @@
 use Rattle.path_walk.specs.View.{followed}
 use Rattle.path_walk.proofs.Moves.{accesses_narrowed, narrowed_more}
+use Rattle.path_walk.proofs.Endings.{ends_narrowed}
 use Rattle.path_walk.proofs.path.Path.narrow.Goals as goal
 
 pub returns : goal.returns
@@ -13,12 +14,12 @@ returns g c =
         facts = p.found.facts;
         claims = p.found.claims;
         accesses = accesses_narrowed s.facts.items s.news.items s.narrowed.items c.push.new.self.items _ s.accesses.items e s.accesses_in i;
-        leaves = p.found.leaves;
+        ends = ends_narrowed s.facts.items s.news.items s.narrowed.items c.push.new.self.items _ s.ends.items e s.ends_in i;
         count = p.found.count;
         taken = p.found.taken;
         left = p.found.left;
         is_fit = p.found.is_fit;
         is_few = p.found.is_few;
       };
-      state = record { claims = p.state.claims; variables = p.state.variables; held = record { news = p.state.held.news; narrowed = narrowed_more s.narrowed.items c.push.new.self.items _ e i }; at = p.state.at };
+      state = record { claims = p.state.claims; variables = p.state.variables; ranks = p.state.ranks; held = record { news = p.state.held.news; narrowed = narrowed_more s.narrowed.items c.push.new.self.items _ e i }; at = p.state.at };
     }

@@ -20,7 +20,7 @@ returns-in_ok-push g c =
         facts = p.found.facts;
         claims = p.found.claims;
         accesses = n i;
-        leaves = p.found.leaves;
+        ends = p.found.ends;
         count = p.found.count;
         taken = p.found.taken;
         left = p.found.left;
@@ -40,7 +40,7 @@ returns-else-is_new g c =
         facts = p.found.facts;
         claims = p.found.claims;
         accesses = sym (noted_none p.found.left (record { target = target c.args.target; index = form c.args.index; held = p.state.held; facts = forms s.facts.items }) p.found.accesses (sym c.is_new.ensures ∙ c.if-is_new.false)) i;
-        leaves = p.found.leaves;
+        ends = p.found.ends;
         count = p.found.count;
         taken = p.found.taken;
         left = p.found.left;

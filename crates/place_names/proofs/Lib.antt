@@ -1,0 +1,5 @@
+pub mod Agreeing
+pub mod Each
+pub mod LinesTell
+pub mod Telling
+pub mod Tells

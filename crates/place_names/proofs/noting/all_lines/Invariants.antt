@@ -1,0 +1,11 @@
+use Rattle.std.proofs.Common.{◌≡◌, drop, map}
+use Rattle.certificate_tree.specs.View as view
+use Rattle.places.specs.View as places
+use Rattle.place_names.specs.Behind.{after}
+use Rattle.place_names.specs.Noted.{each, lines_of}
+use Rattle.place_names.specs.NotesView.{lines}
+use Rattle.place_names.specs.View.{chart}
+use Rattle.place_names.proofs.noting.all_lines.Given as goal
+
+abbrev pub invariant-loop-place : goal.invariant-loop-place
+invariant-loop-place l = after (map lines l.lines.items) (each (lines_of (chart l.chart) (map places.place l.places)) (map view.place (drop l.place-index l.said))) ≡ each (lines_of (chart l.chart) (map places.place l.places)) (map view.place l.said)

@@ -1,0 +1,10 @@
+use Rattle.std.proofs.Common.{◌≡◌, drop, map}
+use Rattle.certificate_tree.specs.View as view
+use Rattle.place_names.specs.Behind.{after}
+use Rattle.place_names.specs.Noted as noted
+use Rattle.place_names.specs.NotesView.{quoted}
+use Rattle.place_names.specs.View.{chart}
+use Rattle.place_names.proofs.quotients.push_all.Given as goal
+
+abbrev pub invariant-loop-entry : goal.invariant-loop-entry
+invariant-loop-entry l = after (map quoted l.quotients.items) (noted.quotients_of (chart l.chart) (map view.entry (drop l.entry-index l.entries))) ≡ noted.quotients_of (chart l.chart) (map view.entry l.entries)

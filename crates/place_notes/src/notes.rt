@@ -1,0 +1,45 @@
+//! What is said of a kernel's places and loops.
+
+use linear::Form;
+use loop_bounds::LoopBound;
+
+/// A number divides a form.
+#[derive(Drop)]
+pub struct Congruence {
+    pub modulus: u64,
+    pub form: Form,
+}
+
+/// What is said of a place, by the numbers of its barrier and of its loop: the slots that two items of a group have alike there, facts
+/// and congruences.
+#[derive(Drop)]
+pub struct Lines {
+    pub anchor: Option<u32>,
+    pub head: Option<u32>,
+    pub same: Vec<u32>,
+    pub facts: Vec<Form>,
+    pub congruences: Vec<Congruence>,
+}
+
+/// The slots whose ranges are known at a barrier or a loop, by its number; at the entry where there is none.
+#[derive(Drop)]
+pub struct Visible {
+    pub statement: Option<u32>,
+    pub slots: Vec<u32>,
+}
+
+/// The quotient that the entry of a claim names.
+#[derive(Drop)]
+pub struct Quotient {
+    pub claim: u32,
+    pub form: Form,
+}
+
+/// All that is said; of what is said twice the first holds.
+#[derive(Drop)]
+pub struct Notes {
+    pub places: Vec<Lines>,
+    pub rankings: Vec<LoopBound>,
+    pub visible: Vec<Visible>,
+    pub quotients: Vec<Quotient>,
+}

@@ -1,0 +1,13 @@
+pub mod Notes
+pub mod Replacing
+pub mod Roots
+pub mod Walking
+pub mod Listing
+pub mod Meetings
+pub mod Crossings
+pub mod Shown
+pub mod Owning
+pub mod Telling
+pub mod Limits
+pub mod Fitting
+pub mod Unfound

@@ -1,0 +1,13 @@
+pub mod Places
+pub mod Spread
+pub mod Paths
+pub mod View
+pub mod Seconds
+pub mod Goals
+pub mod Refusals
+pub mod Alike
+pub mod Meetings
+pub mod Listed
+pub mod Answers
+pub mod Fitting
+pub mod Fences

@@ -1,0 +1,5 @@
+pub mod Stacking
+pub mod Joins
+pub mod Reached
+pub mod Framing
+pub mod Listed

@@ -1,0 +1,9 @@
+pub mod Falling
+pub mod Bounded
+pub mod Remaining
+pub mod Ready
+pub mod Kept
+pub mod Listed
+pub mod Short
+pub mod OneLoop
+pub mod OneLoopRanked

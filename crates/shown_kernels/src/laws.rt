@@ -1,0 +1,32 @@
+//! From what is shown of a kernel that is read to what it does.
+
+ghost use Rattle.std.specs.Prelude.{◌≡◌, ℕ, List, Ok, None};
+ghost use Rattle.std.specs.List.{All};
+ghost use Rattle.semantics.specs.Launch.{Launch, Fits};
+ghost use Rattle.semantics.specs.Conditions.{Conditions, Meets};
+ghost use Rattle.semantics.specs.Headline.{Headline};
+ghost use Rattle.arrivals.specs.Loops.{unmet};
+ghost use Rattle.loop_bounds.specs.Costs.{cost};
+ghost use Rattle.obligations.specs.Shown.{IsShown};
+ghost use Rattle.place_obligations.specs.Notes.{Notes};
+ghost use Rattle.place_obligations.specs.Telling.{TellsOfItems};
+ghost use Rattle.place_obligations.specs.Limits.{turns_at, AreLimits};
+ghost use Rattle.place_obligations.specs.Shown.{obligations};
+ghost use Rattle.reading.specs.Kernels.{Kernel, read};
+
+use domain::Domain;
+use place_obligations::laws::what_is_shown_by_places_is_safe_within_its_cost;
+use proper_kernels::laws::what_is_read_is_proper;
+use reduction::headline;
+use sound_kernels::laws::what_is_read_is_sound_where_barriers_are_met;
+
+/// A kernel that is read of bytes, each of whose loops with a barrier meets one on each way through, and of which all is shown under
+/// conditions, whatever is said of its places and loops, has the headline at each launch that meets the conditions, within its cost.
+pub fn what_is_read_and_shown_has_the_headline<D: Domain>()
+    ensures { (bytes : List ℕ) (k : Kernel) (c : Conditions) (n : Notes) (l : Launch) → read bytes ≡ Ok k → unmet k.core.body ≡ None → TellsOfItems n → AreLimits n → All IsShown (obligations D.Domain k.core c n) → Fits k.core l → Meets c l → Headline (record { kernel = k.core; launch = l }) (cost (turns_at n) k.core.body) }
+{
+    headline();
+    what_is_read_is_proper();
+    what_is_read_is_sound_where_barriers_are_met();
+    what_is_shown_by_places_is_safe_within_its_cost::<D>();
+}

@@ -1,0 +1,14 @@
+pub mod Mapping
+pub mod Lists
+pub mod Finding
+pub mod Forming
+pub mod Pointing
+pub mod Ordering
+pub mod Composing
+pub mod Numbering
+pub mod Growing
+pub mod Scoping
+pub mod TypedTerms
+pub mod Assigning
+pub mod Declaring
+pub mod FormedReads

@@ -1,0 +1,3 @@
+pub mod AtSites
+pub mod Numbers
+pub mod Then

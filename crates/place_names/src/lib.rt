@@ -11,7 +11,7 @@ pub mod laws;
 mod noting;
 mod place_lines;
 mod quotients;
-mod rankings;
+mod ranking_lines;
 mod scenes;
 mod sight;
 mod spots;

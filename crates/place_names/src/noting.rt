@@ -20,7 +20,7 @@ use crate::chart::{Chart, chart_of};
 use crate::error::NamesError;
 use crate::place_lines::lines_of;
 use crate::quotients::quotients_of;
-use crate::rankings::{have_lines, rankings_of};
+use crate::ranking_lines::{have_lines, rankings_of};
 use crate::visible::visible_in;
 use certificate::Certificate;
 use certificate_tree::tree;

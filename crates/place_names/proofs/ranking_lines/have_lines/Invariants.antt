@@ -3,7 +3,7 @@ use Rattle.texts.specs.CertificateRules.{all}
 use Rattle.certificate_tree.specs.View as view
 use Rattle.place_names.specs.Noted.{has_line}
 use Rattle.place_names.specs.View.{scene}
-use Rattle.place_names.proofs.rankings.have_lines.Given as goal
+use Rattle.place_names.proofs.ranking_lines.have_lines.Given as goal
 
 abbrev pub invariant-loop-scene : goal.invariant-loop-scene
 invariant-loop-scene l = all (has_line (map view.bound l.bounds)) (map scene (drop l.scene-index l.scenes)) ≡ all (has_line (map view.bound l.bounds)) (map scene l.scenes)

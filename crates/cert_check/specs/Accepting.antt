@@ -1,12 +1,10 @@
 -- What it means that a kernel is accepted under conditions.
-use Rattle.std.specs.Prelude.{◌≡◌, ◌<◌, ◌≤◌, length, true}
+use Rattle.std.specs.Prelude.{◌≡◌, ◌<◌, length}
 use Rattle.semantics.specs.Launch.{Kernel, Launch, Fits, product}
 use Rattle.semantics.specs.Conditions.{Conditions, Meets}
 use Rattle.semantics.specs.Setup.{Setup}
 use Rattle.semantics.specs.Safety.{IsPairSafe}
 use Rattle.semantics.specs.Headline.{Headline}
-use Rattle.obligations.specs.Covered as covered
-use Rattle.entry_check.specs.Lacking.{steps_of}
 
 abbrev pub at_launch : Kernel → Launch → Setup
 at_launch k l = record { kernel = k; launch = l }
@@ -16,12 +14,10 @@ pub record IsAccepted (k : Kernel) (c : Conditions) : Type 0 where
   pub has_items : 0 < product k.sizes
   pub is_pair_safe : (l : Launch) → Fits k l → Meets c l → IsPairSafe (at_launch k l) c.budget
 
--- the conditions have the kernel's parameters; the walk covers the kernel, whose items take no more steps than the budget
-pub record IsCoveredUnder (k : Kernel) (c : Conditions) : Type 0 where
+-- the conditions have the kernel's parameters
+pub record HasParameters (k : Kernel) (c : Conditions) : Type 0 where
   pub arguments : length c.arguments ≡ length k.arguments
   pub buffers : length c.lengths ≡ length k.buffers
-  pub is_covered : covered.is_covered k ≡ true
-  pub is_short : steps_of k ≤ c.budget
 
 -- and the headline holds there
 abbrev pub HasHeadline : Kernel → Conditions → Type 0

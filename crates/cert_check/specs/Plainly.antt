@@ -17,8 +17,10 @@ use Rattle.plain_kernels.specs.Claims.{is_range}
 use Rattle.plain_kernels.specs.Kernels.{IsPlain, has_signed}
 use Rattle.entry_check.specs.Entries.{has_entry, is_refuted, is_past}
 use Rattle.entry_check.specs.Lacking.{IsNumbered, owing, steps_of}
-use Rattle.cert_check.specs.Refusing.{AreRead}
-use Rattle.certificate_names.specs.Names.{is_for_others}
+use Rattle.arrivals.specs.Places.{places}
+use Rattle.place_obligations.specs.Notes.{Notes}
+use Rattle.place_names.specs.Noting.{lacks}
+use Rattle.cert_check.specs.Refusing.{AreRead, IsSaid}
 use Rattle.cert_check.specs.declared.accepted.Accepted.{Accepted}
 use Rattle.cert_check.specs.declared.error.CheckError.{CheckError}
 use Rattle.cert_check.specs.declared.error.CheckError.TheVariants as errors
@@ -30,26 +32,33 @@ abbrev pub IsOwnRange : semantics.Kernel → Certificate → (number : ℕ) → 
 IsOwnRange k cert n = is_range k n ≡ true → (has_entry cert.entries n ≡ true) × (has_signed k.arguments k.body ≡ true)
 
 -- the obligation of this number has no entry that fits it and refutes its facts
-abbrev pub IsUnrefuted : semantics.Kernel → Conditions → Certificate → (number : ℕ) → Type 0
-IsUnrefuted k c cert n = (o : Obligation) × IsNumbered 0 (owing domain k c cert.entries) n o × (is_refuted cert.entries n o ≡ false)
+abbrev pub IsUnrefuted : semantics.Kernel → Conditions → Notes → Certificate → (number : ℕ) → Type 0
+IsUnrefuted k c n cert m = (o : Obligation) × IsNumbered 0 (owing domain k c n cert.entries) m o × (is_refuted n.quotient cert.entries m o ≡ false)
 
--- 0: the certificate tells of what the kernel lacks, or has an entry past the last; a number is that of an obligation that is not shown;
--- there are over 65,536 obligations; or the stores outnumber the budget. No form leaves i64, and no kernel is left out
+-- 0: the certificate names what the kernel lacks, or has an entry past the last; a number is that of an obligation that is not shown;
+-- there are over 65,536 obligations; or the stores outnumber the budget. No form leaves i64, and no place has many paths
 abbrev pub TellsPlain : semantics.Kernel → surface.Kernel → Conditions → Certificate → ShowError → Type 0
-TellsPlain k tree c cert (shows.NotShown zero) = (is_for_others tree cert ≡ true) ⊎ (is_past cert.entries (length (owing domain k c cert.entries)) ≡ true)
-TellsPlain k tree c cert (shows.NotShown (suc n)) = IsUnrefuted k c cert (suc n) × IsOwnRange k cert (suc n)
-TellsPlain k tree c cert (shows.Walk walks.TooMany) = 65536 < length (owing domain k c cert.entries)
+TellsPlain k tree c cert (shows.NotShown zero) = (lacks k tree (places k.body) cert ≡ true) ⊎ ((n : Notes) × IsSaid k tree cert n × (is_past cert.entries (length (owing domain k c n cert.entries)) ≡ true))
+TellsPlain k tree c cert (shows.NotShown (suc m)) = (n : Notes) × IsSaid k tree cert n × IsUnrefuted k c n cert (suc m) × IsOwnRange k cert (suc m)
+TellsPlain k tree c cert (shows.ManyPaths s) = ⊥
+TellsPlain k tree c cert (shows.Walk walks.TooMany) = (n : Notes) × IsSaid k tree cert n × (65536 < length (owing domain k c n cert.entries))
 TellsPlain k tree c cert (shows.Walk walks.TooLarge) = ⊥
 TellsPlain k tree c cert (shows.Walk walks.Outside) = ⊥
 TellsPlain k tree c cert (shows.Walk walks.Memory) = Unit {0}
-TellsPlain k tree c cert shows.OverBudget = c.budget < steps_of k
+TellsPlain k tree c cert shows.OverBudget = (n : Notes) × IsSaid k tree cert n × (c.budget < steps_of k n)
 TellsPlain k tree c cert shows.Memory = Unit {0}
+
+-- the texts that come first are read, and the kernel is not plain: no barrier of a plain one is missed, and it has few paths
+abbrev pub IsNotPlain : (kernel conditions : List ℕ) → Type 0
+IsNotPlain kernel conditions = (typed : Kernel × Core) × (found : Lined) × AreRead typed found kernel conditions × (IsPlain (core_seen typed.1) (meant found) → ⊥)
 
 -- the texts are read, and where the kernel is plain the error tells this of it
 abbrev pub OnPlain : Result Accepted CheckError → (kernel conditions certificate : List ℕ) → Type 0
 OnPlain (Err (errors.Show e)) kernel conditions certificate =
     (typed : Kernel × Core) × (found : Lined) × (cert : Certificate) × AreRead typed found kernel conditions × (certificate_of certificate ≡ Ok cert)
     × (IsPlain (core_seen typed.1) (meant found) → TellsPlain (core_seen typed.1) (tree_seen typed.0) (meant found) cert e)
+OnPlain (Err (errors.Missed site)) kernel conditions certificate = IsNotPlain kernel conditions
+OnPlain (Err (errors.ManyPaths site)) kernel conditions certificate = IsNotPlain kernel conditions
 OnPlain (Err (errors.Kernel e)) kernel conditions certificate = Unit {0}
 OnPlain (Err (errors.Conditions e)) kernel conditions certificate = Unit {0}
 OnPlain (Err (errors.Certificate e)) kernel conditions certificate = Unit {0}

@@ -1,5 +1,5 @@
 -- What a refusal says of the three texts: those before the refused one are read, and its fault is the first of its text.
-use Rattle.std.specs.Prelude.{◌≡◌, ◌⊎◌, ℕ, List, true, false, Result, Ok, Err}
+use Rattle.std.specs.Prelude.{◌≡◌, ◌⊎◌, ℕ, zero, suc, List, [], true, Option, Some, None, Result, Ok, Err}
 use Rattle.semantics.specs.Launch as semantics
 use Rattle.semantics.specs.Conditions.{Conditions}
 use Rattle.texts.specs.Certificate.{Certificate}
@@ -10,18 +10,27 @@ use Rattle.syntax.specs.View.{kernel as tree_seen}
 use Rattle.syntax.specs.declared.tree.Kernel.{Kernel}
 use Rattle.core_code.specs.View.{kernel as core_seen}
 use Rattle.core_code.specs.declared.tree.Core.{Core}
+use Rattle.core_code.specs.declared.tree.Site.{Site}
 use Rattle.reading.specs.Kernels.{read}
 use Rattle.reading.specs.Answers as reading
 use Rattle.launch_words.specs.Answers as launches
 use Rattle.certificate.specs.Certificates.{Says}
 use Rattle.plain_kernels.specs.Domains.{domain}
-use Rattle.certificate_names.specs.Names.{is_for_others}
-use Rattle.entry_check.specs.Lacking.{PassesOf, TellsOf}
+use Rattle.arrivals.specs.Loops.{unmet}
+use Rattle.arrivals.specs.Places.{places}
+use Rattle.core_code.specs.View.{site as site_seen}
+use Rattle.place_obligations.specs.Notes.{Notes}
+use Rattle.place_obligations.specs.Listing.{all_trees}
+use Rattle.place_names.specs.Noted.{Noted, noted}
+use Rattle.place_names.specs.Noting.{lacks, notes_by}
+use Rattle.place_paths.specs.Unfound.{IsFirstOfMany}
+use Rattle.statement_sites.specs.Sites.{site_at}
+use Rattle.entry_check.specs.Lacking.{PassesOf, TellsOf, with_entries}
 use Rattle.cert_check.specs.declared.accepted.Accepted.{Accepted}
 use Rattle.cert_check.specs.declared.error.CheckError.{CheckError}
 use Rattle.cert_check.specs.declared.error.CheckError.TheVariants as errors
 use Rattle.entry_check.specs.declared.error.ShowError.{ShowError}
-use Rattle.entry_check.specs.declared.error.ShowError.TheVariants.{NotShown}
+use Rattle.entry_check.specs.declared.error.ShowError.TheVariants as shows
 
 -- the kernel is read, to this tree and core
 abbrev pub IsRead : Kernel × Core → (kernel : List ℕ) → Type 0
@@ -31,25 +40,48 @@ IsRead typed kernel = read kernel ≡ Ok (reading.kernel_seen typed)
 abbrev pub AreRead : Kernel × Core → Lined → (kernel conditions : List ℕ) → Type 0
 AreRead typed found kernel conditions = IsRead typed kernel × (conditions_of (tree_seen typed.0).parameters conditions ≡ Ok found)
 
--- what the error tells of a kernel with its tree under conditions, with a certificate: that it tells of what the kernel lacks, else what is
--- not shown
-abbrev pub Shows : semantics.Kernel → surface.Kernel → Conditions → Certificate → ShowError → Type 0
-Shows k tree c cert e = ((e ≡ NotShown 0) × (is_for_others tree cert ≡ true)) ⊎ ((is_for_others tree cert ≡ false) × TellsOf domain k c cert.entries e)
+-- what a certificate says of a kernel's places and loops, where it names nothing that the kernel lacks
+abbrev pub IsSaid : semantics.Kernel → surface.Kernel → Certificate → Notes → Type 0
+IsSaid k tree cert n = (m : Noted) × (noted k tree (places k.body) cert ≡ Some m) × (n ≡ notes_by m [])
 
--- the certificate too, and the kernel under these conditions is not shown by it
-abbrev pub IsUnshown : ShowError → Kernel × Core → Lined → (certificate : List ℕ) → Type 0
-IsUnshown e typed found certificate = (cert : Certificate) × (certificates.certificate_of certificate ≡ Ok cert) × Shows (core_seen typed.1) (tree_seen typed.0) (meant found) cert e
+-- what the error tells of a kernel with its tree under conditions, with a certificate: that it names what the kernel lacks, else what is
+-- not shown. That there are too many paths is told with its place in the source
+abbrev pub Shows : semantics.Kernel → surface.Kernel → Conditions → Certificate → ShowError → Type 0
+Shows k tree c cert (shows.ManyPaths s) = ⊥
+Shows k tree c cert (shows.NotShown zero) = (lacks k tree (places k.body) cert ≡ true) ⊎ ((n : Notes) × IsSaid k tree cert n × TellsOf domain k c n cert.entries (shows.NotShown 0))
+Shows k tree c cert (shows.NotShown (suc m)) = (n : Notes) × IsSaid k tree cert n × TellsOf domain k c n cert.entries (shows.NotShown (suc m))
+Shows k tree c cert (shows.Walk e) = (n : Notes) × IsSaid k tree cert n × TellsOf domain k c n cert.entries (shows.Walk e)
+Shows k tree c cert shows.OverBudget = (n : Notes) × IsSaid k tree cert n × TellsOf domain k c n cert.entries shows.OverBudget
+Shows k tree c cert shows.Memory = Unit {0}
+
+-- each loop with a barrier meets one on each way through
+abbrev pub AreMet : Kernel × Core → Type 0
+AreMet typed = unmet (core_seen typed.1).body ≡ None
+
+-- the kernel and the conditions are read, the kernel's barriers are met, and the certificate is read
+abbrev pub AllRead : Kernel × Core → Lined → Certificate → (kernel conditions certificate : List ℕ) → Type 0
+AllRead typed found cert kernel conditions certificate = AreRead typed found kernel conditions × AreMet typed × (certificates.certificate_of certificate ≡ Ok cert)
+
+-- over 256 paths come to an end from a place whose statement begins there
+abbrev pub HasManyPathsAt : Site → Kernel × Core → Conditions → Certificate → Type 0
+HasManyPathsAt site typed c cert =
+    (n : Notes) × (s : Option ℕ) × IsSaid (core_seen typed.1) (tree_seen typed.0) cert n × IsFirstOfMany s (all_trees domain (core_seen typed.1) c (with_entries cert.entries n)) × (site_seen site ≡ site_at (tree_seen typed.0) s)
 
 abbrev pub Refuses : CheckError → (kernel conditions certificate : List ℕ) → Type 0
 Refuses (errors.Kernel e) kernel conditions certificate = reading.Refuses e (read kernel)
 Refuses (errors.Conditions e) kernel conditions certificate = (typed : Kernel × Core) × IsRead typed kernel × launches.Refuses e (conditions_of (tree_seen typed.0).parameters conditions)
-Refuses (errors.Certificate e) kernel conditions certificate = (typed : Kernel × Core) × (found : Lined) × AreRead typed found kernel conditions × Says (Err e) (certificates.certificate_of certificate)
-Refuses (errors.Show e) kernel conditions certificate = (typed : Kernel × Core) × (found : Lined) × AreRead typed found kernel conditions × IsUnshown e typed found certificate
+Refuses (errors.Missed site) kernel conditions certificate =
+    (typed : Kernel × Core) × (found : Lined) × (loop : ℕ) × AreRead typed found kernel conditions × (unmet (core_seen typed.1).body ≡ Some loop) × (site_seen site ≡ site_at (tree_seen typed.0) (Some loop))
+Refuses (errors.Certificate e) kernel conditions certificate = (typed : Kernel × Core) × (found : Lined) × AreRead typed found kernel conditions × AreMet typed × Says (Err e) (certificates.certificate_of certificate)
+Refuses (errors.ManyPaths site) kernel conditions certificate = (typed : Kernel × Core) × (found : Lined) × (cert : Certificate) × AllRead typed found cert kernel conditions certificate × HasManyPathsAt site typed (meant found) cert
+Refuses (errors.Show e) kernel conditions certificate = (typed : Kernel × Core) × (found : Lined) × (cert : Certificate) × AllRead typed found cert kernel conditions certificate × Shows (core_seen typed.1) (tree_seen typed.0) (meant found) cert e
 
 abbrev pub Tells : Result Accepted CheckError → (kernel conditions certificate : List ℕ) → Type 0
 Tells (Ok a) kernel conditions certificate = Unit {0}
 Tells (Err e) kernel conditions certificate = Refuses e kernel conditions certificate
 
--- what is accepted: the certificate is read, it tells of nothing that the kernel lacks, and with it nothing stops the check
+-- what is accepted: the kernel's barriers are met, the certificate is read, it names nothing that the kernel lacks, and with it nothing stops
+-- the check
 abbrev pub IsPassed : Kernel × Core → Conditions → (certificate : List ℕ) → Type 0
-IsPassed typed c certificate = (cert : Certificate) × (certificates.certificate_of certificate ≡ Ok cert) × (is_for_others (tree_seen typed.0) cert ≡ false) × PassesOf domain (core_seen typed.1) c cert.entries
+IsPassed typed c certificate =
+    AreMet typed × (cert : Certificate) × (n : Notes) × (certificates.certificate_of certificate ≡ Ok cert) × IsSaid (core_seen typed.1) (tree_seen typed.0) cert n × PassesOf domain (core_seen typed.1) c n cert.entries

@@ -1,9 +1,11 @@
 //! Why a kernel is refused.
 
 ghost use Rattle.std.specs.Prelude.{◌≡◌};
+ghost use Rattle.core_code.specs.View.{site as site_seen};
 ghost use Rattle.cert_check.specs.Numbers as numbers;
 
 use certificate::error::CertError;
+use core_code::tree::Site;
 pub use entry_check::{Place, ShowError};
 use launch_text::error::LaunchTextError;
 use reading::KernelError;
@@ -16,8 +18,14 @@ pub enum CheckError {
     Kernel(KernelError),
     #[error("{0}")]
     Conditions(LaunchTextError),
+    /// A loop with a barrier that an iteration can miss, where it begins.
+    #[error("55 {}:{}", .0.line, .0.column)]
+    Missed(Site),
     #[error("{0}")]
     Certificate(CertError),
+    /// Over 256 paths come to an end from the loop or barrier that begins there, or from the kernel's entry.
+    #[error("53 {}:{}", .0.line, .0.column)]
+    ManyPaths(Site),
     #[error("{0}")]
     Show(ShowError),
 }
@@ -29,6 +37,16 @@ fn at_place(place: Option<(u32, u32)>) -> Option<Place>
     match place {
         Some((line, column)) => Some(Place::At { line, column }),
         None => None,
+    }
+}
+
+/// Where a refusal points that points to a site.
+fn at_site(site: Site) -> Place
+    ensures { result ≡ numbers.at_site (site_seen site) }
+{
+    Place::At {
+        line: site.line,
+        column: site.column,
     }
 }
 
@@ -52,7 +70,9 @@ impl CheckError {
         match self {
             CheckError::Kernel(error) => error.number(),
             CheckError::Conditions(error) => error.number(),
+            CheckError::Missed(_) => 55,
             CheckError::Certificate(error) => error.number(),
+            CheckError::ManyPaths(_) => 53,
             CheckError::Show(error) => error.number(),
         }
     }
@@ -64,6 +84,7 @@ impl CheckError {
         match self {
             CheckError::Kernel(error) => at_place(error.place()),
             CheckError::Conditions(error) => at_line(error.place().map(u64::from)),
+            CheckError::Missed(site) | CheckError::ManyPaths(site) => Some(at_site(*site)),
             CheckError::Certificate(error) => at_line(error.place().map(|line| line as u64)),
             CheckError::Show(error) => error.place(),
         }

@@ -1,9 +1,12 @@
 -- What the entries of a certificate say of obligations.
-use Rattle.std.specs.Prelude.{◌≡◌, ℕ, zero, suc, ℤ, pos, negsuc, List, [], ◌∷◌, map, Bool, true, false, cond, ◌&&◌, ◌||◌, nat_eq, nat_le, nat_lt, Option, None, Some, slice_index_or}
+use Rattle.std.specs.Prelude.{◌≡◌, ℕ, zero, suc, ◌-◌, ℤ, pos, negsuc, List, [], ◌∷◌, map, Bool, true, false, not, cond, ◌&&◌, ◌||◌, nat_eq, nat_le, nat_lt, Option, None, Some, slice_index_or}
+use Rattle.std.specs.Ordering.{int_eq}
+use Rattle.semantics.specs.Linear.{Weighted}
 use Rattle.texts.specs.Certificate.{Entry, EntrySort, Show, Positive, Negative, Quotient, Step, Given, Sum, Divide, Scaled}
 use Rattle.cut_proof.specs.Derivations as derivations
 use Rattle.cut_proof.specs.Derivations.{Forms, Line, refutes_of}
-use Rattle.obligations.specs.Trees.{Obligation, Manner, Plainly, ByPositive, ByNegative, facts_by}
+use Rattle.facts.specs.Symbols.{Fact}
+use Rattle.obligations.specs.Trees.{Goal, AtLeastZero, Either, Replaced, Divided, Obligation, Manner, Plainly, ByPositive, ByNegative, ByQuotient, facts_by}
 
 -- a number of a line or a fact; one that is none, or has over 32 bits, is 0, which names nothing
 abbrev pub line_number : ℤ → ℕ
@@ -19,17 +22,16 @@ line_of (Given fact) = derivations.Given (line_number fact)
 line_of (Sum parts) = derivations.Sum (map part_of parts)
 line_of (Divide by) = derivations.Divide by.factor (line_number by.line)
 
--- how an entry of a sort shows an obligation; a quotient shows none
-abbrev pub manner_of : EntrySort → Option Manner
-manner_of Show = Some Plainly
-manner_of Positive = Some ByPositive
-manner_of Negative = Some ByNegative
-manner_of (Quotient form) = None
+-- how an entry of a sort shows an obligation
+abbrev pub manner_of : EntrySort → Manner
+manner_of Show = Plainly
+manner_of Positive = ByPositive
+manner_of Negative = ByNegative
+manner_of (Quotient form) = ByQuotient
 
 -- the facts that are impossible where an obligation is shown so; none where an entry of that sort does not fit it
-abbrev pub facts_for : Option Manner → Obligation → Option Forms
-facts_for None o = None
-facts_for (Some m) o = facts_by m o
+abbrev pub facts_for : EntrySort → Obligation → Option Forms
+facts_for s o = facts_by (manner_of s) o
 
 abbrev pub refutes_facts : Entry → Option Forms → Bool
 refutes_facts e None = false
@@ -37,7 +39,7 @@ refutes_facts e (Some facts) = refutes_of facts (map line_of e.steps)
 
 -- an entry fits an obligation, and its derivation refutes the facts
 abbrev pub refutes_by : Entry → Obligation → Bool
-refutes_by e o = refutes_facts e (facts_for (manner_of e.sort) o)
+refutes_by e o = refutes_facts e (facts_for e.sort o)
 
 -- an entry has this number; there are at most 65,536 obligations
 abbrev pub is_of : ℕ → Entry → Bool
@@ -64,9 +66,32 @@ found_refutes (Some e) o = refutes_by e o
 abbrev pub has_entry : List Entry → ℕ → Bool
 has_entry es n = is_found (entry_of es n)
 
--- the entry of this number fits an obligation, and refutes its facts
-abbrev pub is_refuted : List Entry → (number : ℕ) → Obligation → Bool
-is_refuted es n o = found_refutes (entry_of es n) o
+-- the second claim of a congruence: no form is made on the way
+abbrev pub is_second_claim : Option Goal → Bool
+is_second_claim None = false
+is_second_claim (Some (AtLeastZero f)) = false
+is_second_claim (Some (Either p n)) = false
+is_second_claim (Some (Replaced made f)) = false
+is_second_claim (Some (Divided [] f)) = true
+is_second_claim (Some (Divided (m ∷ ms) f)) = false
+
+abbrev pub same_terms : List (Weighted ℕ) → List (Weighted ℕ) → Bool
+same_terms [] [] = true
+same_terms [] (u ∷ us) = false
+same_terms (t ∷ ts) [] = false
+same_terms (t ∷ ts) (u ∷ us) = int_eq t.coefficient u.coefficient && (nat_eq t.symbol u.symbol && same_terms ts us)
+
+abbrev pub same_form : Fact → Fact → Bool
+same_form f g = int_eq f.constant g.constant && same_terms f.terms g.terms
+
+-- the entries of both claims of a congruence name one quotient
+abbrev pub names_one : (quotient : ℕ → Fact) → (number : ℕ) → Obligation → Bool
+names_one q n o = not (is_second_claim o.goal) || same_form (q n) (q (n - 1))
+
+-- the entry of this number fits an obligation, and refutes its facts; where the obligation is the second claim of a congruence, it names the
+-- quotient that the first one's entry names
+abbrev pub is_refuted : (quotient : ℕ → Fact) → List Entry → (number : ℕ) → Obligation → Bool
+is_refuted q es n o = names_one q n o && found_refutes (entry_of es n) o
 
 -- an entry is past the last obligation
 abbrev pub is_past : List Entry → (last : ℕ) → Bool

@@ -1,106 +1,102 @@
 -- What an error tells of what is to be shown.
-use Rattle.std.specs.Prelude.{◌≡◌, ◌<◌, ◌≤◌, ◌⊎◌, ℕ, zero, suc, ◌+◌, List, [], length, get_or, true, false}
-use Rattle.semantics.specs.Launch.{Kernel, product}
+use Rattle.std.specs.Prelude.{◌≡◌, ◌<◌, ◌≤◌, ◌⊎◌, ℕ, zero, suc, ◌+◌, List, [], length, get_or, Option, true, false}
+use Rattle.semantics.specs.Launch.{Kernel}
 use Rattle.semantics.specs.Conditions.{Conditions}
 use Rattle.domain.specs.declared.Domain.{Ghosts}
 use Rattle.texts.specs.Certificate.{Entry}
-use Rattle.obligations.specs.Covered.{is_covered}
-use Rattle.obligations.specs.Trees.{Obligation, leaves}
-use Rattle.obligations.specs.Statements.{setting, tree}
-use Rattle.obligations.specs.Fitting.{forms_fit}
-use Rattle.obligations.specs.Shown.{obligations}
-use Rattle.obligations.specs.Unfound as unfound
-use Rattle.loop_bounds.specs.Costs.{cost}
-use Rattle.loop_bounds.specs.Turns.{turns_of}
+use Rattle.facts.specs.Symbols.{Fact}
 use Rattle.facts.specs.declared.error.WalkError.{WalkError}
+use Rattle.obligations.specs.Trees.{Obligation}
+use Rattle.place_obligations.specs.Notes.{Notes}
+use Rattle.place_obligations.specs.Limits.{turns_at}
+use Rattle.place_obligations.specs.Listing.{all_trees}
+use Rattle.place_obligations.specs.Fitting.{forms_fit}
+use Rattle.place_obligations.specs.Shown.{obligations}
+use Rattle.place_paths.specs.Unfound.{HaveFewPaths, IsFirstOfMany, IsUnlisted}
+use Rattle.loop_bounds.specs.Costs.{cost}
 use Rattle.entry_check.specs.Entries.{has_entry, is_refuted, is_past}
 use Rattle.entry_check.specs.declared.error.ShowError.{ShowError}
 use Rattle.entry_check.specs.declared.error.ShowError.TheVariants as errors
 
 -- an obligation that stops the check: the domain does not settle it, it is needed or has an entry, and no entry that fits refutes its facts
-abbrev pub IsLacking : List Entry → (number : ℕ) → Obligation → Type 0
-IsLacking es n o = (o.settled ≡ false) × ((o.needed ≡ true) ⊎ (has_entry es n ≡ true)) × (is_refuted es n o ≡ false)
+abbrev pub IsLacking : (quotient : ℕ → Fact) → List Entry → (number : ℕ) → Obligation → Type 0
+IsLacking q es n o = (o.settled ≡ false) × ((o.needed ≡ true) ⊎ (has_entry es n ≡ true)) × (is_refuted q es n o ≡ false)
 
 -- one that passes: the domain settles it, or it is not needed and has no entry, or its entry refutes its facts
-abbrev pub Passes : List Entry → (number : ℕ) → Obligation → Type 0
-Passes es n o = (o.settled ≡ true) ⊎ (((o.needed ≡ false) × (has_entry es n ≡ false)) ⊎ (is_refuted es n o ≡ true))
+abbrev pub Passes : (quotient : ℕ → Fact) → List Entry → (number : ℕ) → Obligation → Type 0
+Passes q es n o = (o.settled ≡ true) ⊎ (((o.needed ≡ false) × (has_entry es n ≡ false)) ⊎ (is_refuted q es n o ≡ true))
 
 -- an obligation of a list has this number, counted on from those before the list
 abbrev pub IsNumbered : (before : ℕ) → List Obligation → (number : ℕ) → Obligation → Type 0
 IsNumbered before os n o = (i : ℕ) × (n ≡ before + (i + 1)) × (i < length os) × (o ≡ get_or os i o)
 
 -- each obligation of a list passes
-abbrev pub AllPass : List Entry → (before : ℕ) → List Obligation → Type 0
-AllPass es before os = (n : ℕ) (o : Obligation) → IsNumbered before os n o → Passes es n o
+abbrev pub AllPass : (quotient : ℕ → Fact) → List Entry → (before : ℕ) → List Obligation → Type 0
+AllPass q es before os = (n : ℕ) (o : Obligation) → IsNumbered before os n o → Passes q es n o
 
 -- each whose number is below this one passes
-abbrev pub PassBelow : List Entry → (before : ℕ) → List Obligation → (number : ℕ) → Type 0
-PassBelow es before os n = (m : ℕ) (o : Obligation) → m < n → IsNumbered before os m o → Passes es m o
+abbrev pub PassBelow : (quotient : ℕ → Fact) → List Entry → (before : ℕ) → List Obligation → (number : ℕ) → Type 0
+PassBelow q es before os n = (m : ℕ) (o : Obligation) → m < n → IsNumbered before os m o → Passes q es m o
 
 -- the obligation of this number stops the check, and is the first that does
-abbrev pub Stops : List Entry → (before : ℕ) → List Obligation → (number : ℕ) → Type 0
-Stops es before os n = (o : Obligation) × IsNumbered before os n o × IsLacking es n o × PassBelow es before os n
+abbrev pub Stops : (quotient : ℕ → Fact) → List Entry → (before : ℕ) → List Obligation → (number : ℕ) → Type 0
+Stops q es before os n = (o : Obligation) × IsNumbered before os n o × IsLacking q es n o × PassBelow q es before os n
 
 -- of one obligation alone: this is its number, and it stops the check
-abbrev pub IsStopped : List Entry → (own : ℕ) → Obligation → (number : ℕ) → Type 0
-IsStopped es own o n = (n ≡ own) × IsLacking es n o
+abbrev pub IsStopped : (quotient : ℕ → Fact) → List Entry → (own : ℕ) → Obligation → (number : ℕ) → Type 0
+IsStopped q es own o n = (n ≡ own) × IsLacking q es n o
 
--- an error that comes of what is to be shown: `stops` is what its number says, `walk` what an error of a walk says
-abbrev pub TellsBy : (stops : ℕ → Type 0) → (walk : WalkError → Type 0) → ShowError → Type 0
-TellsBy stops walk (errors.NotShown n) = stops n
-TellsBy stops walk (errors.Walk e) = walk e
-TellsBy stops walk errors.OverBudget = ⊥
-TellsBy stops walk errors.Memory = Unit {0}
+-- an error that comes of what is to be shown: `stops` is what its number says, `many` what a statement with too many paths says, `walk` what
+-- an error of a walk says
+abbrev pub TellsBy : (stops : ℕ → Type 0) → (many : Option ℕ → Type 0) → (walk : WalkError → Type 0) → ShowError → Type 0
+TellsBy stops many walk (errors.NotShown n) = stops n
+TellsBy stops many walk (errors.ManyPaths s) = many s
+TellsBy stops many walk (errors.Walk e) = walk e
+TellsBy stops many walk errors.OverBudget = ⊥
+TellsBy stops many walk errors.Memory = Unit {0}
 
 -- 0, where all pass and an entry is past the last obligation, or the number of the first that stops the check
-abbrev pub Lacks : List Entry → List Obligation → (number : ℕ) → Type 0
-Lacks es os zero = AllPass es 0 os × (is_past es (length os) ≡ true)
-Lacks es os (suc n) = Stops es 0 os (suc n)
+abbrev pub Lacks : (quotient : ℕ → Fact) → List Entry → List Obligation → (number : ℕ) → Type 0
+Lacks q es os zero = AllPass q es 0 os × (is_past es (length os) ≡ true)
+Lacks q es os (suc n) = Stops q es 0 os (suc n)
 
 -- nothing stops the check: each obligation passes, and no entry is past the last
-abbrev pub ArePassed : List Entry → List Obligation → Type 0
-ArePassed es os = AllPass es 0 os × (is_past es (length os) ≡ false)
+abbrev pub ArePassed : (quotient : ℕ → Fact) → List Entry → List Obligation → Type 0
+ArePassed q es os = AllPass q es 0 os × (is_past es (length os) ≡ false)
 
--- all that is to be shown where these entries are
-abbrev pub owing : {E : Type 0} → Ghosts E → Kernel → Conditions → List Entry → List Obligation
-owing g k c es = obligations g k c (has_entry es)
+-- what is said, where these entries are
+abbrev pub with_entries : List Entry → Notes → Notes
+with_entries es n = record { same = n.same; facts = n.facts; congruences = n.congruences; ranking = n.ranking; visible = n.visible; quotient = n.quotient; has_entry = has_entry es }
 
--- over 256 paths that come to an end, over 65,536 obligations, a form that is not of i64, or a kernel that the walk does not cover
-abbrev pub IsUnwalked : {E : Type 0} → Ghosts E → Kernel → Conditions → List Entry → WalkError → Type 0
-IsUnwalked g k c es = unfound.IsUnwalked g k c (has_entry es)
+-- all that is to be shown
+abbrev pub owing : {E : Type 0} → Ghosts E → Kernel → Conditions → Notes → List Entry → List Obligation
+owing g k c n es = obligations g k c (with_entries es n)
 
--- the kernel's obligations are told: a work-group has work-items, and the walk covers the kernel
-abbrev pub HasObligations : Kernel → Type 0
-HasObligations k = (0 < product k.sizes) × (is_covered k ≡ true)
-
--- at most 256 paths of an item come to an end
-abbrev pub HasFewPaths : {E : Type 0} → Ghosts E → Kernel → Conditions → List Entry → Type 0
-HasFewPaths g k c es = leaves 0 (tree (setting g k c (has_entry es)) k) ≤ 256
-
--- they are listed: few paths, 65,536 obligations at most, and all forms that are made for them are of i64
-abbrev pub AreListed : {E : Type 0} → Ghosts E → Kernel → Conditions → List Entry → Type 0
-AreListed g k c es = HasFewPaths g k c es × (length (owing g k c es) ≤ 65536) × (forms_fit g k c (has_entry es) ≡ true)
-
--- an error that comes of what is to be shown, once it is listed, or before that
-abbrev pub TellsOfList : List Entry → (listed : Type 0) → List Obligation → (walk : WalkError → Type 0) → ShowError → Type 0
-TellsOfList es listed os = TellsBy (λ n. listed × Lacks es os n)
+-- they are listed: few paths from each place, 65,536 obligations at most, and all forms that are made for them are of i64
+abbrev pub AreListed : {E : Type 0} → Ghosts E → Kernel → Conditions → Notes → List Entry → Type 0
+AreListed g k c n es = HaveFewPaths (all_trees g k c (with_entries es n)) × (length (owing g k c n es) ≤ 65536) × (forms_fit g k c (with_entries es n) ≡ true)
 
 -- of a kernel: nothing stops the check, once they are listed
-abbrev pub PassesOf : {E : Type 0} → Ghosts E → Kernel → Conditions → List Entry → Type 0
-PassesOf g k c es = ArePassed es (owing g k c es) × AreListed g k c es
+abbrev pub PassesOf : {E : Type 0} → Ghosts E → Kernel → Conditions → Notes → List Entry → Type 0
+PassesOf g k c n es = ArePassed n.quotient es (owing g k c n es) × AreListed g k c n es
 
--- 0 also where a work-group has no work-items, or the walk does not cover the kernel
-abbrev pub LacksOf : {E : Type 0} → Ghosts E → Kernel → Conditions → List Entry → (number : ℕ) → Type 0
-LacksOf g k c es zero = (product k.sizes ≡ 0) ⊎ ((is_covered k ≡ false) ⊎ (HasObligations k × AreListed g k c es × Lacks es (owing g k c es) zero))
-LacksOf g k c es (suc n) = HasObligations k × AreListed g k c es × Lacks es (owing g k c es) (suc n)
+-- once they are listed, 0 or the number of the first that stops the check
+abbrev pub LacksOf : {E : Type 0} → Ghosts E → Kernel → Conditions → Notes → List Entry → (number : ℕ) → Type 0
+LacksOf g k c n es number = AreListed g k c n es × Lacks n.quotient es (owing g k c n es) number
 
--- how many steps an item of a kernel without loops takes at most
-abbrev pub steps_of : Kernel → ℕ
-steps_of k = cost (turns_of []) k.body
+-- what an error tells of what is to be shown
+abbrev pub TellsOwing : {E : Type 0} → Ghosts E → Kernel → Conditions → Notes → List Entry → ShowError → Type 0
+TellsOwing g k c n es =
+    TellsBy (LacksOf g k c n es) (λ s. IsFirstOfMany s (all_trees g k c (with_entries es n))) (IsUnlisted g k c (with_entries es n))
+
+-- how many steps an item takes at most, by what is said of the kernel's loops
+abbrev pub steps_of : Kernel → Notes → ℕ
+steps_of k n = cost (turns_at n) k.body
 
 -- what an error tells of a kernel. The budget comes last: an item may take more steps than it has, and nothing else stops the check
-abbrev pub TellsOf : {E : Type 0} → Ghosts E → Kernel → Conditions → List Entry → ShowError → Type 0
-TellsOf g k c es (errors.NotShown n) = LacksOf g k c es n
-TellsOf g k c es (errors.Walk e) = HasObligations k × IsUnwalked g k c es e
-TellsOf g k c es errors.OverBudget = HasObligations k × PassesOf g k c es × (c.budget < steps_of k)
-TellsOf g k c es errors.Memory = Unit {0}
+abbrev pub TellsOf : {E : Type 0} → Ghosts E → Kernel → Conditions → Notes → List Entry → ShowError → Type 0
+TellsOf g k c n es (errors.NotShown m) = LacksOf g k c n es m
+TellsOf g k c n es (errors.ManyPaths s) = IsFirstOfMany s (all_trees g k c (with_entries es n))
+TellsOf g k c n es (errors.Walk e) = IsUnlisted g k c (with_entries es n) e
+TellsOf g k c n es errors.OverBudget = PassesOf g k c n es × (c.budget < steps_of k n)
+TellsOf g k c n es errors.Memory = Unit {0}

@@ -4,6 +4,7 @@ ghost use Rattle.std.specs.Prelude.{◌≡◌};
 ghost use Rattle.entry_check.specs.Numbers as numbers;
 
 use facts::WalkError;
+use place_paths::FindError;
 use std::alloc::{AllocError, AllocFailed};
 use thiserror::Error;
 
@@ -17,10 +18,12 @@ pub enum Place {
 /// Why what is to be shown of a kernel is not shown, or want of memory.
 #[derive(Debug, Drop, Error)]
 pub enum ShowError {
-    /// An obligation is not shown; 0 where the certificate tells of what the kernel lacks, a work-group has no work-items, or the
-    /// kernel is not straight-line.
+    /// An obligation is not shown; 0 where the certificate tells of what the kernel lacks, or has an entry past the last.
     #[error("52 {0}")]
     NotShown(u64),
+    /// From a place over 256 paths come to an end: the number of its loop or barrier, none of the kernel's entry.
+    #[error("53")]
+    ManyPaths(Option<u32>),
     #[error("{0}")]
     Walk(WalkError),
     #[error("56")]
@@ -49,6 +52,7 @@ impl ShowError {
     {
         match self {
             ShowError::NotShown(_) => 52,
+            ShowError::ManyPaths(_) => 53,
             ShowError::Walk(error) => error.number(),
             ShowError::OverBudget => 56,
             ShowError::Memory => 90,
@@ -62,7 +66,7 @@ impl ShowError {
         match self {
             ShowError::NotShown(number) => Some(Place::Number(*number)),
             ShowError::Walk(error) => walk_place(error),
-            ShowError::OverBudget | ShowError::Memory => None,
+            ShowError::ManyPaths(_) | ShowError::OverBudget | ShowError::Memory => None,
         }
     }
 }
@@ -74,6 +78,19 @@ impl From<WalkError> for ShowError {
 
     fn from(e: WalkError) -> ShowError {
         ShowError::Walk(e)
+    }
+}
+
+impl From<FindError> for ShowError {
+    ghost use Rattle.entry_check.specs.Numbers.{show_of};
+
+    ghost from_gives = { λ e r. r ≡ show_of e };
+
+    fn from(e: FindError) -> ShowError {
+        match e {
+            FindError::ManyPaths(statement) => ShowError::ManyPaths(statement),
+            FindError::Walk(error) => ShowError::Walk(error),
+        }
     }
 }
 

@@ -109,21 +109,26 @@ fn show_found<D: Domain>(
     Ok(())
 }
 
-/// All that is to be shown of a kernel under conditions is shown by the entries of a certificate. 53 and 54 come first (all is listed before
-/// an obligation is looked at), then 52 with the number of the first obligation that stops the check, then 52 with 0 for an entry past the
-/// last.
+/// All that is to be shown of a kernel under conditions, with what is said of its places and loops, is shown by the entries of a
+/// certificate. 53 and 54 come first (all is listed before an obligation is looked at), then 52 with the number of the first obligation that
+/// stops the check, then 52 with 0 for an entry past the last.
 pub fn show_all<D: Domain>(
     alloc: Global,
     core: &Core,
     conditions: &Conditions,
+    notes: &Notes,
+    places: &[Place<'_>],
     entries: &[Entry],
 ) -> Result<(), ShowError>
-    ensures shown { IfOk result (λ _. All IsShown (owing D.Domain (core_seen core.now) (conditions_seen conditions.now) (map entry_seen entries.now))) }
-    ensures passed { IfOk result (λ _. PassesOf D.Domain (core_seen core.now) (conditions_seen conditions.now) (map entry_seen entries.now)) }
-    ensures lacks { IfErr result (TellsOfList (map entry_seen entries.now) (AreListed D.Domain (core_seen core.now) (conditions_seen conditions.now) (map entry_seen entries.now)) (owing D.Domain (core_seen core.now) (conditions_seen conditions.now) (map entry_seen entries.now)) (IsUnwalked D.Domain (core_seen core.now) (conditions_seen conditions.now) (map entry_seen entries.now))) }
+    requires sizes { are_sizes (core_seen core.now).sizes ≡ true }
+    requires places { map place_seen places.now ≡ meaning.places (core_seen core.now).body }
+    requires items { (flags : List Bool) → TellsOfItems (seen notes.now flags) }
+    ensures shown { IfOk result (λ _. All IsShown (owing D.Domain (core_seen core.now) (conditions_seen conditions.now) (seen notes.now []) (map entry_seen entries.now))) }
+    ensures passed { IfOk result (λ _. PassesOf D.Domain (core_seen core.now) (conditions_seen conditions.now) (seen notes.now []) (map entry_seen entries.now)) }
+    ensures lacks { IfErr result (TellsOwing D.Domain (core_seen core.now) (conditions_seen conditions.now) (seen notes.now []) (map entry_seen entries.now)) }
 {
-    let places = places_of(alloc, entries)?;
-    let flags = flags_of(alloc, entries, places.as_slice())?;
-    let found = find::<D>(alloc, core, conditions, flags)?;
-    show_found(alloc, &found, entries, places.as_slice())
+    let rows = places_of(alloc, entries)?;
+    let flags = flags_of(alloc, entries, rows.as_slice())?;
+    let found = find::<D>(alloc, core, conditions, notes, places, flags)?;
+    show_found(alloc, &found, notes, entries, rows.as_slice())
 }

@@ -1,0 +1,11 @@
+//! Section: Walks. Promises exactly what is to be shown of a kernel's places under conditions; stands on `place_roots`, `place_sketch` and
+//! `place_pairs`.
+//!
+//! All paths of all places in turn, and of what one item meets along them all that is to be shown.
+#![tactic(auto)]
+
+mod error;
+mod finding;
+
+pub use error::FindError;
+pub use finding::find;

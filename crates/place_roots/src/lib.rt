@@ -2,6 +2,14 @@
 //! `place_notes`.
 #![tactic(auto)]
 
+mod ends;
+mod family;
+mod holding;
+mod known;
+mod products;
 mod root;
+mod said;
+mod slots;
+mod variables;
 
 pub use root::root_of;

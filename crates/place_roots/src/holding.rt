@@ -1,0 +1,80 @@
+//! What the domain holds where a path begins.
+
+ghost use Rattle.std.specs.Prelude.{◌≡◌, ◌++◌, ◌∷◌, ◌<◌, [], map, MatchResult};
+ghost use Rattle.words.specs.View.{kind as kind_seen};
+ghost use Rattle.core_code.specs.View.{kernel as core_seen};
+ghost use Rattle.facts.specs.Refusals.{IsMemory};
+ghost use Rattle.facts.specs.Symbols.{number};
+ghost use Rattle.obligations.specs.Walks.{any_of};
+ghost use Rattle.path_walk.specs.View.{narrowed_seen};
+ghost use Rattle.place_notes.specs.View.{congruence as congruence_seen};
+ghost use Rattle.place_obligations.specs.Roots as roots;
+ghost use Rattle.place_roots.specs.Families.{slot_symbol};
+
+use crate::family::Family;
+use crate::slots::{kind_at, slot_count, slot_number};
+use core_code::tree::Core;
+use domain::Domain;
+use facts::WalkError;
+use linear::Symbol;
+use path_walk::{Narrowed, any_of};
+use place_notes::Congruence;
+use std::alloc::Global;
+
+/// Of a quotient nothing is known.
+pub fn tops<D: Domain>(alloc: Global, congruences: &[Congruence]) -> Result<Vec<D>, WalkError>
+    ensures { MatchResult result (λ v. v.items ≡ roots.tops D.Domain (map congruence_seen congruences.now)) IsMemory }
+{
+    let mut elements = Vec::new(alloc);
+    for _ in congruences {
+        elements.push(D::top())?;
+    }
+    Ok(elements)
+}
+
+/// A variable is a number of its kind.
+fn slot_narrowed<D: Domain>(core: &Core, family: Family, slot: usize) -> Narrowed<D>
+    requires { slot < 576460752303423488 }
+    ensures { narrowed_seen result ≡ record { symbol = number (slot_symbol family slot); element = any_of D.Domain (roots.kind_of (core_seen core.now) slot) } }
+{
+    let number = slot_number(family, slot as u64);
+    let element = any_of(kind_at(core, slot));
+    Narrowed {
+        symbol: Symbol { number },
+        element,
+    }
+}
+
+/// Each variable is.
+fn push_narrowed<D: Domain>(
+    narrowed: &mut Vec<Narrowed<D>>,
+    core: &Core,
+    family: Family,
+) -> Result<(), WalkError>
+    ensures { MatchResult result (λ _. map narrowed_seen narrowed.new.items ≡ map narrowed_seen narrowed.old.items ++ roots.narrowed_from D.Domain (slot_symbol family) 0 (roots.kinds (core_seen core.now))) IsMemory }
+{
+    let count = slot_count(core)?;
+    for slot in 0..count {
+        narrowed.push(slot_narrowed(core, family, slot))?;
+    }
+    Ok(())
+}
+
+/// The variables of a place, and at a loop those of the anchor too.
+pub fn root_narrowed<D: Domain>(
+    alloc: Global,
+    core: &Core,
+    anchor: Option<u32>,
+    head: Option<u32>,
+) -> Result<Vec<Narrowed<D>>, WalkError>
+    ensures { MatchResult result (λ v. map narrowed_seen v.items ≡ roots.root_narrowed D.Domain (core_seen core.now) anchor head) IsMemory }
+{
+    let mut narrowed = Vec::new(alloc);
+    if anchor.is_some() || head.is_some() {
+        push_narrowed(&mut narrowed, core, Family::Here)?;
+    }
+    if head.is_some() {
+        push_narrowed(&mut narrowed, core, Family::AtAnchor)?;
+    }
+    Ok(narrowed)
+}

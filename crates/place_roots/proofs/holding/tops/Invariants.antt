@@ -4,4 +4,4 @@ use Rattle.place_obligations.specs.Roots.{tops}
 use Rattle.place_roots.proofs.holding.tops.Given as goal
 
 abbrev pub invariant-loop : goal.invariant-loop
-invariant-loop g l = l.elements.items ++ tops g.D.Domain (map congruence (drop l.loop-index l.congruences)) ≡ tops g.D.Domain (map congruence l.congruences)
+invariant-loop g l = l.elements.items ++ tops g.D.Domain (map congruence (drop l.index l.congruences)) ≡ tops g.D.Domain (map congruence l.congruences)

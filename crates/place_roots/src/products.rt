@@ -29,7 +29,12 @@ fn product(alloc: Global, modulus: u64, index: usize) -> Result<Form, WalkError>
 }
 
 /// Two forms are equal.
-fn push_equal(alloc: Global, into: &mut Vec<Form>, form: &Form, other: &Form) -> Result<(), WalkError>
+fn push_equal(
+    alloc: Global,
+    into: &mut Vec<Form>,
+    form: &Form,
+    other: &Form,
+) -> Result<(), WalkError>
     ensures { MatchResult result (λ _. forms into.new.items ≡ forms into.old.items ++ equals (form_seen form.now) (form_seen other.now)) (λ e. IsUnrooted (forms into.old.items ++ equals (form_seen form.now) (form_seen other.now)) e) }
 {
     let over = difference(alloc, form, other)?;

@@ -1,4 +1,3 @@
-use Rattle.std.proofs.Common.{map}
 use Rattle.linear.specs.Forms.{forms}
 use Rattle.facts.proofs.Unmade.{handed}
 use Rattle.place_roots.proofs.Unrooted.{unrooted_one}

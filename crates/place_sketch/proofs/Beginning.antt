@@ -2,13 +2,13 @@
 use Rattle.std.proofs.Common.{◌≡◌, ℕ, Bool, true, false, List, ◌∷◌, sym, ap, ◌∙◌}
 use Rattle.std.specs.Prelude.{cond, Result, Ok, Err, IsErr, IsErrAnd, MatchResult}
 use Rattle.semantics.specs.Core.{Term, Statement, Loop, Statements}
-use Rattle.arrivals.specs.Points.{Left, fresh, turning, join}
+use Rattle.arrivals.specs.Points.{Left, turning, join}
 use Rattle.arrivals.specs.Symbolic.{Courses, ahead, courses, draw_head}
 use Rattle.arrivals.specs.Trees.{Turns}
 use Rattle.obligations.specs.Trees.{Tree}
 use Rattle.obligations.specs.Walks.{State}
 use Rattle.place_obligations.specs.Walking.{Placed, course}
-use Rattle.path_walk.specs.Paths.{Found, Followed, collect}
+use Rattle.path_walk.specs.Paths.{Followed, collect}
 use Rattle.path_walk.specs.declared.halt.Halt.{Halt}
 use Rattle.path_walk.proofs.Testing.{ended_from, halted}
 use Rattle.place_claims.specs.Claims.{Comes}

@@ -1,27 +1,23 @@
 -- What is left, list by list.
-use Rattle.std.proofs.Common.{◌≡◌, ℕ, ◌+◌, ◌<◌, Bool, true, false, List, [], ◌∷◌, take, get_or, length, refl, sym, ap, ◌∙◌}
+use Rattle.std.proofs.Common.{◌≡◌, ℕ, ◌+◌, ◌<◌, List, [], take, get_or, length, sym, ap, ◌∙◌}
 use Rattle.std.specs.Prelude.{Result, Ok, Err, IsErr, IsErrAnd, MatchResult}
 use Rattle.std.proofs.lemmas.List.{take_more}
-use Rattle.std.proofs.Math.Seq.{take-length}
-use Rattle.semantics.specs.Core.{Statement, Statements}
-use Rattle.arrivals.specs.Points.{Left, fresh, turning, join}
+use Rattle.semantics.specs.Core.{Statements}
+use Rattle.arrivals.specs.Points.{Left, join}
 use Rattle.arrivals.specs.Symbolic.{courses}
 use Rattle.arrivals.specs.Trees.{Turns}
-use Rattle.facts.specs.declared.error.WalkError.{WalkError}
 use Rattle.place_obligations.specs.Walking.{Placed, course}
 use Rattle.places.specs.View.{opened, left}
 use Rattle.places.specs.declared.point.Rest.{Rest}
 use Rattle.places.proofs.Stacking.{stacked_more}
 use Rattle.path_walk.specs.Paths.{Followed}
 use Rattle.path_walk.specs.declared.halt.Halt.{Halt}
-use Rattle.path_walk.specs.declared.halt.Halt.TheVariants as halts
-use Rattle.path_walk.proofs.Refusing.{refused_from}
 use Rattle.path_walk.proofs.Testing.{ended_from, halted}
 use Rattle.place_walk.specs.declared.flow.Flow.{Flow}
 use Rattle.place_walk.specs.Flows.{flows}
-use Rattle.place_walk.specs.Fronts.{Passes, NotPassed, PassAll, NoPass}
+use Rattle.place_walk.specs.Fronts.{PassAll, NoPass}
 use Rattle.place_walk.proofs.Passing.{courses_join}
-use Rattle.place_sketch.specs.Rests.{found_along, PassesOne, NotOne, PassesLeft, NotLeft, ComesAlong, IsRefusedAlong}
+use Rattle.place_sketch.specs.Rests.{found_along, PassesOne, NotOne, PassesLeft, NotLeft}
 
 -- so many lists are left
 abbrev pub PassesTo : {E : Type 0} → Placed E → List Rest → Flow → Followed E → Turns → Flow → Followed E → Turns → ℕ → Type 0

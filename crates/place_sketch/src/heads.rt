@@ -50,15 +50,7 @@ fn walk_fresh<D: Domain>(
 ) -> Result<(), Halt>
     ensures { MatchResult result (λ _. ComesAlong (placed D.Domain placing.now) (fresh (statement_seen statement.now) ∷ left rests.now) Through (followed path.old) (turns_seen turns.old) (followed path.new)) (λ h. NotLeft (placed D.Domain placing.now) (fresh (statement_seen statement.now) ∷ left rests.now) Through (followed path.old) (turns_seen turns.old) h (followed path.new)) }
 {
-    let flow = walk_front(
-        alloc,
-        placing,
-        path,
-        Flow::Through,
-        false,
-        statement,
-        turns,
-    )?;
+    let flow = walk_front(alloc, placing, path, Flow::Through, false, statement, turns)?;
     walk_left(alloc, placing, path, flow, rests, turns)
 }
 

@@ -27,10 +27,7 @@ use places::{Place, Point, Rest};
 use std::alloc::Global;
 
 /// The turns of a place, the oldest first.
-fn oldest_first(
-    alloc: Global,
-    turns: &Option<Vec<u32>>,
-) -> Result<Option<Vec<u32>>, WalkError>
+fn oldest_first(alloc: Global, turns: &Option<Vec<u32>>) -> Result<Option<Vec<u32>>, WalkError>
     ensures { MatchResult result (λ t. turns_seen t ≡ place_turns turns.now) IsMemory }
 {
     match turns {

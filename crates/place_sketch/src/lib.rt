@@ -3,6 +3,8 @@
 //! What is left at a place stands from the outermost to the innermost; a path goes through it from the innermost.
 #![tactic(auto)]
 
+mod heads;
+mod rests;
 mod walking;
 
 pub use walking::walk_place;

@@ -1,32 +1,38 @@
--- Plain kernels are covered by the walk.
-use Rattle.std.proofs.Common.{◌≡◌, ℕ, ◌≤◌, List, true, arith, refl}
+-- Plain kernels are covered by the walk, and their terms are lawful.
+use Rattle.std.proofs.Common.{◌≡◌, ℕ, ◌≤◌, Bool, List, true, arith, refl}
 use Rattle.std.specs.Prelude.{ℤ, nat_le}
 use Rattle.std.proofs.lemmas.Bool.Decides.{nat_tests}
 use Rattle.semantics.specs.Word.{Kind}
-use Rattle.semantics.specs.Core.{Term, Statements, none, one}
+use Rattle.semantics.specs.Core.{Space, Term, Statements, none, one}
 use Rattle.semantics.specs.Launch.{Kernel}
 use Rattle.semantics.specs.Conditions.{Conditions}
-use Rattle.obligations.specs.Covered.{is_covered_term, are_covered, is_covered}
+use Rattle.facts.specs.Launching.{are_sizes}
+use Rattle.obligations.specs.Covered.{covers_term, is_global, are_covered, is_covered}
 use Rattle.plain_kernels.specs.Kernels.{IsPlainValue, Number, BroughtNumber, Parameter, BroughtParameter, IsPlainIndex, Alone, Times, Plus, TimesPlus, Plain, ArePlain, IsPlain, HasLimits}
 
-value-covered : (ks : List Kind) (v : Term) → IsPlainValue ks v → is_covered_term v ≡ true
-value-covered ks v (Number n h) = h
-value-covered ks v (BroughtNumber site n h) = h
-value-covered ks v (Parameter x h) = refl
-value-covered ks v (BroughtParameter site x h) = refl
+-- whatever arrays may be loaded: they load none
+module _ (sp : Space → Bool) where
+  pub value-covered : (ks : List Kind) (v : Term) → IsPlainValue ks v → covers_term sp v ≡ true
+  value-covered ks v (Number n h) = h
+  value-covered ks v (BroughtNumber site n h) = h
+  value-covered ks v (Parameter x h) = refl
+  value-covered ks v (BroughtParameter site x h) = refl
 
-index-covered : (e : Term) (f z : ℕ) → IsPlainIndex e f z → is_covered_term e ≡ true
-index-covered _ _ _ Alone = refl
-index-covered _ _ _ (Times p kf f hf) = rw hf refl
-index-covered _ _ _ (Plus a kc z hz) = rw hz refl
-index-covered _ _ _ (TimesPlus a p kf kc f z hf hz) = rw (hf, hz) refl
+  pub index-covered : (e : Term) (f z : ℕ) → IsPlainIndex e f z → covers_term sp e ≡ true
+  index-covered _ _ _ Alone = refl
+  index-covered _ _ _ (Times p kf f hf) = rw hf refl
+  index-covered _ _ _ (Plus a kc z hz) = rw hz refl
+  index-covered _ _ _ (TimesPlus a p kf kc f z hf hz) = rw (hf, hz) refl
 
 body-covered : (ks : List Kind) (size : ℕ) (groups : ℤ) (body : Statements) → ArePlain ks size groups body → are_covered body ≡ true
 body-covered ks size groups none p = refl
-body-covered ks size groups (one s others) (Plain n b site e f z v i last pv, q) = rw (index-covered e f z i, value-covered ks v pv, body-covered ks size groups others q) refl
+body-covered ks size groups (one s others) (Plain n b site e f z v i last pv, q) = rw (index-covered is_global e f z i, value-covered is_global ks v pv, body-covered ks size groups others q) refl
 
 at_most : (n m : ℕ) → n ≤ m → nat_le n m ≡ true
 at_most n m h = grind (arith, nat_tests)
 
+pub plain-sizes : (k : Kernel) (c : Conditions) → HasLimits k c → are_sizes k.sizes ≡ true
+plain-sizes k c limits = rw (at_most k.sizes.x 1024 limits.size_x.1, at_most k.sizes.y 1024 limits.size_y.1, at_most k.sizes.z 1024 limits.size_z.1) refl
+
 pub plain-covered : (k : Kernel) (c : Conditions) → HasLimits k c → IsPlain k c → is_covered k ≡ true
-plain-covered k c limits plain = rw (at_most k.sizes.x 1024 limits.size_x.1, at_most k.sizes.y 1024 limits.size_y.1, at_most k.sizes.z 1024 limits.size_z.1, body-covered k.arguments k.sizes.x c.groups.x.high k.body plain) refl
+plain-covered k c limits plain = rw (plain-sizes k c limits, body-covered k.arguments k.sizes.x c.groups.x.high k.body plain) refl

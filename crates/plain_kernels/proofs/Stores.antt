@@ -1,36 +1,33 @@
--- The tree of a plain kernel: its forms are small, and the claims of ranges in its indexes are settled.
-use Rattle.std.proofs.Common.{◌≡◌, ℕ, zero, suc, ◌+◌, ◌*◌, ◌<◌, ◌≤◌, Bool, true, false, List, [], ◌∷◌, ◌++◌, length, slice_index_or, arith, refl, sym, ap, subst, ◌∙◌, mul-le-mul, mul-suc, mul-add, mul_assoc}
-use Rattle.std.specs.Prelude.{ℤ, pos, ◌+ℤ◌, ◌-ℤ◌, ◌*ℤ◌, ◌≤ℤ◌, ◌||◌, map}
+-- The walk of a plain kernel's terms: its forms are small, and the claims of ranges in its indexes are settled.
+use Rattle.std.proofs.Common.{◌≡◌, ℕ, zero, suc, ◌+◌, ◌*◌, ◌<◌, ◌≤◌, Bool, true, false, List, [], ◌∷◌, ◌++◌, length, slice_index_or, arith, refl, sym, ap, subst, ◌∙◌, mul-le-mul}
+use Rattle.std.specs.Prelude.{pos, ◌+ℤ◌, ◌*ℤ◌, map}
 use Rattle.std.proofs.lemmas.Int.{ints}
 use Rattle.std.proofs.lemmas.Bool.Decides.{nat_tests}
 use Rattle.semantics.specs.Word.{Kind, Int, Uint, in_kind, Add, Multiply}
-use Rattle.semantics.specs.Core.{Global, Array, Term, GlobalId, Statements, none, one}
+use Rattle.semantics.specs.Core.{Term, GlobalId}
 use Rattle.semantics.specs.Launch.{Kernel}
 use Rattle.semantics.specs.Conditions.{Conditions}
 use Rattle.linear.specs.Exact.{put, multiple, sum}
 use Rattle.linear.specs.Sizes.{size}
-use Rattle.linear.proofs.Sizes.{size-put, size_difference}
-use Rattle.facts.specs.Symbols.{Length, ArgumentOf, Fact, constant, once, minus}
+use Rattle.linear.proofs.Sizes.{size-put}
+use Rattle.facts.specs.Symbols.{ArgumentOf, Fact, constant, once}
 use Rattle.obligations.specs.Held.{with_new}
 use Rattle.obligations.specs.Trees.{Tree}
 use Rattle.obligations.specs.Values.{Value, value}
-use Rattle.obligations.specs.Walks.{Setting, State, newest, holding, any_of, Onward, settles, claimed_once, stand, at_site, ranged, kept_or_new, brought, brought_from, both_brought}
+use Rattle.obligations.specs.Walks.{Setting, State, newest, holding, any_of, Onward, settles, claimed_once, at_site, ranged, kept_or_new, brought, brought_from, both_brought}
 use Rattle.obligations.specs.Operators.{binary}
-use Rattle.obligations.specs.Terms.{no_value, variable, id_form, access, walk}
-use Rattle.obligations.specs.Statements.{setting, walk_all, spot_of, argument_values, zero_value, opening_state, ended}
+use Rattle.obligations.specs.Terms.{no_value, variable, id_form, walk}
+use Rattle.obligations.specs.Statements.{setting, argument_values, zero_value}
 use Rattle.plain_kernels.specs.Domains.{domain}
-use Rattle.plain_kernels.specs.Claims.{brings, ranges, claims}
-use Rattle.plain_kernels.specs.Kernels.{is_int, is_signed, has_signed, IsPlainValue, Number, BroughtNumber, Parameter, BroughtParameter, IsPlainIndex, Alone, Times, Plus, TimesPlus, Plain, ArePlain, last_index}
+use Rattle.plain_kernels.specs.Claims.{brings, ranges}
+use Rattle.plain_kernels.specs.Kernels.{is_int, is_signed, IsPlainValue, Number, BroughtNumber, Parameter, BroughtParameter, IsPlainIndex, Alone, Times, Plus, TimesPlus}
 use Rattle.plain_kernels.proofs.Terms.{Both}
 use Rattle.plain_kernels.proofs.Indexes.{IsPlainState, local, group, id_multiple, settles_up, settles_down, low-multiple, minus-multiple, id-form, id-alone, multiple-id, sum-multiple, number-multiple}
-use Rattle.plain_kernels.proofs.Trees.{most, IsTame, range-tame, range-asked}
+use Rattle.plain_kernels.proofs.Trees.{most, less, IsTame, range-tame, range-asked}
 
 -- how large a multiple of the id is
 multiple-size : (size' f z : ℕ) → size (id_multiple size' (pos f) (pos z)) ≡ z + (f * 1 + (f * size' + 0))
 multiple-size size' f z = ap (λ n. z + n) (size-put (pos f *ℤ pos 1) local (put (pos f *ℤ pos size') group []) ∙ ap (λ n. f * 1 + n) (size-put (pos f *ℤ pos size') group []))
-
-less : (f g : Fact) (n : ℕ) → size f + size g ≤ n → size (minus f g) ≤ n
-less f g n h = omega (arith, size_difference f g, h)
 
 int_below : (z : ℕ) → in_kind Int (pos z) ≡ true → z ≤ 4294967295
 int_below z h = grind (arith, nat_tests)
@@ -39,26 +36,11 @@ below : (kd : Kind) (z : ℕ) → in_kind kd (pos z) ≡ true → z ≤ 42949672
 below Int z h = int_below z h
 below Uint z h = grind (arith, nat_tests)
 
-factor-below : (e : Term) (f z : ℕ) → IsPlainIndex e f z → f ≤ 4294967295
+pub factor-below : (e : Term) (f z : ℕ) → IsPlainIndex e f z → f ≤ 4294967295
 factor-below _ _ _ Alone = omega arith
 factor-below _ _ _ (Times p kf f hf) = below kf f hf
 factor-below _ _ _ (Plus a kc z hz) = omega arith
 factor-below _ _ _ (TimesPlus a p kf kc f z hf hz) = below kf f hf
-
-left : (a b : Bool) → a ≡ true → (a || b) ≡ true
-left a b e = rw e refl
-
-right : (a b : Bool) → b ≡ true → (a || b) ≡ true
-right true b e = refl
-right false b e = e
-
--- the bound on the last index, over natural numbers
-last_below : (f z size' m n : ℕ) (groups : ℤ) → size' ≡ suc m → groups ≡ pos (suc n) → last_index size' groups f z ≤ℤ pos 4294967295 → f * m + f * suc m * n + z ≤ 4294967295
-last_below f z size' m n groups em en h =
-    let d : pos (suc m) *ℤ pos (suc n) -ℤ pos 1 ≡ pos (m + suc m * n) = omega (arith, ints, mul-suc (suc m) n) in
-    let e : last_index size' groups f z ≡ pos f *ℤ pos (m + suc m * n) +ℤ pos z = (λ i. pos f *ℤ (pos (em i) *ℤ en i -ℤ pos 1) +ℤ pos z) ∙ ap (λ x. pos f *ℤ x +ℤ pos z) d in
-    let r : (pos f *ℤ pos (m + suc m * n) +ℤ pos z) ≤ℤ pos 4294967295 = subst (λ x. x ≤ℤ pos 4294967295) e h in
-    omega (arith, ints, r, mul-add f m (suc m * n), mul_assoc f (suc m) n)
 
 -- a value parameter is its argument, whatever variables stand behind
 argument-value : (n : ℕ) (ks : List Kind) (more : List Value) (x : ℕ) → x < length ks → slice_index_or (argument_values n ks ++ more) x no_value ≡ value (slice_index_or ks x Int) (once (ArgumentOf (n + x)))
@@ -88,7 +70,7 @@ module _ (k : Kernel) (c : Conditions) (h : ℕ → Bool) (m n : ℕ) (em : k.si
     abbrev form : Fact
     form = id_multiple (suc m) (pos f) (pos z)
 
-    small : size form ≤ 4402341478400
+    pub small : size form ≤ 4402341478400
     small = let l : suc m ≤ 1024 = omega (arith, lm) in omega (arith, multiple-size (suc m) f z, lf, b, mul-le-mul lf l)
 
     multiple-tame : (rs : List Bool) (st : State Both) (go : Onward Both) → IsPlainState k st → GoesOn rs (value Uint form) go → Tame (true ∷ true ∷ rs) st (ranged s Uint form st go)
@@ -104,7 +86,7 @@ module _ (k : Kernel) (c : Conditions) (h : ℕ → Bool) (m n : ℕ) (em : k.si
       let e = number-multiple (suc m) (pos z) in
       subst (λ x. Tame (true ∷ true ∷ rs) st (ranged s Uint x st go)) (sym e) (multiple-tame 0 z (omega arith) (omega (arith, l)) rs st go o (subst (λ x. GoesOn rs (value Uint x) go) e t))
 
-  index-tame : (e : Term) (f z : ℕ) → IsPlainIndex e f z → f * m + f * suc m * n + z ≤ 4294967295 → (rs : List Bool) (st : State Both) (go : Onward Both) → IsPlainState k st →
+  pub index-tame : (e : Term) (f z : ℕ) → IsPlainIndex e f z → f * m + f * suc m * n + z ≤ 4294967295 → (rs : List Bool) (st : State Both) (go : Onward Both) → IsPlainState k st →
       GoesOn rs (value Uint (id_multiple (suc m) (pos f) (pos z))) go → Tame (ranges k.arguments e rs) st ((walk s e).value st go)
   index-tame _ _ _ Alone b rs st go o t = subst (λ x. Tame rs st (go (value Uint x) st)) (sym (id-alone s m em)) (t st o)
   index-tame _ _ _ (Times p kf f hf) b rs st go o t =
@@ -146,29 +128,10 @@ module _ (k : Kernel) (c : Conditions) (h : ℕ → Bool) (m n : ℕ) (em : k.si
       let f = once (ArgumentOf x) in
       range-asked s h signed rs f st go (λ i. refl) (g refl) (less f (constant (pos 0)) most (omega arith)) (less (constant (pos 4294967295)) f most (omega arith)) (new-tame rs f (claimed_once (claimed_once st)) go o t)
 
-  value-tame : (v : Term) → IsPlainValue k.arguments v → (is_signed k.arguments v ≡ true → signed) → (rs : List Bool) (st : State Both) (go : Onward Both) → IsPlainState k st → GoesOnAny rs go → Tame (ranges k.arguments v rs) st ((walk s v).value st go)
+  pub value-tame : (v : Term) → IsPlainValue k.arguments v → (is_signed k.arguments v ≡ true → signed) → (rs : List Bool) (st : State Both) (go : Onward Both) → IsPlainState k st → GoesOnAny rs go → Tame (ranges k.arguments v rs) st ((walk s v).value st go)
   value-tame v (Number z l) g rs st go o t = t (value Uint (constant (pos z))) st o
   value-tame v (BroughtNumber site z l) g rs st go o t = number-tame Int z (int_below z l) rs (at_site site st) go o (t (value Uint (constant (pos z))))
   value-tame v (Parameter x l) g rs st go o t = t (variable st x) st o
   value-tame v (BroughtParameter site x l) g rs st go o t =
       subst (λ y. Tame (brings Uint (slice_index_or k.arguments x Int) rs) st (brought s Uint y (at_site site st) go)) (sym (variable-is k st x o l))
       (given-tame (slice_index_or k.arguments x Int) x g rs (at_site site st) go o t)
-
-  body-tame : (body : Statements) → ArePlain k.arguments k.sizes.x c.groups.x.high body → (has_signed k.arguments body ≡ true → signed) → (st : State Both) → IsPlainState k st → Tame (claims k.arguments body) st (walk_all s body st ended)
-  body-tame none p g st o = refl
-  body-tame (one i others) (Plain num buffer site e f z v pi last pv, q) g st o =
-      let lf = factor-below e f z pi in
-      let b = last_below f z k.sizes.x m n c.groups.x.high em en last in
-      let form = id_multiple (suc m) (pos f) (pos z) in
-      let l : size form ≤ 4402341478400 = small f z lf b in
-      let rs : List Bool = claims k.arguments others in
-      let array : Array = record { space = Global; number = buffer } in
-      let on : State Both → Tree Both = λ st2. access s true array site form st2 (λ st3. walk_all s others st3 ended) in
-      let before = minus (once (Length buffer)) (constant (pos 1)) in
-      let room : size (minus before form) ≤ most = less before form most (omega (arith, l, less (once (Length buffer)) (constant (pos 1)) 2 (omega arith))) in
-      index-tame e f z pi b (ranges k.arguments v (false ∷ false ∷ rs)) (stand (spot_of num) st) _ o (λ st1 o1.
-      value-tame v pv (λ e. g (left (is_signed k.arguments v) (has_signed k.arguments others) e)) (false ∷ false ∷ rs) st1 (λ x st2. on st2) o1 (λ x st2 o2.
-      (omega (arith, l), tt, (room, tt, (omega (arith, l), body-tame others q (λ e. g (right (is_signed k.arguments v) (has_signed k.arguments others) e)) (claimed_once (claimed_once (at_site site st2))) o2)))))
-
-  pub tree-tame : ArePlain k.arguments k.sizes.x c.groups.x.high k.body → (has_signed k.arguments k.body ≡ true → signed) → IsTame h signed (claims k.arguments k.body) 0 (walk_all s k.body (opening_state k) ended)
-  tree-tame p g = body-tame k.body p g (opening_state k) (refl, refl)

@@ -3,7 +3,9 @@ use Rattle.std.proofs.Common.{◌≡◌, ℕ, suc, ◌+◌, ◌≤◌, Bool, tru
 use Rattle.std.specs.Prelude.{◌&&◌, ◌||◌}
 use Rattle.std.proofs.lemmas.Bool.{and_parts}
 use Rattle.semantics.specs.Word.{Uint}
-use Rattle.facts.specs.Symbols.{Fact}
+use Rattle.linear.proofs.Sizes.{size_difference}
+use Rattle.facts.specs.Symbols.{Fact, minus}
+use Rattle.arrivals.specs.Trees.{AtEnd}
 use Rattle.obligations.specs.Trees.{OfRange, Goal, AtLeastZero, Either, Replaced, Divided, Tree, Leaf, Dead, Claim, Know, Touch, Fork}
 use Rattle.obligations.specs.Values.{value}
 use Rattle.obligations.specs.Walks.{demand, Setting, State, Onward, settles, claimed_once, ranged, kept_or_new, in_range, is_kept, low_end, high_end}
@@ -16,6 +18,9 @@ most = 35184372088832
 abbrev pub IsSmall : Fact → Type 0
 IsSmall f = size f ≤ most
 
+pub less : (f g : Fact) (n : ℕ) → size f + size g ≤ n → size (minus f g) ≤ n
+less f g n h = omega (arith, size_difference f g, h)
+
 abbrev pub IsSmallGoal : Goal → Type 0
 IsSmallGoal (AtLeastZero f) = IsSmall f
 IsSmallGoal (Either p n) = IsSmall p × IsSmall n
@@ -27,9 +32,9 @@ abbrev pub IsRight : (has_entry : ℕ → Bool) (signed : Type 0) (range : Bool)
 IsRight h signed false n needed settled = Unit {0}
 IsRight h signed true n needed settled = (settled ≡ true) ⊎ ((needed ≡ true → h n ≡ true) × signed)
 
--- claims from the number after n on, marked where they are of ranges
+-- claims from the number after n on, marked where they are of ranges; the one path leads to the kernel's end
 abbrev pub IsTame : {E : Type 0} (has_entry : ℕ → Bool) (signed : Type 0) (ranges : List Bool) (n : ℕ) → Tree E → Type 0
-IsTame h signed rs n (Leaf e) = rs ≡ []
+IsTame h signed rs n (Leaf e) = (rs ≡ []) × (e.stop ≡ AtEnd)
 IsTame h signed rs n Dead = ⊥
 IsTame h signed [] n (Claim o needed settled g rest) = ⊥
 IsTame h signed (r ∷ rs) n (Claim o needed settled g rest) = IsSmallGoal g × IsRight h signed r (suc n) needed settled × IsTame h signed rs (suc n) rest

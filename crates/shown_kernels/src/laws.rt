@@ -1,10 +1,11 @@
 //! From what is shown of a kernel that is read to what it does.
 
-ghost use Rattle.std.specs.Prelude.{◌≡◌, ℕ, List, Ok, None};
+ghost use Rattle.std.specs.Prelude.{◌≡◌, ℕ, ◌≤◌, List, Ok, None};
 ghost use Rattle.std.specs.List.{All};
 ghost use Rattle.semantics.specs.Launch.{Launch, Fits};
 ghost use Rattle.semantics.specs.Conditions.{Conditions, Meets};
 ghost use Rattle.semantics.specs.Headline.{Headline};
+ghost use Rattle.semantics.specs.Safety.{IsPairSafe};
 ghost use Rattle.arrivals.specs.Loops.{unmet};
 ghost use Rattle.loop_bounds.specs.Costs.{cost};
 ghost use Rattle.obligations.specs.Shown.{IsShown};
@@ -14,6 +15,7 @@ ghost use Rattle.place_obligations.specs.Limits.{turns_at, AreLimits};
 ghost use Rattle.place_obligations.specs.Shown.{obligations};
 ghost use Rattle.reading.specs.Kernels.{Kernel, read};
 
+pub use crate::ranked::{noted_rankings_are_limits, noted_rankings_have_their_turns};
 use domain::Domain;
 use place_obligations::laws::what_is_shown_by_places_is_safe_within_its_cost;
 use proper_kernels::laws::what_is_read_is_proper;
@@ -26,6 +28,15 @@ pub fn what_is_read_and_shown_has_the_headline<D: Domain>()
     ensures { (bytes : List ℕ) (k : Kernel) (c : Conditions) (n : Notes) (l : Launch) → read bytes ≡ Ok k → unmet k.core.body ≡ None → TellsOfItems n → AreLimits n → All IsShown (obligations D.Domain k.core c n) → Fits k.core l → Meets c l → Headline (record { kernel = k.core; launch = l }) (cost (turns_at n) k.core.body) }
 {
     headline();
+    what_is_read_is_proper();
+    what_is_read_is_sound_where_barriers_are_met();
+    what_is_shown_by_places_is_safe_within_its_cost::<D>();
+}
+
+/// Such a kernel is pair-safe at each launch that meets the conditions, within each budget that its cost does not pass.
+pub fn what_is_read_and_shown_is_pair_safe<D: Domain>()
+    ensures { (bytes : List ℕ) (k : Kernel) (c : Conditions) (n : Notes) (l : Launch) (budget : ℕ) → read bytes ≡ Ok k → unmet k.core.body ≡ None → TellsOfItems n → AreLimits n → All IsShown (obligations D.Domain k.core c n) → cost (turns_at n) k.core.body ≤ budget → Fits k.core l → Meets c l → IsPairSafe (record { kernel = k.core; launch = l }) budget }
+{
     what_is_read_is_proper();
     what_is_read_is_sound_where_barriers_are_met();
     what_is_shown_by_places_is_safe_within_its_cost::<D>();

@@ -5,7 +5,7 @@ use Rattle.std.proofs.Math.Seq.{drop-cons}
 use Rattle.linear.specs.Exact.{multiple, fits}
 use Rattle.linear.specs.Forms.{form}
 use Rattle.facts.specs.Symbols.{Fact, First, New, once, minus, equals}
-use Rattle.facts.specs.Refusals.{IsMemory, IsUnfit}
+use Rattle.facts.specs.Refusals.{IsUnfit}
 use Rattle.facts.specs.declared.error.WalkError.{WalkError}
 use Rattle.facts.specs.declared.error.WalkError.TheVariants as errors
 use Rattle.facts.proofs.Tests.{and_left, and_right}
@@ -39,18 +39,19 @@ unrooted_more errors.TooLarge xs ys h = not_more xs ys h
 unrooted_more errors.Outside xs ys h = h
 unrooted_more errors.Memory xs ys h = tt
 
-pub unrooted_memory : (e : WalkError) (xs : List Fact) → IsMemory e → IsUnrooted xs e
-unrooted_memory e xs h = subst (IsUnrooted xs) (sym h) tt
-
 -- the other difference
 pub unrooted_second : (e : WalkError) (xs : List Fact) (f g : Fact) → IsUnfit e (minus g f) → IsUnrooted (xs ++ equals f g) e
 unrooted_second e xs f g h =
-    subst (λ fs. IsUnrooted fs e) (append_assoc xs (minus f g ∷ []) (minus g f ∷ [])) (unrooted_among e (xs ++ minus f g ∷ []) [] (minus g f) h)
+    subst (λ fs. IsUnrooted fs e) (append_assoc xs (minus f g ∷ []) (minus g f ∷ []))
+    (unrooted_among e (xs ++ minus f g ∷ []) [] (minus g f) h)
 
 -- one of the congruences
-pub unrooted_one : (e : WalkError) (a all : List Fact) (cs : List Congruence) (i n : ℕ) (c : Congruence) → a ++ congruence_facts n (map congruence (drop i cs)) ≡ all → i < length cs → c ≡ get_or cs i c → IsUnrooted (a ++ equals (form c.form) (multiple (pos c.modulus) (once (New First n)))) e → IsUnrooted all e
+pub unrooted_one : (e : WalkError) (a all : List Fact) (cs : List Congruence) (i n : ℕ) (c : Congruence) →
+    a ++ congruence_facts n (map congruence (drop i cs)) ≡ all → i < length cs → c ≡ get_or cs i c →
+    IsUnrooted (a ++ equals (form c.form) (multiple (pos c.modulus) (once (New First n)))) e → IsUnrooted all e
 unrooted_one e a all cs i n c d lt q h =
     let two = equals (form c.form) (multiple (pos c.modulus) (once (New First n))) in
     let rest = congruence_facts (suc n) (map congruence (drop (suc i) cs)) in
     let front : c ∷ drop (suc i) cs ≡ drop i cs = sym (drop-cons cs i c lt ∙ ap (λ y. y ∷ drop (suc i) cs) (sym q)) in
-    subst (λ fs. IsUnrooted fs e) (append_assoc a two rest ∙ ap (λ x. a ++ congruence_facts n (map congruence x)) front ∙ d) (unrooted_more e (a ++ two) rest h)
+    subst (λ fs. IsUnrooted fs e) (append_assoc a two rest ∙ ap (λ x. a ++ congruence_facts n (map congruence x)) front ∙ d)
+    (unrooted_more e (a ++ two) rest h)

@@ -1,6 +1,6 @@
 //! The ends of the variables' kinds, as facts.
 
-ghost use Rattle.std.specs.Prelude.{◌≡◌, ◌++◌, ◌∷◌, ◌<◌, [], MatchResult};
+ghost use Rattle.std.specs.Prelude.{◌≡◌, ◌++◌, ◌∷◌, [], MatchResult};
 ghost use Rattle.linear.specs.Forms.{form as form_seen, forms};
 ghost use Rattle.core_code.specs.View.{kernel as core_seen};
 ghost use Rattle.facts.specs.Refusals.{IsMemory};

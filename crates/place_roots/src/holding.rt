@@ -1,7 +1,6 @@
 //! What the domain holds where a path begins.
 
-ghost use Rattle.std.specs.Prelude.{◌≡◌, ◌++◌, ◌∷◌, ◌<◌, [], map, MatchResult};
-ghost use Rattle.words.specs.View.{kind as kind_seen};
+ghost use Rattle.std.specs.Prelude.{◌≡◌, ◌++◌, ◌<◌, map, MatchResult};
 ghost use Rattle.core_code.specs.View.{kernel as core_seen};
 ghost use Rattle.facts.specs.Refusals.{IsMemory};
 ghost use Rattle.facts.specs.Symbols.{number};

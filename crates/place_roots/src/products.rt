@@ -1,6 +1,6 @@
 //! Congruences as facts: each has a quotient, a new symbol.
 
-ghost use Rattle.std.specs.Prelude.{◌≡◌, ◌++◌, ◌<◌, pos, map, MatchResult};
+ghost use Rattle.std.specs.Prelude.{◌≡◌, ◌++◌, pos, map, MatchResult};
 ghost use Rattle.linear.specs.Exact.{multiple};
 ghost use Rattle.linear.specs.Forms.{form as form_seen, forms};
 ghost use Rattle.facts.specs.Refusals.{IsMemory};

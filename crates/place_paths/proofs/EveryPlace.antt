@@ -98,7 +98,7 @@ module _ {E : Type 0} (g : Ghosts E) (s : Setting E) (k : Kernel) (n : Notes) wh
 
     pub any_stuck : (z : FindError) → IsStuck here z → IsAnyStuck (all_by g s k n 0 (map views.place all)) z
     any_stuck (errors.ManyPaths t) u = many_of ws _ here behind t there u.0 u.1
-    any_stuck (errors.Walk walks.TooMany) u = λ c. over_of c ws 0 (map views.place all) here behind there u
+    any_stuck (errors.Walk walks.TooMany) u = λ c. let o = over_of c ws 0 (map views.place all) here behind there u in omega (arith, o)
     any_stuck (errors.Walk walks.TooLarge) u = unfit_of ws _ here behind there u
     any_stuck (errors.Walk walks.Outside) u = absurd u
     any_stuck (errors.Walk walks.Memory) u = tt

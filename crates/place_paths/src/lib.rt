@@ -6,8 +6,8 @@
 
 mod error;
 mod every;
-mod following;
 mod finding;
+mod following;
 mod numbers;
 mod paths;
 

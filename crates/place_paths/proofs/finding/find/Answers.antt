@@ -20,8 +20,8 @@ returns-in_err-walked-clause-unfound g c =
     passed c.from_residual-in_err-walked.result x (IsUnfound g.D.Domain (kernel core) cs (seen said entries)) c.from_residual-in_err-walked.ensures.1
     (stuck_all g.D.Domain core cs said entries c.in_ok-setting.setting s.known s.sizes s.buffers s.arrays s.entries c.args.places.now c.requires.places x c.in_err-walked.ensures.stuck)
 
-pub of-requires-accesses : goal.of-requires-accesses
-of-requires-accesses g c =
+pub of-requires-clause-accesses : goal.of-requires-clause-accesses
+of-requires-clause-accesses g c =
     let core = c.args.core.now in
     let cs = conditions c.args.conditions.now in
     let said = c.args.notes.now in
@@ -29,8 +29,8 @@ of-requires-accesses g c =
     let s = c.in_ok-setting.ensures in
     own_accesses g.D.Domain core cs said entries c.in_ok-setting.setting s.known s.sizes s.buffers s.arrays s.entries c.args.places.now c.requires.places c.in_ok-walked.walked.items c.in_ok-walked.ensures.walked (c.trees_have_own_symbols.ensures.accesses (kernel core) cs (seen said entries) (c.requires.items entries))
 
-pub of-requires-ends : goal.of-requires-ends
-of-requires-ends g c =
+pub of-requires-clause-ends : goal.of-requires-clause-ends
+of-requires-clause-ends g c =
     let core = c.args.core.now in
     let cs = conditions c.args.conditions.now in
     let said = c.args.notes.now in

@@ -1,5 +1,5 @@
 -- All paths of all places in order.
-use Rattle.std.proofs.Common.{◌≡◌, ◌<◌, ◌≤◌, ◌+◌, inl, inr, ℕ, suc, List, [], ◌∷◌, ◌++◌, map, drop, get_or, length, Bool, true, false, ◌&&◌, arith, refl, sym, ap, subst, ◌∙◌}
+use Rattle.std.proofs.Common.{◌≡◌, ◌<◌, ◌+◌, inl, inr, ℕ, suc, List, [], ◌∷◌, ◌++◌, map, drop, get_or, length, false, arith, refl, sym, ap, subst, ◌∙◌}
 use Rattle.std.proofs.Math.Seq.{drop-cons}
 use Rattle.std.proofs.lemmas.List.{length-append}
 use Rattle.semantics.specs.Conditions.{Conditions}
@@ -20,7 +20,7 @@ use Rattle.places.specs.View as views
 use Rattle.places.specs.declared.place.Place as code
 use Rattle.place_paths.specs.Planting.{planted_by, all_by}
 use Rattle.place_paths.specs.Unfound.{IsFirstOfMany, statement_of}
-use Rattle.place_paths.specs.Walks.{AreOf, IsOf, IsStuck, Walks, IsAnyStuck}
+use Rattle.place_paths.specs.Walks.{IsOf, IsStuck, Walks, IsAnyStuck}
 use Rattle.place_paths.specs.declared.error.FindError.{FindError}
 use Rattle.place_paths.specs.declared.error.FindError.TheVariants as errors
 

@@ -6,7 +6,6 @@ use Rattle.arrivals.specs.Places.{Place}
 use Rattle.arrivals.specs.Symbolic.{sketch}
 use Rattle.core_code.specs.View.{kernel}
 use Rattle.linear.specs.Forms.{forms}
-use Rattle.facts.specs.Symbols.{Fact}
 use Rattle.facts.specs.declared.error.WalkError.{WalkError}
 use Rattle.obligations.specs.Fitting.{all_fit}
 use Rattle.path_walk.specs.Paths.{Choice, Found, Followed, collect}

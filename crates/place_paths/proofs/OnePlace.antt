@@ -1,11 +1,10 @@
 -- All paths of a place in turn.
-use Rattle.std.proofs.Common.{◌≡◌, ◌<◌, ◌≤◌, ◌+◌, ℕ, List, [], map, length, Vec, Global, refl, sym, ap, subst, ◌∙◌}
+use Rattle.std.proofs.Common.{◌≡◌, ◌≤◌, ℕ, List, [], map, Vec, Global, ap, ◌∙◌}
 use Rattle.std.specs.Prelude.{Option, Some, None}
 use Rattle.domain.specs.declared.Domain.{Ghosts}
 use Rattle.arrivals.specs.Places.{Place}
 use Rattle.core_code.specs.View.{kernel}
 use Rattle.obligations.specs.Trees.{after}
-use Rattle.path_walk.specs.Paths.{Choice}
 use Rattle.path_walk.specs.View.{setting, choice}
 use Rattle.path_walk.specs.declared.path.Choice as code
 use Rattle.path_walk.specs.declared.path.Path.{Path}

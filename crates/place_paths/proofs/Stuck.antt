@@ -1,7 +1,6 @@
 -- What an error of a path, of a place and of all places says.
-use Rattle.std.proofs.Common.{◌≡◌, ◌<◌, ◌≤◌, inl, inr, ℕ, ◌+◌, List, [], ◌∷◌, ◌++◌, Bool, true, false, ◌&&◌, length, arith, refl, sym, ap, subst, ◌∙◌}
-use Rattle.linear.specs.Forms.{form, forms}
-use Rattle.linear.specs.Exact.{fits}
+use Rattle.std.proofs.Common.{◌≡◌, List, [], ◌∷◌, Bool, true, false, ◌&&◌, refl}
+use Rattle.linear.specs.Forms.{forms}
 use Rattle.linear.proofs.FormLists.{form-fits}
 use Rattle.linear.specs.declared.form.Form.{Form}
 use Rattle.facts.specs.declared.error.WalkError.{WalkError}

@@ -1,12 +1,12 @@
 -- Paths of all places are all that is listed of their trees.
-use Rattle.std.proofs.Common.{◌≡◌, ◌≤◌, ℕ, suc, List, [], ◌∷◌, ◌++◌, map, Bool, true, false, ◌&&◌, refl, sym, ap, subst, ◌∙◌}
+use Rattle.std.proofs.Common.{◌≡◌, ℕ, suc, List, [], ◌∷◌, ◌++◌, map, Bool, true, false, ◌&&◌, refl, sym, ap, subst, ◌∙◌}
 use Rattle.std.specs.Prelude.{Option, Some, None}
 use Rattle.std.proofs.lemmas.List.{map-append}
 use Rattle.semantics.specs.Conditions.{Conditions}
 use Rattle.facts.specs.Launching.{launch_facts}
 use Rattle.facts.specs.Symbols.{Fact}
-use Rattle.obligations.specs.Fitting.{denials_fit, tree_denials_fit, tree_fits, all_fit}
-use Rattle.obligations.specs.Trees.{Access, Ended, Goal, Obligation, Tree, Leaf, Dead, Claim, Know, Touch, Fork, after, claims, accesses, ends}
+use Rattle.obligations.specs.Fitting.{denials_fit, tree_denials_fit}
+use Rattle.obligations.specs.Trees.{Goal, Obligation, Tree, Leaf, Dead, Claim, Know, Touch, Fork, after, accesses, ends}
 use Rattle.path_walk.specs.Paths.{Claimed}
 use Rattle.path_walk.specs.Turns.{from, listed_claims}
 use Rattle.path_walk.specs.declared.path.Path.{Path}

@@ -1,4 +1,4 @@
-use Rattle.std.proofs.Common.{◌≡◌, sym, ap, subst, ◌∙◌}
+use Rattle.std.proofs.Common.{ap, subst, ◌∙◌}
 use Rattle.facts.proofs.Unmade.{passed}
 use Rattle.core_code.specs.View.{kernel}
 use Rattle.path_walk.specs.View.{setting}

@@ -1,1 +1,3 @@
 pub mod Unfound
+pub mod Planting
+pub mod Walks

@@ -5,7 +5,11 @@
 #![tactic(auto)]
 
 mod error;
+mod every;
 mod finding;
+mod following;
+mod numbers;
+mod paths;
 
 pub use error::FindError;
 pub use finding::find;

@@ -1,0 +1,5 @@
+pub mod Next
+pub mod Rests
+pub mod Fits
+pub mod Onward
+pub mod Last

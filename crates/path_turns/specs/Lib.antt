@@ -1,0 +1,4 @@
+pub mod View
+pub mod Paths
+pub mod Rests
+pub mod Walked

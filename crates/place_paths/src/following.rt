@@ -1,0 +1,47 @@
+//! One path of a place.
+
+ghost use Rattle.std.specs.Prelude.{◌≡◌, map, true, IfOk, OnOk, IfErr};
+ghost use Rattle.core_code.specs.View.{kernel as core_seen};
+ghost use Rattle.facts.specs.Launching.{are_sizes};
+ghost use Rattle.obligations.specs.Fitting.{all_fit};
+ghost use Rattle.path_walk.specs.Paths.{collect};
+ghost use Rattle.path_walk.specs.View.{followed, choice as choice_seen};
+ghost use Rattle.path_turns.specs.Paths.{begun};
+ghost use Rattle.place_claims.specs.View.{placed};
+ghost use Rattle.places.specs.View.{place as place_seen};
+ghost use Rattle.place_paths.specs.Planting.{planted_at};
+ghost use Rattle.place_paths.specs.Walks.{IsCut};
+
+use domain::Domain;
+use facts::WalkError;
+use path_walk::{Choice, Path};
+use place_claims::Placing;
+use place_roots::root_of;
+use place_sketch::walk_place;
+use places::Place;
+use std::alloc::Global;
+
+/// One path from a place to its end, with so many claims before it, along these choices.
+pub fn follow<D: Domain>(
+    alloc: Global,
+    placing: &Placing<'_, D>,
+    place: &Place<'_>,
+    claims: u32,
+    given: Vec<Choice>,
+) -> Result<Path<D>, WalkError>
+    requires sizes { are_sizes (core_seen placing.now.core.now).sizes ≡ true }
+    ensures found { IfOk result (λ p. (followed p).found ≡ collect (begun (planted_at D.Domain (placed D.Domain placing.now) claims (place_seen place.now)).facts claims (map choice_seen given.items)) (planted_at D.Domain (placed D.Domain placing.now) claims (place_seen place.now)).tree) }
+    ensures known { OnOk result (all_fit (planted_at D.Domain (placed D.Domain placing.now) claims (place_seen place.now)).facts ≡ true) }
+    ensures cut { IfErr result (IsCut (planted_at D.Domain (placed D.Domain placing.now) claims (place_seen place.now)) (map choice_seen given.items)) }
+{
+    let path = root_of(
+        alloc,
+        placing.core,
+        placing.notes,
+        placing.anchor,
+        placing.head,
+        claims,
+        given,
+    )?;
+    walk_place(alloc, placing, place, path)
+}

@@ -26,7 +26,7 @@ use Rattle.entry_check.specs.Lacking.{AreListed, PassesOf, TellsOf, TellsOwing, 
 use Rattle.entry_check.specs.Numbers.{show_of}
 use Rattle.entry_check.specs.declared.error.ShowError.{ShowError}
 
-with_flags : Notes → (ℕ → Bool) → Notes
+abbrev with_flags : Notes → (ℕ → Bool) → Notes
 with_flags n f = record { same = n.same; facts = n.facts; congruences = n.congruences; ranking = n.ranking; visible = n.visible; quotient = n.quotient; has_entry = f }
 
 -- flags that tell which obligations have entries

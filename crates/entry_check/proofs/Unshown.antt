@@ -19,22 +19,6 @@ pub and_false : (a b : Bool) → b ≡ false → (a && b) ≡ false
 and_false true b e = e
 and_false false b e = refl
 
--- of one obligation: `n` is its number, as the code has it
-module _ (q : ℕ → Fact) (es : List Entry) (own n : ℕ) (o : Obligation) (w : n ≡ own) where
-  pub without_entry : o.settled ≡ false → o.needed ≡ true → entry_of es n ≡ None → IsStopped q es own o n
-  without_entry s d m = (w, (s, inl d, and_false (names_one q n o) (found_refutes (entry_of es n) o) (ap (λ x. found_refutes x o) m)))
-
-  -- of one with an entry
-  module _ (e : Entry) (m : entry_of es n ≡ Some e) (b : Bool) (r : b ≡ (names_one q n o && refutes_by e o)) where
-    found_by : is_refuted q es n o ≡ b
-    found_by = ap (λ x. names_one q n o && found_refutes x o) m ∙ sym r
-
-    pub with_entry : o.settled ≡ false → b ≡ false → IsStopped q es own o n
-    with_entry s h = (w, (s, inr (ap is_found m), found_by ∙ h))
-
-    pub by_entry : b ≡ true → Passes q es own o
-    by_entry h = inr (inr (subst (λ k. is_refuted q es k o ≡ true) w (found_by ∙ h)))
-
 -- facts that are impossible show an obligation, in the manner that they are of
 pub shown_by : (o : Obligation) (e : Entry) (xs : List Form) (b : Bool) → Some (forms xs) ≡ facts_for e.sort o → (IsTrue b → IsImpossible (forms xs)) → IsTrue b → IsShown o
 shown_by o e xs b f g h = λ needed. inr (manner_of e.sort, subst IsRefuted f (g h))

@@ -1,4 +1,5 @@
 use Rattle.std.proofs.Common.{rules, arith, ◌≡◌, ℕ, ◌≤◌, ◌<◌, ◌+◌, ◌-◌, length, map, get_or, ap, sym, subst, ◌∙◌}
+use Rattle.std.specs.Prelude.{Option}
 use Rattle.certificate_tree.specs.View.{entry}
 use Rattle.place_notes.specs.View.{quotient_of}
 use Rattle.place_pairs.specs.Listed.{listed, nth_obligation, no_obligation, made_fit}
@@ -48,7 +49,7 @@ returns-in_err-show_one-clause-lacks g c =
     let os = listed g.D.Domain c.args.found.now in
     let es = map entry c.args.entries.now in
     let q = quotient_of c.args.notes.now.quotients.items in
-    let many = λ _. ⊥ in
+    let many : Option ℕ → Type 0 = λ m. ⊥ in
     let unfit = DoNotFit (made_fit c.args.found.now) in
     let i = c.loop-i.i in
     let e = c.in_err-show_one.field-0.0 in

@@ -1,6 +1,6 @@
 -- Which obligation a refusal names.
-use Rattle.std.proofs.Common.{◌≡◌, ℕ, zero, suc, ◌+◌, ◌<◌, ◌≤◌, Bool, true, false, ◌&&◌, List, length, get_or, refl, ap, sym, subst, ◌∙◌, inl, inr, arith}
-use Rattle.std.specs.Prelude.{Option, None, Some, Result, Ok, Err, IfOk, IfErr, IsTrue}
+use Rattle.std.proofs.Common.{◌≡◌, ℕ, zero, suc, ◌+◌, ◌<◌, ◌≤◌, Bool, true, false, ◌&&◌, List, length, get_or, refl, sym, subst, ◌∙◌, inr, arith}
+use Rattle.std.specs.Prelude.{Option, Some, Result, Ok, Err, IfOk, IfErr, IsTrue}
 use Rattle.std.proofs.lemmas.List.{get_or_default}
 use Rattle.semantics.specs.Linear.{IsImpossible}
 use Rattle.texts.specs.Certificate.{Entry}
@@ -10,7 +10,7 @@ use Rattle.facts.specs.Symbols.{Fact}
 use Rattle.facts.specs.declared.error.WalkError.{WalkError}
 use Rattle.obligations.specs.Trees.{Obligation}
 use Rattle.obligations.specs.Shown.{IsShown, IsRefuted}
-use Rattle.entry_check.specs.Entries.{manner_of, facts_for, refutes_by, entry_of, is_found, names_one, is_refuted, found_refutes}
+use Rattle.entry_check.specs.Entries.{manner_of, facts_for}
 use Rattle.entry_check.specs.Lacking.{AllPass, IsNumbered, IsStopped, Passes, TellsBy, Lacks}
 use Rattle.entry_check.specs.declared.error.ShowError.{ShowError}
 use Rattle.entry_check.specs.declared.error.ShowError.TheVariants as errors

@@ -11,8 +11,8 @@ ghost use Rattle.entry_check.specs.Entries as entries;
 
 use certificate_tree::tree::{Entry, EntrySort, Scaled, Step};
 use cut_proof::{Derivation, Line, refutes};
-use place_pairs::Manner;
 use linear::Form;
+use place_pairs::Manner;
 use std::alloc::{AllocError, Global};
 
 /// A number of a line or a fact; one that is none, or too large to be one, is 0, which names nothing.

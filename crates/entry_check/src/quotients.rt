@@ -23,7 +23,9 @@ fn same_terms(left: &[Term], right: &[Term]) -> bool
         return false;
     }
     for i in 0..left.len() {
-        if left[i].coefficient != right[i].coefficient || left[i].symbol.number != right[i].symbol.number {
+        if left[i].coefficient != right[i].coefficient
+            || left[i].symbol.number != right[i].symbol.number
+        {
             return false;
         }
     }

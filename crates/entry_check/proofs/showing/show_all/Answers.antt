@@ -1,4 +1,4 @@
-use Rattle.std.proofs.Common.{rules, ◌≡◌, ℕ, List, [], map, ap, subst, IfOk, ◌∙◌}
+use Rattle.std.proofs.Common.{rules, ◌≡◌, [], map, ap, subst, IfOk, ◌∙◌}
 use Rattle.std.specs.List.{All}
 use Rattle.certificate_tree.specs.View.{entry}
 use Rattle.core_code.specs.View.{kernel}

@@ -1,3 +1,5 @@
 pub mod OneByOne
 pub mod Entering
 pub mod Unshown
+pub mod Owing
+pub mod Terms

@@ -6,7 +6,8 @@ use Rattle.texts.specs.Certificate.{Entry, EntrySort, Show, Positive, Negative, 
 use Rattle.cut_proof.specs.Derivations as derivations
 use Rattle.cut_proof.specs.Derivations.{Forms, Line, refutes_of}
 use Rattle.facts.specs.Symbols.{Fact}
-use Rattle.obligations.specs.Trees.{Goal, AtLeastZero, Either, Replaced, Divided, Obligation, Manner, Plainly, ByPositive, ByNegative, ByQuotient, facts_by}
+use Rattle.obligations.specs.Trees.{Obligation, Manner, Plainly, ByPositive, ByNegative, ByQuotient, facts_by}
+use Rattle.place_pairs.specs.Quotients.{is_second_claim}
 
 -- a number of a line or a fact; one that is none, or has over 32 bits, is 0, which names nothing
 abbrev pub line_number : ℤ → ℕ
@@ -66,15 +67,7 @@ found_refutes (Some e) o = refutes_by e o
 abbrev pub has_entry : List Entry → ℕ → Bool
 has_entry es n = is_found (entry_of es n)
 
--- the second claim of a congruence: no form is made on the way
-abbrev pub is_second_claim : Option Goal → Bool
-is_second_claim None = false
-is_second_claim (Some (AtLeastZero f)) = false
-is_second_claim (Some (Either p n)) = false
-is_second_claim (Some (Replaced made f)) = false
-is_second_claim (Some (Divided [] f)) = true
-is_second_claim (Some (Divided (m ∷ ms) f)) = false
-
+-- two forms are the same
 abbrev pub same_terms : List (Weighted ℕ) → List (Weighted ℕ) → Bool
 same_terms [] [] = true
 same_terms [] (u ∷ us) = false

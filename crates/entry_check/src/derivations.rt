@@ -1,19 +1,18 @@
 //! The derivation of an entry, and whether it refutes facts.
 
 ghost use Rattle.std.specs.Prelude.{◌≡◌, IfOk, IsTrue, map};
-ghost use Rattle.std.specs.Option.{option_map};
 ghost use Rattle.semantics.specs.Linear.{IsImpossible};
 ghost use Rattle.linear.specs.Forms.{forms};
 ghost use Rattle.certificate_tree.specs.View.{scaled as scaled_seen, step as step_seen, entry as entry_seen, sort as sort_seen};
 ghost use Rattle.cut_proof.specs.View.{line as line_seen};
 ghost use Rattle.cut_proof.specs.Derivations.{refutes_of};
-ghost use Rattle.item_pairs.specs.Goals.{manner as manner_seen};
+ghost use Rattle.place_pairs.specs.Goals.{manner as manner_seen};
 ghost use Rattle.entry_check.specs.Entries as entries;
 
 use certificate_tree::tree::{Entry, EntrySort, Scaled, Step};
 use cut_proof::{Derivation, Line, refutes};
-use item_pairs::Manner;
 use linear::Form;
+use place_pairs::Manner;
 use std::alloc::{AllocError, Global};
 
 /// A number of a line or a fact; one that is none, or too large to be one, is 0, which names nothing.
@@ -65,15 +64,15 @@ fn derivation_of(alloc: Global, steps: &[Step]) -> Result<Derivation, AllocError
     Ok(Derivation { lines })
 }
 
-/// How an entry of a sort shows an obligation; a quotient shows none.
-pub fn manner_of(sort: &EntrySort) -> Option<Manner>
-    ensures { option_map manner_seen result ≡ entries.manner_of (sort_seen sort.now) }
+/// How an entry of a sort shows an obligation.
+pub fn manner_of(sort: &EntrySort) -> Manner
+    ensures { manner_seen result ≡ entries.manner_of (sort_seen sort.now) }
 {
     match sort {
-        EntrySort::Show => Some(Manner::Plainly),
-        EntrySort::Positive => Some(Manner::ByPositive),
-        EntrySort::Negative => Some(Manner::ByNegative),
-        EntrySort::Quotient(_) => None,
+        EntrySort::Show => Manner::Plainly,
+        EntrySort::Positive => Manner::ByPositive,
+        EntrySort::Negative => Manner::ByNegative,
+        EntrySort::Quotient(_) => Manner::ByQuotient,
     }
 }
 

@@ -1,4 +1,4 @@
-//! Section: Gate. Promises that all obligations are shown, or names the first that is not; stands on `kernel_obligations` and
+//! Section: Gate. Promises that all obligations are shown, or names the first that is not; stands on `place_paths` and
 //! `certificate_tree`.
 //!
 //! The obligations of a kernel one by one, each settled by the domain or refuted by its entry in a certificate.
@@ -6,6 +6,8 @@
 
 mod derivations;
 mod error;
+mod quotients;
+mod refuting;
 mod showing;
 mod table;
 

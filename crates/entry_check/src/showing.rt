@@ -1,51 +1,39 @@
 //! Obligations one by one, in the order of their numbers.
 
-ghost use Rattle.std.specs.Prelude.{◌≡◌, ◌≤◌, ◌<◌, IfOk, IfErr, MatchResult, map, length};
+ghost use Rattle.std.specs.Prelude.{◌≡◌, ◌≤◌, ◌<◌, ℕ, Option, List, [], Bool, true, IfOk, IfErr, map, length};
 ghost use Rattle.std.specs.List.{All};
+ghost use Rattle.arrivals.specs.Places as meaning;
 ghost use Rattle.core_code.specs.View.{kernel as core_seen};
 ghost use Rattle.launch.specs.View.{conditions as conditions_seen};
+ghost use Rattle.facts.specs.Launching.{are_sizes};
 ghost use Rattle.obligations.specs.Shown.{IsShown};
-ghost use Rattle.item_pairs.specs.Goals.{maybe_forms};
-ghost use Rattle.item_pairs.specs.Listed.{listed, nth_obligation, made_fit};
-ghost use Rattle.item_pairs.specs.Refusals.{DoNotFit};
+ghost use Rattle.place_notes.specs.View.{seen, quotient_of as quotient_specs};
+ghost use Rattle.place_obligations.specs.Telling.{TellsOfItems};
+ghost use Rattle.place_pairs.specs.Listed.{listed, nth_obligation, made_fit};
+ghost use Rattle.place_pairs.specs.Refusals.{DoNotFit};
+ghost use Rattle.places.specs.View.{place as place_seen};
 ghost use Rattle.certificate_tree.specs.View.{entry as entry_seen};
-ghost use Rattle.entry_check.specs.Entries.{IsTable, facts_for, is_past, manner_of as manner_specs};
-ghost use Rattle.entry_check.specs.Lacking.{AreListed, ArePassed, IsStopped, IsUnwalked, Lacks, Passes, PassesOf, TellsBy, TellsOfList, owing};
+ghost use Rattle.entry_check.specs.Entries.{IsTable, is_past};
+ghost use Rattle.entry_check.specs.Lacking.{ArePassed, IsStopped, Lacks, Passes, PassesOf, TellsBy, TellsOwing, owing};
 
-use crate::derivations::{is_refuted, manner_of};
 use crate::error::ShowError;
+use crate::refuting::is_refuted_by;
 use crate::table::{entry_at, flags_of, places_of};
 use certificate_tree::tree::Entry;
 use core_code::tree::Core;
 use domain::Domain;
-use facts::WalkError;
-use item_pairs::Obligations;
-use kernel_obligations::find;
 use launch::conditions::Conditions;
-use linear::Form;
+use place_notes::Notes;
+use place_pairs::Obligations;
+use place_paths::find;
+use places::Place;
 use std::alloc::Global;
-
-/// The facts that an entry is to refute; none where it does not fit the obligation.
-fn facts_for<D: Domain>(
-    alloc: Global,
-    found: &Obligations<D>,
-    number: usize,
-    entry: &Entry,
-) -> Result<Option<Vec<Form>>, WalkError>
-    requires first { 0 < number }
-    requires last { number ≤ length (listed D.Domain found.now) }
-    ensures { MatchResult result (λ fs. maybe_forms fs ≡ facts_for (manner_specs (entry_seen entry.now).sort) (nth_obligation (listed D.Domain found.now) number)) (DoNotFit (made_fit found.now)) }
-{
-    match manner_of(&entry.sort) {
-        Some(manner) => found.facts(alloc, number, manner),
-        None => Ok(None),
-    }
-}
 
 /// An obligation is settled, or refuted by its entry, or is not needed and has no entry.
 fn show_one<D: Domain>(
     alloc: Global,
     found: &Obligations<D>,
+    notes: &Notes,
     number: usize,
     entries: &[Entry],
     places: &[usize],
@@ -54,8 +42,8 @@ fn show_one<D: Domain>(
     requires last { number ≤ length (listed D.Domain found.now) }
     requires table { IsTable (map entry_seen entries.now) places.now }
     ensures shown { IfOk result (λ _. IsShown (nth_obligation (listed D.Domain found.now) number)) }
-    ensures passes { IfOk result (λ _. Passes (map entry_seen entries.now) number (nth_obligation (listed D.Domain found.now) number)) }
-    ensures lacks { IfErr result (TellsBy (IsStopped (map entry_seen entries.now) number (nth_obligation (listed D.Domain found.now) number)) (DoNotFit (made_fit found.now))) }
+    ensures passes { IfOk result (λ _. Passes (quotient_specs notes.now.quotients.items) (map entry_seen entries.now) number (nth_obligation (listed D.Domain found.now) number)) }
+    ensures lacks { IfErr result (TellsBy (IsStopped (quotient_specs notes.now.quotients.items) (map entry_seen entries.now) number (nth_obligation (listed D.Domain found.now) number)) (λ _. ⊥) (DoNotFit (made_fit found.now))) }
 {
     if found.is_settled(alloc, number)? {
         return Ok(());
@@ -66,10 +54,7 @@ fn show_one<D: Domain>(
         }
         return Ok(());
     };
-    let Some(facts) = facts_for(alloc, found, number, entry)? else {
-        return Err(ShowError::NotShown(number as u64));
-    };
-    if is_refuted(alloc, facts.as_slice(), entry)? {
+    if is_refuted_by(alloc, found, notes, number, entry)? {
         return Ok(());
     }
     Err(ShowError::NotShown(number as u64))
@@ -91,17 +76,18 @@ fn any_past(entries: &[Entry], last: u64) -> bool
 fn show_found<D: Domain>(
     alloc: Global,
     found: &Obligations<D>,
+    notes: &Notes,
     entries: &[Entry],
     places: &[usize],
 ) -> Result<(), ShowError>
     requires { IsTable (map entry_seen entries.now) places.now }
     ensures shown { IfOk result (λ _. All IsShown (listed D.Domain found.now)) }
-    ensures passed { IfOk result (λ _. ArePassed (map entry_seen entries.now) (listed D.Domain found.now)) }
-    ensures lacks { IfErr result (TellsBy (Lacks (map entry_seen entries.now) (listed D.Domain found.now)) (DoNotFit (made_fit found.now))) }
+    ensures passed { IfOk result (λ _. ArePassed (quotient_specs notes.now.quotients.items) (map entry_seen entries.now) (listed D.Domain found.now)) }
+    ensures lacks { IfErr result (TellsBy (Lacks (quotient_specs notes.now.quotients.items) (map entry_seen entries.now) (listed D.Domain found.now)) (λ _. ⊥) (DoNotFit (made_fit found.now))) }
 {
     let count = found.len();
     for i in 0..count {
-        show_one(alloc, found, i + 1, entries, places)?;
+        show_one(alloc, found, notes, i + 1, entries, places)?;
     }
     if any_past(entries, count as u64) {
         return Err(ShowError::NotShown(0));

@@ -11,3 +11,4 @@ pub mod Listed
 pub mod Answers
 pub mod Fitting
 pub mod Fences
+pub mod Quotients

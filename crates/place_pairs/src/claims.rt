@@ -21,7 +21,7 @@ use path_walk::{Goal, Sort, Spot};
 use std::alloc::Global;
 
 /// Where a claim stands.
-fn place_of_claim<D: Copy>(met: &Met<D>, i: usize) -> Place
+pub fn place_of_claim<D: Copy>(met: &Met<D>, i: usize) -> Place
     requires { i < length met.now.claims.items }
     ensures { IsPlaceOfClaim met.now i result }
 {

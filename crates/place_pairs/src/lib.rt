@@ -21,6 +21,7 @@ mod meetings;
 mod met;
 mod numbered;
 mod places;
+mod quotients;
 mod seconds;
 mod showing;
 mod stops;

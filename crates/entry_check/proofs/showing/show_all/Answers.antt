@@ -1,32 +1,21 @@
-use Rattle.std.proofs.Common.{rules, ◌≡◌, ℕ, Bool, true, List, map, length, subst, IfOk, ◌≤◌, ◌∙◌, arith}
-use Rattle.semantics.specs.Launch.{Kernel}
-use Rattle.semantics.specs.Conditions.{Conditions}
-use Rattle.domain.specs.declared.Domain.{Ghosts}
-use Rattle.texts.specs.Certificate.{Entry}
-use Rattle.obligations.specs.Fitting.{forms_fit}
-use Rattle.obligations.specs.Statements.{setting, tree}
-use Rattle.obligations.specs.Trees.{leaves}
-use Rattle.item_pairs.specs.declared.numbered.Obligations.{Obligations}
+use Rattle.std.proofs.Common.{rules, ◌≡◌, [], map, ap, subst, IfOk, ◌∙◌}
 use Rattle.std.specs.List.{All}
 use Rattle.certificate_tree.specs.View.{entry}
 use Rattle.core_code.specs.View.{kernel}
 use Rattle.launch.specs.View.{conditions}
 use Rattle.facts.proofs.Unmade.{passed}
-use Rattle.item_pairs.specs.Listed.{listed, flagged, made_fit}
-use Rattle.item_pairs.specs.Refusals.{DoNotFit}
-use Rattle.obligations.specs.Shown.{IsShown, obligations}
-use Rattle.obligations.specs.Unfound as unfound
-use Rattle.item_pairs.proofs.Listing.{listed_length}
-use Rattle.entry_check.specs.Entries.{has_entry}
-use Rattle.entry_check.specs.Lacking.{AreListed, ArePassed, Lacks, IsUnwalked, TellsBy, TellsOfList, owing}
-use Rattle.entry_check.specs.declared.error.ShowError.TheVariants as errors
-use Rattle.entry_check.proofs.Unshown.{gains, mapped, told_listed, unfit_unwalked}
+use Rattle.obligations.specs.Shown.{IsShown}
+use Rattle.place_notes.specs.View.{seen, quotient_of}
+use Rattle.place_obligations.specs.Shown.{obligations}
+use Rattle.place_pairs.specs.Listed.{listed, made_fit}
+use Rattle.place_pairs.specs.Refusals.{DoNotFit}
+use Rattle.place_paths.specs.Unfound.{IsFirstOfMany, IsUnfound, IsUnlisted}
+use Rattle.place_obligations.specs.Listing.{all_trees}
+use Rattle.entry_check.specs.Lacking.{AreListed, ArePassed, Lacks, LacksOf, TellsBy, TellsOwing, owing, with_entries}
+use Rattle.entry_check.specs.Numbers.{show_of}
+use Rattle.entry_check.proofs.Owing.{are_listed, same_notes, told_unfound, unfit_unlisted}
+use Rattle.entry_check.proofs.Unshown.{gains, mapped, named}
 use Rattle.entry_check.proofs.showing.show_all.Goals as goal
-
-are_listed : {E : Type 0} (g : Ghosts E) (k : Kernel) (c : Conditions) (es : List Entry) (flags : ℕ → Bool) (f : Obligations E) → flags ≡ has_entry es → listed g f ≡ owing g k c es → leaves 0 (tree (setting g k c flags) k) ≤ 256 → forms_fit g k c flags ≡ true → AreListed g k c es
-are_listed g k c es flags f h same paths fit =
-    let few : length (listed g f) ≤ 65536 = omega (arith, listed_length g f, f.few) in
-    (subst (λ x. leaves 0 (tree (setting g k c x) k) ≤ 256) h paths, subst (λ os. length os ≤ 65536) same few, subst (λ x. forms_fit g k c x ≡ true) h fit)
 
 pub returns-clause-shown : goal.returns-clause-shown
 returns-clause-shown g c =
@@ -34,7 +23,8 @@ returns-clause-shown g c =
     let k = kernel c.args.core.now in
     let cs = conditions c.args.conditions.now in
     let es = map entry c.args.entries.now in
-    let same : listed d c.in_ok-found.found ≡ owing d k cs es = c.in_ok-found.ensures.listed ∙ (λ i. obligations d k cs (λ n. c.in_ok-flags.ensures n i)) in
+    let n = seen c.args.notes.now [] in
+    let same : listed d c.in_ok-found.found ≡ owing d k cs n es = c.in_ok-found.ensures.listed ∙ ap (obligations d k cs) (same_notes es c.args.notes.now c.in_ok-flags.flags.items c.in_ok-flags.ensures) in
     subst (λ os. IfOk c.show_found.result (λ _. All IsShown os)) same c.show_found.ensures.shown
 
 pub returns-in_err-found-clause-lacks : goal.returns-in_err-found-clause-lacks
@@ -43,10 +33,12 @@ returns-in_err-found-clause-lacks g c =
     let k = kernel c.args.core.now in
     let cs = conditions c.args.conditions.now in
     let es = map entry c.args.entries.now in
+    let n = seen c.args.notes.now [] in
     let e = c.in_err-found.field-0.0 in
-    let h : flagged c.in_ok-flags.flags.items ≡ has_entry es = λ i n. c.in_ok-flags.ensures n i in
-    let u : unfound.IsUnwalked d k cs (flagged c.in_ok-flags.flags.items) e = search rules in
-    passed c.from_residual-in_err-found.result (errors.Walk e) (TellsOfList es (AreListed d k cs es) (owing d k cs es) (IsUnwalked d k cs es)) c.from_residual-in_err-found.ensures.1 (subst (λ x. unfound.IsUnwalked d k cs x e) h u)
+    let x = seen c.args.notes.now c.in_ok-flags.flags.items in
+    let u : IsUnfound d k cs x e = search rules in
+    passed c.from_residual-in_err-found.result (show_of e) (TellsOwing d k cs n es) c.from_residual-in_err-found.ensures.1
+    (told_unfound d k cs es n e (subst (λ y. IsUnfound d k cs y e) (same_notes es c.args.notes.now c.in_ok-flags.flags.items c.in_ok-flags.ensures) u))
 
 pub returns-clause-lacks : goal.returns-clause-lacks
 returns-clause-lacks g c =
@@ -54,12 +46,17 @@ returns-clause-lacks g c =
     let k = kernel c.args.core.now in
     let cs = conditions c.args.conditions.now in
     let es = map entry c.args.entries.now in
+    let n = seen c.args.notes.now [] in
+    let q = quotient_of c.args.notes.now.quotients.items in
     let f = c.in_ok-found.found in
-    let h : flagged c.in_ok-flags.flags.items ≡ has_entry es = λ i n. c.in_ok-flags.ensures n i in
-    let same : listed d f ≡ owing d k cs es = c.in_ok-found.ensures.listed ∙ (λ i. obligations d k cs (h i)) in
-    let l : AreListed d k cs es = are_listed d k cs es (flagged c.in_ok-flags.flags.items) f h same c.in_ok-found.ensures.few c.in_ok-found.ensures.fits in
-    mapped c.show_found.result (TellsBy (Lacks es (listed d f)) (DoNotFit (made_fit f))) (TellsOfList es (AreListed d k cs es) (owing d k cs es) (IsUnwalked d k cs es))
-    (λ e t. subst (λ os. TellsOfList es (AreListed d k cs es) os (IsUnwalked d k cs es) e) same (told_listed es (AreListed d k cs es) (listed d f) (DoNotFit (made_fit f)) (IsUnwalked d k cs es) e l (λ w u. subst (λ x. unfound.IsUnwalked d k cs x w) h (unfit_unwalked d k cs (flagged c.in_ok-flags.flags.items) (made_fit f) c.in_ok-found.ensures.made w u)) t)) c.show_found.ensures.lacks
+    let noted = same_notes es c.args.notes.now c.in_ok-flags.flags.items c.in_ok-flags.ensures in
+    let x = seen c.args.notes.now c.in_ok-flags.flags.items in
+    let same : listed d f ≡ owing d k cs n es = c.in_ok-found.ensures.listed ∙ ap (obligations d k cs) noted in
+    let l : AreListed d k cs n es = are_listed d k cs es n x f noted c.in_ok-found.ensures.listed c.in_ok-found.ensures.few c.in_ok-found.ensures.fits in
+    let unfit = DoNotFit (made_fit f) in
+    mapped c.show_found.result (TellsBy (Lacks q es (listed d f)) (λ _. ⊥) unfit) (TellsOwing d k cs n es)
+    (λ e t. named (Lacks q es (listed d f)) (LacksOf d k cs n es) (λ _. ⊥) (λ s. IsFirstOfMany s (all_trees d k cs (with_entries es n))) unfit (IsUnlisted d k cs (with_entries es n)) e
+    (λ m s. (l, subst (λ os. Lacks q es os m) same s)) (λ m u. absurd u) (λ w u. unfit_unlisted d k cs (with_entries es n) (made_fit f) c.in_ok-found.ensures.made w u) t) c.show_found.ensures.lacks
 
 pub returns-clause-passed : goal.returns-clause-passed
 returns-clause-passed g c =
@@ -67,8 +64,11 @@ returns-clause-passed g c =
     let k = kernel c.args.core.now in
     let cs = conditions c.args.conditions.now in
     let es = map entry c.args.entries.now in
+    let n = seen c.args.notes.now [] in
+    let q = quotient_of c.args.notes.now.quotients.items in
     let f = c.in_ok-found.found in
-    let h : flagged c.in_ok-flags.flags.items ≡ has_entry es = λ i n. c.in_ok-flags.ensures n i in
-    let same : listed d f ≡ owing d k cs es = c.in_ok-found.ensures.listed ∙ (λ i. obligations d k cs (h i)) in
-    let l : AreListed d k cs es = are_listed d k cs es (flagged c.in_ok-flags.flags.items) f h same c.in_ok-found.ensures.few c.in_ok-found.ensures.fits in
-    gains (ArePassed es (owing d k cs es)) (AreListed d k cs es) c.show_found.result l (subst (λ os. IfOk c.show_found.result (λ _. ArePassed es os)) same c.show_found.ensures.passed)
+    let noted = same_notes es c.args.notes.now c.in_ok-flags.flags.items c.in_ok-flags.ensures in
+    let x = seen c.args.notes.now c.in_ok-flags.flags.items in
+    let same : listed d f ≡ owing d k cs n es = c.in_ok-found.ensures.listed ∙ ap (obligations d k cs) noted in
+    let l : AreListed d k cs n es = are_listed d k cs es n x f noted c.in_ok-found.ensures.listed c.in_ok-found.ensures.few c.in_ok-found.ensures.fits in
+    gains (ArePassed q es (owing d k cs n es)) (AreListed d k cs n es) c.show_found.result l (subst (λ os. IfOk c.show_found.result (λ _. ArePassed q es os)) same c.show_found.ensures.passed)

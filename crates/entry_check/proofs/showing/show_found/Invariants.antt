@@ -1,6 +1,7 @@
 use Rattle.std.proofs.Common.{◌<◌, ℕ, ◌+◌, get_or, map}
 use Rattle.certificate_tree.specs.View.{entry}
-use Rattle.item_pairs.specs.Listed.{listed, no_obligation}
+use Rattle.place_notes.specs.View.{quotient_of}
+use Rattle.place_pairs.specs.Listed.{listed, no_obligation}
 use Rattle.obligations.specs.Shown.{IsShown}
 use Rattle.entry_check.specs.Lacking.{Passes}
 use Rattle.entry_check.proofs.showing.show_found.Given as goal
@@ -8,4 +9,4 @@ use Rattle.entry_check.proofs.showing.show_found.Given as goal
 abbrev pub invariant-loop-i : goal.invariant-loop-i
 invariant-loop-i g l =
     let o = λ (k : ℕ). get_or (listed g.D.Domain l.found) k no_obligation in
-    (k : ℕ) → k < l.i → IsShown (o k) × Passes (map entry l.entries) (k + 1) (o k)
+    (k : ℕ) → k < l.i → IsShown (o k) × Passes (quotient_of l.notes.quotients.items) (map entry l.entries) (k + 1) (o k)

@@ -1,0 +1,60 @@
+-- All that is to be shown of a kernel, with the entries of a certificate.
+use Rattle.std.proofs.Common.{◌≡◌, ℕ, ◌≤◌, Bool, true, false, List, [], length, ap, subst, arith}
+use Rattle.std.specs.Prelude.{slice_index_or}
+use Rattle.std.proofs.Math.Path.{fun_ext}
+use Rattle.semantics.specs.Launch.{Kernel}
+use Rattle.semantics.specs.Conditions.{Conditions}
+use Rattle.domain.specs.declared.Domain.{Ghosts}
+use Rattle.texts.specs.Certificate.{Entry}
+use Rattle.facts.specs.declared.error.WalkError.{WalkError}
+use Rattle.facts.specs.declared.error.WalkError.TheVariants as walks
+use Rattle.place_notes.specs.View.{seen}
+use Rattle.place_notes.specs.declared.notes.Notes as code
+use Rattle.place_obligations.specs.Notes.{Notes}
+use Rattle.place_obligations.specs.Listing.{all_trees}
+use Rattle.place_obligations.specs.Fitting.{forms_fit}
+use Rattle.place_obligations.specs.Shown.{obligations}
+use Rattle.place_pairs.specs.Listed.{listed}
+use Rattle.place_pairs.specs.Refusals.{DoNotFit}
+use Rattle.place_pairs.specs.declared.numbered.Obligations.{Obligations}
+use Rattle.place_pairs.proofs.Listing.{listed_length}
+use Rattle.place_paths.specs.Unfound.{HaveFewPaths, IsUnfound, IsUnlisted}
+use Rattle.place_paths.specs.declared.error.FindError.{FindError}
+use Rattle.place_paths.specs.declared.error.FindError.TheVariants as finds
+use Rattle.entry_check.specs.Entries.{has_entry}
+use Rattle.entry_check.specs.Lacking.{AreListed, PassesOf, TellsOf, TellsOwing, with_entries}
+use Rattle.entry_check.specs.Numbers.{show_of}
+use Rattle.entry_check.specs.declared.error.ShowError.{ShowError}
+
+abbrev with_flags : Notes → (ℕ → Bool) → Notes
+with_flags n f = record { same = n.same; facts = n.facts; congruences = n.congruences; ranking = n.ranking; visible = n.visible; quotient = n.quotient; has_entry = f }
+
+-- flags that tell which obligations have entries
+pub same_notes : (es : List Entry) (n : code.Notes) (flags : List Bool) → ((m : ℕ) → slice_index_or flags m false ≡ has_entry es m) → seen n flags ≡ with_entries es (seen n [])
+same_notes es n flags h = ap (with_flags (seen n [])) (fun_ext h)
+
+module _ {E : Type 0} (g : Ghosts E) (k : Kernel) (c : Conditions) where
+  abbrev ListedIn : Notes → Type 0
+  ListedIn n = HaveFewPaths (all_trees g k c n) × (length (obligations g k c n) ≤ 65536) × (forms_fit g k c n ≡ true)
+
+  pub are_listed : (es : List Entry) (n x : Notes) (o : Obligations E) → x ≡ with_entries es n → listed g o ≡ obligations g k c x → HaveFewPaths (all_trees g k c x) → forms_fit g k c x ≡ true → AreListed g k c n es
+  are_listed es n x o same l paths fit =
+      let few : length (listed g o) ≤ 65536 = omega (arith, listed_length g o, o.few) in
+      subst ListedIn same (paths, subst (λ os. length os ≤ 65536) l few, fit)
+
+  -- none of a kernel is found unless there was no memory, where all forms fit
+  pub unfit_unlisted : (n : Notes) (fit : Bool) → fit ≡ true → (e : WalkError) → DoNotFit fit e → IsUnlisted g k c n e
+  unfit_unlisted n fit f walks.TooMany u = absurd u
+  unfit_unlisted n fit f walks.TooLarge u = absurd cc
+  unfit_unlisted n fit f walks.Outside u = u
+  unfit_unlisted n fit f walks.Memory u = tt
+
+  pub told_unfound : (es : List Entry) (n : Notes) (e : FindError) → IsUnfound g k c (with_entries es n) e → TellsOwing g k c n es (show_of e)
+  told_unfound es n (finds.ManyPaths s) u = u
+  told_unfound es n (finds.Walk e) u = u
+
+pub same_told : {E : Type 0} (g : Ghosts E) (k k' : Kernel) (c c' : Conditions) (n n' : Notes) (es es' : List Entry) (e : ShowError) → k ≡ k' → c ≡ c' → n ≡ n' → es ≡ es' → TellsOf g k c n es e → TellsOf g k' c' n' es' e
+same_told g k k' c c' n n' es es' e p q m r t = subst (λ x. TellsOf g k' c' n' x e) r (subst (λ x. TellsOf g k' c' x es e) m (subst (λ x. TellsOf g k' x n es e) q (subst (λ x. TellsOf g x c n es e) p t)))
+
+pub same_passed : {E : Type 0} (g : Ghosts E) (k k' : Kernel) (c c' : Conditions) (n n' : Notes) (es es' : List Entry) → k ≡ k' → c ≡ c' → n ≡ n' → es ≡ es' → PassesOf g k c n es → PassesOf g k' c' n' es'
+same_passed g k k' c c' n n' es es' p q m r t = subst (PassesOf g k' c' n') r (subst (λ x. PassesOf g k' c' x es) m (subst (λ x. PassesOf g k' x n es) q (subst (λ x. PassesOf g x c n es) p t)))

@@ -1,0 +1,19 @@
+use Rattle.std.proofs.Common.{◌≡◌, Some, ap, sym, subst, ◌∙◌}
+use Rattle.std.specs.Prelude.{IsTrue}
+use Rattle.semantics.specs.Linear.{IsImpossible}
+use Rattle.linear.specs.Forms.{forms}
+use Rattle.certificate_tree.specs.View.{entry}
+use Rattle.place_pairs.specs.Goals.{maybe_forms}
+use Rattle.place_pairs.specs.Listed.{listed, nth_obligation}
+use Rattle.entry_check.specs.Entries.{facts_for}
+use Rattle.entry_check.proofs.Unshown.{shown_by}
+use Rattle.entry_check.proofs.refuting.is_refuted_by.Goals as goal
+
+pub returns-clause-shown : goal.returns-clause-shown
+returns-clause-shown g c =
+    let o = nth_obligation (listed g.D.Domain c.args.found.now) c.args.number in
+    let e = entry c.args.entry.now in
+    let xs = c.in-Some.facts.items in
+    let b = c.in_ok-is_refuted.field-0 in
+    let f : Some (forms xs) ≡ facts_for e.sort o = ap maybe_forms (sym c.in-Some.is) ∙ c.in_ok-facts.ensures in
+    shown_by o e xs b f (subst (λ l. IsTrue b → IsImpossible (forms l)) c.as_slice.ensures.value c.in_ok-is_refuted.ensures.impossible)

@@ -1,0 +1,76 @@
+//! The quotients that entries of congruences name.
+
+ghost use Rattle.std.specs.Prelude.{◌≡◌, ◌≤◌, ◌<◌, ◌-◌, pos, length};
+ghost use Rattle.facts.specs.Symbols.{constant};
+ghost use Rattle.linear.specs.Forms.{form as form_seen};
+ghost use Rattle.linear.specs.Terms.{terms as terms_seen};
+ghost use Rattle.place_notes.specs.View.{quotient_of as quotient_specs};
+ghost use Rattle.place_pairs.specs.Listed.{listed, nth_obligation};
+ghost use Rattle.entry_check.specs.Entries as entries;
+
+use domain::Domain;
+use linear::{Form, Term};
+use place_claims::quotient_of;
+use place_notes::{Notes, Quotient};
+use place_pairs::Obligations;
+use std::alloc::Global;
+
+/// The terms are the same.
+fn same_terms(left: &[Term], right: &[Term]) -> bool
+    ensures { result ≡ entries.same_terms (terms_seen left.now) (terms_seen right.now) }
+{
+    if left.len() != right.len() {
+        return false;
+    }
+    for i in 0..left.len() {
+        if left[i].coefficient != right[i].coefficient
+            || left[i].symbol.number != right[i].symbol.number
+        {
+            return false;
+        }
+    }
+    true
+}
+
+/// The forms are the same.
+fn same_form(left: &Form, right: &Form) -> bool
+    ensures { result ≡ entries.same_form (form_seen left.now) (form_seen right.now) }
+{
+    left.constant_part() == right.constant_part() && same_terms(left.terms(), right.terms())
+}
+
+/// The quotient of a claim; where its entry names none, `none`, the form 0.
+fn named_by<'n>(quotients: &'n [Quotient], claim: u64, none: &'n Form) -> &'n Form
+    requires { form_seen none.now ≡ constant (pos 0) }
+    ensures { form_seen result.now ≡ quotient_specs quotients.now claim }
+{
+    match quotient_of(quotients, claim) {
+        Some(form) => form,
+        None => none,
+    }
+}
+
+/// The entries of a claim and of the one before it name one quotient.
+fn name_one(alloc: Global, quotients: &[Quotient], number: usize) -> bool
+    requires { 0 < number }
+    ensures { result ≡ entries.same_form (quotient_specs quotients.now number) (quotient_specs quotients.now (number - 1)) }
+{
+    let none = Form::constant(alloc, 0);
+    let own = named_by(quotients, number as u64, &none);
+    let before = named_by(quotients, number as u64 - 1, &none);
+    same_form(own, before)
+}
+
+/// The entries of both claims of a congruence name one quotient; other obligations name none.
+pub fn names_one<D: Domain>(
+    alloc: Global,
+    found: &Obligations<D>,
+    notes: &Notes,
+    number: usize,
+) -> bool
+    requires first { 0 < number }
+    requires last { number ≤ length (listed D.Domain found.now) }
+    ensures { result ≡ entries.names_one (quotient_specs notes.now.quotients.items) number (nth_obligation (listed D.Domain found.now) number) }
+{
+    !found.is_second_claim(number) || name_one(alloc, notes.quotients.as_slice(), number)
+}

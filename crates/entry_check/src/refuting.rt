@@ -1,0 +1,56 @@
+//! The entry of an obligation, and whether it refutes it.
+
+ghost use Rattle.std.specs.Prelude.{◌≡◌, ◌≤◌, ◌<◌, ◌&&◌, IfOk, IsTrue, MatchResult, length};
+ghost use Rattle.obligations.specs.Shown.{IsShown};
+ghost use Rattle.certificate_tree.specs.View.{entry as entry_seen};
+ghost use Rattle.place_notes.specs.View.{quotient_of as quotient_specs};
+ghost use Rattle.place_pairs.specs.Goals.{maybe_forms};
+ghost use Rattle.place_pairs.specs.Listed.{listed, nth_obligation, made_fit};
+ghost use Rattle.place_pairs.specs.Refusals.{DoNotFit};
+ghost use Rattle.entry_check.specs.Entries as entries;
+
+use crate::derivations::{is_refuted, manner_of};
+use crate::quotients::names_one;
+use certificate_tree::tree::Entry;
+use domain::Domain;
+use facts::WalkError;
+use linear::Form;
+use place_notes::Notes;
+use place_pairs::Obligations;
+use std::alloc::Global;
+
+/// The facts that an entry is to refute; none where it does not fit the obligation.
+fn facts_for<D: Domain>(
+    alloc: Global,
+    found: &Obligations<D>,
+    number: usize,
+    entry: &Entry,
+) -> Result<Option<Vec<Form>>, WalkError>
+    requires first { 0 < number }
+    requires last { number ≤ length (listed D.Domain found.now) }
+    ensures { MatchResult result (λ fs. maybe_forms fs ≡ entries.facts_for (entry_seen entry.now).sort (nth_obligation (listed D.Domain found.now) number)) (DoNotFit (made_fit found.now)) }
+{
+    found.facts(alloc, number, manner_of(&entry.sort))
+}
+
+/// An entry names the quotient that it has to, fits its obligation, and refutes its facts.
+pub fn is_refuted_by<D: Domain>(
+    alloc: Global,
+    found: &Obligations<D>,
+    notes: &Notes,
+    number: usize,
+    entry: &Entry,
+) -> Result<bool, WalkError>
+    requires first { 0 < number }
+    requires last { number ≤ length (listed D.Domain found.now) }
+    ensures exact { MatchResult result (λ b. b ≡ (entries.names_one (quotient_specs notes.now.quotients.items) number (nth_obligation (listed D.Domain found.now) number) && entries.refutes_by (entry_seen entry.now) (nth_obligation (listed D.Domain found.now) number))) (DoNotFit (made_fit found.now)) }
+    ensures shown { IfOk result (λ b. IsTrue b → IsShown (nth_obligation (listed D.Domain found.now) number)) }
+{
+    if !names_one(alloc, found, notes, number) {
+        return Ok(false);
+    }
+    let Some(facts) = facts_for(alloc, found, number, entry)? else {
+        return Ok(false);
+    };
+    Ok(is_refuted(alloc, facts.as_slice(), entry)?)
+}

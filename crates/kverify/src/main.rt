@@ -6,6 +6,8 @@
 #![tactic(auto)]
 
 #[cfg(test)]
+mod barriers;
+#[cfg(test)]
 mod check_tests;
 #[cfg(test)]
 mod choices;

@@ -102,8 +102,7 @@ module _ {E : Type 0} (facts : List Fact) (n : ℕ) (t : Tree E) where
           let j = ap length (ends_more found p) in
           let a = length-append (all_ends found) (followed p).found.ends in
           let l = ends_length p in
-          let u = w.counted in
-          omega (arith, j, a, l, u)
+          omega (arith, j, a, l, w.counted)
 
       more_fits : (x : Option (List Choice)) → x ≡ next_choices (taken_in cs t) (count_in cs n t) → rest_fits n t x ≡ tree_fits n t
       more_fits x e = ap (rest_fits n t) e ∙ rest_decides (begun facts n cs) t (ap (λ (m : Found E). m.is_fit) (sym d) ∙ fit_seen p) w.right ∙ w.fit

@@ -1,6 +1,6 @@
 -- What an error tells of a kernel, where it is plain.
-use Rattle.std.proofs.Common.{◌≡◌, ℕ, zero, suc, ◌<◌, ◌≤◌, List, [], ◌∷◌, get_or, arith, sym, subst, ap, ◌∙◌, inl, inr}
-use Rattle.std.specs.Prelude.{◌⊎◌, true, false, Ok, Err, Option, Some, None}
+use Rattle.std.proofs.Common.{◌≡◌, ℕ, zero, suc, ◌<◌, List, [], ◌∷◌, get_or, arith, sym, subst, ◌∙◌, inl, inr}
+use Rattle.std.specs.Prelude.{◌⊎◌, true, false, Err, Option, None}
 use Rattle.std.proofs.lemmas.Bool.{false≢true}
 use Rattle.semantics.specs.Launch as semantics
 use Rattle.semantics.specs.Conditions.{Conditions}
@@ -35,9 +35,9 @@ use Rattle.cert_check.specs.declared.error.CheckError.TheVariants as errors
 few_paths : {E : Type 0} (s : Option ℕ) (t : Planted E) (ts : List (Planted E)) → ts ≡ t ∷ [] → leaves t.claims t.tree ≡ 1 → IsFirstOfMany s ts → ⊥
 few_paths s t ts e one m = few (subst (IsFirstOfMany s) e m)
   where
-  few : IsFirstOfMany s (t ∷ []) → ⊥
-  few (inl h) = let l : 256 < leaves t.claims t.tree = h.1 in omega (arith, l, one)
-  few (inr h) = h.1
+    few : IsFirstOfMany s (t ∷ []) → ⊥
+    few (inl h) = let l : 256 < leaves t.claims t.tree = h.1 in omega (arith, l, one)
+    few (inr h) = h.1
 
 -- the laws of plain kernels
 pub record Laws : Type 0 where

@@ -1,5 +1,5 @@
 -- The code's notes are those that a certificate says.
-use Rattle.std.proofs.Common.{◌≡◌, List, [], refl, ap, sym, ◌∙◌, subst}
+use Rattle.std.proofs.Common.{◌≡◌, List, [], ap, sym, ◌∙◌, subst}
 use Rattle.std.proofs.Math.Path.{fun_ext}
 use Rattle.std.specs.Prelude.{Some}
 use Rattle.semantics.specs.Launch.{Kernel}

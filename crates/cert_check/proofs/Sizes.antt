@@ -17,4 +17,4 @@ has_items k h = some_items k.sizes.x k.sizes.y k.sizes.z h.0.0 h.1.0 h.2.0
 pub sizes_fit : (k : Kernel) → HasLocalSizes k → are_sizes k.sizes ≡ true
 sizes_fit k h =
     let t = k.sizes in
-    and_from (nat_le t.x 1024) (nat_le t.y 1024 && nat_le t.z 1024) (le-leb t.x 1024 h.0.1) (and_from (nat_le t.y 1024) (nat_le t.z 1024) (le-leb t.y 1024 h.1.1 ) (le-leb t.z 1024 h.2.1))
+    and_from (nat_le t.x 1024) (nat_le t.y 1024 && nat_le t.z 1024) (le-leb t.x 1024 h.0.1) (and_from (nat_le t.y 1024) (nat_le t.z 1024) (le-leb t.y 1024 h.1.1) (le-leb t.z 1024 h.2.1))

@@ -1,19 +1,15 @@
 -- What an error tells once the kernel and the conditions are read.
-use Rattle.std.proofs.Common.{◌≡◌, ℕ, zero, suc, List, [], ◌∷◌, inl, inr, refl, sym, subst, ◌∙◌}
-use Rattle.std.specs.Prelude.{Ok, Some}
-use Rattle.semantics.specs.Launch as semantics
+use Rattle.std.proofs.Common.{◌≡◌, ℕ, List, sym, subst}
+use Rattle.std.specs.Prelude.{Ok}
 use Rattle.semantics.specs.Conditions.{Conditions}
 use Rattle.texts.specs.Certificate.{Certificate}
-use Rattle.texts.specs.Surface as surface
 use Rattle.texts.specs.ConditionsReading.{Lined, conditions_of, meant}
 use Rattle.texts.specs.CertificateReading.{certificate_of}
 use Rattle.syntax.specs.View.{kernel as tree_seen}
 use Rattle.syntax.specs.declared.tree.Kernel.{Kernel}
-use Rattle.core_code.specs.View.{kernel as core_seen, site as site_seen}
+use Rattle.core_code.specs.View.{kernel as core_seen}
 use Rattle.core_code.specs.declared.tree.Core.{Core}
-use Rattle.launch_words.specs.declared.error.LaunchTextError.TheVariants as launches
 use Rattle.launch_words.specs.Answers as answers
-use Rattle.statement_sites.specs.Sites.{site_at}
 use Rattle.entry_check.specs.declared.error.ShowError.{ShowError}
 use Rattle.entry_check.specs.declared.error.ShowError.TheVariants as shows
 use Rattle.cert_check.specs.Refusing.{AreRead, AreMet, Refuses, Shows}

@@ -1,5 +1,5 @@
 -- What an error of the obligations tells of a kernel.
-use Rattle.std.proofs.Common.{◌≡◌, ℕ, zero, suc, ◌≤◌, Bool, true, false, nat_lt, List, [], subst, sym, ◌∙◌, inl, inr}
+use Rattle.std.proofs.Common.{◌≡◌, ℕ, zero, suc, ◌≤◌, Bool, true, false, nat_lt, List, subst, sym, ◌∙◌, inl, inr}
 use Rattle.std.proofs.lemmas.Bool.{ltb-false}
 use Rattle.std.specs.List.{All}
 use Rattle.semantics.specs.Launch.{Kernel}

@@ -1,8 +1,6 @@
 //! What a certificate says, against what is to be shown.
 
 ghost use Rattle.std.specs.Prelude.{◌≡◌, nat_lt, true, map, List, [], Bool, IfOk, IfErr};
-ghost use Rattle.semantics.specs.Launch as semantics;
-ghost use Rattle.semantics.specs.Conditions as meaning;
 ghost use Rattle.arrivals.specs.Places as meant;
 ghost use Rattle.certificate.specs.Certificates.{certificate as certificate_seen};
 ghost use Rattle.certificate_tree.specs.View.{entry as entry_seen};

@@ -1,5 +1,4 @@
-use Rattle.std.proofs.Common.{rules, ◌≡◌, None, ap, sym, subst, map, ◌∙◌}
-use Rattle.std.specs.Prelude.{Ok}
+use Rattle.std.proofs.Common.{rules, ◌≡◌, None, ap, subst, map, ◌∙◌}
 use Rattle.core_code.specs.View.{kernel}
 use Rattle.syntax.specs.View.{kernel as tree}
 use Rattle.launch.specs.View.{conditions}

@@ -1,4 +1,4 @@
-use Rattle.std.proofs.Common.{◌≡◌, true, false, ap, sym, subst, map, Bool, List, [], Some}
+use Rattle.std.proofs.Common.{◌≡◌, true, false, ap, sym, subst, map, Bool, List, []}
 use Rattle.std.specs.Prelude.{IfOk}
 use Rattle.std.specs.Option.{option_map}
 use Rattle.core_code.specs.View.{kernel}

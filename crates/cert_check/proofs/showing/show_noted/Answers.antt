@@ -1,4 +1,4 @@
-use Rattle.std.proofs.Common.{rules, ◌≤◌, [], map}
+use Rattle.std.proofs.Common.{◌≤◌, [], map}
 use Rattle.core_code.specs.View.{kernel}
 use Rattle.launch.specs.View.{conditions}
 use Rattle.certificate_tree.specs.View.{entry}

@@ -94,8 +94,8 @@ fn accept(
 
 /// A kernel, launch conditions and a certificate, each by its text. What is accepted is pair-safe at each launch that meets the
 /// conditions, and the headline holds there. What is refused first, in this order: the kernel, the conditions, a loop whose barrier an
-/// iteration can miss, the certificate's text, what it tells of that the kernel lacks, over 256 paths of a place, over 65,536 obligations or
-/// a number that is too large, the obligations by their numbers, entries past the last of them, the budget.
+/// iteration can miss, the certificate's text, what it tells of that the kernel lacks, over 256 paths of a place, over 65,536 obligations
+/// or a number that is too large, the obligations by their numbers, entries past the last of them, the budget.
 pub fn check(
     alloc: Global,
     kernel: &[u8],

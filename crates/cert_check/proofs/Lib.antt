@@ -1,3 +1,8 @@
 pub mod Headlines
-pub mod LoopFree
+pub mod Saying
+pub mod Budget
+pub mod Handing
+pub mod Sizes
+pub mod Unshown
+pub mod Stopped
 pub mod Plainly

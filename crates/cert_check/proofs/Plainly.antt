@@ -1,50 +1,79 @@
 -- What an error tells of a kernel, where it is plain.
-use Rattle.std.proofs.Common.{◌≡◌, ℕ, zero, suc, ◌*◌, ◌≤◌, Bool, List, get_or, arith, sym, subst, ◌∙◌, inl, inr, mul-le-mul}
+use Rattle.std.proofs.Common.{◌≡◌, ℕ, zero, suc, ◌<◌, List, [], ◌∷◌, get_or, arith, sym, subst, ◌∙◌, inl, inr}
+use Rattle.std.specs.Prelude.{◌⊎◌, true, false, Err, Option, None}
 use Rattle.std.proofs.lemmas.Bool.{false≢true}
-use Rattle.semantics.specs.Launch.{Kernel}
+use Rattle.semantics.specs.Launch as semantics
 use Rattle.semantics.specs.Conditions.{Conditions}
 use Rattle.texts.specs.Certificate.{Certificate}
+use Rattle.texts.specs.ConditionsReading.{Lined, meant}
 use Rattle.texts.specs.Surface as surface
+use Rattle.syntax.specs.View.{kernel as tree_seen}
+use Rattle.syntax.specs.declared.tree.Kernel.{Kernel}
+use Rattle.core_code.specs.View.{kernel as core_seen}
+use Rattle.core_code.specs.declared.tree.Core.{Core}
+use Rattle.arrivals.specs.Loops.{unmet}
 use Rattle.facts.specs.declared.error.WalkError.TheVariants as walks
-use Rattle.obligations.specs.Trees.{leaves}
-use Rattle.obligations.specs.Statements.{setting, tree}
+use Rattle.obligations.specs.Trees.{Obligation, leaves}
+use Rattle.place_obligations.specs.Notes.{Notes}
+use Rattle.place_obligations.specs.Listing.{Planted, all_trees}
+use Rattle.place_obligations.specs.Fitting.{forms_fit}
+use Rattle.place_obligations.specs.Shown.{obligations}
+use Rattle.place_paths.specs.Unfound.{IsFirstOfMany}
 use Rattle.plain_kernels.specs.Domains.{domain}
-use Rattle.plain_kernels.specs.Kernels.{HasLimits, IsPlain}
-use Rattle.plain_kernels.proofs.Covering.{plain-covered}
-use Rattle.plain_kernels.proofs.Plainly.{plain-fits, plain-path, plain-range}
-use Rattle.entry_check.specs.Entries.{has_entry}
-use Rattle.entry_check.specs.Lacking.{Stops, owing}
-use Rattle.cert_check.specs.Refusing.{Shows}
-use Rattle.cert_check.specs.Plainly.{IsUnrefuted, IsOwnRange, TellsPlain}
+use Rattle.plain_kernels.specs.Claims.{is_range}
+use Rattle.plain_kernels.specs.Kernels.{HasLimits, IsPlain, has_signed}
+use Rattle.entry_check.specs.Lacking.{Stops, owing, with_entries}
 use Rattle.entry_check.specs.declared.error.ShowError.{ShowError}
 use Rattle.entry_check.specs.declared.error.ShowError.TheVariants as shows
+use Rattle.cert_check.specs.Refusing.{AreRead, Shows}
+use Rattle.cert_check.specs.Checked as checked
+use Rattle.cert_check.specs.Plainly.{IsUnrefuted, IsOwnRange, TellsPlain, OnPlain}
+use Rattle.cert_check.specs.declared.error.CheckError.{CheckError}
+use Rattle.cert_check.specs.declared.error.CheckError.TheVariants as errors
 
--- no dimension is empty
-some_items : (x y z : ℕ) → 1 ≤ x → 1 ≤ y → 1 ≤ z → x * y * z ≡ 0 → ⊥
-some_items x y z h i j e = let p : 1 * 1 * 1 ≤ x * y * z = mul-le-mul (mul-le-mul h i) j in omega (arith, e, p)
+-- where a place has one path, none has many
+few_paths : {E : Type 0} (s : Option ℕ) (t : Planted E) (ts : List (Planted E)) → ts ≡ t ∷ [] → leaves t.claims t.tree ≡ 1 → IsFirstOfMany s ts → ⊥
+few_paths s t ts e one m = few (subst (IsFirstOfMany s) e m)
+  where
+    few : IsFirstOfMany s (t ∷ []) → ⊥
+    few (inl h) = let l : 256 < leaves t.claims t.tree = h.1 in omega (arith, l, one)
+    few (inr h) = h.1
 
-module _ (k : Kernel) (source : surface.Kernel) (c : Conditions) (cert : Certificate) (limits : HasLimits k c) (plain : IsPlain k c) where
-  abbrev h : ℕ → Bool
-  h = has_entry cert.entries
+-- the laws of plain kernels
+pub record Laws : Type 0 where
+  pub met : (k : semantics.Kernel) (c : Conditions) → IsPlain k c → unmet k.body ≡ None
+  pub one_tree : (k : semantics.Kernel) (c : Conditions) (n : Notes) → HasLimits k c → IsPlain k c → (t : Planted _) × (all_trees domain k c n ≡ t ∷ []) × (leaves t.claims t.tree ≡ 1)
+  pub fit : (k : semantics.Kernel) (c : Conditions) (n : Notes) → HasLimits k c → IsPlain k c → forms_fit domain k c n ≡ true
+  pub ranges : (k : semantics.Kernel) (c : Conditions) (n : Notes) (i : ℕ) (o : Obligation) → HasLimits k c → IsPlain k c → is_range k (suc i) ≡ true → o ≡ get_or (obligations domain k c n) i o → o.settled ≡ false → (o.needed ≡ true) ⊎ (n.has_entry (suc i) ≡ true) → (n.has_entry (suc i) ≡ true) × (has_signed k.arguments k.body ≡ true)
 
-  named : (n : ℕ) → Stops cert.entries 0 (owing domain k c cert.entries) (suc n) → IsUnrefuted k c cert (suc n) × IsOwnRange k cert (suc n)
-  named n (o, (i, e, l, q), (s, a, r), p) =
-      let m : i ≡ n = omega (arith, e) in
-      ((o, (i, e, l, q), r), λ b. plain-range k c h limits plain n o b (subst (λ j. o ≡ get_or (owing domain k c cert.entries) j o) m q) s a)
+module _ (laws : Laws) (k : semantics.Kernel) (tree : surface.Kernel) (c : Conditions) (cert : Certificate) (limits : HasLimits k c) (plain : IsPlain k c) where
+  not_many : (n : Notes) (s : Option ℕ) → IsFirstOfMany s (all_trees domain k c n) → ⊥
+  not_many n s m = let t = laws.one_tree k c n limits plain in few_paths s t.0 (all_trees domain k c n) t.1 t.2 m
 
-  pub tells_plain : (e : ShowError) → Shows k source c cert e → TellsPlain k source c cert e
-  tells_plain (shows.NotShown zero) (inl p) = inl p.1
-  tells_plain (shows.NotShown zero) (inr (o, inl p)) = absurd (some_items k.sizes.x k.sizes.y k.sizes.z limits.size_x.0 limits.size_y.0 limits.size_z.0 p)
-  tells_plain (shows.NotShown zero) (inr (o, inr (inl p))) = absurd (false≢true (sym p ∙ plain-covered k c limits plain))
-  tells_plain (shows.NotShown zero) (inr (o, inr (inr p))) = inr p.2.1
-  tells_plain (shows.NotShown (suc n)) (inl p) = absurd cc
-  tells_plain (shows.NotShown (suc n)) (inr s) = named n s.1.2
-  tells_plain (shows.Walk w) (inl p) = absurd cc
-  tells_plain (shows.Walk walks.TooMany) (inr (o, (a, inl p))) = let one : leaves 0 (tree (setting domain k c h) k) ≡ 1 = (plain-path k c h limits plain).0 in absurd (omega (arith, p, one))
-  tells_plain (shows.Walk walks.TooMany) (inr (o, (a, inr p))) = p
-  tells_plain (shows.Walk walks.TooLarge) (inr p) = false≢true (sym p.1.1 ∙ plain-fits k c h limits plain)
-  tells_plain (shows.Walk walks.Outside) (inr p) = false≢true (sym p.1.1 ∙ plain-covered k c limits plain)
-  tells_plain (shows.Walk walks.Memory) (inr p) = tt
-  tells_plain shows.OverBudget (inl p) = absurd cc
-  tells_plain shows.OverBudget (inr p) = p.1.2
-  tells_plain shows.Memory s = tt
+  named : (n : Notes) (i : ℕ) → Stops n.quotient cert.entries 0 (owing domain k c n cert.entries) (suc i) → IsUnrefuted k c n cert (suc i) × IsOwnRange k cert (suc i)
+  named n i (o, (j, e, l, q), (s, a, r), p) =
+      let m : j ≡ i = omega (arith, e) in
+      ((o, (j, e, l, q), r), λ b. laws.ranges k c (with_entries cert.entries n) i o limits plain b (subst (λ x. o ≡ get_or (owing domain k c n cert.entries) x o) m q) s a)
+
+  pub tells_plain : (e : ShowError) → Shows k tree c cert e → TellsPlain k tree c cert e
+  tells_plain (shows.NotShown zero) (inl h) = inl h
+  tells_plain (shows.NotShown zero) (inr (n, said, h)) = inr (n, said, h.1.1)
+  tells_plain (shows.NotShown (suc i)) (n, said, h) = let p = named n i h.1 in (n, said, p.0, p.1)
+  tells_plain (shows.ManyPaths s) h = h
+  tells_plain (shows.Walk walks.TooMany) h = h
+  tells_plain (shows.Walk walks.TooLarge) (n, said, h) = false≢true (sym h ∙ laws.fit k c (with_entries cert.entries n) limits plain)
+  tells_plain (shows.Walk walks.Outside) (n, said, h) = h
+  tells_plain (shows.Walk walks.Memory) h = tt
+  tells_plain shows.OverBudget (n, said, h) = (n, said, h.1)
+  tells_plain shows.Memory h = tt
+
+-- what stops the check of a kernel with such limits
+pub stops_plain : (laws : Laws) (typed : Kernel × Core) (found : Lined) (kernel conditions certificate : List ℕ) → HasLimits (core_seen typed.1) (meant found) → AreRead typed found kernel conditions → (e : CheckError) → checked.Stops typed (meant found) certificate e → OnPlain (Err e) kernel conditions certificate
+stops_plain laws typed found k l p limits read (errors.Kernel e) s = tt
+stops_plain laws typed found k l p limits read (errors.Conditions e) s = tt
+stops_plain laws typed found k l p limits read (errors.Missed site) (loop, missed, at) = (typed, found, read, λ plain. let m = laws.met (core_seen typed.1) (meant found) plain in cc)
+stops_plain laws typed found k l p limits read (errors.Certificate e) s = tt
+stops_plain laws typed found k l p limits read (errors.ManyPaths site) (cert, met, is, (n, s, said, first, at)) =
+    (typed, found, read, λ plain. not_many laws (core_seen typed.1) (tree_seen typed.0) (meant found) cert limits plain (with_entries cert.entries n) s first)
+stops_plain laws typed found k l p limits read (errors.Show e) (cert, met, is, shown) =
+    (typed, found, cert, read, is, λ plain. tells_plain laws (core_seen typed.1) (tree_seen typed.0) (meant found) cert limits plain e shown)

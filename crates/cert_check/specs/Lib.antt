@@ -2,4 +2,5 @@ pub mod Accepting
 pub mod View
 pub mod Refusing
 pub mod Plainly
+pub mod Checked
 pub mod Numbers

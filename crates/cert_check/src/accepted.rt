@@ -4,7 +4,7 @@ ghost use Rattle.std.specs.Prelude.{◌≡◌, true};
 ghost use Rattle.core_code.specs.View.{kernel as core_seen};
 ghost use Rattle.launch.specs.View.{conditions as conditions_seen};
 ghost use Rattle.work_item.specs.Proper.{is_proper};
-ghost use Rattle.cert_check.specs.Accepting.{IsAccepted, IsCoveredUnder};
+ghost use Rattle.cert_check.specs.Accepting.{IsAccepted, HasParameters};
 
 use launch::conditions::Conditions;
 use types::typed::Typed;
@@ -15,6 +15,6 @@ pub struct Accepted {
     pub(crate) typed: Typed,
     pub(crate) conditions: Conditions,
     pub(crate) ghost promise: { IsAccepted (core_seen typed.1) (conditions_seen conditions) },
-    pub(crate) ghost shape: { IsCoveredUnder (core_seen typed.1) (conditions_seen conditions) },
+    pub(crate) ghost parameters: { HasParameters (core_seen typed.1) (conditions_seen conditions) },
     pub(crate) ghost proper: { is_proper (core_seen typed.1) ≡ true },
 }

@@ -4,7 +4,7 @@ ghost use Rattle.std.specs.Prelude.{◌≡◌, true};
 ghost use Rattle.core_code.specs.View.{kernel as core_seen};
 ghost use Rattle.launch.specs.View.{conditions as conditions_seen};
 ghost use Rattle.work_item.specs.Proper.{is_proper};
-ghost use Rattle.cert_check.specs.Accepting.{IsAccepted, IsCoveredUnder};
+ghost use Rattle.cert_check.specs.Accepting.{IsAccepted, HasParameters};
 ghost use Rattle.cert_check.specs.View.{typed_of, kept};
 
 use crate::accepted::Accepted;
@@ -15,7 +15,7 @@ impl Accepted {
     /// A kernel with conditions under which it is accepted, as the caller has shown.
     pub(crate) fn of(typed: Typed, conditions: Conditions) -> Accepted
         requires promise { IsAccepted (core_seen typed.1) (conditions_seen conditions) }
-        requires shape { IsCoveredUnder (core_seen typed.1) (conditions_seen conditions) }
+        requires parameters { HasParameters (core_seen typed.1) (conditions_seen conditions) }
         requires proper { is_proper (core_seen typed.1) ≡ true }
         ensures typed { typed_of result ≡ typed }
         ensures conditions { kept result ≡ conditions }
@@ -27,7 +27,7 @@ impl Accepted {
     pub fn typed(&self) -> &Typed
         ensures value { result.now ≡ typed_of self.now }
         ensures accepted { IsAccepted (core_seen (typed_of self.now).1) (conditions_seen (kept self.now)) }
-        ensures shape { IsCoveredUnder (core_seen (typed_of self.now).1) (conditions_seen (kept self.now)) }
+        ensures parameters { HasParameters (core_seen (typed_of self.now).1) (conditions_seen (kept self.now)) }
         ensures proper { is_proper (core_seen (typed_of self.now).1) ≡ true }
     {
         &self.typed
@@ -37,7 +37,7 @@ impl Accepted {
     pub fn conditions(&self) -> &Conditions
         ensures value { result.now ≡ kept self.now }
         ensures accepted { IsAccepted (core_seen (typed_of self.now).1) (conditions_seen (kept self.now)) }
-        ensures shape { IsCoveredUnder (core_seen (typed_of self.now).1) (conditions_seen (kept self.now)) }
+        ensures parameters { HasParameters (core_seen (typed_of self.now).1) (conditions_seen (kept self.now)) }
     {
         &self.conditions
     }

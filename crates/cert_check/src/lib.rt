@@ -8,6 +8,7 @@ mod accepted;
 mod checking;
 pub mod error;
 mod keeping;
+mod showing;
 
 pub use accepted::Accepted;
 pub use checking::check;

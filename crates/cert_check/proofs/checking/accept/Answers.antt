@@ -1,31 +1,37 @@
-use Rattle.std.proofs.Common.{rules, ◌≡◌, ◌≤◌, [], true, map}
-use Rattle.std.proofs.Math.Nat.{le_trans}
+use Rattle.std.proofs.Common.{rules, ◌≡◌, None, ap, subst, map, ◌∙◌}
 use Rattle.core_code.specs.View.{kernel}
+use Rattle.syntax.specs.View.{kernel as tree}
 use Rattle.launch.specs.View.{conditions}
-use Rattle.obligations.specs.Covered.{is_covered}
-use Rattle.loop_bounds.specs.Turns.{turns_of}
-use Rattle.certificate_tree.specs.View.{entry}
-use Rattle.entry_check.specs.Entries.{has_entry}
-use Rattle.entry_check.specs.Lacking.{steps_of}
-use Rattle.cert_check.specs.Accepting.{at_launch}
-use Rattle.cert_check.proofs.LoopFree.{covered_loop_free}
+use Rattle.arrivals.specs.Places as meant
+use Rattle.arrivals.specs.Loops.{unmet}
+use Rattle.places.specs.View.{place}
+use Rattle.places.specs.Answers.{IsRefused}
+use Rattle.certificate.specs.Certificates.{certificate}
+use Rattle.cert_check.specs.Checked.{IsTold}
+use Rattle.cert_check.proofs.Stopped.{stopped}
 use Rattle.cert_check.proofs.checking.accept.Goals as goal
 
-pub returns-clause-promise : goal.returns-clause-promise
-returns-clause-promise g c =
-    let k = kernel c.args.core.now in
-    let e : c.has_items.result ≡ true = search rules in
-    let s : is_covered k ≡ true = search rules in
-    let n : steps_of k ≤ c.args.conditions.now.budget = search rules in
-    record {
-      has_items = c.has_items.ensures.some e;
-      is_pair_safe = λ l f m. c.what_is_shown_is_pair_safe.ensures k (conditions c.args.conditions.now) (has_entry (map entry c.args.entries.now)) l c.args.conditions.now.budget s c.in_ok-show_all.ensures.shown f m
-          (λ i ws inside. le_trans (c.steps_are_within_the_cost.ensures (at_launch k l) (turns_of []) (covered_loop_free k s) i ws) n);
-    }
+pub unplaced-requires : goal.unplaced-requires
+unplaced-requires c = subst (λ x. IsRefused (kernel x).body c.in-Err.error) c.core.ensures.value c.in-Err.ensures
 
-pub returns-clause-shape : goal.returns-clause-shape
-returns-clause-shape g c =
-    let k = kernel c.args.core.now in
-    let s : is_covered k ≡ true = search rules in
-    let n : steps_of k ≤ c.args.conditions.now.budget = search rules in
-    record { arguments = c.requires.arguments; buffers = c.requires.lengths; is_covered = s; is_short = n }
+pub returns-in-Err-clause-stopped : goal.returns-in-Err-clause-stopped
+returns-in-Err-clause-stopped c = c.unplaced.ensures (conditions c.args.conditions.now) c.args.certificate.now
+
+pub returns-in-Err-read-clause-stopped : goal.returns-in-Err-read-clause-stopped
+returns-in-Err-read-clause-stopped c = (subst (λ x. unmet (kernel x).body ≡ None) c.core.ensures.value c.in-Ok.ensures.1, c.in-Err-read.ensures)
+
+pub show-requires-clause-places : goal.show-requires-clause-places
+show-requires-clause-places c =
+    let e : c.as_slice.result.now ≡ c.in-Ok.places.items = search rules in
+    ap (map place) e ∙ subst (λ x. map place c.in-Ok.places.items ≡ meant.places (kernel x).body) c.core.ensures.value c.in-Ok.ensures.0
+
+pub returns-clause-passed : goal.returns-clause-passed
+returns-clause-passed c =
+    let p = c.in-Ok-show.ensures.passed in
+    (subst (λ x. unmet (kernel x).body ≡ None) c.core.ensures.value c.in-Ok.ensures.1, certificate c.in-Ok-read.certificate, p.0, c.in-Ok-read.ensures, p.1, p.2)
+
+pub returns-in-Err-show-clause-stopped : goal.returns-in-Err-show-clause-stopped
+returns-in-Err-show-clause-stopped c =
+    let met = subst (λ x. unmet (kernel x).body ≡ None) c.core.ensures.value c.in-Ok.ensures.1 in
+    let told = subst (λ x. IsTold (tree x) c.in-Err-show.error c.unshown.result) c.kernel.ensures.value c.unshown.ensures in
+    stopped c.args.typed.now (conditions c.args.conditions.now) c.args.certificate.now (certificate c.in-Ok-read.certificate) met c.in-Ok-read.ensures c.in-Err-show.error c.unshown.result told c.in-Err-show.ensures.lacks

@@ -14,13 +14,13 @@ pub meets-requires-clause-arguments : goal.meets-requires-clause-arguments
 meets-requires-clause-arguments g c =
     let a = c.conditions.result.now.arguments in
     let b = c.args.launch.now.arguments in
-    a.ok.0 ∙ ap (λ x. length x.arguments.items) c.conditions.ensures.value ∙ arguments-alike (kernel (typed_of c.args.accepted.now).1) (kept c.args.accepted.now).arguments.items b.items c.conditions.ensures.shape.arguments c.requires.arguments ∙ sym b.ok.0
+    a.ok.0 ∙ ap (λ x. length x.arguments.items) c.conditions.ensures.value ∙ arguments-alike (kernel (typed_of c.args.accepted.now).1) (kept c.args.accepted.now).arguments.items b.items c.conditions.ensures.parameters.arguments c.requires.arguments ∙ sym b.ok.0
 
 pub meets-requires-clause-buffers : goal.meets-requires-clause-buffers
 meets-requires-clause-buffers g c =
     let a = c.conditions.result.now.lengths in
     let b = c.args.launch.now.buffers.words in
-    a.ok.0 ∙ ap (λ x. length x.lengths.items) c.conditions.ensures.value ∙ buffers-alike (kernel (typed_of c.args.accepted.now).1) (kept c.args.accepted.now).lengths.items b.items c.conditions.ensures.shape.buffers c.requires.buffers ∙ sym b.ok.0
+    a.ok.0 ∙ ap (λ x. length x.lengths.items) c.conditions.ensures.value ∙ buffers-alike (kernel (typed_of c.args.accepted.now).1) (kept c.args.accepted.now).lengths.items b.items c.conditions.ensures.parameters.buffers c.requires.buffers ∙ sym b.ok.0
 
 pub run_groups-requires-clause-meets : goal.run_groups-requires-clause-meets
 run_groups-requires-clause-meets g c =

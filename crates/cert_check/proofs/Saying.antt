@@ -1,0 +1,33 @@
+-- The code's notes are those that a certificate says.
+use Rattle.std.proofs.Common.{◌≡◌, List, [], ap, sym, ◌∙◌, subst}
+use Rattle.std.proofs.Math.Path.{fun_ext}
+use Rattle.std.specs.Prelude.{Some}
+use Rattle.semantics.specs.Launch.{Kernel}
+use Rattle.texts.specs.Certificate.{Certificate}
+use Rattle.texts.specs.Surface as surface
+use Rattle.arrivals.specs.Places.{Place, places}
+use Rattle.place_obligations.specs.Notes as notes
+use Rattle.place_notes.specs.View.{seen}
+use Rattle.place_notes.specs.declared.notes.Notes.{Notes}
+use Rattle.place_names.specs.Noted.{noted}
+use Rattle.place_names.specs.Noting.{notes_by, Agrees}
+use Rattle.place_names.specs.NotesView as views
+use Rattle.place_names.proofs.Agreeing.{seen-agrees}
+use Rattle.cert_check.specs.Refusing.{IsSaid}
+
+-- what is the same wherever it is asked is the same
+agree_same : (n m : notes.Notes) → Agrees n m → n ≡ m
+agree_same n m a =
+    ap (λ f. record n { same = f }) (fun_ext a.same)
+    ∙ ap (λ f. record n { same = m.same; facts = f }) (fun_ext (λ x. fun_ext (a.facts x)))
+    ∙ ap (λ f. record n { same = m.same; facts = m.facts; congruences = f }) (fun_ext (λ x. fun_ext (a.congruences x)))
+    ∙ ap (λ f. record n { same = m.same; facts = m.facts; congruences = m.congruences; ranking = f }) (fun_ext a.ranking)
+    ∙ ap (λ f. record m { visible = f; quotient = n.quotient; has_entry = n.has_entry }) (fun_ext a.visible)
+    ∙ ap (λ f. record m { quotient = f; has_entry = n.has_entry }) (fun_ext a.quotient)
+    ∙ ap (λ f. record m { has_entry = f }) (fun_ext a.has_entry)
+
+pub seen_said : (n : Notes) → seen n [] ≡ notes_by (views.notes n) []
+seen_said n = agree_same (seen n []) (notes_by (views.notes n) []) (seen-agrees n [])
+
+pub is_said : (k : Kernel) (tree : surface.Kernel) (cert : Certificate) (ps : List Place) (n : Notes) → ps ≡ places k.body → Some (views.notes n) ≡ noted k tree ps cert → IsSaid k tree cert (seen n [])
+is_said k tree cert ps n p h = (views.notes n, subst (λ x. noted k tree x cert ≡ Some (views.notes n)) p (sym h), seen_said n)

@@ -1,0 +1,51 @@
+-- What an error tells once the kernel and the conditions are read.
+use Rattle.std.proofs.Common.{◌≡◌, ℕ, List, sym, subst}
+use Rattle.std.specs.Prelude.{Ok}
+use Rattle.semantics.specs.Conditions.{Conditions}
+use Rattle.texts.specs.Certificate.{Certificate}
+use Rattle.texts.specs.ConditionsReading.{Lined, conditions_of, meant}
+use Rattle.texts.specs.CertificateReading.{certificate_of}
+use Rattle.syntax.specs.View.{kernel as tree_seen}
+use Rattle.syntax.specs.declared.tree.Kernel.{Kernel}
+use Rattle.core_code.specs.View.{kernel as core_seen}
+use Rattle.core_code.specs.declared.tree.Core.{Core}
+use Rattle.launch_words.specs.Answers as answers
+use Rattle.entry_check.specs.declared.error.ShowError.{ShowError}
+use Rattle.entry_check.specs.declared.error.ShowError.TheVariants as shows
+use Rattle.cert_check.specs.Refusing.{AreRead, AreMet, Refuses, Shows}
+use Rattle.cert_check.specs.Checked.{Stops, IsTold, Unshown}
+use Rattle.cert_check.specs.declared.error.CheckError.{CheckError}
+use Rattle.cert_check.specs.declared.error.CheckError.TheVariants as errors
+
+-- what is not shown, as it is told of the source
+module _ (typed : Kernel × Core) (c : Conditions) (certificate : List ℕ) (cert : Certificate) (met : AreMet typed) (is : certificate_of certificate ≡ Ok cert) where
+  abbrev Has : CheckError → Type 0
+  Has e = Stops typed c certificate e
+
+  -- it is told as it is
+  as_is : (e : ShowError) (told : CheckError) → told ≡ errors.Show e → Shows (core_seen typed.1) (tree_seen typed.0) c cert e → Has told
+  as_is e told h s = subst Has (sym h) (cert, met, is, s)
+
+  many : (s : _) (told : CheckError) → IsTold (tree_seen typed.0) (shows.ManyPaths s) told → Unshown (core_seen typed.1) (tree_seen typed.0) c cert (shows.ManyPaths s) → Has told
+  many s (errors.ManyPaths site) h (n, said, first) = (cert, met, is, (n, s, said, first, h))
+  many s (errors.Kernel e) h u = absurd h
+  many s (errors.Conditions e) h u = absurd h
+  many s (errors.Missed site) h u = absurd h
+  many s (errors.Certificate e) h u = absurd h
+  many s (errors.Show e) h u = absurd h
+
+  pub stopped : (e : ShowError) (told : CheckError) → IsTold (tree_seen typed.0) e told → Unshown (core_seen typed.1) (tree_seen typed.0) c cert e → Has told
+  stopped (shows.NotShown m) told h u = as_is (shows.NotShown m) told h u
+  stopped (shows.ManyPaths s) told h u = many s told h u
+  stopped (shows.Walk e) told h u = as_is (shows.Walk e) told h u
+  stopped shows.OverBudget told h u = as_is shows.OverBudget told h u
+  stopped shows.Memory told h u = as_is shows.Memory told h u
+
+-- what stops the check refuses the texts
+pub refused : (typed : Kernel × Core) (found : Lined) (kernel conditions certificate : List ℕ) → AreRead typed found kernel conditions → (e : CheckError) → Stops typed (meant found) certificate e → Refuses e kernel conditions certificate
+refused typed found k l p read (errors.Kernel e) s = absurd s
+refused typed found k l p read (errors.Conditions e) s = (typed, read.0, subst (λ x. answers.Refuses x (conditions_of (tree_seen typed.0).parameters l)) (sym s) tt)
+refused typed found k l p read (errors.Missed site) (loop, missed, at) = (typed, found, loop, read, missed, at)
+refused typed found k l p read (errors.Certificate e) (met, says) = (typed, found, read, met, says)
+refused typed found k l p read (errors.ManyPaths site) (cert, met, is, many) = (typed, found, cert, (read, met, is), many)
+refused typed found k l p read (errors.Show e) (cert, met, is, shown) = (typed, found, cert, (read, met, is), shown)

@@ -1,0 +1,55 @@
+-- What an error of the obligations tells of a kernel.
+use Rattle.std.proofs.Common.{◌≡◌, ℕ, zero, suc, ◌≤◌, Bool, true, false, nat_lt, List, subst, sym, ◌∙◌, inl, inr}
+use Rattle.std.proofs.lemmas.Bool.{ltb-false}
+use Rattle.std.specs.List.{All}
+use Rattle.semantics.specs.Launch.{Kernel}
+use Rattle.semantics.specs.Conditions.{Conditions}
+use Rattle.texts.specs.Certificate.{Certificate, Entry}
+use Rattle.texts.specs.Surface as surface
+use Rattle.arrivals.specs.Places.{Place, places}
+use Rattle.obligations.specs.Shown.{IsShown}
+use Rattle.place_obligations.specs.Notes.{Notes}
+use Rattle.place_obligations.specs.Telling.{TellsOfItems}
+use Rattle.place_obligations.specs.Limits.{AreLimits}
+use Rattle.place_names.specs.Noting.{lacks}
+use Rattle.plain_kernels.specs.Domains.{domain}
+use Rattle.entry_check.specs.Lacking.{PassesOf, TellsOf, TellsOwing, owing, steps_of, with_entries}
+use Rattle.entry_check.specs.declared.error.ShowError.{ShowError}
+use Rattle.entry_check.specs.declared.error.ShowError.TheVariants as shows
+use Rattle.cert_check.specs.Refusing.{IsSaid}
+use Rattle.cert_check.specs.Checked.{AllIsShown, PassesWith, Unshown}
+
+-- before the budget is looked at
+pub tells_of : (k : Kernel) (c : Conditions) (n : Notes) (es : List Entry) (e : ShowError) → TellsOwing domain k c n es e → TellsOf domain k c n es e
+tells_of k c n es (shows.NotShown m) h = h
+tells_of k c n es (shows.ManyPaths s) h = h
+tells_of k c n es (shows.Walk e) h = h
+tells_of k c n es shows.OverBudget h = absurd h
+tells_of k c n es shows.Memory h = tt
+
+-- which obligations have an entry is no matter to items and limits
+pub all_is_shown : (k : Kernel) (c : Conditions) (n : Notes) (es : List Entry) → TellsOfItems n → AreLimits n → All IsShown (owing domain k c n es) → steps_of k n ≤ c.budget → AllIsShown k c
+all_is_shown k c n es t l s b = (with_entries es n, (record { facts = t.facts; congruences = t.congruences; rankings = t.rankings }, l, s, b))
+
+pub lacks_unshown : (k : Kernel) (tree : surface.Kernel) (c : Conditions) (cert : Certificate) (ps : List Place) → ps ≡ places k.body → lacks k tree ps cert ≡ true → Unshown k tree c cert (shows.NotShown 0)
+lacks_unshown k tree c cert ps p h = inl (subst (λ x. lacks k tree x cert ≡ true) p h)
+
+-- of a kernel and entries as the code has them
+module _ (k k' : Kernel) (tree : surface.Kernel) (c : Conditions) (cert : Certificate) (es : List Entry) (n : Notes) (p : k' ≡ k) (q : es ≡ cert.entries) (said : IsSaid k tree cert n) where
+  pub passes_with : PassesOf domain k' c n es → PassesWith k tree c cert
+  passes_with h = (n, said, subst (PassesOf domain k c n) q (subst (λ x. PassesOf domain x c n es) p h))
+
+  told_said : (e : ShowError) → TellsOf domain k c n cert.entries e → Unshown k tree c cert e
+  told_said (shows.NotShown zero) h = inr (n, said, h)
+  told_said (shows.NotShown (suc m)) h = (n, said, h)
+  told_said (shows.ManyPaths s) h = (n, said, h)
+  told_said (shows.Walk e) h = (n, said, h)
+  told_said shows.OverBudget h = (n, said, h)
+  told_said shows.Memory h = tt
+
+  pub unshown : (e : ShowError) → TellsOf domain k' c n es e → Unshown k tree c cert e
+  unshown e h = told_said e (subst (λ x. TellsOf domain k c n x e) q (subst (λ x. TellsOf domain x c n es e) p h))
+
+-- a test that is false
+pub few_steps : (budget steps : ℕ) (b : Bool) → b ≡ nat_lt budget steps → b ≡ false → steps ≤ budget
+few_steps budget steps b e f = ltb-false budget steps (sym e ∙ f)

@@ -1,0 +1,71 @@
+-- What the steps of the check tell one another of a kernel and conditions that are read.
+use Rattle.std.specs.Prelude.{◌≡◌, ◌≤◌, ℕ, List, Some, Ok, Err}
+use Rattle.std.specs.List.{All}
+use Rattle.semantics.specs.Launch as semantics
+use Rattle.semantics.specs.Conditions.{Conditions}
+use Rattle.texts.specs.Certificate.{Certificate}
+use Rattle.texts.specs.Surface as surface
+use Rattle.texts.specs.CertificateReading.{certificate_of}
+use Rattle.syntax.specs.View.{kernel as tree_seen}
+use Rattle.syntax.specs.declared.tree.Kernel.{Kernel}
+use Rattle.core_code.specs.View.{kernel as core_seen, site as site_seen}
+use Rattle.core_code.specs.declared.tree.Core.{Core}
+use Rattle.certificate.specs.Certificates.{Says}
+use Rattle.launch_words.specs.declared.error.LaunchTextError.TheVariants as launches
+use Rattle.arrivals.specs.Loops.{unmet}
+use Rattle.obligations.specs.Shown.{IsShown}
+use Rattle.place_obligations.specs.Notes.{Notes}
+use Rattle.place_obligations.specs.Telling.{TellsOfItems}
+use Rattle.place_obligations.specs.Limits.{AreLimits}
+use Rattle.place_obligations.specs.Listing.{all_trees}
+use Rattle.place_obligations.specs.Shown.{obligations}
+use Rattle.place_paths.specs.Unfound.{IsFirstOfMany}
+use Rattle.statement_sites.specs.Sites.{site_at}
+use Rattle.plain_kernels.specs.Domains.{domain}
+use Rattle.entry_check.specs.Lacking.{PassesOf, steps_of, with_entries}
+use Rattle.entry_check.specs.declared.error.ShowError.{ShowError}
+use Rattle.entry_check.specs.declared.error.ShowError.TheVariants as shows
+use Rattle.cert_check.specs.Refusing.{IsSaid, Shows, AreMet, HasManyPathsAt}
+use Rattle.cert_check.specs.declared.error.CheckError.{CheckError}
+use Rattle.cert_check.specs.declared.error.CheckError.TheVariants as errors
+
+-- by what is said of its places and loops all is shown of a kernel, and its steps are within the budget
+abbrev pub IsShownBy : semantics.Kernel → Conditions → Notes → Type 0
+IsShownBy k c n = TellsOfItems n × AreLimits n × All IsShown (obligations domain k c n) × (steps_of k n ≤ c.budget)
+
+abbrev pub AllIsShown : semantics.Kernel → Conditions → Type 0
+AllIsShown k c = (n : Notes) × IsShownBy k c n
+
+-- with what a certificate says nothing stops the check
+abbrev pub PassesWith : semantics.Kernel → surface.Kernel → Conditions → Certificate → Type 0
+PassesWith k tree c cert = (n : Notes) × IsSaid k tree cert n × PassesOf domain k c n cert.entries
+
+-- what an error tells that is not told with its place as yet
+abbrev pub Unshown : semantics.Kernel → surface.Kernel → Conditions → Certificate → ShowError → Type 0
+Unshown k tree c cert (shows.NotShown m) = Shows k tree c cert (shows.NotShown m)
+Unshown k tree c cert (shows.ManyPaths s) = (n : Notes) × IsSaid k tree cert n × IsFirstOfMany s (all_trees domain k c (with_entries cert.entries n))
+Unshown k tree c cert (shows.Walk e) = Shows k tree c cert (shows.Walk e)
+Unshown k tree c cert shows.OverBudget = Shows k tree c cert shows.OverBudget
+Unshown k tree c cert shows.Memory = Unit {0}
+
+-- an error as it is told of a source
+abbrev pub IsTold : surface.Kernel → ShowError → CheckError → Type 0
+IsTold tree (shows.ManyPaths s) (errors.ManyPaths site) = site_seen site ≡ site_at tree s
+IsTold tree (shows.ManyPaths s) (errors.Kernel e) = ⊥
+IsTold tree (shows.ManyPaths s) (errors.Conditions e) = ⊥
+IsTold tree (shows.ManyPaths s) (errors.Missed site) = ⊥
+IsTold tree (shows.ManyPaths s) (errors.Certificate e) = ⊥
+IsTold tree (shows.ManyPaths s) (errors.Show e) = ⊥
+IsTold tree (shows.NotShown m) told = told ≡ errors.Show (shows.NotShown m)
+IsTold tree (shows.Walk e) told = told ≡ errors.Show (shows.Walk e)
+IsTold tree shows.OverBudget told = told ≡ errors.Show shows.OverBudget
+IsTold tree shows.Memory told = told ≡ errors.Show shows.Memory
+
+-- what an error tells once the kernel and the conditions are read; want of memory may be told as theirs
+abbrev pub Stops : Kernel × Core → Conditions → (certificate : List ℕ) → CheckError → Type 0
+Stops typed c certificate (errors.Kernel e) = ⊥
+Stops typed c certificate (errors.Conditions e) = e ≡ launches.Memory
+Stops typed c certificate (errors.Missed site) = (loop : ℕ) × (unmet (core_seen typed.1).body ≡ Some loop) × (site_seen site ≡ site_at (tree_seen typed.0) (Some loop))
+Stops typed c certificate (errors.Certificate e) = AreMet typed × Says (Err e) (certificate_of certificate)
+Stops typed c certificate (errors.ManyPaths site) = (cert : Certificate) × AreMet typed × (certificate_of certificate ≡ Ok cert) × HasManyPathsAt site typed c cert
+Stops typed c certificate (errors.Show e) = (cert : Certificate) × AreMet typed × (certificate_of certificate ≡ Ok cert) × Shows (core_seen typed.1) (tree_seen typed.0) c cert e

@@ -1,0 +1,90 @@
+//! What a certificate says, against what is to be shown.
+
+ghost use Rattle.std.specs.Prelude.{◌≡◌, nat_lt, true, map, List, [], Bool, IfOk, IfErr};
+ghost use Rattle.arrivals.specs.Places as meant;
+ghost use Rattle.certificate.specs.Certificates.{certificate as certificate_seen};
+ghost use Rattle.certificate_tree.specs.View.{entry as entry_seen};
+ghost use Rattle.core_code.specs.View.{kernel as core_seen};
+ghost use Rattle.facts.specs.Launching.{are_sizes};
+ghost use Rattle.launch.specs.View.{conditions as conditions_seen};
+ghost use Rattle.place_notes.specs.View.{seen};
+ghost use Rattle.place_obligations.specs.Telling.{TellsOfItems};
+ghost use Rattle.places.specs.View.{place as place_seen};
+ghost use Rattle.plain_kernels.specs.Domains.{domain};
+ghost use Rattle.syntax.specs.View.{kernel as tree_seen};
+ghost use Rattle.entry_check.specs.Lacking.{PassesOf, TellsOf, steps_of};
+ghost use Rattle.cert_check.specs.Checked.{AllIsShown, PassesWith, Unshown};
+
+use certificate::Certificate;
+use certificate_tree::tree::Entry;
+use congruence::Congruence;
+use core_code::tree::Core;
+use entry_check::{ShowError, show_all};
+use interval::Interval;
+use launch::conditions::Conditions;
+use loop_bounds::cost;
+use place_names::{NamesError, notes_of};
+use place_notes::Notes;
+use places::Place;
+use product::Product;
+use shown_kernels::laws::noted_rankings_are_limits;
+use std::alloc::Global;
+use types::typed::Typed;
+
+/// An item may take more steps than the budget.
+fn is_over(core: &Core, notes: &Notes, budget: u64) -> bool
+    ensures { (entries : List Bool) → result ≡ nat_lt budget (steps_of (core_seen core.now) (seen notes.now entries)) }
+{
+    noted_rankings_are_limits(notes);
+    match cost(core, notes.rankings.as_slice()) {
+        Ok(steps) => steps > budget,
+        Err(_) => true,
+    }
+}
+
+/// By what is said of its places and loops all is shown of a kernel, within the budget.
+fn show_noted(
+    alloc: Global,
+    core: &Core,
+    conditions: &Conditions,
+    notes: &Notes,
+    places: &[Place<'_>],
+    entries: &[Entry],
+) -> Result<(), ShowError>
+    requires sizes { are_sizes (core_seen core.now).sizes ≡ true }
+    requires places { map place_seen places.now ≡ meant.places (core_seen core.now).body }
+    requires items { (flags : List Bool) → TellsOfItems (seen notes.now flags) }
+    ensures passed { IfOk result (λ _. PassesOf domain (core_seen core.now) (conditions_seen conditions.now) (seen notes.now []) (map entry_seen entries.now)) }
+    ensures shown { IfOk result (λ _. AllIsShown (core_seen core.now) (conditions_seen conditions.now)) }
+    ensures lacks { IfErr result (TellsOf domain (core_seen core.now) (conditions_seen conditions.now) (seen notes.now []) (map entry_seen entries.now)) }
+{
+    noted_rankings_are_limits(notes);
+    show_all::<Product<Interval, Congruence>>(alloc, core, conditions, notes, places, entries)?;
+    if is_over(core, notes, conditions.budget) {
+        return Err(ShowError::OverBudget);
+    }
+    Ok(())
+}
+
+/// So with what a certificate says of them.
+pub(crate) fn show(
+    alloc: Global,
+    typed: &Typed,
+    conditions: &Conditions,
+    places: &[Place<'_>],
+    certificate: &Certificate,
+) -> Result<(), ShowError>
+    requires sizes { are_sizes (core_seen typed.now.1).sizes ≡ true }
+    requires places { map place_seen places.now ≡ meant.places (core_seen typed.now.1).body }
+    ensures passed { IfOk result (λ _. PassesWith (core_seen typed.now.1) (tree_seen typed.now.0) (conditions_seen conditions.now) (certificate_seen certificate.now)) }
+    ensures shown { IfOk result (λ _. AllIsShown (core_seen typed.now.1) (conditions_seen conditions.now)) }
+    ensures lacks { IfErr result (Unshown (core_seen typed.now.1) (tree_seen typed.now.0) (conditions_seen conditions.now) (certificate_seen certificate.now)) }
+{
+    let notes = match notes_of(alloc, typed, places, certificate) {
+        Ok(Some(notes)) => notes,
+        Ok(None) => return Err(ShowError::NotShown(0)),
+        Err(NamesError::Memory) => return Err(ShowError::Memory),
+    };
+    let entries = certificate.entries();
+    show_noted(alloc, typed.core(), conditions, &notes, places, entries)
+}

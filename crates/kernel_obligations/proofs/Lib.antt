@@ -1,6 +1,0 @@
-pub mod Next
-pub mod Rests
-pub mod Ends
-pub mod Onward
-pub mod Last
-pub mod Found

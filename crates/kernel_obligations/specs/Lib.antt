@@ -1,4 +1,0 @@
-pub mod View
-pub mod Rests
-pub mod Walked
-pub mod Refusals

@@ -1,8 +1,9 @@
 #!/usr/bin/env python3
 """Compares `check` with an independent program, and measures it.
 
-    check.py compare FOLDER COUNT SEED      COUNT random kernels without loops, barriers and local arrays; FOLDER has the modules of the
+    check.py compare FOLDER COUNT SEED      COUNT random kernels, half of them with loops or barriers; FOLDER has the modules of the
                                             independent program; each kernel with a certificate that was made for it, and with changed ones
+    check.py kernels FOLDER KERNELS         the kernels of a folder: NAME.cl with NAME.cond, and NAME.expect, which begins with safe or unsafe
     check.py measure FOLDER                 seconds and memory of `check` with 256 paths and with 65,520 obligations
 
 Build the program first: cd crates/kverify && rt run
@@ -12,9 +13,10 @@ import random
 import subprocess
 import sys
 import tempfile
+import time
 
 ROOT = os.path.dirname(os.path.dirname(os.path.abspath(__file__)))
-PROGRAM = os.path.join(ROOT, "crates", "kverify", "out", "kverify")
+PROGRAM = os.environ.get("KVERIFY", os.path.join(ROOT, "crates", "kverify", "out", "kverify"))
 EMPTY = b"certificate 1\nend\n"
 CHANGES = 3
 TIMES = 5
@@ -44,9 +46,13 @@ class Answers:
         config.stage("b")
         self.check, self.config, self.fuzz, self.prove, self.tree = check, config, fuzz, prove, tree
 
-    def is_within(self, typed):
+    def is_simple(self, typed):
         others = (self.tree.Barrier, self.tree.Local)
         return not typed.loops and not any(isinstance(it, others) for it in typed.stmts.values())
+
+    def changed_example(self, rng):
+        text, groups, values, lengths = rng.choice(self.fuzz.CORPUS)
+        return self.fuzz.mutate(rng, text), self.fuzz.as_cond(groups, values, dict(lengths))
 
     def of(self, kernel, conditions, certificate):
         try:
@@ -123,21 +129,23 @@ class Guarded:
 
 def compare(folder, count, seed):
     answers = Answers(folder)
-    found = dict.fromkeys(("kernels", "certificates", "accepted", "refused", "changed ones accepted", "different"), 0)
+    found = dict.fromkeys(("kernels", "without loops and barriers", "certificates", "accepted", "refused", "changed ones accepted", "different"), 0)
     attempt = 0
     with tempfile.TemporaryDirectory() as place:
         while found["kernels"] < count:
             rng = random.Random("%d:%d" % (seed, attempt))
             attempt += 1
-            source = rng.choice([answers.fuzz.Gen, Guarded, Guarded])
-            kernel, conditions = (text.encode() for text in source(rng).kernel())
+            source = rng.choice([lambda: answers.fuzz.Gen(rng).kernel(), lambda: Guarded(rng).kernel(), lambda: answers.changed_example(rng)])
+            kernel, conditions = (text.encode() for text in source())
             try:
                 typed, _, _ = answers.check.front(kernel, conditions)
             except answers.config.Refused:
                 continue
-            if not answers.is_within(typed):
+            is_simple = answers.is_simple(typed)
+            if is_simple and found["without loops and barriers"] > count // 2:
                 continue
             found["kernels"] += 1
+            found["without loops and barriers"] += is_simple
             made = answers.made(kernel, conditions)
             changed = [answers.fuzz.forge_text(rng, made) for _ in range(CHANGES)]
             for certificate in dict.fromkeys([made, EMPTY, *changed]):
@@ -152,6 +160,24 @@ def compare(folder, count, seed):
     for what, number in found.items():
         print(f"{number} {what}")
     return found["different"]
+
+
+def kernels(folder, place):
+    answers = Answers(folder)
+    different = 0
+    with tempfile.TemporaryDirectory() as work:
+        for name in sorted(it[:-3] for it in os.listdir(place) if it.endswith(".cl")):
+            kernel, conditions, expected = (open(os.path.join(place, name + end), "rb").read() for end in (".cl", ".cond", ".expect"))
+            made = answers.made(kernel, conditions)
+            wanted = answers.of(kernel, conditions, made)
+            start = time.perf_counter()
+            got = checked(work, kernel, conditions, made)
+            taken = time.perf_counter() - start
+            is_wrong = got != wanted or got == "accepted" and not expected.startswith(b"safe")
+            different += is_wrong
+            print(f"{name}: {got}{f', not {wanted}' if got != wanted else ''}; {1000 * taken:.0f} ms, {len(made)} bytes{' WRONG' if is_wrong else ''}")
+    print(f"{different} different")
+    return different
 
 
 # ---- the measurements
@@ -201,6 +227,8 @@ def measure(folder):
 def main():
     if sys.argv[1:2] == ["compare"] and len(sys.argv) == 5:
         return 1 if compare(sys.argv[2], int(sys.argv[3]), int(sys.argv[4])) else 0
+    if sys.argv[1:2] == ["kernels"] and len(sys.argv) == 4:
+        return 1 if kernels(sys.argv[2], sys.argv[3]) else 0
     if sys.argv[1:2] == ["measure"] and len(sys.argv) == 3:
         return measure(sys.argv[2])
     sys.exit(__doc__)

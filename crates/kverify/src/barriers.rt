@@ -258,7 +258,7 @@ const LINES: &[(&str, &str)] = &[
     ("check stride stride.c193 stride.p", "1 refused 56\n "),
     ("check stride stride.c tree.p", "1 refused 52 0\n "),
     ("check half half.c empty", "1 refused 52 1\n "),
-    ("check other other.c empty", "1 refused 55 3:3\n "),
+    ("check other other.c empty", "1 refused 55 3:1\n "),
     ("check turn turn.c turn.p", "1 refused 52 13\n "),
     ("check turn.g turn.c turn.p", "0 accepted\n "),
     ("check lone lone.c empty", "0 accepted\n "),

@@ -4,12 +4,14 @@
     check.py compare FOLDER COUNT SEED      COUNT random kernels, half of them with loops or barriers; FOLDER has the modules of the
                                             independent program; each kernel with a certificate that was made for it, and with changed ones
     check.py kernels FOLDER KERNELS         the kernels of a folder: NAME.cl with NAME.cond, and NAME.expect, which begins with safe or unsafe
+    check.py reductions FOLDER              tree reductions of 2 to 1,024 items under other names, with the least budget and one step less
     check.py measure FOLDER                 seconds and memory of `check` with 256 paths and with 65,520 obligations
 
 Build the program first: cd crates/kverify && rt run
 """
 import os
 import random
+import re
 import subprocess
 import sys
 import tempfile
@@ -180,6 +182,34 @@ def kernels(folder, place):
     return different
 
 
+NAMES = {"tree_reduction": "total", "lid": "me", "t": "tile", "in": "source", "out": "sums", "s": "step"}
+
+
+def reduction(items, budget):
+    """The example's texts for so many items, with other names."""
+    texts = []
+    for end in ("cl", "conditions"):
+        with open(os.path.join(ROOT, "examples", "tree_reduction." + end)) as found:
+            text = re.sub(r"\b[a-z_]+\b", lambda it: NAMES.get(it[0], it[0]), found.read())
+        text = re.sub(r"\b64\b", str(items), text).replace("32u", f"{items // 2}u").replace("budget 51", f"budget {budget}")
+        texts.append(text.encode())
+    return texts
+
+
+def reductions(folder):
+    answers = Answers(folder)
+    different = 0
+    with tempfile.TemporaryDirectory() as work:
+        for k in range(1, 11):
+            least = 7 * k + 9
+            made = answers.made(*reduction(2**k, least))
+            got = [checked(work, *reduction(2**k, budget), made) for budget in (least, least - 1)]
+            different += got != ["accepted", "refused 56"]
+            print(f"{2**k} items: {got[0]}, with one step less {got[1]}; {len(made)} bytes")
+    print(f"{different} different")
+    return different
+
+
 # ---- the measurements
 
 HEAD = "__kernel __attribute__((reqd_work_group_size(%d, 1, 1))) void k(%s) {\n"
@@ -229,6 +259,8 @@ def main():
         return 1 if compare(sys.argv[2], int(sys.argv[3]), int(sys.argv[4])) else 0
     if sys.argv[1:2] == ["kernels"] and len(sys.argv) == 4:
         return 1 if kernels(sys.argv[2], sys.argv[3]) else 0
+    if sys.argv[1:2] == ["reductions"] and len(sys.argv) == 3:
+        return 1 if reductions(sys.argv[2]) else 0
     if sys.argv[1:2] == ["measure"] and len(sys.argv) == 3:
         return measure(sys.argv[2])
     sys.exit(__doc__)

@@ -141,24 +141,8 @@ def compare(folder, count, seed):
 
 HEAD = "__kernel __attribute__((reqd_work_group_size(64, 1, 1))) void k(%s) {\n"
 
-REDUCTION = HEAD % "__global const uint *in, __global uint *out" + """\
-  __local uint t[64];
-  uint lid = get_local_id(0);
-  t[lid] = in[get_global_id(0)];
-  barrier(CLK_LOCAL_MEM_FENCE);
-  uint s = 32u;
-  while (s > 0u) {
-    if (lid < s) {
-      t[lid] = t[lid] + t[lid + s];
-    }
-    barrier(CLK_LOCAL_MEM_FENCE);
-    s = s >> 1;
-  }
-  if (lid == 0u) {
-    out[get_group_id(0)] = t[0];
-  }
-}
-"""
+with open(os.path.join(ROOT, "examples", "tree_reduction.cl")) as found:
+    REDUCTION = found.read()
 
 SUMS = HEAD % "__global uint *a, uint n" + """\
   uint gid = get_global_id(0);

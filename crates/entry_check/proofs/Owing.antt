@@ -22,9 +22,8 @@ use Rattle.place_paths.specs.Unfound.{HaveFewPaths, IsUnfound, IsUnlisted}
 use Rattle.place_paths.specs.declared.error.FindError.{FindError}
 use Rattle.place_paths.specs.declared.error.FindError.TheVariants as finds
 use Rattle.entry_check.specs.Entries.{has_entry}
-use Rattle.entry_check.specs.Lacking.{AreListed, PassesOf, TellsOf, TellsOwing, with_entries}
+use Rattle.entry_check.specs.Lacking.{AreListed, TellsOwing, with_entries}
 use Rattle.entry_check.specs.Numbers.{show_of}
-use Rattle.entry_check.specs.declared.error.ShowError.{ShowError}
 
 abbrev with_flags : Notes → (ℕ → Bool) → Notes
 with_flags n f = record { same = n.same; facts = n.facts; congruences = n.congruences; ranking = n.ranking; visible = n.visible; quotient = n.quotient; has_entry = f }
@@ -52,9 +51,3 @@ module _ {E : Type 0} (g : Ghosts E) (k : Kernel) (c : Conditions) where
   pub told_unfound : (es : List Entry) (n : Notes) (e : FindError) → IsUnfound g k c (with_entries es n) e → TellsOwing g k c n es (show_of e)
   told_unfound es n (finds.ManyPaths s) u = u
   told_unfound es n (finds.Walk e) u = u
-
-pub same_told : {E : Type 0} (g : Ghosts E) (k k' : Kernel) (c c' : Conditions) (n n' : Notes) (es es' : List Entry) (e : ShowError) → k ≡ k' → c ≡ c' → n ≡ n' → es ≡ es' → TellsOf g k c n es e → TellsOf g k' c' n' es' e
-same_told g k k' c c' n n' es es' e p q m r t = subst (λ x. TellsOf g k' c' n' x e) r (subst (λ x. TellsOf g k' c' x es e) m (subst (λ x. TellsOf g k' x n es e) q (subst (λ x. TellsOf g x c n es e) p t)))
-
-pub same_passed : {E : Type 0} (g : Ghosts E) (k k' : Kernel) (c c' : Conditions) (n n' : Notes) (es es' : List Entry) → k ≡ k' → c ≡ c' → n ≡ n' → es ≡ es' → PassesOf g k c n es → PassesOf g k' c' n' es'
-same_passed g k k' c c' n n' es es' p q m r t = subst (PassesOf g k' c' n') r (subst (λ x. PassesOf g k' c' x es) m (subst (λ x. PassesOf g k' x n es) q (subst (λ x. PassesOf g x c n es) p t)))

@@ -1,14 +1,14 @@
--- Plain kernels are covered by the walk, and their terms are lawful.
+-- The terms of plain kernels are lawful, and their local sizes are sizes.
 use Rattle.std.proofs.Common.{◌≡◌, ℕ, ◌≤◌, Bool, List, true, arith, refl}
-use Rattle.std.specs.Prelude.{ℤ, nat_le}
+use Rattle.std.specs.Prelude.{nat_le}
 use Rattle.std.proofs.lemmas.Bool.Decides.{nat_tests}
 use Rattle.semantics.specs.Word.{Kind}
-use Rattle.semantics.specs.Core.{Space, Term, Statements, none, one}
+use Rattle.semantics.specs.Core.{Space, Term}
 use Rattle.semantics.specs.Launch.{Kernel}
 use Rattle.semantics.specs.Conditions.{Conditions}
 use Rattle.facts.specs.Launching.{are_sizes}
-use Rattle.obligations.specs.Covered.{covers_term, is_global, are_covered, is_covered}
-use Rattle.plain_kernels.specs.Kernels.{IsPlainValue, Number, BroughtNumber, Parameter, BroughtParameter, IsPlainIndex, Alone, Times, Plus, TimesPlus, Plain, ArePlain, IsPlain, HasLimits}
+use Rattle.obligations.specs.Covered.{covers_term}
+use Rattle.plain_kernels.specs.Kernels.{IsPlainValue, Number, BroughtNumber, Parameter, BroughtParameter, IsPlainIndex, Alone, Times, Plus, TimesPlus, HasLimits}
 
 -- whatever arrays may be loaded: they load none
 module _ (sp : Space → Bool) where
@@ -24,15 +24,8 @@ module _ (sp : Space → Bool) where
   index-covered _ _ _ (Plus a kc z hz) = rw hz refl
   index-covered _ _ _ (TimesPlus a p kf kc f z hf hz) = rw (hf, hz) refl
 
-body-covered : (ks : List Kind) (size : ℕ) (groups : ℤ) (body : Statements) → ArePlain ks size groups body → are_covered body ≡ true
-body-covered ks size groups none p = refl
-body-covered ks size groups (one s others) (Plain n b site e f z v i last pv, q) = rw (index-covered is_global e f z i, value-covered is_global ks v pv, body-covered ks size groups others q) refl
-
 at_most : (n m : ℕ) → n ≤ m → nat_le n m ≡ true
 at_most n m h = grind (arith, nat_tests)
 
 pub plain-sizes : (k : Kernel) (c : Conditions) → HasLimits k c → are_sizes k.sizes ≡ true
 plain-sizes k c limits = rw (at_most k.sizes.x 1024 limits.size_x.1, at_most k.sizes.y 1024 limits.size_y.1, at_most k.sizes.z 1024 limits.size_z.1) refl
-
-pub plain-covered : (k : Kernel) (c : Conditions) → HasLimits k c → IsPlain k c → is_covered k ≡ true
-plain-covered k c limits plain = rw (plain-sizes k c limits, body-covered k.arguments k.sizes.x c.groups.x.high k.body plain) refl

@@ -20,6 +20,7 @@ mod manner;
 mod meetings;
 mod met;
 mod numbered;
+mod parts;
 mod places;
 mod quotients;
 mod seconds;
@@ -29,5 +30,8 @@ mod two;
 mod walked;
 
 pub use manner::Manner;
+pub use meetings::About;
 pub use numbered::Obligations;
+pub use parts::Part;
+pub use places::Place;
 pub use walked::{Tagged, Walked};

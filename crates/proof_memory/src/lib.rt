@@ -1,0 +1,2 @@
+//! Section: Search. Promises derivations that refute; stands on `cut_search`.
+#![tactic(auto)]

@@ -1,2 +1,24 @@
 //! Section: Search. Promises nothing: short runs that refute guesses; stands on `core_code`, `launch` and `candidate_lines`.
+//!
+//! A few work-items run alone, each for a few steps and with random words for what it loads. What is false in a state that was seen need
+//! not be tried; what holds in all of them may be tried. The numbers only look random: each run of the program sees the same ones.
 #![tactic(auto)]
+
+mod basis;
+mod equalities;
+mod item;
+mod launching;
+mod modular;
+mod observing;
+mod operations;
+mod random;
+mod seen;
+mod solo;
+mod spacing;
+#[cfg(test)]
+mod tests;
+mod told;
+
+pub use observing::observe;
+pub use seen::{Observed, State};
+pub use told::told_by_runs;

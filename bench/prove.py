@@ -1,0 +1,75 @@
+#!/usr/bin/env python3
+"""Proves the kernels of a folder and prints a table: kernel, what it is, verdict, milliseconds, candidates and obligations, certificate.
+
+    prove.py KERNELS [WORKERS] [NAME ..]    NAME.cl with NAME.cond, and NAME.expect, which begins with safe or unsafe; those of these names alone
+
+Each certificate is given to `check`, which has to accept it. Build the program first: cd crates/kverify && rt run
+"""
+import os
+import re
+import resource
+import statistics
+import subprocess
+import sys
+import tempfile
+import time
+
+ROOT = os.path.dirname(os.path.dirname(os.path.abspath(__file__)))
+PROGRAM = os.environ.get("KVERIFY", os.path.join(ROOT, "crates", "kverify", "out", "kverify"))
+LIMIT = 120
+
+
+def said(words):
+    """The first line that the program prints, and the milliseconds that it took."""
+    started = time.monotonic()
+    try:
+        done = subprocess.run([PROGRAM, *words], capture_output=True, text=True, timeout=LIMIT)
+        line = (done.stdout + done.stderr).split("\n")[0]
+    except subprocess.TimeoutExpired:
+        line = "late"
+    return line, 1000 * (time.monotonic() - started)
+
+
+def row(folder, place, name, workers):
+    """One kernel's row: the safe ones are to be accepted, and their certificates checked."""
+    files = [f"{place}/{name}.cl", f"{place}/{name}.cond"]
+    out = f"{folder}/certificate.txt"
+    if os.path.exists(out):
+        os.remove(out)
+    line, taken = said(["prove", *files, "--workers", workers, "--out", out])
+    with open(f"{place}/{name}.expect", encoding="utf-8") as it:
+        kind = " ".join(it.readline().split())
+    lines = size = entries = 0
+    if line == "accepted":
+        with open(out, encoding="utf-8") as it:
+            text = it.read()
+        size, entries = len(text), len(re.findall("(?m)^ob ", text))
+        lines = len(re.findall("(?m)^(same|fact|mod) ", text))
+        checked = said(["check", *files, out])[0]
+        if checked != "accepted":
+            line = f"BROKEN: check says {checked}"
+    is_right = (line == "accepted") == (kind == "safe") and "BROKEN" not in line and line.split(" ")[0] in ("accepted", "refused")
+    print(f"| `{name}` | {kind} | {line} | {taken:.0f} | {lines} | {entries} | {size} |{'' if is_right else ' <--'}", flush=True)
+    return kind, line, taken, size
+
+
+def main():
+    place = sys.argv[1]
+    workers = sys.argv[2] if len(sys.argv) > 2 else "1"
+    only = sys.argv[3:]
+    names = sorted(it[:-3] for it in os.listdir(place) if it.endswith(".cl") and (not only or it[:-3] in only))
+    print("| Kernel | What it is | Verdict | ms | Lines of places | Entries | Bytes |\n|---|---|---|---|---|---|---|")
+    with tempfile.TemporaryDirectory() as folder:
+        rows = [row(folder, place, name, workers) for name in names]
+    safe = [it for it in rows if it[0] == "safe"]
+    proved = [it for it in safe if it[1] == "accepted"]
+    wrong = [it for it in rows if it[0] != "safe" and it[1] == "accepted"]
+    print(f"{len(proved)} of {len(safe)} safe kernels accepted, {len(wrong)} of {len(rows) - len(safe)} unsafe ones")
+    if proved:
+        times = [it[2] for it in proved]
+        print(f"accepted ones: median {statistics.median(times):.0f} ms, worst {max(times):.0f} ms, {sum(it[3] for it in proved)} bytes")
+    print(f"all: worst {max(it[2] for it in rows):.0f} ms; memory of the largest {resource.getrusage(resource.RUSAGE_CHILDREN).ru_maxrss // 1024} MiB")
+
+
+if __name__ == "__main__":
+    main()

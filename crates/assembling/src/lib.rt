@@ -1,0 +1,11 @@
+//! Section: Search. Promises nothing: guesses that stand, put together to a certificate; stands on `guess_walk` and `settling`.
+#![tactic(auto)]
+
+mod joining;
+mod entries;
+mod limits;
+mod needed;
+
+pub use joining::{Assembled, Plan, Use, assemble};
+pub use limits::{UNLIMITED, least_limits};
+pub use needed::needed_only;

@@ -1,0 +1,66 @@
+//! Guesses that something needs.
+
+use crate::joining::Use;
+use candidate_lines::Candidate;
+use std::alloc::{AllocError, Global};
+
+/// Takes in the guesses that an entry uses; whether there was a new one.
+fn mark(flags: &mut [bool], guesses: &[u32]) -> bool {
+    let mut is_new = false;
+    for guess in guesses {
+        if let Some(flag) = flags.get_mut(*guess as usize) {
+            if !*flag {
+                *flag = true;
+                is_new = true;
+            }
+        }
+    }
+    is_new
+}
+
+/// Once through all entries: those of obligations that are of no guess, or of one that is needed.
+fn pass(flags: &mut [bool], uses: &[Use]) -> bool {
+    let mut is_new = false;
+    for one in uses {
+        let counts = match one.of {
+            None => true,
+            Some(guess) => flags.get(guess as usize).copied().unwrap_or(false),
+        };
+        if counts && mark(flags, one.guesses.as_slice()) {
+            is_new = true;
+        }
+    }
+    is_new
+}
+
+/// The guesses that entries of other obligations use, and those that these rest on; nothing where all are needed.
+pub fn needed_only(
+    alloc: Global,
+    candidates: &[Candidate],
+    uses: &[Use],
+) -> Result<Option<Vec<Candidate>>, AllocError> {
+    let mut flags = vec![in alloc; false; candidates.len()]?;
+    for _ in 0..candidates.len().saturating_add(1) {
+        if !pass(flags.as_mut_slice(), uses) {
+            break;
+        }
+    }
+    if !flags.as_slice().contains(&false) {
+        return Ok(None);
+    }
+    let mut kept = Vec::new(alloc);
+    for i in 0..candidates.len() {
+        if flags.get(i).copied().unwrap_or(false) {
+            let candidate = &candidates[i];
+            kept.push(
+                Candidate {
+                    anchor: candidate.anchor,
+                    head: candidate.head,
+                    rank: candidate.rank,
+                    line: candidate.line.copy(alloc)?,
+                },
+            )?;
+        }
+    }
+    Ok(Some(kept))
+}

@@ -1,0 +1,184 @@
+//! How variables go from place to place: what they begin with, and by how much they step.
+
+use crate::single_values::{Given, has_slot, settled};
+use candidate_lines::{Leaf, Sight, divisor_of, is_same, one_of, try_difference, variable};
+use linear::Form;
+use std::alloc::{AllocError, Global};
+
+/// How many values that a variable begins with are looked at.
+const STARTS: usize = 4;
+
+/// What a variable begins with, and by how much it steps.
+#[derive(Drop)]
+pub struct Course {
+    pub starts: Vec<Form>,
+    pub strides: Vec<i64>,
+}
+
+/// Two variables, by their slots, which step on one path by these numbers, and on no other path by other ones.
+#[derive(Drop)]
+pub struct Pair {
+    pub first: u32,
+    pub second: u32,
+    pub by_first: i64,
+    pub by_second: i64,
+    pub is_steady: bool,
+}
+
+/// The courses by slot, and the pairs of those that step together.
+#[derive(Drop)]
+pub struct Courses {
+    pub of_slots: Vec<Course>,
+    pub pairs: Vec<Pair>,
+}
+
+impl Course {
+    fn add_stride(&mut self, stride: i64) -> Result<(), AllocError> {
+        if !self.strides.iter().any(|other| *other == stride) {
+            self.strides.push(stride)?;
+        }
+        Ok(())
+    }
+
+    fn add_start(&mut self, start: Form) -> Result<(), AllocError> {
+        if self.starts.len() < STARTS && !self.starts.iter().any(|other| is_same(other, &start)) {
+            self.starts.push(start)?;
+        }
+        Ok(())
+    }
+
+    /// The sizes of its strides and what divides all of them, above 1, rising, each once.
+    pub fn moduli(&self, alloc: Global) -> Result<Vec<u64>, AllocError> {
+        let mut sizes = Vec::new(alloc);
+        let mut divisor = 0;
+        for stride in self.strides.iter() {
+            let size = stride.unsigned_abs();
+            divisor = divisor_of(divisor, size);
+            sizes.push(size)?;
+        }
+        sizes.push(divisor)?;
+        sizes.sort_unstable();
+        let mut out: Vec<u64> = Vec::new(alloc);
+        for size in sizes.iter() {
+            if *size >= 2 && out.last() != Some(size) {
+                out.push(*size)?;
+            }
+        }
+        Ok(out)
+    }
+}
+
+impl Courses {
+    /// Of so many slots, of which nothing is known.
+    pub fn new(alloc: Global, slots: usize) -> Result<Courses, AllocError> {
+        let mut of_slots = Vec::new(alloc);
+        for _ in 0..slots {
+            of_slots.push(Course {
+                starts: Vec::new(alloc),
+                strides: Vec::new(alloc),
+            })?;
+        }
+        Ok(Courses {
+            of_slots,
+            pairs: Vec::new(alloc),
+        })
+    }
+
+    /// One more value that a variable begins with.
+    pub fn add_start(&mut self, slot: u32, start: Form) -> Result<(), AllocError> {
+        match self.of_slots.get_mut(slot as usize) {
+            Some(course) => course.add_start(start),
+            None => Ok(()),
+        }
+    }
+
+    fn add_stride(&mut self, slot: u32, stride: i64) -> Result<(), AllocError> {
+        match self.of_slots.get_mut(slot as usize) {
+            Some(course) => course.add_stride(stride),
+            None => Ok(()),
+        }
+    }
+
+    /// The steps of one path: each is noted, and each two that step together.
+    pub fn add_steps(&mut self, steps: &[(u32, i64)]) -> Result<(), AllocError> {
+        for step in steps {
+            self.add_stride(step.0, step.1)?;
+            for other in steps {
+                if step.0 < other.0 {
+                    self.add_pair(*step, *other)?;
+                }
+            }
+        }
+        Ok(())
+    }
+
+    fn add_pair(&mut self, first: (u32, i64), second: (u32, i64)) -> Result<(), AllocError> {
+        for pair in self.pairs.iter_mut() {
+            if pair.first == first.0 && pair.second == second.0 {
+                if pair.by_first != first.1 || pair.by_second != second.1 {
+                    pair.is_steady = false;
+                }
+                return Ok(());
+            }
+        }
+        self.pairs.push(Pair {
+            first: first.0,
+            second: second.0,
+            by_first: first.1,
+            by_second: second.1,
+            is_steady: true,
+        })?;
+        Ok(())
+    }
+}
+
+/// By how much the value is more than the variable was, if that is one number and not 0.
+fn stride_of(
+    alloc: Global,
+    slot: u32,
+    value: &Form,
+    values: &[Given],
+) -> Result<Option<i64>, AllocError> {
+    let own = one_of(alloc, variable(slot))?;
+    let Some(step) = try_difference(alloc, value, &own)? else {
+        return Ok(None);
+    };
+    let Some(step) = settled(alloc, &step, values)? else {
+        return Ok(None);
+    };
+    let stride = step.constant_part();
+    if step.terms().is_empty() && stride != 0 {
+        Ok(Some(stride))
+    } else {
+        Ok(None)
+    }
+}
+
+/// The path's value of a variable that holds the variable itself once.
+fn grown<'a>(from: &Sight, leaf: &'a Leaf, slot: u32) -> Option<&'a Form> {
+    let value = leaf.variables.get(slot as usize)?;
+    if has_slot(from, slot) && value.coefficient(variable(slot)) == 1 {
+        Some(value)
+    } else {
+        None
+    }
+}
+
+/// The variables that step along a path, by their slots, and by how much.
+pub fn steps_of(
+    alloc: Global,
+    from: &Sight,
+    to: &Sight,
+    leaf: &Leaf,
+    values: &[Given],
+) -> Result<Vec<(u32, i64)>, AllocError> {
+    let mut steps = Vec::new(alloc);
+    for slot in to.slots.iter() {
+        if let Some(value) = grown(from, leaf, *slot) {
+            if let Some(stride) = stride_of(alloc, *slot, value, values)? {
+                steps.push((*slot, stride))?;
+            }
+        }
+    }
+    Ok(steps)
+}

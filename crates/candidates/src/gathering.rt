@@ -1,0 +1,121 @@
+//! What is told of places, gathered.
+
+use crate::fact_lines::fact_at;
+use crate::shelf::Shelf;
+use candidate_lines::{Candidate, Line, Sight, reduced, try_difference, try_multiple};
+use linear::Form;
+use std::alloc::{AllocError, Global};
+
+/// The places, what is known anyway, and what is told of them so far.
+#[derive(Drop)]
+pub struct Gathering<'a> {
+    pub alloc: Global,
+    pub sights: &'a [Sight],
+    unsigned: &'a [bool],
+    known: Vec<Form>,
+    pub shelf: Shelf,
+}
+
+/// It is the kernel's entry, of which nothing is guessed.
+fn is_entry(sight: &Sight) -> bool {
+    sight.anchor.is_none() && sight.head.is_none()
+}
+
+/// Each fact, divided by the greatest number that divides its coefficients.
+fn all_reduced(alloc: Global, facts: &[Form]) -> Result<Vec<Form>, AllocError> {
+    let mut out = Vec::new(alloc);
+    for fact in facts {
+        if let Some(form) = reduced(alloc, fact)? {
+            out.push(form)?;
+        }
+    }
+    Ok(out)
+}
+
+impl<'a> Gathering<'a> {
+    /// Nothing is told.
+    pub fn new(
+        alloc: Global,
+        sights: &'a [Sight],
+        known: &[Form],
+        unsigned: &'a [bool],
+    ) -> Result<Gathering<'a>, AllocError> {
+        let known = all_reduced(alloc, known)?;
+        let shelf = Shelf::new(alloc)?;
+        Ok(Gathering {
+            alloc,
+            sights,
+            unsigned,
+            known,
+            shelf,
+        })
+    }
+
+    /// A fact of a place, if it is worth a guess.
+    pub fn add_fact(&mut self, place: usize, fact: &Form, rank: u32) -> Result<(), AllocError> {
+        let Some(sight) = self.sights.get(place) else {
+            return Ok(());
+        };
+        if is_entry(sight) {
+            return Ok(());
+        }
+        let known = self.known.as_slice();
+        match fact_at(self.alloc, sight, known, self.unsigned, fact, rank)? {
+            Some(candidate) => self.shelf.add(candidate),
+            None => Ok(()),
+        }
+    }
+
+    /// A form is 0 at a place: two facts.
+    pub fn add_zero(&mut self, place: usize, form: &Form, rank: u32) -> Result<(), AllocError> {
+        self.add_fact(place, form, rank)?;
+        match try_multiple(self.alloc, form, -1)? {
+            Some(opposite) => self.add_fact(place, &opposite, rank),
+            None => Ok(()),
+        }
+    }
+
+    /// Two forms are equal at a place.
+    pub fn add_equal(
+        &mut self,
+        place: usize,
+        left: &Form,
+        right: &Form,
+        rank: u32,
+    ) -> Result<(), AllocError> {
+        match try_difference(self.alloc, left, right)? {
+            Some(form) => self.add_zero(place, &form, rank),
+            None => Ok(()),
+        }
+    }
+
+    /// Any line of a place, as it is.
+    pub fn add_line(&mut self, place: usize, line: Line, rank: u32) -> Result<(), AllocError> {
+        let Some(sight) = self.sights.get(place) else {
+            return Ok(());
+        };
+        if is_entry(sight) {
+            return Ok(());
+        }
+        self.shelf.add(Candidate {
+            anchor: sight.anchor,
+            head: sight.head,
+            rank,
+            line,
+        })
+    }
+
+    /// That no item comes to a place, of each.
+    pub fn add_unreached(&mut self) -> Result<(), AllocError> {
+        for place in 0..self.sights.len() {
+            let form = Form::constant(self.alloc, -1);
+            self.add_line(place, Line::Fact(form), 0)?;
+        }
+        Ok(())
+    }
+
+    /// What is told.
+    pub fn into_candidates(self) -> Vec<Candidate> {
+        self.shelf.into_candidates()
+    }
+}

@@ -1,0 +1,126 @@
+//! What the end of one path tells of the place that it reaches.
+
+use crate::courses::{Courses, steps_of};
+use crate::gathering::Gathering;
+use crate::single_values::{Given, has_slot};
+use candidate_lines::{Leaf, Line, Sight, one_of, turns, variable};
+use form_names::Naming;
+use linear::{Form, Symbol};
+use std::alloc::AllocError;
+
+/// That a symbol of the place has that value there, in the terms of the place.
+fn tell_value(
+    told: &mut Gathering<'_>,
+    place: usize,
+    symbol: Symbol,
+    value: &Form,
+) -> Result<(), AllocError> {
+    if value.coefficient(symbol) != 0 {
+        return Ok(());
+    }
+    let own = one_of(told.alloc, symbol)?;
+    told.add_equal(place, &own, value, 0)
+}
+
+/// A value along a path from that place makes a variable begin anew.
+fn is_start(from: &Sight, slot: u32, value: &Form) -> bool {
+    !has_slot(from, slot) || value.coefficient(variable(slot)) == 0
+}
+
+/// The value of a variable, rewritten without it, and that it begins so.
+fn tell_variable(
+    told: &mut Gathering<'_>,
+    courses: &mut Courses,
+    from: &Sight,
+    leaf: &Leaf,
+    naming: &Naming,
+    slot: u32,
+) -> Result<(), AllocError> {
+    let Some(value) = leaf.variables.get(slot as usize) else {
+        return Ok(());
+    };
+    let symbol = variable(slot);
+    let Some(form) = naming.rewrite_without(told.alloc, value, symbol)? else {
+        return Ok(());
+    };
+    tell_value(told, leaf.to, symbol, &form)?;
+    if is_start(from, slot, value) {
+        courses.add_start(slot, form)?;
+    }
+    Ok(())
+}
+
+/// The values of variables and of what ranked loops.
+fn tell_values(
+    told: &mut Gathering<'_>,
+    courses: &mut Courses,
+    from: &Sight,
+    to: &Sight,
+    leaf: &Leaf,
+    naming: &Naming,
+) -> Result<(), AllocError> {
+    for slot in to.slots.iter() {
+        tell_variable(told, courses, from, leaf, naming, *slot)?;
+    }
+    let zeros = naming.coincidences(told.alloc)?;
+    for zero in zeros.iter() {
+        told.add_zero(leaf.to, zero, 0)?;
+    }
+    for (number, value) in leaf.ranks.iter() {
+        let symbol = turns(*number);
+        if let Some(form) = naming.rewrite_without(told.alloc, value, symbol)? {
+            tell_value(told, leaf.to, symbol, &form)?;
+        }
+    }
+    Ok(())
+}
+
+/// At a barrier, that items have each variable alike.
+fn tell_alike(told: &mut Gathering<'_>, place: usize, to: &Sight) -> Result<(), AllocError> {
+    if to.head.is_some() {
+        return Ok(());
+    }
+    for slot in to.slots.iter() {
+        told.add_line(place, Line::Same(*slot), 0)?;
+    }
+    Ok(())
+}
+
+/// What is known at the path's end, and was not where it began.
+fn tell_facts(told: &mut Gathering<'_>, leaf: &Leaf, naming: &Naming) -> Result<(), AllocError> {
+    let Some(facts) = leaf.facts.get(leaf.begun..) else {
+        return Ok(());
+    };
+    if told.shelf.is_crowded() {
+        return Ok(());
+    }
+    for fact in facts {
+        if let Some(form) = naming.project(told.alloc, fact)? {
+            told.add_fact(leaf.to, &form, 1)?;
+        }
+    }
+    let sums = naming.eliminated(told.alloc, facts)?;
+    for form in sums.iter() {
+        told.add_fact(leaf.to, form, 1)?;
+    }
+    Ok(())
+}
+
+/// All that the path's end tells.
+pub fn tell_leaf(
+    told: &mut Gathering<'_>,
+    courses: &mut Courses,
+    values: &[Given],
+    leaf: &Leaf,
+    naming: &Naming,
+) -> Result<(), AllocError> {
+    let sights = told.sights;
+    let (Some(from), Some(to)) = (sights.get(leaf.from), sights.get(leaf.to)) else {
+        return Ok(());
+    };
+    let steps = steps_of(told.alloc, from, to, leaf, values)?;
+    courses.add_steps(steps.as_slice())?;
+    tell_values(told, courses, from, to, leaf, naming)?;
+    tell_alike(told, leaf.to, to)?;
+    tell_facts(told, leaf, naming)
+}

@@ -1,0 +1,129 @@
+//! Variables that have one value over ids and arguments wherever they get one.
+
+use crate::fact_lines::{is_all_global, slot_of};
+use candidate_lines::{Leaf, Sight, copied, is_same, variable};
+use linear::{Form, LinearError, Symbol, Term};
+use std::alloc::{AllocError, Global};
+
+/// What a variable is given on all paths.
+#[derive(Drop)]
+pub enum Given {
+    Nothing,
+    One(Form),
+    Many,
+}
+
+/// The form is that symbol, once.
+fn is_symbol(form: &Form, symbol: Symbol) -> bool {
+    let [term] = form.terms() else {
+        return false;
+    };
+    form.constant_part() == 0 && term.symbol == symbol && term.coefficient == 1
+}
+
+/// The place has the variable.
+pub fn has_slot(sight: &Sight, slot: u32) -> bool {
+    sight.slots.iter().any(|other| *other == slot)
+}
+
+/// What a variable is given on the paths, with one path more.
+fn given_more(alloc: Global, old: &Given, form: &Form) -> Result<Option<Given>, AllocError> {
+    match old {
+        Given::Nothing if is_all_global(form) => {
+            let form = copied(alloc, form)?;
+            Ok(Some(Given::One(form)))
+        }
+        Given::One(value) if is_same(value, form) => Ok(None),
+        Given::Many => Ok(None),
+        _ => Ok(Some(Given::Many)),
+    }
+}
+
+fn add_value(
+    alloc: Global,
+    values: &mut [Given],
+    slot: u32,
+    form: &Form,
+) -> Result<(), AllocError> {
+    if let Some(old) = values.get_mut(slot as usize) {
+        if let Some(more) = given_more(alloc, old, form)? {
+            *old = more;
+        }
+    }
+    Ok(())
+}
+
+/// What one path gives.
+fn add_leaf(
+    alloc: Global,
+    values: &mut [Given],
+    from: &Sight,
+    to: &Sight,
+    leaf: &Leaf,
+) -> Result<(), AllocError> {
+    for slot in to.slots.iter() {
+        let Some(form) = leaf.variables.get(*slot as usize) else {
+            continue;
+        };
+        if has_slot(from, *slot) && is_symbol(form, variable(*slot)) {
+            continue;
+        }
+        add_value(alloc, values, *slot, form)?;
+    }
+    Ok(())
+}
+
+/// By slot, what variables are given on the paths.
+pub fn given_values(
+    alloc: Global,
+    sights: &[Sight],
+    leaves: &[Leaf],
+    slots: usize,
+) -> Result<Vec<Given>, AllocError> {
+    let mut values = Vec::new(alloc);
+    for _ in 0..slots {
+        values.push(Given::Nothing)?;
+    }
+    for leaf in leaves {
+        if let (Some(from), Some(to)) = (sights.get(leaf.from), sights.get(leaf.to)) {
+            add_leaf(alloc, values.as_mut_slice(), from, to, leaf)?;
+        }
+    }
+    Ok(values)
+}
+
+/// The one value of a variable's symbol.
+fn value_of(values: &[Given], symbol: Symbol) -> Option<&Form> {
+    match values.get(slot_of(symbol)?) {
+        Some(Given::One(form)) => Some(form),
+        _ => None,
+    }
+}
+
+fn replaced(
+    alloc: Global,
+    form: &Form,
+    term: Term,
+    values: &[Given],
+) -> Result<Option<Form>, AllocError> {
+    let Some(value) = value_of(values, term.symbol) else {
+        return Ok(Some(form.copy(alloc)?));
+    };
+    match form.substitute(alloc, term.symbol, value) {
+        Ok(form) => Ok(Some(form)),
+        Err(LinearError::TooLarge) => Ok(None),
+        Err(LinearError::Memory) => Err(AllocError),
+    }
+}
+
+/// The form with the one value of each variable that has one in its place.
+pub fn settled(alloc: Global, form: &Form, values: &[Given]) -> Result<Option<Form>, AllocError> {
+    let mut out = copied(alloc, form)?;
+    for term in form.terms() {
+        let Some(next) = replaced(alloc, &out, *term, values)? else {
+            return Ok(None);
+        };
+        out = next;
+    }
+    Ok(Some(out))
+}

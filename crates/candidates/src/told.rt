@@ -1,0 +1,69 @@
+//! All that the ends of all paths tell.
+
+use crate::carrying::carry;
+use crate::courses::Courses;
+use crate::gathering::Gathering;
+use crate::leaf_lines::tell_leaf;
+use crate::single_values::{Given, given_values};
+use crate::stride_lines::{all_strides, tell_strides};
+use candidate_lines::{Candidate, Leaf, Sight};
+use form_names::Naming;
+use linear::Form;
+use std::alloc::{AllocError, Global};
+
+/// What may hold at places, and by how much variables step, by their slots.
+#[derive(Drop)]
+pub struct Told {
+    pub candidates: Vec<Candidate>,
+    pub strides: Vec<(u32, i64)>,
+}
+
+/// The paths whose ends are at places of the list, with what names symbols there.
+fn namings_of(alloc: Global, sights: &[Sight], leaves: &[Leaf]) -> Result<Vec<Naming>, AllocError> {
+    let mut namings = Vec::new(alloc);
+    for leaf in leaves {
+        let Some(sight) = sights.get(leaf.to) else {
+            return Ok(namings);
+        };
+        let naming = Naming::of(alloc, leaf, sight)?;
+        namings.push(naming)?;
+    }
+    Ok(namings)
+}
+
+/// What each path tells by itself.
+fn tell_leaves(
+    told: &mut Gathering<'_>,
+    values: &[Given],
+    leaves: &[Leaf],
+    namings: &[Naming],
+) -> Result<Courses, AllocError> {
+    let mut courses = Courses::new(told.alloc, values.len())?;
+    for (leaf, naming) in leaves.iter().zip(namings.iter()) {
+        tell_leaf(told, &mut courses, values, leaf, naming)?;
+    }
+    Ok(courses)
+}
+
+/// What the ends of all paths of a walk that takes each claim as shown tell: candidates of ranks 0 to 2, without repeats, and by how much
+/// variables step. What is known of each launch and item is not said again; variables are `uint` by their slots.
+pub fn guess_told(
+    alloc: Global,
+    sights: &[Sight],
+    leaves: &[Leaf],
+    known: &[Form],
+    unsigned: &[bool],
+) -> Result<Told, AllocError> {
+    let namings = namings_of(alloc, sights, leaves)?;
+    let values = given_values(alloc, sights, leaves, unsigned.len())?;
+    let mut told = Gathering::new(alloc, sights, known, unsigned)?;
+    let courses = tell_leaves(&mut told, values.as_slice(), leaves, namings.as_slice())?;
+    carry(&mut told, leaves, namings.as_slice())?;
+    tell_strides(&mut told, &courses)?;
+    told.add_unreached()?;
+    let strides = all_strides(alloc, &courses)?;
+    Ok(Told {
+        candidates: told.into_candidates(),
+        strides,
+    })
+}

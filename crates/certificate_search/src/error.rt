@@ -1,0 +1,35 @@
+//! Why there is no certificate.
+
+use place_paths::FindError;
+use settling::SettlingError;
+use std::alloc::AllocError;
+
+/// Something stays unshown, or the walk of a kernel's places comes to no end that can be listed, or there are too many workers or none.
+#[derive(Drop)]
+pub enum SearchError {
+    NotShown,
+    Walk(FindError),
+    Workers,
+}
+
+impl From<FindError> for SearchError {
+    fn from(e: FindError) -> SearchError {
+        SearchError::Walk(e)
+    }
+}
+
+impl From<AllocError> for SearchError {
+    fn from(e: AllocError) -> SearchError {
+        SearchError::Walk(FindError::from(e))
+    }
+}
+
+impl From<SettlingError> for SearchError {
+    fn from(e: SettlingError) -> SearchError {
+        match e {
+            SettlingError::Unsaid => SearchError::NotShown,
+            SettlingError::Walk(error) => SearchError::Walk(error),
+            SettlingError::Workers => SearchError::Workers,
+        }
+    }
+}

@@ -1,0 +1,105 @@
+//! A hopeful walk, and what it tells.
+
+use assembling::UNLIMITED;
+use candidate_lines::{Leaf, Ranking, Sight, copied};
+use certificate_making::Names;
+use facts::copy_all;
+use guess_walk::{
+    Begun, Resolved, Subject, Trust, Walked, begun_of, certificate_of, leaves_of, resolve, sights_of,
+};
+use linear::Form;
+use place_paths::FindError;
+use proof_memory::Memory;
+use std::alloc::{AllocError, Global};
+use words::Kind;
+
+/// The places of a kernel, the ends of the paths of a hopeful walk, what all know of a launch and an item, and which slots are unsigned.
+#[derive(Drop)]
+pub struct Hoped {
+    pub sights: Vec<Sight>,
+    pub leaves: Vec<Leaf>,
+    pub known: Vec<Form>,
+    pub unsigned: Vec<bool>,
+}
+
+/// No limit for any loop.
+pub fn unlimited(alloc: Global, rankings: &[Ranking]) -> Result<Vec<i64>, AllocError> {
+    let limits = vec![in alloc; UNLIMITED; rankings.len()]?;
+    Ok(limits)
+}
+
+/// What all know: the facts of the launch, and those with which the paths from the entry begin.
+fn known_of(alloc: Global, walked: &Walked, begun: &[Begun]) -> Result<Vec<Form>, FindError> {
+    let mut known = Vec::new(alloc);
+    for fact in walked.found.launch() {
+        known.push(copied(alloc, fact)?)?;
+    }
+    let Some(entry) = begun.first() else {
+        return Ok(known);
+    };
+    if let Some(first) = walked.found.paths().first() {
+        let facts = first.path.facts.as_slice();
+        let count = entry.facts.min(facts.len());
+        copy_all(alloc, &mut known, &facts[..count])?;
+    }
+    Ok(known)
+}
+
+/// Which slots are unsigned.
+fn unsigned_of(alloc: Global, subject: &Subject<'_>) -> Result<Vec<bool>, AllocError> {
+    let core = subject.typed.core();
+    let mut unsigned = Vec::new(alloc);
+    for kind in core.arguments.as_slice() {
+        unsigned.push(*kind == Kind::Uint)?;
+    }
+    for kind in core.variables.as_slice() {
+        unsigned.push(*kind == Kind::Uint)?;
+    }
+    Ok(unsigned)
+}
+
+/// A walk without guesses in which each small range is hoped for.
+fn walked(
+    alloc: Global,
+    subject: &Subject<'_>,
+    names: &Names<'_>,
+    rankings: &[Ranking],
+    memory: &mut Memory,
+) -> Result<Option<Resolved>, FindError> {
+    let limits = unlimited(alloc, rankings)?;
+    let entries = Vec::new(alloc);
+    let certificate = certificate_of(alloc, names, &[], rankings, limits.as_slice(), entries)?;
+    match certificate {
+        Some(certificate) => resolve(alloc, subject, &certificate, Trust::Hopeful, memory),
+        None => Ok(None),
+    }
+}
+
+/// What a hopeful walk with these rankings tells; nothing where they have no text.
+pub fn hope(
+    alloc: Global,
+    subject: &Subject<'_>,
+    names: &Names<'_>,
+    rankings: &[Ranking],
+    memory: &mut Memory,
+) -> Result<Option<Hoped>, FindError> {
+    let Some(resolved) = walked(alloc, subject, names, rankings, memory)? else {
+        return Ok(None);
+    };
+    let walked = &resolved.walked;
+    let sights = sights_of(alloc, subject, &walked.notes)?;
+    let begun = begun_of(alloc, subject, &walked.notes, sights.as_slice())?;
+    let leaves = leaves_of(alloc, walked, sights.as_slice(), begun.as_slice())?;
+    let known = known_of(alloc, walked, begun.as_slice())?;
+    let unsigned = unsigned_of(alloc, subject)?;
+    Ok(
+        Some(
+            Hoped {
+                sights,
+                leaves,
+                known,
+                unsigned,
+            },
+        ),
+    )
+}

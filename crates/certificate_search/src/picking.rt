@@ -1,0 +1,104 @@
+//! Which guesses are settled: at most 512.
+
+use candidate_lines::{Candidate, Line};
+use certificate_making::may_be_said;
+use linear::Form;
+use solo_runs::Observed;
+use std::alloc::{AllocError, Global};
+
+/// How many guesses a board has.
+const MOST: usize = 512;
+
+/// The last rank.
+const LAST: u32 = 4;
+
+/// Both are bounds of the same terms at one place, and the first one is tighter.
+fn is_tighter(one: &Candidate, than: &Candidate) -> bool {
+    if one.anchor != than.anchor || one.head != than.head {
+        return false;
+    }
+    match (&one.line, &than.line) {
+        (Line::Fact(left), Line::Fact(right)) => is_lower(left, right),
+        _ => false,
+    }
+}
+
+fn is_lower(left: &Form, right: &Form) -> bool {
+    left.constant_part() < right.constant_part() && left.terms() == right.terms()
+}
+
+/// Three tighter bounds of the same terms are there. Those that paths tell stay.
+fn is_spare(all: &[Candidate], candidate: &Candidate) -> bool {
+    if candidate.rank <= 1 {
+        return false;
+    }
+    let mut tighter = 0;
+    for other in all {
+        if tighter < 3 && is_tighter(other, candidate) {
+            tighter += 1;
+        }
+    }
+    tighter >= 3
+}
+
+/// Those that no run refutes, of the ranks up to one.
+pub fn unrefuted(
+    alloc: Global,
+    candidates: Vec<Candidate>,
+    observed: &Observed,
+    rank: u32,
+) -> Result<Vec<Candidate>, AllocError> {
+    let mut kept = Vec::new(alloc);
+    for candidate in candidates {
+        if candidate.rank <= rank && may_be_said(&candidate) && !observed.refutes(&candidate) {
+            kept.push(candidate)?;
+        }
+    }
+    Ok(kept)
+}
+
+/// Which of them are spare.
+fn spare_of(alloc: Global, candidates: &[Candidate]) -> Result<Vec<bool>, AllocError> {
+    let mut flags = Vec::new(alloc);
+    for candidate in candidates {
+        flags.push(is_spare(candidates, candidate))?;
+    }
+    Ok(flags)
+}
+
+/// Which of them are picked, rank by rank: 512 at most.
+fn picked_of(
+    alloc: Global,
+    candidates: &[Candidate],
+    spare: &[bool],
+) -> Result<Vec<bool>, AllocError> {
+    let mut flags = vec![in alloc; false; candidates.len()]?;
+    let mut count: usize = 0;
+    for rank in 0..LAST + 1 {
+        for i in 0..candidates.len() {
+            let is_left = !spare.get(i).copied().unwrap_or(true);
+            if candidates[i].rank == rank && is_left && count < MOST {
+                if let Some(flag) = flags.get_mut(i) {
+                    *flag = true;
+                    count += 1;
+                }
+            }
+        }
+    }
+    Ok(flags)
+}
+
+/// The first 512 of them by rank, in their order, without those that tighter ones make needless.
+pub fn picked(alloc: Global, candidates: Vec<Candidate>) -> Result<Vec<Candidate>, AllocError> {
+    let spare = spare_of(alloc, candidates.as_slice())?;
+    let flags = picked_of(alloc, candidates.as_slice(), spare.as_slice())?;
+    let mut kept = Vec::new(alloc);
+    let mut number: usize = 0;
+    for candidate in candidates {
+        if flags.get(number).copied().unwrap_or(false) {
+            kept.push(candidate)?;
+        }
+        number = number.saturating_add(1);
+    }
+    Ok(kept)
+}

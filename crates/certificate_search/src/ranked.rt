@@ -1,0 +1,113 @@
+//! How each loop may end, and which way is tried.
+
+use candidate_lines::{Descent, Ranking, copied};
+use kernel_guesses::Options;
+use linear::Form;
+use solo_runs::Observed;
+use std::alloc::{AllocError, Global};
+
+/// A ranking once more.
+fn again(alloc: Global, ranking: &Ranking) -> Result<Ranking, AllocError> {
+    let form = copied(alloc, &ranking.form)?;
+    Ok(
+        Ranking {
+            number: ranking.number,
+            descent: ranking.descent,
+            form,
+        },
+    )
+}
+
+/// No ranking at all: nothing shows it of a loop that turns.
+fn none(alloc: Global, number: u32) -> Ranking {
+    Ranking {
+        number,
+        descent: Descent::Down(1),
+        form: Form::constant(alloc, 0),
+    }
+}
+
+/// Of each loop the ranking that is chosen.
+pub fn chosen(
+    alloc: Global,
+    options: &[Options],
+    choices: &[usize],
+) -> Result<Vec<Ranking>, AllocError> {
+    let mut rankings = Vec::new(alloc);
+    for i in 0..options.len() {
+        let choice = choices.get(i).copied().unwrap_or(0);
+        let ranking = match options[i].rankings.get(choice) {
+            Some(ranking) => again(alloc, ranking)?,
+            None => none(alloc, options[i].number),
+        };
+        rankings.push(ranking)?;
+    }
+    Ok(rankings)
+}
+
+/// The rankings of one loop that no run refutes; the first one where all are.
+fn unrefuted(
+    alloc: Global,
+    options: Options,
+    observed: &Observed,
+) -> Result<Options, AllocError> {
+    let Options { number, rankings } = options;
+    let mut kept = Vec::new(alloc);
+    for ranking in rankings.as_slice() {
+        if !observed.refutes_ranking(ranking) {
+            kept.push(again(alloc, ranking)?)?;
+        }
+    }
+    if kept.is_empty() {
+        if let Some(first) = rankings.first() {
+            kept.push(again(alloc, first)?)?;
+        }
+    }
+    Ok(Options { number, rankings: kept })
+}
+
+/// Of each loop those that no run refutes.
+pub fn all_unrefuted(
+    alloc: Global,
+    options: Vec<Options>,
+    observed: &Observed,
+) -> Result<Vec<Options>, AllocError> {
+    let mut kept = Vec::new(alloc);
+    for one in options {
+        let one = unrefuted(alloc, one, observed)?;
+        kept.push(one)?;
+    }
+    Ok(kept)
+}
+
+/// Runs refute each ranking of a loop that has some.
+fn are_refuted(options: &Options, observed: &Observed) -> bool {
+    !options.rankings.as_slice().is_empty()
+        && options
+            .rankings
+            .iter()
+            .all(|ranking| observed.refutes_ranking(ranking))
+}
+
+/// Those of some loop.
+pub fn is_hopeless(options: &[Options], observed: &Observed) -> bool {
+    options.iter().any(|one| are_refuted(one, observed))
+}
+
+/// The next choices, of the loops whose rankings were not shown; whether there are any.
+pub fn advance(options: &[Options], choices: &mut [usize], loops: &[u32]) -> bool {
+    let mut moved = false;
+    for i in 0..options.len() {
+        if !loops.contains(&options[i].number) {
+            continue;
+        }
+        if let Some(choice) = choices.get_mut(i) {
+            let next = choice.saturating_add(1);
+            if next < options[i].rankings.len() {
+                *choice = next;
+                moved = true;
+            }
+        }
+    }
+    moved
+}

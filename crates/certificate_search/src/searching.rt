@@ -1,0 +1,118 @@
+//! All attempts in turn.
+
+use crate::attempts::{Attempt, Matter, try_guesses};
+use crate::error::SearchError;
+use crate::hoping::hope;
+use crate::ranked::{advance, all_unrefuted, chosen, is_hopeless};
+use candidates::guess_told;
+use certificate::Certificate;
+use certificate_making::{Names, names_of};
+use guess_walk::Subject;
+use kernel_guesses::{Options, guess_rankings};
+use proof_memory::Memory;
+use solo_runs::observe;
+use std::alloc::Global;
+use std::thread::Threads;
+
+/// The ways in which loops may end, and whether runs refute all of some loop.
+#[derive(Drop)]
+struct Ways {
+    options: Vec<Options>,
+    is_hopeless: bool,
+}
+
+/// How loops may end, by what the kernel's text and a first walk tell, without the ways that runs refute.
+fn find_ways(
+    alloc: Global,
+    subject: &Subject<'_>,
+    names: &Names<'_>,
+    memory: &mut Memory,
+) -> Result<Ways, SearchError> {
+    let core = subject.typed.core();
+    let first = guess_rankings(alloc, core, &[])?;
+    let rankings = chosen(alloc, first.as_slice(), &[])?;
+    let Some(hoped) = hope(alloc, subject, names, rankings.as_slice(), memory)? else {
+        return Err(SearchError::NotShown);
+    };
+    let told = guess_told(
+        alloc,
+        hoped.sights.as_slice(),
+        hoped.leaves.as_slice(),
+        hoped.known.as_slice(),
+        hoped.unsigned.as_slice(),
+    )?;
+    let options = guess_rankings(alloc, core, told.strides.as_slice())?;
+    let sights = hoped.sights.as_slice();
+    let observed = observe(alloc, core, subject.conditions, sights, &[])?;
+    let is_hopeless = is_hopeless(options.as_slice(), &observed);
+    let options = all_unrefuted(alloc, options, &observed)?;
+    Ok(
+        Ways {
+            options,
+            is_hopeless,
+        },
+    )
+}
+
+/// Attempts with guesses up to a rank, with one choice of rankings after the other, eight at most.
+fn stage<R: Threads + Sync>(
+    rt: &R,
+    alloc: Global,
+    matter: &Matter<'_>,
+    options: &[Options],
+    rank: u32,
+    memory: &mut Memory,
+) -> Result<Option<Certificate>, SearchError> {
+    let mut choices = vec![in alloc; 0usize; options.len()]?;
+    for _ in 0..8 {
+        let rankings = chosen(alloc, options, choices.as_slice())?;
+        match try_guesses(rt, alloc, matter, rankings.as_slice(), rank, memory)? {
+            Attempt::Made(certificate) => return Ok(Some(certificate)),
+            Attempt::Failed { loops, .. } => {
+                if !advance(options, choices.as_mut_slice(), loops.as_slice()) {
+                    return Ok(None);
+                }
+            }
+        }
+    }
+    Ok(None)
+}
+
+/// A certificate, with the names of the kernel.
+fn search_named<R: Threads + Sync>(
+    rt: &R,
+    alloc: Global,
+    subject: Subject<'_>,
+    names: &Names<'_>,
+    workers: u32,
+    memory: &mut Memory,
+) -> Result<Certificate, SearchError> {
+    let ways = find_ways(alloc, &subject, names, memory)?;
+    let matter = Matter {
+        subject,
+        names,
+        workers,
+    };
+    let options = ways.options.as_slice();
+    for rank in 2..5 {
+        if let Some(certificate) = stage(rt, alloc, &matter, options, rank, memory)? {
+            return Ok(certificate);
+        }
+        if ways.is_hopeless {
+            return Err(SearchError::NotShown);
+        }
+    }
+    Err(SearchError::NotShown)
+}
+
+/// A certificate for a kernel under conditions, searched by so many workers.
+pub fn search<R: Threads + Sync>(
+    rt: &R,
+    alloc: Global,
+    subject: Subject<'_>,
+    workers: u32,
+) -> Result<Certificate, SearchError> {
+    let names = names_of(alloc, subject.typed)?;
+    let mut memory = Memory::new(alloc);
+    search_named(rt, alloc, subject, &names, workers, &mut memory)
+}

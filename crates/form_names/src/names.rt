@@ -1,0 +1,184 @@
+//! What symbols of a path are called at the place that it reaches.
+
+use crate::sums::{plus_symbol, plus_times};
+use candidate_lines::{is_global, one_of, try_difference, try_multiple};
+use linear::{Form, Symbol, Term};
+use std::alloc::{AllocError, Global};
+
+/// A symbol, so many times, is a form over the symbols of the place reached; one of these, the owner, told it.
+#[derive(Drop)]
+pub struct Name {
+    pub factor: i64,
+    pub form: Form,
+    pub owner: Symbol,
+}
+
+impl Name {
+    /// What is told of a symbol by an owner that is the symbol so many times and a form.
+    pub fn told(
+        alloc: Global,
+        owner: Symbol,
+        coefficient: i64,
+        others: &Form,
+    ) -> Result<Option<Name>, AllocError> {
+        let Some(factor) = coefficient.checked_abs() else {
+            return Ok(None);
+        };
+        let own = one_of(alloc, owner)?;
+        let Some(difference) = try_difference(alloc, &own, others)? else {
+            return Ok(None);
+        };
+        let Some(form) = try_multiple(alloc, &difference, coefficient.signum())? else {
+            return Ok(None);
+        };
+        Ok(Some(Name {
+            factor,
+            form,
+            owner,
+        }))
+    }
+
+    /// It neither comes from the symbol nor holds it.
+    fn is_without(&self, symbol: Option<Symbol>) -> bool {
+        match symbol {
+            None => true,
+            Some(symbol) => self.owner != symbol && self.form.coefficient(symbol) == 0,
+        }
+    }
+}
+
+/// A symbol with its names, the best first.
+#[derive(Drop)]
+pub struct Named {
+    pub symbol: Symbol,
+    pub names: Vec<Name>,
+}
+
+impl Named {
+    /// The least number of times that a name tells of the symbol.
+    pub fn least_factor(&self) -> Option<i64> {
+        let mut least: Option<i64> = None;
+        for name in self.names.as_slice() {
+            least = match least {
+                Some(factor) if factor <= name.factor => least,
+                _ => Some(name.factor),
+            };
+        }
+        least
+    }
+}
+
+/// The symbols that have names.
+#[derive(Drop)]
+pub struct Names {
+    pub list: Vec<Named>,
+}
+
+impl Names {
+    /// No names.
+    pub fn new(alloc: Global) -> Names {
+        Names {
+            list: Vec::new(alloc),
+        }
+    }
+
+    /// The symbol with its names.
+    pub fn find(&self, symbol: Symbol) -> Option<&Named> {
+        for named in self.list.as_slice() {
+            if named.symbol == symbol {
+                return Some(named);
+            }
+        }
+        None
+    }
+
+    /// The symbol is the same at the place reached, or has a name there.
+    pub fn has(&self, symbol: Symbol) -> bool {
+        is_global(symbol) || self.find(symbol).is_some()
+    }
+
+    /// How many symbols of the form have no name.
+    pub fn count_unnamed(&self, form: &Form) -> usize {
+        form.terms()
+            .iter()
+            .filter(|term| !self.has(term.symbol))
+            .count()
+    }
+
+    /// The one term of the form whose symbol has no name, if there is just one.
+    pub fn only_unnamed(&self, form: &Form) -> Option<Term> {
+        let mut found = None;
+        for term in form.terms() {
+            if !self.has(term.symbol) {
+                if found.is_some() {
+                    return None;
+                }
+                found = Some(*term);
+            }
+        }
+        found
+    }
+
+    /// One more name for a symbol, the last one.
+    pub fn put(&mut self, alloc: Global, symbol: Symbol, name: Name) -> Result<(), AllocError> {
+        for named in self.list.as_mut_slice() {
+            if named.symbol == symbol {
+                named.names.push(name)?;
+                return Ok(());
+            }
+        }
+        let mut names = Vec::new(alloc);
+        names.push(name)?;
+        self.list.push(Named { symbol, names })?;
+        Ok(())
+    }
+
+    /// The form with names in place of the symbols, each the best that its coefficient admits and that is without a symbol.
+    pub fn rewritten(
+        &self,
+        alloc: Global,
+        form: &Form,
+        without: Option<Symbol>,
+    ) -> Result<Option<Form>, AllocError> {
+        let mut sum = Form::constant(alloc, form.constant_part());
+        for term in form.terms() {
+            let Some(next) = self.plus_term(alloc, &sum, *term, without)? else {
+                return Ok(None);
+            };
+            sum = next;
+        }
+        Ok(Some(sum))
+    }
+
+    /// The sum and a term with its name.
+    fn plus_term(
+        &self,
+        alloc: Global,
+        sum: &Form,
+        term: Term,
+        without: Option<Symbol>,
+    ) -> Result<Option<Form>, AllocError> {
+        if is_global(term.symbol) {
+            return plus_symbol(alloc, sum, term.symbol, term.coefficient);
+        }
+        let Some(name) = self.name_of(term, without) else {
+            return Ok(None);
+        };
+        let Some(times) = term.coefficient.checked_div(name.factor) else {
+            return Ok(None);
+        };
+        plus_times(alloc, sum, &name.form, times)
+    }
+
+    /// The best name of a term's symbol that its coefficient admits and that is without a symbol.
+    fn name_of(&self, term: Term, without: Option<Symbol>) -> Option<&Name> {
+        let named = self.find(term.symbol)?;
+        for name in named.names.as_slice() {
+            let rest = term.coefficient.checked_rem(name.factor);
+            if rest == Some(0) && name.is_without(without) {
+                return Some(name);
+            }
+        }
+        None
+    }
+}

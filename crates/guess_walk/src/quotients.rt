@@ -1,0 +1,123 @@
+//! Congruences, shown from both sides with one quotient.
+
+use candidate_lines::{plus, try_difference, try_multiple};
+use cut_proof::Derivation;
+use cut_search::{Answer, Point};
+use facts::{WalkError, copy_all};
+use linear::Form;
+use proof_memory::{Memory, quotients};
+use std::alloc::{AllocError, Global};
+
+/// A quotient with what shows that the form is as often the modulus at least, and at most.
+#[derive(Drop)]
+pub struct Shown {
+    pub quotient: Form,
+    pub least: Derivation,
+    pub most: Derivation,
+}
+
+/// The facts with another denial as the last one: that the form is not at least 0.
+fn denied(alloc: Global, facts: &[Form], form: &Form) -> Result<Option<Vec<Form>>, AllocError> {
+    let Some(negative) = try_multiple(alloc, form, -1)? else {
+        return Ok(None);
+    };
+    let Some(denial) = plus(alloc, &negative, -1)? else {
+        return Ok(None);
+    };
+    let mut list = Vec::new(alloc);
+    match copy_all(alloc, &mut list, facts) {
+        Ok(()) => {}
+        Err(_) => return Err(AllocError),
+    }
+    list.push(denial)?;
+    Ok(Some(list))
+}
+
+/// A derivation that the form is at least 0; a point where it is not goes to the points.
+fn side(
+    alloc: Global,
+    facts: &[Form],
+    form: &Form,
+    memory: &mut Memory,
+    points: &mut Vec<Point>,
+) -> Result<Option<Derivation>, AllocError> {
+    let Some(list) = denied(alloc, facts, form)? else {
+        return Ok(None);
+    };
+    match memory.ask(alloc, list.as_slice())? {
+        Answer::Proof(derivation) => Ok(Some(derivation)),
+        Answer::Model(point) => {
+            points.push(point)?;
+            Ok(None)
+        }
+        Answer::Undecided => Ok(None),
+    }
+}
+
+/// One quotient is tried.
+fn tried(
+    alloc: Global,
+    facts: &[Form],
+    rest: &Form,
+    quotient: Form,
+    memory: &mut Memory,
+    points: &mut Vec<Point>,
+) -> Result<Option<Shown>, AllocError> {
+    let Some(least) = side(alloc, facts, rest, memory, points)? else {
+        return Ok(None);
+    };
+    let Some(negative) = try_multiple(alloc, rest, -1)? else {
+        return Ok(None);
+    };
+    let Some(most) = side(alloc, facts, &negative, memory, points)? else {
+        return Ok(None);
+    };
+    Ok(
+        Some(
+            Shown {
+                quotient,
+                least,
+                most,
+            },
+        ),
+    )
+}
+
+/// The form less so many times the quotient.
+fn remainder(
+    alloc: Global,
+    form: &Form,
+    modulus: u64,
+    quotient: &Form,
+) -> Result<Option<Form>, AllocError> {
+    if modulus > i64::MAX as u64 {
+        return Ok(None);
+    }
+    let Some(product) = try_multiple(alloc, quotient, modulus as i64)? else {
+        return Ok(None);
+    };
+    try_difference(alloc, form, &product)
+}
+
+/// That a number divides a form, by facts (without a denial), with the congruences known where the path begins.
+pub fn both_sides(
+    alloc: Global,
+    facts: &[Form],
+    form: &Form,
+    modulus: u64,
+    known: &[(u64, Form)],
+    memory: &mut Memory,
+    points: &mut Vec<Point>,
+) -> Result<Option<Shown>, AllocError> {
+    let tries = quotients(alloc, facts, form, modulus, known)?;
+    for quotient in tries {
+        let Some(rest) = remainder(alloc, form, modulus, &quotient)? else {
+            continue;
+        };
+        let found = tried(alloc, facts, &rest, quotient, memory, points)?;
+        if found.is_some() {
+            return Ok(found);
+        }
+    }
+    Ok(None)
+}

@@ -1,0 +1,125 @@
+//! What may be said where.
+
+use crate::subject::Subject;
+use candidate_lines::Sight;
+use core_code::tree::Statement;
+use place_notes::{Notes, Visible};
+use place_walk::number_of;
+use places::{Place, Point};
+use std::alloc::{AllocError, Global};
+
+/// The loops around a statement of that number, the outermost first, if it stands there.
+#[cycle(around)]
+fn around(
+    statement: &Statement,
+    number: u32,
+    loops: &mut Vec<u32>,
+) -> Result<bool, AllocError> {
+    if number_of(statement) == number {
+        return Ok(true);
+    }
+    match statement {
+        Statement::If { taken, skipped, .. } => {
+            if around_in(taken.as_slice(), number, loops)? {
+                return Ok(true);
+            }
+            around_in(skipped.as_slice(), number, loops)
+        }
+        Statement::Loop {
+            number: of, body, ..
+        } => {
+            loops.push(*of)?;
+            if around_in(body.as_slice(), number, loops)? {
+                return Ok(true);
+            }
+            loops.pop();
+            Ok(false)
+        }
+        _ => Ok(false),
+    }
+}
+
+/// The same of statements.
+#[cycle(around)]
+fn around_in(
+    body: &[Statement],
+    number: u32,
+    loops: &mut Vec<u32>,
+) -> Result<bool, AllocError> {
+    for statement in body {
+        if around(statement, number, loops)? {
+            return Ok(true);
+        }
+    }
+    Ok(false)
+}
+
+fn number_at(point: &Option<Point<'_>>) -> Option<u32> {
+    match point {
+        None => None,
+        Some(point) => Some(number_of(point.statement)),
+    }
+}
+
+/// The slots that are visible at a statement, or at the entry.
+fn slots_at(
+    alloc: Global,
+    visible: &[Visible],
+    statement: Option<u32>,
+) -> Result<Vec<u32>, AllocError> {
+    for one in visible {
+        if one.statement == statement {
+            return Vec::from_slice(alloc, one.slots.as_slice());
+        }
+    }
+    Ok(Vec::new(alloc))
+}
+
+/// What may be said at a place.
+fn sight_of(
+    alloc: Global,
+    body: &[Statement],
+    visible: &[Visible],
+    place: &Place<'_>,
+) -> Result<Sight, AllocError> {
+    let anchor = number_at(&place.anchor);
+    let head = number_at(&place.head);
+    let statement = if head.is_some() { head } else { anchor };
+    let slots = slots_at(alloc, visible, statement)?;
+    let before = if head.is_some() {
+        slots_at(alloc, visible, anchor)?
+    } else {
+        Vec::new(alloc)
+    };
+    let mut loops = Vec::new(alloc);
+    if let Some(number) = statement {
+        around_in(body, number, &mut loops)?;
+    }
+    Ok(Sight {
+        anchor,
+        head,
+        slots,
+        before,
+        loops,
+    })
+}
+
+/// What may be said at each place.
+pub fn sights_of(
+    alloc: Global,
+    subject: &Subject<'_>,
+    notes: &Notes,
+) -> Result<Vec<Sight>, AllocError> {
+    let body = subject.typed.core().body.as_slice();
+    let mut sights = Vec::new(alloc);
+    for place in subject.places {
+        let sight = sight_of(alloc, body, notes.visible.as_slice(), place)?;
+        sights.push(sight)?;
+    }
+    Ok(sights)
+}
+
+/// It is the place of these numbers.
+pub fn is_place(sight: &Sight, anchor: Option<u32>, head: Option<u32>) -> bool {
+    sight.anchor == anchor && sight.head == head
+}

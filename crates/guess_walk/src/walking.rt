@@ -1,0 +1,90 @@
+//! A kernel's places, walked as the check walks them.
+
+use crate::subject::Subject;
+use candidate_lines::{Candidate, Ranking};
+use certificate::Certificate;
+use certificate::tree::{Bound, Entry};
+use certificate_making::{Names, bound_of, places_of};
+use congruence::Congruence;
+use interval::Interval;
+use place_names::{NamesError, notes_of};
+use place_notes::Notes;
+use place_pairs::Obligations;
+use place_paths::{FindError, find};
+use places::{PlaceError, places};
+use product::Product;
+use std::alloc::{AllocError, Global};
+
+/// What the check knows of numbers.
+pub type Elements = Product<Interval, Congruence>;
+
+/// What is said of places and loops, and what is to be shown.
+#[derive(Drop)]
+pub struct Walked {
+    pub notes: Notes,
+    pub found: Obligations<Elements>,
+}
+
+/// How loops end, each with what its form is at most where it opens.
+fn bounds_of(
+    alloc: Global,
+    names: &Names<'_>,
+    rankings: &[Ranking],
+    most: &[i64],
+) -> Result<Vec<Bound>, AllocError> {
+    let mut bounds = Vec::new(alloc);
+    for i in 0..rankings.len() {
+        let limit = most.get(i).copied().unwrap_or(0);
+        let Some(bound) = bound_of(alloc, names, &rankings[i], limit)? else {
+            continue;
+        };
+        bounds.push(bound)?;
+    }
+    Ok(bounds)
+}
+
+/// Guesses as a certificate; nothing where the format has no text for them.
+pub fn certificate_of(
+    alloc: Global,
+    names: &Names<'_>,
+    candidates: &[Candidate],
+    rankings: &[Ranking],
+    most: &[i64],
+    entries: Vec<Entry>,
+) -> Result<Option<Certificate>, AllocError> {
+    let bounds = bounds_of(alloc, names, rankings, most)?;
+    let places = places_of(alloc, names, candidates)?;
+    Certificate::new(alloc, places, bounds, entries)
+}
+
+
+/// All that is to be shown with a certificate, where the obligations that are flagged have an entry; nothing where the kernel lacks what the
+/// certificate names, or has no places.
+pub fn walk(
+    alloc: Global,
+    subject: &Subject<'_>,
+    certificate: &Certificate,
+    flags: &[bool],
+) -> Result<Option<Walked>, FindError> {
+    let core = subject.typed.core();
+    let all = match places(alloc, core) {
+        Ok(all) => all,
+        Err(PlaceError::Missed(_)) => return Ok(None),
+        Err(PlaceError::Memory) => return Err(FindError::from(AllocError)),
+    };
+    let notes = match notes_of(alloc, subject.typed, all.as_slice(), certificate) {
+        Ok(Some(notes)) => notes,
+        Ok(None) => return Ok(None),
+        Err(NamesError::Memory) => return Err(FindError::from(AllocError)),
+    };
+    let entries = Vec::from_slice(alloc, flags)?;
+    let found = find::<Elements>(
+        alloc,
+        core,
+        subject.conditions,
+        &notes,
+        all.as_slice(),
+        entries,
+    )?;
+    Ok(Some(Walked { notes, found }))
+}

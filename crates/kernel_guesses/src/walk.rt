@@ -1,0 +1,209 @@
+//! The loops of a kernel, one after the other.
+
+use crate::frame::Frame;
+use crate::test_forms::keep_test;
+use crate::turning::{Turning, turn_all};
+use crate::ways::{Options, are_seen};
+use core_code::tree::{Core, Statement, Term};
+use std::alloc::{AllocError, Global};
+
+/// What is known of the whole kernel.
+#[derive(Drop)]
+struct Given<'a> {
+    frame: Frame,
+    strides: &'a [(u32, i64)],
+}
+
+/// A loop's text.
+#[derive(Clone, Copy)]
+struct LoopText<'a> {
+    number: u32,
+    test: &'a Term,
+    body: &'a [Statement],
+    update: &'a [Statement],
+}
+
+/// The slots that were assigned so far, and what was found.
+#[derive(Drop)]
+struct Walk {
+    seen: Vec<u32>,
+    found: Vec<Options>,
+}
+
+/// What a turn does.
+fn turning_of(alloc: Global, given: &Given, text: LoopText) -> Result<Turning, AllocError> {
+    let mut turning = Turning::new(alloc);
+    turn_all(alloc, &given.frame, text.body, &mut turning)?;
+    turn_all(alloc, &given.frame, text.update, &mut turning)?;
+    for stride in given.strides {
+        turning.keep(stride.0, stride.1)?;
+    }
+    Ok(turning)
+}
+
+/// What the test at the head tells.
+fn keep_head(
+    alloc: Global,
+    given: &Given,
+    text: LoopText,
+    turning: &Turning,
+    options: &mut Options,
+) -> Result<(), AllocError> {
+    let mut forms = Vec::new(alloc);
+    keep_test(alloc, &given.frame, text.test, true, &mut forms)?;
+    options.keep_tests(alloc, forms.as_slice(), turning)
+}
+
+/// The statements end by leaving the loop.
+fn leaves(number: u32, arm: &[Statement]) -> bool {
+    match arm.last() {
+        Some(Statement::Break { of, .. }) => *of == number,
+        Some(Statement::Return { .. }) => true,
+        _ => false,
+    }
+}
+
+/// What a test tells that leaves the loop where it does not go that way.
+fn keep_exit(
+    alloc: Global,
+    given: &Given,
+    seen: &[u32],
+    test: &Term,
+    truth: bool,
+    turning: &Turning,
+    options: &mut Options,
+) -> Result<(), AllocError> {
+    let mut forms = Vec::new(alloc);
+    keep_test(alloc, &given.frame, test, truth, &mut forms)?;
+    for form in forms.as_slice() {
+        if are_seen(&given.frame, seen, &form.form) {
+            options.keep_exit(alloc, form, turning)?;
+        }
+    }
+    Ok(())
+}
+
+/// What the tests tell that stand in the body itself and leave the loop.
+fn keep_exits(
+    alloc: Global,
+    given: &Given,
+    seen: &[u32],
+    text: LoopText,
+    turning: &Turning,
+    options: &mut Options,
+) -> Result<(), AllocError> {
+    for statement in text.body {
+        if let Statement::If {
+            test,
+            taken,
+            skipped,
+            ..
+        } = statement
+        {
+            if leaves(text.number, taken.as_slice()) {
+                keep_exit(alloc, given, seen, test, false, turning, options)?;
+            }
+            if leaves(text.number, skipped.as_slice()) {
+                keep_exit(alloc, given, seen, test, true, turning, options)?;
+            }
+        }
+    }
+    Ok(())
+}
+
+/// The ways in which a loop may end.
+fn options_of(
+    alloc: Global,
+    given: &Given,
+    seen: &[u32],
+    text: LoopText,
+) -> Result<Options, AllocError> {
+    let turning = turning_of(alloc, given, text)?;
+    let mut options = Options::new(alloc, text.number);
+    keep_head(alloc, given, text, &turning, &mut options)?;
+    keep_exits(alloc, given, seen, text, &turning, &mut options)?;
+    Ok(options)
+}
+
+fn enter_loop(
+    alloc: Global,
+    given: &Given,
+    text: LoopText,
+    walk: &mut Walk,
+) -> Result<(), AllocError> {
+    let options = options_of(alloc, given, walk.seen.as_slice(), text)?;
+    walk.found.push(options)?;
+    Ok(())
+}
+
+#[cycle(walks)]
+fn visit(
+    alloc: Global,
+    given: &Given,
+    statement: &Statement,
+    walk: &mut Walk,
+) -> Result<(), AllocError> {
+    match statement {
+        Statement::Set { slot, .. } => {
+            walk.seen.push(*slot)?;
+            Ok(())
+        }
+        Statement::If { taken, skipped, .. } => {
+            visit_all(alloc, given, taken.as_slice(), walk)?;
+            visit_all(alloc, given, skipped.as_slice(), walk)
+        }
+        Statement::Loop {
+            number,
+            test,
+            body,
+            update,
+        } => {
+            let text = LoopText {
+                number: *number,
+                test,
+                body: body.as_slice(),
+                update: update.as_slice(),
+            };
+            enter_loop(alloc, given, text, walk)?;
+            visit_all(alloc, given, body.as_slice(), walk)?;
+            visit_all(alloc, given, update.as_slice(), walk)
+        }
+        Statement::Store { .. }
+        | Statement::Barrier { .. }
+        | Statement::Return { .. }
+        | Statement::Break { .. }
+        | Statement::Continue { .. } => Ok(()),
+    }
+}
+
+#[cycle(walks)]
+fn visit_all(
+    alloc: Global,
+    given: &Given,
+    body: &[Statement],
+    walk: &mut Walk,
+) -> Result<(), AllocError> {
+    for statement in body {
+        visit(alloc, given, statement, walk)?;
+    }
+    Ok(())
+}
+
+/// Of each loop of the kernel, in the order of their numbers, what its tests and its steps tell. `strides` has steps of slots that are known
+/// beside those that are written.
+pub fn guess_rankings(
+    alloc: Global,
+    core: &Core,
+    strides: &[(u32, i64)],
+) -> Result<Vec<Options>, AllocError> {
+    let given = Given {
+        frame: Frame::of(alloc, core)?,
+        strides,
+    };
+    let mut walk = Walk {
+        seen: Vec::new(alloc),
+        found: Vec::new(alloc),
+    };
+    visit_all(alloc, &given, core.body.as_slice(), &mut walk)?;
+    Ok(walk.found)
+}

@@ -1,0 +1,169 @@
+//! Which guesses a derivation uses.
+
+use candidate_lines::{Sight, family, index_of};
+use cut_proof::{Derivation, Line};
+use guess_walk::{Begun, Elements, LineTable, PlaceLines, is_place};
+use linear::Form;
+use place_pairs::{Obligations, Part, Place};
+use std::alloc::{AllocError, Global};
+
+/// Where the facts of an obligation come from: how many the launch has, then the first item's and the second one's, each with the guesses
+/// of its place and how many facts stand where the place begins, and the guesses at the anchor.
+#[derive(Clone, Copy)]
+pub struct Origin<'a> {
+    pub launch: usize,
+    pub first: Share<'a>,
+    pub second: Option<Share<'a>>,
+    pub anchor: Option<&'a PlaceLines>,
+}
+
+/// The facts of one item.
+#[derive(Clone, Copy)]
+pub struct Share<'a> {
+    pub count: usize,
+    pub begun: usize,
+    pub lines: &'a PlaceLines,
+}
+
+impl<'a> Share<'a> {
+    fn used(&self, place: usize) -> Option<u32> {
+        self.lines.used(self.begun, place)
+    }
+}
+
+/// The slot of which a fact says that both items have it alike.
+fn slot_of(fact: &Form) -> Option<u32> {
+    let terms = fact.terms();
+    let (Some(first), Some(second)) = (terms.first(), terms.get(1)) else {
+        return None;
+    };
+    if terms.len() != 2 || index_of(first.symbol) != index_of(second.symbol) {
+        return None;
+    }
+    match (family(first.symbol), family(second.symbol)) {
+        (6, 12) | (7, 13) => u32::try_from(index_of(first.symbol)).ok(),
+        _ => None,
+    }
+}
+
+impl<'a> Origin<'a> {
+    /// The guess that a fact is, by its number from 1.
+    fn guess_of(&self, facts: &[Form], number: u32) -> Option<u32> {
+        let place = (number as usize).checked_sub(1)?;
+        let own = place.checked_sub(self.launch)?;
+        if own < self.first.count {
+            return self.first.used(own);
+        }
+        let rest = own.checked_sub(self.first.count)?;
+        let second = self.second?;
+        if rest < second.count {
+            return second.used(rest);
+        }
+        let slot = slot_of(facts.get(place)?)?;
+        self.anchor?.agreeing(slot)
+    }
+}
+
+/// The guesses that a derivation uses, each once.
+pub fn used_guesses(
+    alloc: Global,
+    origin: &Origin<'_>,
+    facts: &[Form],
+    derivation: &Derivation,
+) -> Result<Vec<u32>, AllocError> {
+    let mut used = Vec::new(alloc);
+    for line in derivation.lines.as_slice() {
+        let Line::Given(number) = line else {
+            continue;
+        };
+        let Some(guess) = origin.guess_of(facts, *number) else {
+            continue;
+        };
+        if !used.as_slice().contains(&guess) {
+            used.push(guess)?;
+        }
+    }
+    Ok(used)
+}
+
+/// What a walk's paths are of.
+#[derive(Clone, Copy)]
+pub struct Ground<'a> {
+    pub found: &'a Obligations<Elements>,
+    pub sights: &'a [Sight],
+    pub begun: &'a [Begun],
+    pub places: &'a [usize],
+    pub table: &'a LineTable,
+}
+
+impl<'a> Ground<'a> {
+    /// The facts of an item on a path, so many of which it knows.
+    fn share(&self, path: usize, count: usize) -> Option<Share<'a>> {
+        let place = *self.places.get(path)?;
+        let begun = self.begun.get(place)?;
+        let lines = self.table.places.get(place)?;
+        Some(
+            Share {
+                count,
+                begun: begun.facts,
+                lines,
+            },
+        )
+    }
+
+    /// The guesses at a path's anchor.
+    fn at_anchor(&self, path: usize) -> Option<&'a PlaceLines> {
+        let anchor = self.found.paths().get(path)?.anchor;
+        let place = self
+            .sights
+            .iter()
+            .position(|sight| is_place(sight, anchor, None))?;
+        self.table.places.get(place)
+    }
+
+    fn claim_facts(&self, at: Place) -> Option<usize> {
+        Some(self.found.paths().get(at.path)?.path.claims.get(at.item)?.facts)
+    }
+
+    fn end_facts(&self, at: Place) -> Option<usize> {
+        Some(self.found.paths().get(at.path)?.path.ends.get(at.item)?.facts)
+    }
+
+    fn access_facts(&self, at: Place) -> Option<usize> {
+        Some(self.found.paths().get(at.path)?.path.accesses.get(at.item)?.facts)
+    }
+
+    /// Two items.
+    fn pair(&self, first: Place, second: Place, counts: (usize, usize)) -> Option<Origin<'a>> {
+        Some(
+            Origin {
+                launch: self.found.launch().len(),
+                first: self.share(first.path, counts.0)?,
+                second: Some(self.share(second.path, counts.1)?),
+                anchor: self.at_anchor(first.path),
+            },
+        )
+    }
+
+    /// Where the facts of an obligation come from.
+    pub fn origin(&self, part: Part) -> Option<Origin<'a>> {
+        match part {
+            Part::Claim(at) => Some(
+                Origin {
+                    launch: self.found.launch().len(),
+                    first: self.share(at.path, self.claim_facts(at)?)?,
+                    second: None,
+                    anchor: None,
+                },
+            ),
+            Part::Ends { first, second, .. } => {
+                let counts = (self.end_facts(first)?, self.end_facts(second)?);
+                self.pair(first, second, counts)
+            }
+            Part::Accesses { first, second } => {
+                let counts = (self.access_facts(first)?, self.access_facts(second)?);
+                self.pair(first, second, counts)
+            }
+        }
+    }
+}

@@ -1,0 +1,161 @@
+//! A work-item, and the values of terms.
+
+use crate::operations::{calculated, changed, compared, settled, truth};
+use crate::random::Random;
+use core_code::tree::{Array, Core, Function, Space, Term};
+use words::Kind;
+
+/// A number along each dimension.
+pub type Triple = [u32; 3];
+
+/// A work-item of a kernel: who it is, what its slots hold, and what it will load.
+#[derive(Drop)]
+pub struct Item<'a> {
+    pub core: &'a Core,
+    pub counts: Triple,
+    pub group: Triple,
+    pub local: Triple,
+    pub slots: Vec<i64>,
+    pub random: Random,
+}
+
+/// The number along a dimension.
+pub fn along(numbers: &Triple, dimension: u32) -> i64 {
+    match dimension {
+        0 => numbers[0] as i64,
+        1 => numbers[1] as i64,
+        2 => numbers[2] as i64,
+        _ => 0,
+    }
+}
+
+/// So many from a group's start, or all in the groups before.
+fn placed(group: i64, size: i64, local: i64) -> i64 {
+    group.wrapping_mul(size).wrapping_add(local)
+}
+
+impl Item<'_> {
+    /// What a work-item function answers.
+    fn id(&self, function: Function, dimension: u32) -> i64 {
+        let size = along(&self.core.sizes, dimension);
+        let count = along(&self.counts, dimension);
+        let group = along(&self.group, dimension);
+        let local = along(&self.local, dimension);
+        match function {
+            Function::GlobalId => placed(group, size, local),
+            Function::LocalId => local,
+            Function::GroupId => group,
+            Function::GlobalSize => placed(count, size, 0),
+            Function::LocalSize => size,
+            Function::NumGroups => count,
+        }
+    }
+
+    /// The kind of an array's elements.
+    fn kind_of(&self, array: Array) -> Kind {
+        let number = array.number as usize;
+        let kind = match array.space {
+            Space::Global => self.core.buffers.get(number).copied(),
+            Space::Local => self.core.arrays.get(number).map(|found| found.kind),
+        };
+        kind.unwrap_or(Kind::Uint)
+    }
+
+    fn slot(&self, slot: u32) -> i64 {
+        self.slots.get(slot as usize).copied().unwrap_or(0)
+    }
+
+    fn load(&mut self, array: Array) -> i64 {
+        let kind = self.kind_of(array);
+        self.random.loaded(kind)
+    }
+}
+
+/// The value of a term; nothing where the work-item stops.
+pub fn value_of(item: &mut Item<'_>, term: &Term) -> Option<i64> {
+    match term {
+        Term::Literal { value, .. } => Some(*value as i64),
+        Term::Variable { slot } => Some(item.slot(*slot)),
+        Term::Id {
+            function,
+            dimension,
+        } => settled(Kind::Uint, item.id(*function, *dimension)),
+        Term::Load { array, index, .. } => {
+            let _index = value_of(item, index)?;
+            Some(item.load(*array))
+        }
+        Term::Unary {
+            operator,
+            kind,
+            of,
+            ..
+        } => {
+            let value = value_of(item, of)?;
+            changed(*operator, *kind, value)
+        }
+        Term::Binary {
+            operator,
+            kind,
+            left,
+            right,
+            ..
+        } => {
+            let first = value_of(item, left)?;
+            let second = value_of(item, right)?;
+            calculated(*operator, *kind, first, second)
+        }
+        Term::Convert { kind, of, .. } => {
+            let value = value_of(item, of)?;
+            settled(*kind, value)
+        }
+        Term::Compare {
+            relation,
+            kind,
+            left,
+            right,
+        } => {
+            let first = value_of(item, left)?;
+            let second = value_of(item, right)?;
+            Some(compared(*relation, *kind, first, second))
+        }
+        Term::Not { of } => {
+            let value = value_of(item, of)?;
+            Some(truth(value == 0))
+        }
+        Term::And { left, right } => {
+            if value_of(item, left)? == 0 {
+                return Some(0);
+            }
+            let second = value_of(item, right)?;
+            Some(truth(second != 0))
+        }
+        Term::Or { left, right } => {
+            if value_of(item, left)? != 0 {
+                return Some(1);
+            }
+            let second = value_of(item, right)?;
+            Some(truth(second != 0))
+        }
+        Term::Select {
+            test,
+            taken,
+            skipped,
+        } => {
+            if value_of(item, test)? != 0 {
+                value_of(item, taken)
+            } else {
+                value_of(item, skipped)
+            }
+        }
+        Term::Minimum { left, right } => {
+            let first = value_of(item, left)?;
+            let second = value_of(item, right)?;
+            Some(if first < second { first } else { second })
+        }
+        Term::Maximum { left, right } => {
+            let first = value_of(item, left)?;
+            let second = value_of(item, right)?;
+            Some(if first > second { first } else { second })
+        }
+    }
+}

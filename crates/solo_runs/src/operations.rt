@@ -1,0 +1,90 @@
+//! Operations on whole numbers that stand for words of a kind; nothing where a work-item may not go on.
+
+use core_code::tree::{Operator, Relation, UnaryOperator};
+use words::Kind;
+
+/// An exact result in its kind.
+pub fn settled(kind: Kind, exact: i64) -> Option<i64> {
+    match kind {
+        Kind::Int => {
+            if -0x8000_0000 <= exact && exact <= 0x7fff_ffff {
+                Some(exact)
+            } else {
+                None
+            }
+        }
+        Kind::Uint => Some(exact.rem_euclid(0x1_0000_0000)),
+    }
+}
+
+/// An operand, brought to the operator's kind.
+fn brought(kind: Kind, value: i64) -> i64 {
+    match kind {
+        Kind::Int => value,
+        Kind::Uint => value.rem_euclid(0x1_0000_0000),
+    }
+}
+
+/// Two operands and their operator. Where a number wraps, its low bits are those of the exact one.
+pub fn calculated(operator: Operator, kind: Kind, left: i64, right: i64) -> Option<i64> {
+    let left = brought(kind, left);
+    let right = brought(kind, right);
+    let exact = match operator {
+        Operator::Add => left.wrapping_add(right),
+        Operator::Subtract => left.wrapping_sub(right),
+        Operator::Multiply => left.wrapping_mul(right),
+        Operator::Divide => left.checked_div(right)?,
+        Operator::Remainder => left.checked_rem(right)?,
+        Operator::BitAnd => left & right,
+        Operator::BitOr => left | right,
+        Operator::BitXor => left ^ right,
+    };
+    settled(kind, exact)
+}
+
+/// One operand and its operator.
+pub fn changed(operator: UnaryOperator, kind: Kind, value: i64) -> Option<i64> {
+    let value = brought(kind, value);
+    let exact = match operator {
+        UnaryOperator::Negate => value.wrapping_neg(),
+        UnaryOperator::Complement => !value,
+        UnaryOperator::ShiftLeft(count) => shifted_left(value, count)?,
+        UnaryOperator::ShiftRight(count) => shifted_right(value, count)?,
+    };
+    settled(kind, exact)
+}
+
+fn shifted_left(value: i64, count: u32) -> Option<i64> {
+    if count > 31 {
+        return None;
+    }
+    let power = 1i64 << count;
+    Some(value.wrapping_mul(power))
+}
+
+fn shifted_right(value: i64, count: u32) -> Option<i64> {
+    if count > 31 {
+        return None;
+    }
+    Some(value >> count)
+}
+
+/// 1 where the relation holds, otherwise 0.
+pub fn compared(relation: Relation, kind: Kind, left: i64, right: i64) -> i64 {
+    let left = brought(kind, left);
+    let right = brought(kind, right);
+    let holds = match relation {
+        Relation::Less => left < right,
+        Relation::AtMost => left <= right,
+        Relation::More => left > right,
+        Relation::AtLeast => left >= right,
+        Relation::Equal => left == right,
+        Relation::Unequal => left != right,
+    };
+    truth(holds)
+}
+
+/// 1 for true.
+pub fn truth(holds: bool) -> i64 {
+    if holds { 1 } else { 0 }
+}

@@ -1,0 +1,313 @@
+//! What was seen of places and of tests, and what that refutes.
+
+use candidate_lines::{
+    Candidate, Descent, Line, Ranking, Sight, family, index_of, value_in, variable,
+};
+use linear::{Form, Symbol};
+use std::alloc::{AllocError, Global};
+
+/// So many different states are kept of a place.
+const STATES: usize = 160;
+
+/// The values of the symbols at a place, by its number in the list of sights.
+#[derive(Drop)]
+pub struct State {
+    pub place: usize,
+    pub values: Vec<(Symbol, i64)>,
+}
+
+/// A loop's test: whether it is the first of a visit, whether it came out true, in which run, and what the slots held.
+#[derive(Drop)]
+pub struct Test {
+    pub number: u32,
+    pub first: bool,
+    pub holds: bool,
+    pub run: usize,
+    pub slots: Vec<i64>,
+}
+
+/// How an item came to a barrier.
+#[derive(Drop)]
+pub struct Arrival {
+    pub barrier: u32,
+    pub slots: Vec<i64>,
+}
+
+/// A place with marks of the states that are kept of it.
+#[derive(Drop)]
+struct Place {
+    anchor: Option<u32>,
+    head: Option<u32>,
+    marks: Vec<u64>,
+}
+
+/// What the runs have shown.
+#[derive(Drop)]
+pub struct Observed {
+    places: Vec<Place>,
+    states: Vec<State>,
+    unequal: Vec<(u32, u32)>,
+    runs: Vec<Vec<(Symbol, i64)>>,
+    tests: Vec<Test>,
+}
+
+/// One more number in a mark.
+fn mixed(mark: u64, number: u64) -> u64 {
+    let sum = (mark ^ number).wrapping_mul(0xff51_afd7_ed55_8ccd);
+    sum ^ (sum >> 32)
+}
+
+/// A number that hardly two lists of values share.
+fn mark_of(values: &[(Symbol, i64)]) -> u64 {
+    let mut mark = 1;
+    for entry in values {
+        mark = mixed(mark, entry.0.number);
+        mark = mixed(mark, entry.1.cast_unsigned());
+    }
+    mark
+}
+
+/// The value of a symbol at a loop's test.
+fn symbol_at(symbol: Symbol, globals: &[(Symbol, i64)], slots: &[i64]) -> Option<i64> {
+    if family(symbol) == family(variable(0)) {
+        return slots.get(index_of(symbol) as usize).copied();
+    }
+    for entry in globals {
+        if entry.0 == symbol {
+            return Some(entry.1);
+        }
+    }
+    None
+}
+
+/// The value of a form at a loop's test.
+pub fn value_at(form: &Form, globals: &[(Symbol, i64)], slots: &[i64]) -> Option<i64> {
+    let mut sum = form.constant_part();
+    for term in form.terms() {
+        let value = symbol_at(term.symbol, globals, slots)?;
+        let product = term.coefficient.checked_mul(value)?;
+        sum = sum.checked_add(product)?;
+    }
+    Some(sum)
+}
+
+/// The line is false of these values.
+fn is_false(line: &Line, values: &[(Symbol, i64)]) -> bool {
+    match line {
+        Line::Same(_) => false,
+        Line::Fact(form) => value_in(form, values).is_some_and(|value| value < 0),
+        Line::Multiple { modulus, form } => match value_in(form, values) {
+            None => false,
+            Some(value) => value.unsigned_abs().checked_rem(*modulus).unwrap_or(0) != 0,
+        },
+    }
+}
+
+/// A rank falls from one to the other.
+fn falls(descent: Descent, before: i64, after: i64) -> bool {
+    match descent {
+        Descent::Down(step) => match before.checked_sub(after) {
+            None => false,
+            Some(fall) => fall >= 0 && fall.unsigned_abs() >= step,
+        },
+        Descent::Halving => after <= before.div_euclid(2),
+    }
+}
+
+impl Observed {
+    /// Nothing yet, of these places.
+    pub fn new(alloc: Global, sights: &[Sight]) -> Result<Observed, AllocError> {
+        let mut places = Vec::new(alloc);
+        for sight in sights {
+            places.push(Place {
+                anchor: sight.anchor,
+                head: sight.head,
+                marks: Vec::new(alloc),
+            })?;
+        }
+        Ok(Observed {
+            places,
+            states: Vec::new(alloc),
+            unequal: Vec::new(alloc),
+            runs: Vec::new(alloc),
+            tests: Vec::new(alloc),
+        })
+    }
+
+    /// The states that were kept.
+    pub fn states(&self) -> &[State] {
+        self.states.as_slice()
+    }
+
+    fn place_of(&self, anchor: Option<u32>, head: Option<u32>) -> Option<usize> {
+        for (at, place) in self.places.iter().enumerate() {
+            if place.anchor == anchor && place.head == head {
+                return Some(at);
+            }
+        }
+        None
+    }
+
+    /// The place, if more states of it are kept.
+    pub fn open_place(&self, anchor: Option<u32>, head: Option<u32>) -> Option<usize> {
+        let at = self.place_of(anchor, head)?;
+        let place = self.places.get(at)?;
+        if place.marks.len() < STATES {
+            Some(at)
+        } else {
+            None
+        }
+    }
+
+    /// Keeps a state, unless it is kept already.
+    pub fn note(&mut self, at: usize, values: Vec<(Symbol, i64)>) -> Result<(), AllocError> {
+        let mark = mark_of(values.as_slice());
+        let Some(place) = self.places.get_mut(at) else {
+            return Ok(());
+        };
+        if place.marks.contains(&mark) {
+            return Ok(());
+        }
+        place.marks.push(mark)?;
+        self.states.push(State { place: at, values })?;
+        Ok(())
+    }
+
+    /// Begins a run, of which these symbols stay as they are.
+    pub fn begin(&mut self, globals: Vec<(Symbol, i64)>) -> Result<(), AllocError> {
+        self.runs.push(globals)?;
+        Ok(())
+    }
+
+    /// What stays as it is in the last run.
+    pub fn globals(&self) -> &[(Symbol, i64)] {
+        match self.runs.last() {
+            None => &[],
+            Some(globals) => globals.as_slice(),
+        }
+    }
+
+    /// Keeps a test of the last run.
+    pub fn note_test(
+        &mut self,
+        number: u32,
+        first: bool,
+        holds: bool,
+        slots: Vec<i64>,
+    ) -> Result<(), AllocError> {
+        let run = self.runs.len().saturating_sub(1);
+        self.tests.push(Test {
+            number,
+            first,
+            holds,
+            run,
+            slots,
+        })?;
+        Ok(())
+    }
+
+    fn note_unequal(&mut self, barrier: u32, slot: usize) -> Result<(), AllocError> {
+        let Ok(slot) = u32::try_from(slot) else {
+            return Ok(());
+        };
+        if !self.is_unequal(barrier, slot) {
+            self.unequal.push((barrier, slot))?;
+        }
+        Ok(())
+    }
+
+    fn is_unequal(&self, barrier: u32, slot: u32) -> bool {
+        for entry in self.unequal.iter() {
+            if entry.0 == barrier && entry.1 == slot {
+                return true;
+            }
+        }
+        false
+    }
+
+    fn compare_slots(
+        &mut self,
+        barrier: u32,
+        left: &[i64],
+        right: &[i64],
+    ) -> Result<(), AllocError> {
+        for (slot, value) in left.iter().enumerate() {
+            if right.get(slot).is_some_and(|other| *other != *value) {
+                self.note_unequal(barrier, slot)?;
+            }
+        }
+        Ok(())
+    }
+
+    /// Notes which slots two items of a group had unlike, as long as they came by the same barriers.
+    pub fn compare(&mut self, left: &[Arrival], right: &[Arrival]) -> Result<(), AllocError> {
+        for (at, first) in left.iter().enumerate() {
+            let Some(second) = right.get(at) else {
+                return Ok(());
+            };
+            if first.barrier != second.barrier {
+                return Ok(());
+            }
+            self.compare_slots(
+                first.barrier,
+                first.slots.as_slice(),
+                second.slots.as_slice(),
+            )?;
+        }
+        Ok(())
+    }
+
+    fn is_false_at(&self, place: usize, line: &Line) -> bool {
+        for state in self.states.iter() {
+            if state.place == place && is_false(line, state.values.as_slice()) {
+                return true;
+            }
+        }
+        false
+    }
+
+    /// A state that was seen contradicts the candidate.
+    pub fn refutes(&self, candidate: &Candidate) -> bool {
+        if let Line::Same(slot) = &candidate.line {
+            return match (candidate.anchor, candidate.head) {
+                (Some(barrier), None) => self.is_unequal(barrier, *slot),
+                _ => false,
+            };
+        }
+        match self.place_of(candidate.anchor, candidate.head) {
+            None => false,
+            Some(place) => self.is_false_at(place, &candidate.line),
+        }
+    }
+
+    fn rank_at(&self, test: &Test, form: &Form) -> Option<i64> {
+        let globals = self.runs.get(test.run)?;
+        value_at(form, globals.as_slice(), test.slots.as_slice())
+    }
+
+    /// In a run the form was not above 0 at a true test, or did not fall between two tests of one visit.
+    pub fn refutes_ranking(&self, ranking: &Ranking) -> bool {
+        let mut last: Option<i64> = None;
+        for test in self.tests.iter() {
+            if test.number == ranking.number {
+                let before = if test.first { None } else { last };
+                last = self.rank_at(test, &ranking.form);
+                if is_broken(ranking.descent, test.holds, before, last) {
+                    return true;
+                }
+            }
+        }
+        false
+    }
+}
+
+/// A rank that is not above 0 where the test holds, or that did not fall.
+fn is_broken(descent: Descent, holds: bool, before: Option<i64>, after: Option<i64>) -> bool {
+    let Some(after) = after else {
+        return false;
+    };
+    if holds && after < 1 {
+        return true;
+    }
+    before.is_some_and(|before| !falls(descent, before, after))
+}

@@ -1,0 +1,402 @@
+//! One work-item alone, from its start to its end or to its last step.
+
+use crate::item::{Item, Triple, along, value_of};
+use crate::random::Random;
+use crate::seen::{Arrival, Observed, value_at};
+use candidate_lines::{Ranking, Sight, argument, at_anchor, group, groups, local, turns, variable};
+use core_code::tree::{Core, Statement, Term};
+use linear::Symbol;
+use std::alloc::{AllocError, Global};
+use words::Word;
+
+/// So many steps a work-item makes, at most.
+const STEPS: u32 = 400;
+
+/// How a statement is left.
+#[derive(Clone, Copy)]
+pub enum Flow {
+    Next,
+    Ended,
+    Break(u32),
+    Continue(u32),
+}
+
+/// A loop, and whether it is a place.
+#[derive(Clone, Copy)]
+struct Visit {
+    number: u32,
+    is_head: bool,
+}
+
+/// A work-item on its way, with what was seen up to now.
+#[derive(Drop)]
+pub struct Solo<'a> {
+    pub alloc: Global,
+    pub sights: &'a [Sight],
+    pub rankings: &'a [Ranking],
+    pub item: Item<'a>,
+    pub seen: Observed,
+    pub arrivals: Vec<Arrival>,
+    anchor: Option<u32>,
+    anchored: Vec<i64>,
+    turned: Vec<(u32, i64)>,
+    left: u32,
+}
+
+#[cycle(barriers)]
+fn has_barrier(statement: &Statement) -> bool {
+    match statement {
+        Statement::If { taken, skipped, .. } => {
+            have_barrier(taken.as_slice()) || have_barrier(skipped.as_slice())
+        }
+        Statement::Loop { body, update, .. } => {
+            have_barrier(body.as_slice()) || have_barrier(update.as_slice())
+        }
+        Statement::Barrier { .. } => true,
+        Statement::Set { .. }
+        | Statement::Store { .. }
+        | Statement::Return { .. }
+        | Statement::Break { .. }
+        | Statement::Continue { .. } => false,
+    }
+}
+
+#[cycle(barriers)]
+fn have_barrier(body: &[Statement]) -> bool {
+    for statement in body {
+        if has_barrier(statement) {
+            return true;
+        }
+    }
+    false
+}
+
+/// How a loop is left where its body or its update is left so; nothing where it goes on.
+fn left_by(number: u32, flow: Flow) -> Option<Flow> {
+    match flow {
+        Flow::Next => None,
+        Flow::Ended => Some(Flow::Ended),
+        Flow::Continue(of) if of == number => None,
+        Flow::Break(of) if of == number => Some(Flow::Next),
+        other => Some(other),
+    }
+}
+
+/// The symbols that stay as they are in a run, in the order of told equalities.
+fn globals_of(
+    alloc: Global,
+    item: &Item<'_>,
+    arguments: &[Word],
+) -> Result<Vec<(Symbol, i64)>, AllocError> {
+    let mut values = Vec::new(alloc);
+    for dimension in 0..3 {
+        values.push((groups(dimension), along(&item.counts, dimension)))?;
+    }
+    for (at, word) in arguments.iter().enumerate() {
+        if let Ok(number) = u32::try_from(at) {
+            values.push((argument(number), word.value()))?;
+        }
+    }
+    for dimension in 0..3 {
+        values.push((local(dimension), along(&item.local, dimension)))?;
+    }
+    for dimension in 0..3 {
+        values.push((group(dimension), along(&item.group, dimension)))?;
+    }
+    Ok(values)
+}
+
+/// The slots at a run's start: arguments, and 0 of each private variable.
+fn slots_of(alloc: Global, core: &Core, arguments: &[Word]) -> Result<Vec<i64>, AllocError> {
+    let mut slots = Vec::new(alloc);
+    for word in arguments {
+        slots.push(word.value())?;
+    }
+    for _ in core.variables.iter() {
+        slots.push(0)?;
+    }
+    Ok(slots)
+}
+
+/// The ranking of a loop.
+fn ranking_of(rankings: &[Ranking], number: u32) -> Option<&Ranking> {
+    for ranking in rankings {
+        if ranking.number == number {
+            return Some(ranking);
+        }
+    }
+    None
+}
+
+impl<'a> Solo<'a> {
+    /// Nobody yet.
+    pub fn new(
+        alloc: Global,
+        core: &'a Core,
+        sights: &'a [Sight],
+        rankings: &'a [Ranking],
+        random: Random,
+    ) -> Result<Solo<'a>, AllocError> {
+        let seen = Observed::new(alloc, sights)?;
+        let item = Item {
+            core,
+            counts: [1, 1, 1],
+            group: [0, 0, 0],
+            local: [0, 0, 0],
+            slots: Vec::new(alloc),
+            random,
+        };
+        Ok(Solo {
+            alloc,
+            sights,
+            rankings,
+            item,
+            seen,
+            arrivals: Vec::new(alloc),
+            anchor: None,
+            anchored: Vec::new(alloc),
+            turned: Vec::new(alloc),
+            left: 0,
+        })
+    }
+
+    /// Makes it another work-item, at its start.
+    pub fn enter(
+        &mut self,
+        group: Triple,
+        local: Triple,
+        arguments: &[Word],
+    ) -> Result<(), AllocError> {
+        self.item.group = group;
+        self.item.local = local;
+        self.item.slots = slots_of(self.alloc, self.item.core, arguments)?;
+        let globals = globals_of(self.alloc, &self.item, arguments)?;
+        self.seen.begin(globals)?;
+        self.anchor = None;
+        self.keep_anchored()?;
+        self.arrivals.clear();
+        self.turned.clear();
+        self.left = STEPS;
+        Ok(())
+    }
+
+    /// Keeps the slots as those of the anchor.
+    fn keep_anchored(&mut self) -> Result<(), AllocError> {
+        self.anchored = self.slots()?;
+        Ok(())
+    }
+
+    fn slots(&self) -> Result<Vec<i64>, AllocError> {
+        Vec::from_slice(self.alloc, self.item.slots.as_slice())
+    }
+
+    /// One step less is left, if there was one.
+    fn steps(&mut self) -> bool {
+        if self.left == 0 {
+            return false;
+        }
+        self.left -= 1;
+        true
+    }
+
+    fn set(&mut self, slot: u32, value: &Term) -> Flow {
+        let Some(value) = value_of(&mut self.item, value) else {
+            return Flow::Ended;
+        };
+        if let Some(place) = self.item.slots.get_mut(slot as usize) {
+            *place = value;
+        }
+        Flow::Next
+    }
+
+    /// Evaluates what a store evaluates.
+    fn store(&mut self, index: &Term, value: &Term) -> Flow {
+        let index = value_of(&mut self.item, index);
+        let value = value_of(&mut self.item, value);
+        if index.is_some() && value.is_some() {
+            Flow::Next
+        } else {
+            Flow::Ended
+        }
+    }
+
+    fn add_slots(&self, values: &mut Vec<(Symbol, i64)>, sight: &Sight) -> Result<(), AllocError> {
+        for slot in sight.slots.iter() {
+            if let Some(value) = self.item.slots.get(*slot as usize) {
+                values.push((variable(*slot), *value))?;
+            }
+        }
+        Ok(())
+    }
+
+    fn add_anchored(
+        &self,
+        values: &mut Vec<(Symbol, i64)>,
+        sight: &Sight,
+    ) -> Result<(), AllocError> {
+        for slot in sight.before.iter() {
+            if let Some(value) = self.anchored.get(*slot as usize) {
+                values.push((at_anchor(*slot), *value))?;
+            }
+        }
+        Ok(())
+    }
+
+    fn add_turned(&self, values: &mut Vec<(Symbol, i64)>, sight: &Sight) -> Result<(), AllocError> {
+        for entry in self.turned.iter() {
+            if sight.loops.contains(&entry.0) {
+                values.push((turns(entry.0), entry.1))?;
+            }
+        }
+        Ok(())
+    }
+
+    fn values_at(&self, sight: &Sight) -> Result<Vec<(Symbol, i64)>, AllocError> {
+        let mut values = Vec::from_slice(self.alloc, self.seen.globals())?;
+        self.add_slots(&mut values, sight)?;
+        self.add_anchored(&mut values, sight)?;
+        self.add_turned(&mut values, sight)?;
+        Ok(values)
+    }
+
+    /// Keeps how the item stands at a place.
+    fn note(&mut self, anchor: Option<u32>, head: Option<u32>) -> Result<(), AllocError> {
+        let Some(at) = self.seen.open_place(anchor, head) else {
+            return Ok(());
+        };
+        let Some(sight) = self.sights.get(at) else {
+            return Ok(());
+        };
+        let values = self.values_at(sight)?;
+        self.seen.note(at, values)
+    }
+
+    /// Comes to a barrier and goes on behind it.
+    fn arrive(&mut self, barrier: u32) -> Result<Flow, AllocError> {
+        self.note(Some(barrier), None)?;
+        let slots = self.slots()?;
+        self.arrivals.push(Arrival { barrier, slots })?;
+        self.anchor = Some(barrier);
+        self.keep_anchored()?;
+        Ok(Flow::Next)
+    }
+
+    /// What ranks a loop now.
+    fn rank_of(&self, number: u32) -> Option<i64> {
+        let ranking = ranking_of(self.rankings, number)?;
+        value_at(
+            &ranking.form,
+            self.seen.globals(),
+            self.item.slots.as_slice(),
+        )
+    }
+
+    /// Keeps what ranked a loop when its test was true.
+    fn keep_turn(&mut self, number: u32, rank: Option<i64>) -> Result<(), AllocError> {
+        let Some(rank) = rank else {
+            return Ok(());
+        };
+        for entry in self.turned.iter_mut() {
+            if entry.0 == number {
+                entry.1 = rank;
+                return Ok(());
+            }
+        }
+        self.turned.push((number, rank))?;
+        Ok(())
+    }
+
+    /// Evaluates a loop's test, and keeps it.
+    fn try_test(
+        &mut self,
+        number: u32,
+        test: &Term,
+        first: bool,
+    ) -> Result<Option<bool>, AllocError> {
+        let rank = self.rank_of(number);
+        let value = value_of(&mut self.item, test).map(|value| value != 0);
+        let holds = value.unwrap_or(false);
+        if holds {
+            self.keep_turn(number, rank)?;
+        }
+        let slots = self.slots()?;
+        self.seen.note_test(number, first, holds, slots)?;
+        Ok(value)
+    }
+
+    /// Comes to a loop's test.
+    fn test(&mut self, visit: Visit, test: &Term, first: bool) -> Result<Option<bool>, AllocError> {
+        if visit.is_head {
+            self.note(self.anchor, Some(visit.number))?;
+        }
+        if !self.steps() {
+            return Ok(None);
+        }
+        self.try_test(visit.number, test, first)
+    }
+}
+
+/// Runs statements one after the other.
+#[cycle(running)]
+pub fn run_all(solo: &mut Solo<'_>, body: &[Statement]) -> Result<Flow, AllocError> {
+    for statement in body {
+        match run_one(solo, statement)? {
+            Flow::Next => {}
+            other => return Ok(other),
+        }
+    }
+    Ok(Flow::Next)
+}
+
+/// Runs a statement.
+#[cycle(running)]
+fn run_one(solo: &mut Solo<'_>, statement: &Statement) -> Result<Flow, AllocError> {
+    if !solo.steps() {
+        return Ok(Flow::Ended);
+    }
+    match statement {
+        Statement::Set { slot, value, .. } => Ok(solo.set(*slot, value)),
+        Statement::Store { index, value, .. } => Ok(solo.store(index, value)),
+        Statement::If {
+            test,
+            taken,
+            skipped,
+            ..
+        } => match value_of(&mut solo.item, test) {
+            None => Ok(Flow::Ended),
+            Some(0) => run_all(solo, skipped.as_slice()),
+            Some(_) => run_all(solo, taken.as_slice()),
+        },
+        Statement::Loop {
+            number,
+            test,
+            body,
+            update,
+        } => {
+            let visit = Visit {
+                number: *number,
+                is_head: !have_barrier(body.as_slice()) && !have_barrier(update.as_slice()),
+            };
+            for turn in 0..STEPS {
+                match solo.test(visit, test, turn == 0)? {
+                    None => return Ok(Flow::Ended),
+                    Some(false) => return Ok(Flow::Next),
+                    Some(true) => {}
+                }
+                let flow = run_all(solo, body.as_slice())?;
+                if let Some(out) = left_by(*number, flow) {
+                    return Ok(out);
+                }
+                let flow = run_all(solo, update.as_slice())?;
+                if let Some(out) = left_by(*number, flow) {
+                    return Ok(out);
+                }
+            }
+            Ok(Flow::Ended)
+        }
+        Statement::Barrier { number, .. } => solo.arrive(*number),
+        Statement::Return { .. } => Ok(Flow::Ended),
+        Statement::Break { of, .. } => Ok(Flow::Break(*of)),
+        Statement::Continue { of, .. } => Ok(Flow::Continue(*of)),
+    }
+}

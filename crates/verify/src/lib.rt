@@ -1,0 +1,10 @@
+//! Section: Runs and program. Promises what `check` promises, with a certificate that was found; stands on `cert_check`.
+//!
+//! Kernels, proved: a certificate is looked for, and what is found is checked as any other.
+#![tactic(auto)]
+
+mod error;
+mod verifying;
+
+pub use error::VerifyError;
+pub use verifying::{Verified, verify};

@@ -223,9 +223,11 @@ fn prove_of<'a>(words: &'a [String], workers: Option<u32>) -> Line<'a>
     requires { HasWord (texts words.now) 0 (codes "prove") }
     ensures { Asks (texts words.now) result }
 {
-    let (Some(kernel), Some(conditions), Some(workers)) =
-        (operand(words, 1), operand(words, 2), workers)
-    else {
+    let (Some(kernel), Some(conditions), Some(workers)) = (
+        operand(words, 1),
+        operand(words, 2),
+        workers,
+    ) else {
         return Line::Usage;
     };
     Line::Prove(Search {

@@ -1,6 +1,6 @@
 -- What is written of the texts that were asked about.
 use Rattle.std.proofs.Common.{◌≡◌, ℕ, List, [], ◌∷◌, ◌++◌, false, inl, inr, refl, sym, ap, subst}
-use Rattle.std.specs.Prelude.{Option, Some, None, Result, Ok, Err, IfSome, IfOk, codes}
+use Rattle.std.specs.Prelude.{◌⊎◌, Option, Some, None, Result, Ok, Err, IfSome, IfOk, codes}
 use Rattle.std.specs.String.{string_bytes}
 use Rattle.reading.specs.Answers as kernels
 use Rattle.launch_words.specs.Answers as launches

@@ -139,7 +139,12 @@ impl Files for Sealed {
 #[test]
 fn nothing_is_told_that_is_not_written(rt: HostRuntime) -> Result<(), Fail> {
     let mut sealed = Sealed(files(rt.alloc())?);
-    let found = told(&rt, rt.alloc(), "prove nothing two --out found", &mut sealed)?;
+    let found = told(
+        &rt,
+        rt.alloc(),
+        "prove nothing two --out found",
+        &mut sealed,
+    )?;
     assert_eq!(rt; found.as_str(), "3  file: found\n");
     let found = told(&rt, rt.alloc(), "prove nothing two", &mut sealed)?;
     assert_eq!(rt; found.as_str(), "0 accepted\n ");

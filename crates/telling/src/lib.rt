@@ -14,8 +14,6 @@ ghost use Rattle.telling.specs.Verdicts.{Checks, Runs, Prints, IsRefusal};
 mod proving;
 mod refusal;
 
-pub use proving::{Finding, prove_texts};
-
 use cert_check::check;
 use cert_check::error::{CheckError, Place};
 use executor::{RunError, run};
@@ -25,6 +23,7 @@ use launch_grammar::laws::{
 use launch_text::error::LaunchTextError;
 use launch_text::{read_launch, write_buffers};
 use printer::print;
+pub use proving::{Finding, prove_texts};
 use reading::laws::bytes_are_the_text_of_what_is_read;
 use reading::read_kernel;
 use refusal::Refusal;

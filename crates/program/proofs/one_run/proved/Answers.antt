@@ -1,3 +1,4 @@
+use Rattle.std.proofs.Common.{◌∙◌}
 use Rattle.std.specs.Option.{option_map}
 use Rattle.program.specs.Running.{Does}
 use Rattle.program.specs.Verdicts.{Tells, Kept}
@@ -15,3 +16,6 @@ returns-clause-verdict g c = λ ws command search.
     follows c.kept.result (Kept g.F.Files.contents next after out f.0 f.1) (Tells (Does g.F.Files.contents g.F.Files.gives before after) ws)
     (λ v h. tells g.F.Files.contents g.F.Files.gives before next after ws s.kernel.now s.conditions.now f.0 f.1 out v command search.kernel search.conditions search.out f.2 h)
     (c.kept.ensures.verdict f.0 f.1 f.3)
+
+pub returns-clause-others : goal.returns-clause-others
+returns-clause-others g c = λ n h. c.kept.ensures.others n h ∙ c.searched.ensures.same n

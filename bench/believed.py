@@ -12,6 +12,7 @@ import re
 import sys
 
 CRATES = pathlib.Path(__file__).resolve().parent.parent / "crates"
+QUOTED = re.compile(r'"[^"]*"')
 NAME = re.compile(r"[^\s(){}\[\],;.|]+(?:\.[^\s(){}\[\],;.|]+)*")
 
 
@@ -100,7 +101,7 @@ def walk(start, names):
         seen.add((path, name))
         module = load(path)
         for line in module.definitions[name]:
-            for word in NAME.findall(line):
+            for word in NAME.findall(QUOTED.sub("", line)):
                 first, _, rest = word.partition(".")
                 if first in module.modules and rest:
                     target, used = module.modules[first], rest.split(".")[0]

@@ -1,20 +1,31 @@
 -- What the words of a command line ask for. The words that are no option are the command and the names of files.
-use Rattle.std.specs.Prelude.{◌≡◌, ℕ, List, [], ◌∷◌, map, Bool, true, false, cond, Some, slice_get, bytes_eq, codes}
+use Rattle.std.specs.Prelude.{◌≡◌, ℕ, List, [], ◌∷◌, map, Bool, true, false, ◌||◌, cond, Option, Some, None, slice_get, bytes_eq, codes}
 use Rattle.std.specs.Prelude.{String}
+use Rattle.std.specs.Option.{option_map}
 use Rattle.std.specs.String.{string_bytes}
 use Rattle.std.specs.declared.alloc.Global.{Global}
 use Rattle.command_line.specs.declared.Names.{Names}
+use Rattle.command_line.specs.declared.Search.{Search}
 use Rattle.command_line.specs.declared.Line.{Line}
 use Rattle.command_line.specs.declared.Line.TheVariants as lines
 
 abbrev pub texts : List (String Global) → List (List ℕ)
 texts ws = map string_bytes ws
 
--- the word behind `--workers` is its number
-abbrev pub operands : (is_number : Bool) → List (List ℕ) → List (List ℕ)
-operands is_number [] = []
+abbrev pub is_option : List ℕ → Bool
+is_option w = bytes_eq w (codes "--workers") || bytes_eq w (codes "--out")
+
+-- the word behind an option is its value
+abbrev pub operands : (is_value : Bool) → List (List ℕ) → List (List ℕ)
+operands is_value [] = []
 operands true (w ∷ ws) = operands false ws
-operands false (w ∷ ws) = cond (bytes_eq w (codes "--workers")) (operands true ws) (w ∷ operands false ws)
+operands false (w ∷ ws) = cond (is_option w) (operands true ws) (w ∷ operands false ws)
+
+-- the word behind the first `--out` is the name of a file to write
+abbrev pub saved_as : (is_name : Bool) → List (List ℕ) → Option (List ℕ)
+saved_as is_name [] = None
+saved_as true (w ∷ ws) = Some w
+saved_as false (w ∷ ws) = saved_as (bytes_eq w (codes "--out")) ws
 
 -- this is the n-th of them, from 0
 abbrev pub HasWord : List (List ℕ) → ℕ → List ℕ → Type 0
@@ -26,9 +37,16 @@ pub record HasNames (ws : List (List ℕ)) (names : Names) : Type 0 where
   pub conditions : HasWord ws 2 names.conditions.now
   pub certificate : HasWord ws 3 names.certificate.now
 
+-- the kernel and the conditions come first, and `--out` names the file to write
+pub record HasSearch (ws : List (List ℕ)) (search : Search) : Type 0 where
+  pub kernel : HasWord ws 1 search.kernel.now
+  pub conditions : HasWord ws 2 search.conditions.now
+  pub out : option_map (λ w. w.now) search.out ≡ saved_as false ws
+
 abbrev pub Asks : List (List ℕ) → Line → Type 0
 Asks ws lines.First = ws ≡ []
 Asks ws (lines.Check names) = HasWord ws 0 (codes "check") × HasNames ws names
 Asks ws (lines.Run names launch workers) = HasWord ws 0 (codes "run") × HasNames ws names × HasWord ws 4 launch.now
+Asks ws (lines.Prove search) = HasWord ws 0 (codes "prove") × HasSearch ws search
 Asks ws (lines.Print kernel) = HasWord ws 0 (codes "print") × HasWord ws 1 kernel.now
 Asks ws lines.Usage = Unit {0}

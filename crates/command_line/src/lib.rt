@@ -5,7 +5,7 @@
 
 ghost use Rattle.std.specs.Prelude.{◌≡◌, ℕ, List, IfOk, IfSome, false, codes, slice_get};
 ghost use Rattle.std.specs.Option.{option_map};
-ghost use Rattle.command_line.specs.Words.{texts, operands, HasWord, HasNames, Asks};
+ghost use Rattle.command_line.specs.Words.{texts, operands, saved_as, HasWord, HasNames, Asks};
 
 use clap::error::{Error, ErrorKind};
 use clap::{Arg, ArgAction, ArgMatches, Command};
@@ -22,6 +22,7 @@ pub enum Line<'a> {
         launch: &'a str,
         workers: u32,
     },
+    Prove(Search<'a>),
     /// The canonical text of a file's kernel.
     Print(&'a str),
     /// No command line.
@@ -36,6 +37,15 @@ pub struct Names<'a> {
     pub certificate: &'a str,
 }
 
+/// What a certificate is looked for: the files of a kernel and its conditions, and the file to write, where one is named.
+#[derive(Clone, Copy)]
+pub struct Search<'a> {
+    pub kernel: &'a str,
+    pub conditions: &'a str,
+    pub out: Option<&'a str>,
+    pub workers: u32,
+}
+
 /// A decimal of at most 4294967295, with no sign and no zero before it.
 fn decimal(text: &str) -> Option<u32> {
     let bytes = text.as_bytes();
@@ -48,16 +58,24 @@ fn decimal(text: &str) -> Option<u32> {
     text.parse::<u32>().ok()
 }
 
-/// An option is written as two words, and there is just this one.
-fn is_spelled(words: &[String], option: &str) -> bool {
-    words.iter().all(|word| !word.as_str().starts_with("--") || word.as_str() == option)
+/// An option is written as two words, and there are just these.
+fn is_spelled(words: &[String], options: &[&str]) -> bool {
+    words.iter().all(|word| !word.as_str().starts_with("--") || is_among(word.as_str(), options))
 }
 
-/// A command with the files of a kernel, its conditions and its certificate.
-fn with_names<'a>(alloc: Global, name: &'a str) -> Result<Command<'a>, AllocError> {
+fn is_among(word: &str, options: &[&str]) -> bool {
+    options.iter().any(|option| *option == word)
+}
+
+/// A command with the files of a kernel and its conditions.
+fn with_texts<'a>(alloc: Global, name: &'a str) -> Result<Command<'a>, AllocError> {
     let command = Command::new(alloc, name).arg(file(alloc, "KERNEL"))?;
-    let command = command.arg(file(alloc, "CONDITIONS"))?;
-    command.arg(file(alloc, "CERTIFICATE"))
+    command.arg(file(alloc, "CONDITIONS"))
+}
+
+/// So with the file of a certificate.
+fn with_names<'a>(alloc: Global, name: &'a str) -> Result<Command<'a>, AllocError> {
+    with_texts(alloc, name)?.arg(file(alloc, "CERTIFICATE"))
 }
 
 /// A file's name, which has to be there.
@@ -65,31 +83,53 @@ fn file<'a>(alloc: Global, name: &'a str) -> Arg<'a> {
     Arg::new(alloc, name).required(true).action(ArgAction::Set)
 }
 
-/// `run`, with a launch and a number of workers.
-fn run_command<'a>(alloc: Global) -> Result<Command<'a>, AllocError> {
-    let workers = Arg::new(alloc, "workers")
-        .long("workers")
-        .action(ArgAction::Set);
-    let command = with_names(alloc, "run")?.arg(file(alloc, "LAUNCH"))?;
-    command.arg(workers)
+/// An option, a word behind it.
+fn option<'a>(alloc: Global, name: &'a str) -> Arg<'a> {
+    Arg::new(alloc, name).long(name).action(ArgAction::Set)
 }
 
-/// The n-th word that is neither an option nor its number, from 0.
+/// `run`, with a launch and a number of workers.
+fn run_command<'a>(alloc: Global) -> Result<Command<'a>, AllocError> {
+    let command = with_names(alloc, "run")?.arg(file(alloc, "LAUNCH"))?;
+    command.arg(option(alloc, "workers"))
+}
+
+/// `prove`, with a number of workers and a file for what is found.
+fn prove_command<'a>(alloc: Global) -> Result<Command<'a>, AllocError> {
+    let command = with_texts(alloc, "prove")?.arg(option(alloc, "workers"))?;
+    command.arg(option(alloc, "out"))
+}
+
+/// The n-th word that is neither an option nor the word behind one, from 0.
 fn operand(words: &[String], n: u32) -> Option<&str>
     ensures { option_map (λ w. w.now) result ≡ slice_get (operands false (texts words.now)) n }
 {
     let mut left = n;
-    let mut is_number = false;
+    let mut is_value = false;
     for word in words {
-        if is_number {
-            is_number = false;
-        } else if word.as_str() == "--workers" {
-            is_number = true;
+        if is_value {
+            is_value = false;
+        } else if word.as_str() == "--workers" || word.as_str() == "--out" {
+            is_value = true;
         } else if left == 0 {
             return Some(word.as_str());
         } else {
             left -= 1;
         }
+    }
+    None
+}
+
+/// The word behind the first `--out`.
+fn out_of(words: &[String]) -> Option<&str>
+    ensures { option_map (λ w. w.now) result ≡ saved_as false (texts words.now) }
+{
+    let mut is_name = false;
+    for word in words {
+        if is_name {
+            return Some(word.as_str());
+        }
+        is_name = word.as_str() == "--out";
     }
     None
 }
@@ -120,7 +160,7 @@ fn check_line<'a>(alloc: Global, words: &'a [String]) -> Result<Line<'a>, AllocE
     requires { HasWord (texts words.now) 0 (codes "check") }
     ensures { IfOk result (λ line. Asks (texts words.now) line) }
 {
-    if !is_spelled(words, "check") {
+    if !is_spelled(words, &[]) {
         return Ok(Line::Usage);
     }
     match with_names(alloc, "check")?.try_get_matches_from(words) {
@@ -169,11 +209,45 @@ fn run_line<'a>(alloc: Global, words: &'a [String]) -> Result<Line<'a>, AllocErr
     requires { HasWord (texts words.now) 0 (codes "run") }
     ensures { IfOk result (λ line. Asks (texts words.now) line) }
 {
-    if !is_spelled(words, "--workers") {
+    if !is_spelled(words, &["--workers"]) {
         return Ok(Line::Usage);
     }
     match run_command(alloc)?.try_get_matches_from(words) {
         Ok(matches) => Ok(run_of(words, workers_of(&matches))),
+        Err(error) => unread(&error),
+    }
+}
+
+/// What `prove` is asked for.
+fn prove_of<'a>(words: &'a [String], workers: Option<u32>) -> Line<'a>
+    requires { HasWord (texts words.now) 0 (codes "prove") }
+    ensures { Asks (texts words.now) result }
+{
+    let (Some(kernel), Some(conditions), Some(workers)) = (
+        operand(words, 1),
+        operand(words, 2),
+        workers,
+    ) else {
+        return Line::Usage;
+    };
+    Line::Prove(Search {
+        kernel,
+        conditions,
+        out: out_of(words),
+        workers,
+    })
+}
+
+/// `prove`, where the words are such a line.
+fn prove_line<'a>(alloc: Global, words: &'a [String]) -> Result<Line<'a>, AllocError>
+    requires { HasWord (texts words.now) 0 (codes "prove") }
+    ensures { IfOk result (λ line. Asks (texts words.now) line) }
+{
+    if !is_spelled(words, &["--workers", "--out"]) {
+        return Ok(Line::Usage);
+    }
+    match prove_command(alloc)?.try_get_matches_from(words) {
+        Ok(matches) => Ok(prove_of(words, workers_of(&matches))),
         Err(error) => unread(&error),
     }
 }
@@ -194,7 +268,7 @@ fn print_line<'a>(alloc: Global, words: &'a [String]) -> Result<Line<'a>, AllocE
     requires { HasWord (texts words.now) 0 (codes "print") }
     ensures { IfOk result (λ line. Asks (texts words.now) line) }
 {
-    if !is_spelled(words, "print") {
+    if !is_spelled(words, &[]) {
         return Ok(Line::Usage);
     }
     let command = Command::new(alloc, "print").arg(file(alloc, "KERNEL"))?;
@@ -214,6 +288,7 @@ pub fn read_line<'a>(alloc: Global, words: &'a [String]) -> Result<Line<'a>, All
     match operand(words, 0) {
         Some(command) if command == "check" => check_line(alloc, words),
         Some(command) if command == "run" => run_line(alloc, words),
+        Some(command) if command == "prove" => prove_line(alloc, words),
         Some(command) if command == "print" => print_line(alloc, words),
         _ => Ok(Line::Usage),
     }

@@ -1,7 +1,8 @@
 //! Section: Runs and program. Promises no more than `program`, over this machine's files; stands on `program`.
 //!
-//! The program: `kverify check KERNEL CONDITIONS CERTIFICATE` says whether a kernel is accepted, `kverify run KERNEL CONDITIONS CERTIFICATE
-//! LAUNCH [--workers N]` runs it, and `kverify print KERNEL` prints its canonical text. Status 0 accepted or done, 1 refused, 2 a command
+//! The program: `kverify check KERNEL CONDITIONS CERTIFICATE` says whether a kernel is accepted, `kverify prove KERNEL CONDITIONS [--workers N]
+//! [--out FILE]` looks for a certificate, `kverify run KERNEL CONDITIONS CERTIFICATE LAUNCH [--workers N]` runs an accepted kernel, and
+//! `kverify print KERNEL` prints its canonical text. Status 0 accepted or done, 1 refused, 2 a command
 //! line that is none, 3 a file or an output that fails, 4 out of memory.
 #![tactic(auto)]
 

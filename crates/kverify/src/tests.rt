@@ -137,7 +137,7 @@ const LINES: &[(&str, &str)] = &[
     ("run k c p l --workers 02", USAGE),
     ("run k c p l --workers 4294967296", USAGE),
     ("check k c p l", USAGE),
-    ("prove k c", USAGE),
+    ("prove k", USAGE),
     ("help", USAGE),
 ];
 

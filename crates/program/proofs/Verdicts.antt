@@ -1,16 +1,26 @@
 -- What is written of the texts that were asked about.
-use Rattle.std.proofs.Common.{ℕ, List, [], ◌∷◌, ◌++◌, inl, inr, refl, subst}
-use Rattle.std.specs.Prelude.{Option}
+use Rattle.std.proofs.Common.{◌≡◌, ℕ, List, [], ◌∷◌, ◌++◌, false, inl, inr, refl, sym, ap, subst}
+use Rattle.std.specs.Prelude.{◌⊎◌, Option, Some, None, Result, Ok, Err, IfSome, IfOk, codes}
 use Rattle.std.specs.String.{string_bytes}
 use Rattle.reading.specs.Answers as kernels
 use Rattle.launch_words.specs.Answers as launches
 use Rattle.cert_check.specs.Numbers as checks
 use Rattle.executor.specs.Numbers as runs
+use Rattle.verify.specs.Numbers as searches
 use Rattle.telling.specs.Refusals.{IsRefusalLine, place_seen}
 use Rattle.telling.specs.Refusing.{IsRefusedText, IsRefusedKernel, IsUnanswered}
-use Rattle.program.specs.Running.{Read, IsOf, Reads, own, checked, ran, printed, Success, Output, done, refused, silent, torn}
+use Rattle.telling.specs.Proving.{IsProvedText, IsUnproved, proved_lines}
+use Rattle.command_line.specs.Words.{HasWord, saved_as}
+use Rattle.semantics.specs.Launch.{Launch}
+use Rattle.semantics.specs.Conditions.{Conditions, Meets}
+use Rattle.launch.specs.Least.{probe}
+use Rattle.launch.specs.View.{conditions as conditions_seen}
+use Rattle.telling.specs.Telling.{accepted_line}
+use Rattle.telling.specs.Proving.{no_launch_line}
+use Rattle.program.specs.Running.{kernel_read, conditions_read, saving, IsSafeText}
+use Rattle.program.specs.Running.{Read, Write, IsOf, Reads, Does, Saves, own, checked, ran, proved, printed, Success, Output, done, refused, silent, torn}
 use Rattle.program.specs.Refusing.{Refusal}
-use Rattle.program.specs.Verdicts.{Tells, IsTold, IsWritten}
+use Rattle.program.specs.Verdicts.{Tells, Kept, IsTold, IsWritten}
 use Rattle.telling.specs.declared.Verdict.{Verdict}
 use Rattle.telling.specs.declared.Verdict.TheVariants as verdicts
 
@@ -26,17 +36,21 @@ run_line k c p l line (inr (inr (e, kernel, conditions, launch, workers, s, q, r
 print_line : (k line : List ℕ) → IsRefusedKernel k line → IsRefusalLine line
 print_line k line (e, r, h) = (kernels.error_number e, place_seen (checks.at_place (kernels.error_place e)), h)
 
-line_of : (given : List Read → Type 0) (ws : List (List ℕ)) (line : List ℕ) → Refusal given ws line → IsRefusalLine line
+search_line : (line : List ℕ) → IsUnproved line → IsRefusalLine line
+search_line line (e, h) = (searches.error_number e, place_seen (searches.error_place e), h)
+
+line_of : (given : List Read → Option Write → Type 0) (ws : List (List ℕ)) (line : List ℕ) → Refusal given ws line → IsRefusalLine line
 line_of given ws line (own e g h) = check_line _ _ _ line h
 line_of given ws line (checked k c p kernel conditions certificate w x y z g h) = check_line kernel conditions certificate line h
 line_of given ws line (ran k c p l kernel conditions certificate launch w x y z u g h) = run_line kernel conditions certificate launch line h
+line_of given ws line (proved k c kernel conditions saved w x y g h) = search_line line h.0
 line_of given ws line (printed k kernel w x g h) = print_line kernel line h
 
-module _ (given : List Read → Type 0) (ws : List (List ℕ)) (old new : Option (List ℕ)) (status : ℕ) where
+module _ (given : List Read → Option Write → Type 0) (ws : List (List ℕ)) (old new : Option (List ℕ)) (status : ℕ) where
   abbrev Gained : Type 0
-  Gained = Output (Success given ws) (Refusal given ws) old new status
+  Gained = Output (Success given IsProvedText ws) (Refusal given ws) old new status
 
-  of_text : (text : List ℕ) → Success given ws text → IsWritten text old new 0 status → Gained
+  of_text : (text : List ℕ) → Success given IsProvedText ws text → IsWritten text old new 0 status → Gained
   of_text text s (inl h) = done h.0 text s h.1
   of_text text s (inr h) = torn h.0 text h.1.0 (inl s) h.1.1
 
@@ -44,7 +58,7 @@ module _ (given : List Read → Type 0) (ws : List (List ℕ)) (old new : Option
   of_line line s (inl h) = refused h.0 line (line_of given ws line s) s h.1
   of_line line s (inr h) = torn h.0 line h.1.0 (inr s) h.1.1
 
-  pub output_of : (v : Verdict) → Tells given ws v → IsTold v old new status → Output (Success given ws) (Refusal given ws) old new status
+  pub output_of : (v : Verdict) → Tells given ws v → IsTold v old new status → Output (Success given IsProvedText ws) (Refusal given ws) old new status
   output_of (verdicts.Done text) s h = of_text text.items s h
   output_of (verdicts.Refused line) s h = of_line (string_bytes line) s h
   output_of verdicts.OutOfMemory s h = silent (inr (inr h.0)) h.1
@@ -54,3 +68,35 @@ pub reads-more : {F : Type 0} (contents : F → List ℕ → Option (List ℕ)) 
     Reads contents gives before next rs → gives next r.name r.limit r.bytes after → IsOf (contents next) r → Reads contents gives before after (rs ++ r ∷ [])
 reads-more contents gives before next after [] r h g k = (after, subst (λ f. gives f r.name r.limit r.bytes after) h g, subst (λ f. IsOf (contents f) r) h k, refl)
 reads-more contents gives before next after (x ∷ rs) r h g k = (h.0, h.1, h.2, reads-more contents gives h.0 next after rs r h.3 g k)
+
+-- and then a text, where one is written
+pub does : {F : Type 0} (contents : F → List ℕ → Option (List ℕ)) (gives : F → List ℕ → ℕ → List ℕ → F → Type 0) (before next after : F) (rs : List Read) (w : Option Write) →
+    Reads contents gives before next rs → Saves contents next after w → Does contents gives before after rs w
+does contents gives before next after rs None h s = subst (λ f. Reads contents gives before f rs) (sym s) h
+does contents gives before next after rs (Some w) h s = (next, h, s)
+
+-- what is written where a certificate was found is told of a kernel that is safe
+told_of : (m : Conditions) (written : List ℕ) (o : Option Launch) → IfSome o (Meets m) → written ≡ proved_lines o → ((l : Launch) × Meets m l × (written ≡ accepted_line)) ⊎ (written ≡ accepted_line ++ no_launch_line)
+told_of m written (Some l) h e = inl (l, h, e)
+told_of m written None h e = inr e
+
+is_safe_text : (kernel conditions certificate written : List ℕ) → IsProvedText kernel conditions certificate written → IsSafeText kernel conditions written
+is_safe_text kernel conditions certificate written h = (h.0, conditions_seen h.1, h.2.safe, told_of (conditions_seen h.1) written (probe h.1) h.2.least h.2.text)
+
+-- a search of files whose answer was kept tells of it
+module _ {F : Type 0} (contents : F → List ℕ → Option (List ℕ)) (gives : F → List ℕ → ℕ → List ℕ → F → Type 0) (before next after : F) (ws : List (List ℕ)) (k c kernel conditions : List ℕ) (out : Option (List ℕ)) where
+  abbrev Given : Type 0
+  Given = Reads contents gives before next (kernel_read k kernel ∷ conditions_read c conditions ∷ [])
+
+  pub tells : (v : Verdict) → HasWord ws 0 (codes "prove") → HasWord ws 1 k → HasWord ws 2 c → out ≡ saved_as false ws → Given → Kept contents next after out kernel conditions v → Tells (Does contents gives before after) ws v
+  tells (verdicts.Done text) w x y q r h =
+      proved k c kernel conditions (saving out h.0) w x y (does contents gives before next after (kernel_read k kernel ∷ conditions_read c conditions ∷ []) (saving out h.0) r h.2) (is_safe_text kernel conditions h.0 text.items h.1, (h.0, h.1, ap (λ o. saving o h.0) q))
+  tells (verdicts.Refused line) w x y q r h =
+      proved k c kernel conditions None w x y (does contents gives before next after (kernel_read k kernel ∷ conditions_read c conditions ∷ []) None r h.1) (h.0, refl)
+  tells verdicts.OutOfMemory w x y q r h =
+      proved k c kernel conditions None w x y (does contents gives before next after (kernel_read k kernel ∷ conditions_read c conditions ∷ []) None r h) tt
+
+-- what follows of each answer
+pub follows : {T E : Type 0} (r : Result T E) (P Q : T → Type 0) → ((t : T) → P t → Q t) → IfOk r P → IfOk r Q
+follows (Ok t) P Q f h = f t h
+follows (Err e) P Q f h = tt

@@ -1,9 +1,13 @@
 -- What a run of the program reads and writes.
-use Rattle.std.specs.Prelude.{◌≡◌, ◌+◌, ◌⊎◌, ℕ, List, [], ◌∷◌, Option, IfSome, take, codes}
+use Rattle.std.specs.Prelude.{◌≡◌, ◌≢◌, ◌+◌, ◌++◌, ◌⊎◌, ℕ, List, [], ◌∷◌, false, Option, Some, None, IfSome, take, codes}
 use Rattle.std.specs.Io.KnownBytes.{Appends, Keeps}
-use Rattle.telling.specs.Telling.{IsAcceptedText, IsResultText, IsPrintedText}
+use Rattle.semantics.specs.Launch.{Launch}
+use Rattle.semantics.specs.Conditions.{Conditions, Meets}
+use Rattle.reading.specs.Kernels.{Kernel}
+use Rattle.telling.specs.Telling.{IsSafe, IsAcceptedText, IsResultText, IsPrintedText, accepted_line}
+use Rattle.telling.specs.Proving.{no_launch_line}
 use Rattle.telling.specs.Refusals.{IsRefusalLine}
-use Rattle.command_line.specs.Words.{HasWord}
+use Rattle.command_line.specs.Words.{HasWord, saved_as}
 use Rattle.program.specs.First.{first_kernel, first_conditions, first_certificate}
 
 -- a read of a file: its name, the limit of its text, and the bytes that it gave
@@ -22,6 +26,30 @@ Reads contents gives before after [] = after ≡ before
 Reads {F} contents gives before after (r ∷ rs) =
     (next : F) × gives before r.name r.limit r.bytes next × IsOf (contents before) r × Reads contents gives next after rs
 
+-- a text that was written to a file of this name
+pub record Write : Type 0 where
+  pub name : List ℕ
+  pub text : List ℕ
+
+-- the file has the text, as far as that is known, and what any other file has is as it was
+abbrev pub IsPut : {F : Type 0} → (contents : F → List ℕ → Option (List ℕ)) → (before after : F) → Write → Type 0
+IsPut contents before after w = IfSome (contents after w.name) (λ b. b ≡ w.text) × ((n : List ℕ) → n ≢ w.name → contents after n ≡ contents before n)
+
+-- from these files to those, the reads were made one after another, then the text was written, where there is one, and nothing else was
+-- done to the files
+abbrev pub Does : {F : Type 0} → (contents : F → List ℕ → Option (List ℕ)) → (gives : F → List ℕ → ℕ → List ℕ → F → Type 0) → (before after : F) → List Read → Option Write → Type 0
+Does contents gives before after rs None = Reads contents gives before after rs
+Does {F} contents gives before after rs (Some w) = (next : F) × Reads contents gives before next rs × IsPut contents next after w
+
+abbrev pub Saves : {F : Type 0} → (contents : F → List ℕ → Option (List ℕ)) → (before after : F) → Option Write → Type 0
+Saves contents before after None = after ≡ before
+Saves contents before after (Some w) = IsPut contents before after w
+
+-- a text, written to the file that is named, if one is
+abbrev pub saving : Option (List ℕ) → (text : List ℕ) → Option Write
+saving None text = None
+saving (Some name) text = Some (record { name = name; text = text })
+
 abbrev pub kernel_read : (name bytes : List ℕ) → Read
 kernel_read name bytes = record { name = name; limit = 65536; bytes = bytes }
 
@@ -35,21 +63,39 @@ abbrev pub launch_read : (name bytes : List ℕ) → Read
 launch_read name bytes = record { name = name; limit = 4194304; bytes = bytes }
 
 -- what is told of the texts that the words ask about: those in the program where there is no word, else those of the files that the
--- words name, which were read in this order; `given` says of reads that they were made
-pub data Answers (given : List Read → Type 0) (ws : List (List ℕ)) (checks : (kernel conditions certificate : List ℕ) → Type 0) (runs : (kernel conditions certificate launch : List ℕ) → Type 0) (prints : (kernel : List ℕ) → Type 0) : Type 0 where
-  own : ws ≡ [] → given [] → checks first_kernel first_conditions first_certificate → Answers given ws checks runs prints
+-- words name, which were read in this order; `given` says of reads that they were made, and of a text that it was written behind them
+pub data Answers (given : List Read → Option Write → Type 0) (ws : List (List ℕ)) (checks : (kernel conditions certificate : List ℕ) → Type 0) (runs : (kernel conditions certificate launch : List ℕ) → Type 0)
+    (proves : (kernel conditions : List ℕ) → Option Write → Type 0) (prints : (kernel : List ℕ) → Type 0) : Type 0 where
+  own : ws ≡ [] → given [] None → checks first_kernel first_conditions first_certificate → Answers given ws checks runs proves prints
   checked : (k c p kernel conditions certificate : List ℕ) → HasWord ws 0 (codes "check") → HasWord ws 1 k → HasWord ws 2 c → HasWord ws 3 p →
-      given (kernel_read k kernel ∷ conditions_read c conditions ∷ certificate_read p certificate ∷ []) → checks kernel conditions certificate → Answers given ws checks runs prints
+      given (kernel_read k kernel ∷ conditions_read c conditions ∷ certificate_read p certificate ∷ []) None → checks kernel conditions certificate →
+      Answers given ws checks runs proves prints
   ran : (k c p l kernel conditions certificate launch : List ℕ) → HasWord ws 0 (codes "run") → HasWord ws 1 k → HasWord ws 2 c → HasWord ws 3 p → HasWord ws 4 l →
-      given (kernel_read k kernel ∷ conditions_read c conditions ∷ certificate_read p certificate ∷ launch_read l launch ∷ []) → runs kernel conditions certificate launch →
-      Answers given ws checks runs prints
-  printed : (k kernel : List ℕ) → HasWord ws 0 (codes "print") → HasWord ws 1 k → given (kernel_read k kernel ∷ []) → prints kernel → Answers given ws checks runs prints
+      given (kernel_read k kernel ∷ conditions_read c conditions ∷ certificate_read p certificate ∷ launch_read l launch ∷ []) None → runs kernel conditions certificate launch →
+      Answers given ws checks runs proves prints
+  proved : (k c kernel conditions : List ℕ) (saved : Option Write) → HasWord ws 0 (codes "prove") → HasWord ws 1 k → HasWord ws 2 c →
+      given (kernel_read k kernel ∷ conditions_read c conditions ∷ []) saved → proves kernel conditions saved → Answers given ws checks runs proves prints
+  printed : (k kernel : List ℕ) → HasWord ws 0 (codes "print") → HasWord ws 1 k → given (kernel_read k kernel ∷ []) None → prints kernel → Answers given ws checks runs proves prints
+
+-- the headline holds at each launch that meets the conditions: `accepted` where some launch does, or else a line more
+abbrev pub IsSafeText : (kernel conditions written : List ℕ) → Type 0
+IsSafeText kernel conditions written =
+    (k : Kernel) × (c : Conditions) × IsSafe kernel conditions k c × (((l : Launch) × Meets c l × (written ≡ accepted_line)) ⊎ (written ≡ accepted_line ++ no_launch_line))
+
+-- and what was found, a certificate, was written to the file behind `--out`, where there is one; `proof` says of it that it is one
+abbrev pub IsFound : (proof : (kernel conditions certificate written : List ℕ) → Type 0) (ws : List (List ℕ)) (kernel conditions written : List ℕ) → Option Write → Type 0
+IsFound proof ws kernel conditions written saved =
+    IsSafeText kernel conditions written × ((certificate : List ℕ) × proof kernel conditions certificate written × (saved ≡ saving (saved_as false ws) certificate))
 
 -- `accepted`, the buffers of a launch, or a canonical text
-abbrev pub Success : (given : List Read → Type 0) (ws : List (List ℕ)) (written : List ℕ) → Type 0
-Success given ws written =
+abbrev pub Success : (given : List Read → Option Write → Type 0) (proof : (kernel conditions certificate written : List ℕ) → Type 0) (ws : List (List ℕ)) (written : List ℕ) → Type 0
+Success given proof ws written =
     Answers given ws (λ kernel conditions certificate. IsAcceptedText kernel conditions written) (λ kernel conditions certificate launch. IsResultText kernel conditions launch written)
-    (λ kernel. IsPrintedText kernel written)
+    (λ kernel conditions saved. IsFound proof ws kernel conditions written saved) (λ kernel. IsPrintedText kernel written)
+
+-- the one file that may change: that which `prove` is asked to write
+abbrev pub IsOut : (ws : List (List ℕ)) (name : List ℕ) → Type 0
+IsOut ws name = HasWord ws 0 (codes "prove") × (saved_as false ws ≡ Some name)
 
 -- what the standard output has gained, by the status: at 0 what succeeds, at 1 a line that refuses, at 2 and 4 nothing, at 3 nothing
 -- or, where the output failed, a front of one of these; `refusal` says of a line what it tells

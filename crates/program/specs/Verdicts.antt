@@ -1,16 +1,30 @@
 -- What a verdict tells, and what is written of it.
-use Rattle.std.specs.Prelude.{◌≡◌, ◌⊎◌, ℕ, List, Option, take}
+use Rattle.std.specs.Prelude.{◌≡◌, ◌⊎◌, ℕ, List, Option, None, take}
 use Rattle.std.specs.String.{string_bytes}
 use Rattle.std.specs.Io.KnownBytes.{Appends, Keeps}
 use Rattle.telling.specs.Verdicts.{Checks, Runs, Prints}
+use Rattle.telling.specs.Proving.{IsProvedText, IsUnproved}
 use Rattle.telling.specs.declared.Verdict.{Verdict}
 use Rattle.telling.specs.declared.Verdict.TheVariants as verdicts
-use Rattle.program.specs.Running.{Read, Answers}
+use Rattle.program.specs.Running.{Read, Write, Answers, Saves, saving, IsFound}
+
+-- of a search: what was found is in the file that the words name, if they name one; a refusal writes none
+abbrev pub Finds : (ws : List (List ℕ)) → Verdict → (kernel conditions : List ℕ) → Option Write → Type 0
+Finds ws (verdicts.Done text) kernel conditions saved = IsFound IsProvedText ws kernel conditions text.items saved
+Finds ws (verdicts.Refused line) kernel conditions saved = IsUnproved (string_bytes line) × (saved ≡ None)
+Finds ws verdicts.OutOfMemory kernel conditions saved = Unit {0}
+
+-- of a search, where what is found is put into a file of this name
+abbrev pub Kept : {F : Type 0} → (contents : F → List ℕ → Option (List ℕ)) → (before after : F) → (out : Option (List ℕ)) → (kernel conditions : List ℕ) → Verdict → Type 0
+Kept contents before after out kernel conditions (verdicts.Done text) = (certificate : List ℕ) × IsProvedText kernel conditions certificate text.items × Saves contents before after (saving out certificate)
+Kept contents before after out kernel conditions (verdicts.Refused line) = IsUnproved (string_bytes line) × (after ≡ before)
+Kept contents before after out kernel conditions verdicts.OutOfMemory = after ≡ before
 
 -- of the texts that were asked about
-abbrev pub Tells : (given : List Read → Type 0) (ws : List (List ℕ)) → Verdict → Type 0
+abbrev pub Tells : (given : List Read → Option Write → Type 0) (ws : List (List ℕ)) → Verdict → Type 0
 Tells given ws v =
-    Answers given ws (λ kernel conditions certificate. Checks v kernel conditions certificate) (λ kernel conditions certificate launch. Runs v kernel conditions certificate launch) (λ kernel. Prints v kernel)
+    Answers given ws (λ kernel conditions certificate. Checks v kernel conditions certificate) (λ kernel conditions certificate launch. Runs v kernel conditions certificate launch)
+    (λ kernel conditions saved. Finds ws v kernel conditions saved) (λ kernel. Prints v kernel)
 
 -- the text is written, or a front of it, which is status 3
 abbrev pub IsWritten : (text : List ℕ) (old new : Option (List ℕ)) (done status : ℕ) → Type 0

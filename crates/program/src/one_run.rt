@@ -1,22 +1,24 @@
 //! One run of the program over files and writers.
 
-ghost use Rattle.std.specs.Prelude.{◌≡◌, ℕ, List, [], ◌∷◌, IfOk, codes};
-ghost use Rattle.telling.specs.Verdicts.{Checks};
-ghost use Rattle.command_line.specs.Words.{texts, HasWord, HasNames};
+ghost use Rattle.std.specs.Prelude.{◌≡◌, ◌≢◌, ℕ, List, [], ◌∷◌, IfOk, OnOk, codes};
+ghost use Rattle.std.specs.Option.{option_map};
+ghost use Rattle.telling.specs.Proving.{IsProvedText};
+ghost use Rattle.telling.specs.Verdicts.{Checks, Proves};
+ghost use Rattle.command_line.specs.Words.{texts, HasWord, HasNames, HasSearch};
 ghost use Rattle.program.specs.First.{first_kernel, first_conditions, first_certificate};
-ghost use Rattle.program.specs.Running.{IsOf, Reads, kernel_read, conditions_read, certificate_read, Success, Output};
+ghost use Rattle.program.specs.Running.{IsOf, Reads, Does, IsPut, Saves, saving, kernel_read, conditions_read, certificate_read, Success, IsOut, Output};
 ghost use Rattle.program.specs.Refusing.{Refusal};
-ghost use Rattle.program.specs.Verdicts.{Tells, IsTold, IsWritten, IsStopped};
+ghost use Rattle.program.specs.Verdicts.{Tells, Kept, IsTold, IsWritten, IsStopped};
 
 use crate::files::{FileFault, Files};
 use crate::first::first_texts;
 use crate::writing::is_written;
-use command_line::{Line, Names, read_line};
+use command_line::{Line, Names, Search, read_line};
 use std::alloc::Global;
 use std::io::Write;
 use std::sync::Wait;
 use std::thread::Threads;
-use telling::{Texts, Verdict, check_texts, print_text, run_texts};
+use telling::{Finding, Texts, Verdict, check_texts, print_text, prove_texts, run_texts};
 
 const USAGE: &[u8] = b"usage: kverify prove | check | run | print\n";
 
@@ -92,7 +94,7 @@ fn checked<'a, F: Files>(
     names: Names<'a>,
     files: &mut F,
 ) -> Result<Verdict, Stop<'a>>
-    ensures verdict { (ws : List (List ℕ)) → HasWord ws 0 (codes "check") → HasNames ws names.entry → IfOk result (λ v. Tells (Reads F.contents F.gives files.old files.new) ws v) }
+    ensures verdict { (ws : List (List ℕ)) → HasWord ws 0 (codes "check") → HasNames ws names.entry → IfOk result (λ v. Tells (Does F.contents F.gives files.old files.new) ws v) }
     ensures same { (n : List ℕ) → F.contents files.new n ≡ F.contents files.old n }
 {
     let found = texts_of(files, names)?;
@@ -108,7 +110,7 @@ fn ran<'a, R: Threads + Wait + Sync, F: Files>(
     workers: u32,
     files: &mut F,
 ) -> Result<Verdict, Stop<'a>>
-    ensures verdict { (ws : List (List ℕ)) → HasWord ws 0 (codes "run") → HasNames ws names.entry → HasWord ws 4 launch.now → IfOk result (λ v. Tells (Reads F.contents F.gives files.old files.new) ws v) }
+    ensures verdict { (ws : List (List ℕ)) → HasWord ws 0 (codes "run") → HasNames ws names.entry → HasWord ws 4 launch.now → IfOk result (λ v. Tells (Does F.contents F.gives files.old files.new) ws v) }
     ensures same { (n : List ℕ) → F.contents files.new n ≡ F.contents files.old n }
 {
     let found = texts_of(files, names)?;
@@ -116,9 +118,83 @@ fn ran<'a, R: Threads + Wait + Sync, F: Files>(
     Ok(run_texts(rt, alloc, found.texts(), &launch, workers))
 }
 
+/// Puts a text into a file.
+fn put<'a, F: Files>(files: &mut F, name: &'a str, text: &[u8]) -> Result<(), Stop<'a>>
+    ensures written { OnOk result (IsPut F.contents files.old files.new (record { name = name.now; text = text.now })) }
+    ensures others { (n : List ℕ) → n ≢ name.now → F.contents files.new n ≡ F.contents files.old n }
+{
+    match files.write(name, text) {
+        Ok(()) => Ok(()),
+        Err(FileFault::Failed) => Err(Stop::File(name)),
+        Err(FileFault::Memory) => Err(Stop::Memory),
+    }
+}
+
+/// Puts a text into the file that is named, if one is.
+fn saved<'a, F: Files>(files: &mut F, out: Option<&'a str>, text: &[u8]) -> Result<(), Stop<'a>>
+    ensures saved { OnOk result (Saves F.contents files.old files.new (saving (option_map (λ w. w.now) out.entry) text.now)) }
+    ensures others { (n : List ℕ) → option_map (λ w. w.now) out.entry ≢ Some n → F.contents files.new n ≡ F.contents files.old n }
+{
+    match out {
+        Some(name) => put(files, name, text),
+        None => Ok(()),
+    }
+}
+
+/// What was found is put into a file before it is told.
+fn kept<'a, F: Files>(
+    files: &mut F,
+    out: Option<&'a str>,
+    finding: Finding,
+) -> Result<Verdict, Stop<'a>>
+    ensures verdict { (kernel conditions : List ℕ) → Proves finding kernel conditions → IfOk result (λ v. Kept F.contents files.old files.new (option_map (λ w. w.now) out.entry) kernel conditions v) }
+    ensures others { (n : List ℕ) → option_map (λ w. w.now) out.entry ≢ Some n → F.contents files.new n ≡ F.contents files.old n }
+{
+    match finding {
+        Finding::Found {
+            written,
+            certificate,
+        } => {
+            saved(files, out, &certificate)?;
+            Ok(Verdict::Done(written))
+        }
+        Finding::Refused(line) => Ok(Verdict::Refused(line)),
+        Finding::OutOfMemory => Ok(Verdict::OutOfMemory),
+    }
+}
+
+/// What is found of files.
+fn searched<'a, R: Threads + Wait + Sync, F: Files>(
+    rt: &R,
+    alloc: Global,
+    search: Search<'a>,
+    files: &mut F,
+) -> Result<Finding, Stop<'a>>
+    ensures reads { IfOk result (λ f. (kernel : List ℕ) × (conditions : List ℕ) × Reads F.contents F.gives files.old files.new (kernel_read search.entry.kernel.now kernel ∷ conditions_read search.entry.conditions.now conditions ∷ []) × Proves f kernel conditions) }
+    ensures same { (n : List ℕ) → F.contents files.new n ≡ F.contents files.old n }
+{
+    let kernel = text_of(files, search.kernel, 65_536)?;
+    let conditions = text_of(files, search.conditions, 65_536)?;
+    Ok(prove_texts(rt, alloc, &kernel, &conditions, search.workers))
+}
+
+/// The search for a certificate of files.
+fn proved<'a, R: Threads + Wait + Sync, F: Files>(
+    rt: &R,
+    alloc: Global,
+    search: Search<'a>,
+    files: &mut F,
+) -> Result<Verdict, Stop<'a>>
+    ensures verdict { (ws : List (List ℕ)) → HasWord ws 0 (codes "prove") → HasSearch ws search.entry → IfOk result (λ v. Tells (Does F.contents F.gives files.old files.new) ws v) }
+    ensures others { (n : List ℕ) → option_map (λ w. w.now) search.entry.out ≢ Some n → F.contents files.new n ≡ F.contents files.old n }
+{
+    let finding = searched(rt, alloc, search, files)?;
+    kept(files, search.out, finding)
+}
+
 /// The canonical text of a file's kernel.
 fn printed<'a, F: Files>(alloc: Global, kernel: &'a str, files: &mut F) -> Result<Verdict, Stop<'a>>
-    ensures verdict { (ws : List (List ℕ)) → HasWord ws 0 (codes "print") → HasWord ws 1 kernel.now → IfOk result (λ v. Tells (Reads F.contents F.gives files.old files.new) ws v) }
+    ensures verdict { (ws : List (List ℕ)) → HasWord ws 0 (codes "print") → HasWord ws 1 kernel.now → IfOk result (λ v. Tells (Does F.contents F.gives files.old files.new) ws v) }
     ensures same { (n : List ℕ) → F.contents files.new n ≡ F.contents files.old n }
 {
     let text = text_of(files, kernel, 65_536)?;
@@ -132,8 +208,8 @@ fn verdict_of<'a, R: Threads + Wait + Sync, F: Files>(
     words: &'a [String],
     files: &mut F,
 ) -> Result<Verdict, Stop<'a>>
-    ensures verdict { IfOk result (λ v. Tells (Reads F.contents F.gives files.old files.new) (texts words.now) v) }
-    ensures same { (n : List ℕ) → F.contents files.new n ≡ F.contents files.old n }
+    ensures verdict { IfOk result (λ v. Tells (Does F.contents F.gives files.old files.new) (texts words.now) v) }
+    ensures others { (n : List ℕ) → (IsOut (texts words.now) n → ⊥) → F.contents files.new n ≡ F.contents files.old n }
 {
     match read_line(alloc, words) {
         Ok(Line::First) => Ok(first_verdict(alloc)),
@@ -145,6 +221,7 @@ fn verdict_of<'a, R: Threads + Wait + Sync, F: Files>(
                 workers,
             },
         ) => ran(rt, alloc, names, launch, workers, files),
+        Ok(Line::Prove(search)) => proved(rt, alloc, search, files),
         Ok(Line::Print(kernel)) => printed(alloc, kernel, files),
         Ok(Line::Usage) => Err(Stop::Usage),
         Err(_) => Err(Stop::Memory),
@@ -201,8 +278,8 @@ pub fn tool<R: Threads + Wait + Sync, F: Files, O: Write, E: Write>(
     out: &mut O,
     err: &mut E,
 ) -> u8
-    ensures output { Output (Success (Reads F.contents F.gives files.old files.new) (texts words.now)) (Refusal (Reads F.contents F.gives files.old files.new) (texts words.now)) (O.contents out.old) (O.contents out.new) result }
-    ensures files { (n : List ℕ) → F.contents files.new n ≡ F.contents files.old n }
+    ensures output { Output (Success (Does F.contents F.gives files.old files.new) IsProvedText (texts words.now)) (Refusal (Does F.contents F.gives files.old files.new) (texts words.now)) (O.contents out.old) (O.contents out.new) result }
+    ensures files { (n : List ℕ) → (IsOut (texts words.now) n → ⊥) → F.contents files.new n ≡ F.contents files.old n }
 {
     match verdict_of(rt, alloc, words, files) {
         Ok(verdict) => told(verdict, out, err),

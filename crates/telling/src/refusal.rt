@@ -1,11 +1,14 @@
 //! What is told of a refusal.
 
-ghost use Rattle.std.specs.Prelude.{◌≡◌, IfOk};
+ghost use Rattle.std.specs.Prelude.{◌≡◌, IfOk, IfSome};
 ghost use Rattle.std.specs.String.{string_bytes};
 ghost use Rattle.telling.specs.Refusals.{refusal_line, pointed, place_seen};
 
 use cert_check::error::Place;
 use std::alloc::{AllocError, Global};
+
+/// The number of want of memory.
+const MEMORY: u8 = 90;
 
 /// The number of a refusal, and where it points.
 #[derive(Clone, Copy)]
@@ -34,5 +37,15 @@ impl Refusal {
             Some(place) => line_at(alloc, number, place),
             None => format!(in alloc; "refused {number}\n"),
         }
+    }
+
+    /// The line that tells it; none where it is want of memory, or where there is no memory for the line.
+    pub fn told(self, alloc: Global) -> Option<String>
+        ensures { IfSome result (λ line. string_bytes line ≡ refusal_line self.number (place_seen self.place)) }
+    {
+        if self.number == MEMORY {
+            return None;
+        }
+        self.line(alloc).ok()
     }
 }

@@ -1,0 +1,13 @@
+use Rattle.std.proofs.Common.{refl, subst}
+use Rattle.telling.specs.Verdicts.{Proves}
+use Rattle.program.proofs.one_run.searched.Goals as goal
+
+pub returns-clause-reads : goal.returns-clause-reads
+returns-clause-reads g c =
+    let k = c.in_ok-kernel.kernel.items in
+    let o = c.in_ok-conditions.conditions.items in (
+      k,
+      o,
+      (c.text_of.new.files, c.in_ok-kernel.ensures.given, c.in_ok-kernel.ensures.text, (c.text_of-2.new.files, c.in_ok-conditions.ensures.given, c.in_ok-conditions.ensures.text, refl)),
+      subst (λ t. Proves c.prove_texts.result k t) c.deref-2.ensures.value (subst (λ t. Proves c.prove_texts.result t c.deref-2.result.now) c.deref.ensures.value c.prove_texts.ensures),
+    )

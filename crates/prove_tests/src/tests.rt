@@ -1,0 +1,152 @@
+//! One run of the program after another.
+
+ghost use Rattle.std.specs.Prelude.{◌≡◌, refl, None};
+
+use program::files::{FileFault, Files};
+use program::held::Held;
+use program::tool;
+use std::alloc::Global;
+use std::sync::Wait;
+use std::test::Fail;
+use std::thread::Threads;
+
+const NAMED: &[(&str, &str)] = &[
+    (
+        "nothing",
+        "kernel __attribute__((reqd_work_group_size(1, 1, 1))) void k(__global uint *a) { }\n",
+    ),
+    ("bad", "#define N 4\n"),
+    (
+        "races",
+        "kernel __attribute__((reqd_work_group_size(1, 1, 1))) void k(__global uint *a) { a[0] = 1u; }\n",
+    ),
+    (
+        "two",
+        "conditions 1\ngroups 2..2 1..1 1..1\nlength a >= 128\nbudget 1\n",
+    ),
+    (
+        "never",
+        "conditions 1\ngroups 2..2 1..1 1..1\nlength a >= 128\nrequire groups.0 >= 3\nbudget 1\n",
+    ),
+];
+
+const EMPTY: &str = "certificate 1\nend\n";
+
+const USAGE: &str = "2  usage: kverify prove | check | run | print\n";
+
+const LINES: &[(&str, &str)] = &[
+    ("prove nothing two", "0 accepted\n "),
+    ("prove nothing two --workers 64", "0 accepted\n "),
+    (
+        "prove nothing never --workers 2 --out found",
+        "0 accepted\nno launch found at least values\n ",
+    ),
+    ("check nothing never found", "0 accepted\n "),
+    ("prove races two --out unfound", "1 refused 60\n "),
+    ("check races two unfound", "3  file: unfound\n"),
+    ("prove bad two", "1 refused 1 1:1\n "),
+    ("prove nothing nothing", "1 refused 30 1\n "),
+    ("prove nothing two --workers 0", "1 refused 70\n "),
+    ("prove nothing two --workers 65", "1 refused 70\n "),
+    ("prove none two", "3  file: none\n"),
+    ("prove nothing", USAGE),
+    ("prove nothing two found", USAGE),
+    ("prove nothing two --out", USAGE),
+    ("prove nothing two --workers x", USAGE),
+    ("check nothing two found --out other", USAGE),
+];
+
+fn put(held: &mut Held, name: &str, text: &str) -> Result<(), Fail> {
+    match held.write(name, text.as_bytes()) {
+        Ok(()) => Ok(()),
+        Err(_) => Err(Fail::from("memory")),
+    }
+}
+
+fn files(alloc: Global) -> Result<Held, Fail> {
+    let mut held = Held::new(alloc);
+    for (name, text) in NAMED {
+        put(&mut held, name, text)?;
+    }
+    Ok(held)
+}
+
+/// The words of a line.
+fn words_of(alloc: Global, line: &str) -> Result<Vec<String>, Fail> {
+    let mut words = Vec::new(alloc);
+    for word in line.split(' ') {
+        words.push(String::from_str(alloc, word)?)?;
+    }
+    Ok(words)
+}
+
+/// The status and what is written, of a line of words.
+fn told<R: Threads + Wait + Sync, F: Files>(
+    rt: &R,
+    alloc: Global,
+    line: &str,
+    files: &mut F,
+) -> Result<String, Fail> {
+    let words = words_of(alloc, line)?;
+    let mut out: Vec<u8> = Vec::new(alloc);
+    let mut err: Vec<u8> = Vec::new(alloc);
+    let status = tool(rt, alloc, words.as_slice(), files, &mut out, &mut err);
+    let out = String::from_utf8_lossy(alloc, &out)?;
+    let err = String::from_utf8_lossy(alloc, &err)?;
+    Ok(format!(in alloc; "{status} {out} {err}")?)
+}
+
+#[test]
+fn lines_are_answered(rt: HostRuntime) -> Result<(), Fail> {
+    let mut held = files(rt.alloc())?;
+    for (line, want) in LINES {
+        let found = told(&rt, rt.alloc(), line, &mut held)?;
+        assert_eq!(rt; found.as_str(), *want);
+    }
+    Ok(())
+}
+
+#[test]
+fn what_is_found_is_in_the_file(rt: HostRuntime) -> Result<(), Fail> {
+    let mut held = files(rt.alloc())?;
+    let found = told(&rt, rt.alloc(), "prove nothing two --out found", &mut held)?;
+    assert_eq!(rt; found.as_str(), "0 accepted\n ");
+    let Ok(bytes) = held.read("found", 100) else {
+        return Err(Fail::from("no file"));
+    };
+    assert_eq!(rt; bytes.as_slice(), EMPTY.as_bytes());
+    Ok(())
+}
+
+/// Files that cannot be written.
+#[derive(Drop)]
+struct Sealed(Held);
+
+impl Files for Sealed {
+    ghost contents = { λ _ _. None };
+
+    ghost gives = { λ before name limit bytes after. Unit {0} };
+
+    fn read(&mut self, name: &str, limit: u64) -> Result<Vec<u8>, FileFault> {
+        self.0.read(name, limit)
+    }
+
+    fn write(&mut self, _: &str, _: &[u8]) -> Result<(), FileFault> {
+        Err(FileFault::Failed)
+    }
+}
+
+#[test]
+fn nothing_is_told_that_is_not_written(rt: HostRuntime) -> Result<(), Fail> {
+    let mut sealed = Sealed(files(rt.alloc())?);
+    let found = told(
+        &rt,
+        rt.alloc(),
+        "prove nothing two --out found",
+        &mut sealed,
+    )?;
+    assert_eq!(rt; found.as_str(), "3  file: found\n");
+    let found = told(&rt, rt.alloc(), "prove nothing two", &mut sealed)?;
+    assert_eq!(rt; found.as_str(), "0 accepted\n ");
+    Ok(())
+}

@@ -1,0 +1,53 @@
+//! Why a kernel is not proved.
+
+ghost use Rattle.std.specs.Prelude.{◌≡◌};
+
+use cert_check::error::{CheckError, Place};
+use thiserror::Error;
+
+/// Why a kernel is not proved, or want of memory.
+#[derive(Debug, Drop, Error)]
+pub enum VerifyError {
+    /// What the check says of the kernel or its conditions, or of all certificates that were tried.
+    #[error("{0}")]
+    Check(CheckError),
+    /// There are 1 to 64 workers.
+    #[error("70")]
+    Workers,
+    /// No certificate was found. The kernel may be safe all the same.
+    #[error("60")]
+    NotShown,
+    /// The certificate passes the limit of its text.
+    #[error("50 1")]
+    TooLong,
+    #[error("90")]
+    Memory,
+}
+
+impl VerifyError {
+    ghost use Rattle.verify.specs.Numbers.{error_number, error_place};
+
+    /// The number that it is printed under.
+    pub fn number(&self) -> u8
+        ensures { result ≡ error_number self.now }
+    {
+        match self {
+            VerifyError::Check(error) => error.number(),
+            VerifyError::Workers => 70,
+            VerifyError::NotShown => 60,
+            VerifyError::TooLong => 50,
+            VerifyError::Memory => 90,
+        }
+    }
+
+    /// Where it points.
+    pub fn place(&self) -> Option<Place>
+        ensures { result ≡ error_place self.now }
+    {
+        match self {
+            VerifyError::Check(error) => error.place(),
+            VerifyError::TooLong => Some(Place::Number(1)),
+            VerifyError::Workers | VerifyError::NotShown | VerifyError::Memory => None,
+        }
+    }
+}

@@ -302,13 +302,12 @@ fn shown(
     }
 }
 
-/// What is to be done of an obligation, where ranges that are flagged are taken as shown.
+/// What is to be done of an obligation.
 pub fn entry_of(
     alloc: Global,
     ground: &Ground<'_>,
     names: &Names<'_>,
     candidates: &[Candidate],
-    flags: &[bool],
     number: usize,
     memory: &mut Memory,
 ) -> Result<Outcome, FindError>
@@ -318,7 +317,7 @@ pub fn entry_of(
     if ground.found.is_settled(alloc, number)? {
         return Ok(Outcome::Nothing);
     }
-    if !ground.found.is_needed(number) && !flags.get(number).copied().unwrap_or(false) {
+    if !ground.found.is_needed(number) {
         return Ok(Outcome::Nothing);
     }
     shown(alloc, ground, names, candidates, number, memory)

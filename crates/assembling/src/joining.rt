@@ -68,7 +68,6 @@ fn entries_of(
     ground: &Ground<'_>,
     plan: &Plan<'_>,
     candidates: &[Candidate],
-    flags: &[bool],
     memory: &mut Memory,
 ) -> Result<Assembled, FindError> {
     let mut assembled = Assembled {
@@ -80,7 +79,7 @@ fn entries_of(
     for i in 0..ground.found.len() {
         let number = i + 1;
         let of = target_of(ground, ground.found.part(number));
-        match entry_of(alloc, ground, plan.names, candidates, flags, number, memory)? {
+        match entry_of(alloc, ground, plan.names, candidates, number, memory)? {
             Outcome::Nothing => {}
             Outcome::One(made) => assembled.take(of, made)?,
             Outcome::Two(first, second) => {
@@ -120,7 +119,6 @@ fn of_walk(
         &ground,
         plan,
         candidates,
-        resolved.flags.as_slice(),
         memory,
     )
 }

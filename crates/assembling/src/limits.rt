@@ -166,7 +166,7 @@ fn passes_somewhere(
     Ok(Passing::Never)
 }
 
-/// The least limit from `low` to `high` that is shown, `high` being shown; 64 questions at most.
+/// The least limit from `low` to `high` that is shown, `high` being shown; 128 questions at most, where half as many are enough.
 fn least_between(
     alloc: Global,
     openings: &[Opening],
@@ -176,18 +176,15 @@ fn least_between(
 ) -> Result<i64, FindError> {
     let mut low = low;
     let mut high = high;
-    for _ in 0..64 {
+    for _ in 0..128 {
         if low >= high {
             return Ok(high);
         }
-        // The lowest one first: points tell exact limits.
-        let half = low.saturating_add(high.saturating_sub(low) / 2);
-        let middle = if half < high { half } else { low };
-        let tried = if low.saturating_add(64) > high { low } else { middle };
-        match passes_somewhere(alloc, openings, tried, memory)? {
-            Passing::Never => high = tried,
-            Passing::To(value) => low = value.max(tried.saturating_add(1)),
-            Passing::Perhaps => low = tried.saturating_add(1),
+        let middle = low.saturating_add(high.saturating_sub(low) / 2);
+        match passes_somewhere(alloc, openings, middle, memory)? {
+            Passing::Never => high = middle,
+            Passing::To(value) => low = value.max(middle.saturating_add(1)),
+            Passing::Perhaps => low = middle.saturating_add(1),
         }
     }
     Ok(high)

@@ -14,7 +14,8 @@ use path_walk::Sort;
 use place_pairs::{Manner, Obligations, Part};
 use place_paths::FindError;
 use proof_memory::Memory;
-use std::alloc::{AllocError, Global};
+use std::alloc::Global;
+use words::Kind;
 
 /// When a range is taken as shown: where its numbers are small, or where the search shows it.
 #[derive(Clone, Copy, PartialEq, Eq)]
@@ -81,7 +82,8 @@ fn is_taken(
     }
 }
 
-/// The obligation is a range that may be taken as shown, and nothing but a search shows it.
+/// The obligation is an end of an unsigned value's range that was taken as shown, and nothing but a search shows it. Such an obligation is
+/// needed where it is taken so.
 fn is_open(
     alloc: Global,
     found: &Obligations<Elements>,
@@ -91,8 +93,8 @@ fn is_open(
     requires last { number ≤ length (listed domain found.now) }
 {
     match found.sort(number) {
-        Sort::OfRange(_) => {
-            if found.is_needed(number) {
+        Sort::OfRange(Kind::Uint) => {
+            if !found.is_needed(number) {
                 return Ok(false);
             }
             Ok(!found.is_settled(alloc, number)?)

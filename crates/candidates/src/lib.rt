@@ -12,8 +12,6 @@ mod leaf_lines;
 mod shelf;
 mod single_values;
 mod stride_lines;
-#[cfg(test)]
-mod tests;
 mod told;
 
 pub use fact_lines::fact_at;

@@ -11,8 +11,6 @@ mod plain;
 mod scan;
 mod shelf;
 mod test_forms;
-#[cfg(test)]
-mod tests;
 mod turning;
 mod walk;
 mod ways;

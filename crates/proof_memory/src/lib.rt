@@ -10,8 +10,6 @@ mod found;
 mod hashes;
 mod memory;
 mod point;
-#[cfg(test)]
-mod tests;
 
 pub use divisions::quotients;
 pub use memory::Memory;

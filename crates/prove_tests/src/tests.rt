@@ -25,6 +25,31 @@ const NAMED: &[(&str, &str)] = &[
         "conditions 1\ngroups 2..2 1..1 1..1\nlength a >= 128\nbudget 1\n",
     ),
     (
+        "fill",
+        "kernel __attribute__((reqd_work_group_size(64, 1, 1))) void k(__global uint *a) { a[get_global_id(0)] = 1u; }\n",
+    ),
+    (
+        "total",
+        "kernel __attribute__((reqd_work_group_size(64, 1, 1))) void k(__global uint *a, __global uint *b) {\n\
+         __local uint t[64]; uint l = get_local_id(0); t[l] = a[get_global_id(0)];\n\
+         barrier(CLK_LOCAL_MEM_FENCE); uint s = 32u;\n\
+         while (s > 0u) { if (l < s) { t[l] = t[l] + t[l + s]; } barrier(CLK_LOCAL_MEM_FENCE); s = s >> 1; }\n\
+         if (l == 0u) { b[get_group_id(0)] = t[0]; } }\n",
+    ),
+    (
+        "parted",
+        "kernel __attribute__((reqd_work_group_size(64, 1, 1))) void k(__global uint *a, __global uint *b) {\n\
+         if (get_local_id(0) == 0u) { barrier(CLK_LOCAL_MEM_FENCE); } }\n",
+    ),
+    (
+        "many",
+        "conditions 1\ngroups 1..1024 1..1 1..1\nlength a >= 64*groups.0\nlength b >= groups.0\nbudget 51\n",
+    ),
+    (
+        "short",
+        "conditions 1\ngroups 1..1024 1..1 1..1\nlength a >= 64*groups.0\nlength b >= groups.0\nbudget 50\n",
+    ),
+    (
         "never",
         "conditions 1\ngroups 2..2 1..1 1..1\nlength a >= 128\nrequire groups.0 >= 3\nbudget 1\n",
     ),
@@ -44,6 +69,12 @@ const LINES: &[(&str, &str)] = &[
     ("check nothing never found", "0 accepted\n "),
     ("prove races two --out unfound", "1 refused 60\n "),
     ("check races two unfound", "3  file: unfound\n"),
+    ("prove fill two --out filled", "0 accepted\n "),
+    ("check fill two filled", "0 accepted\n "),
+    ("prove total many --out summed", "0 accepted\n "),
+    ("check total many summed", "0 accepted\n "),
+    ("prove total short", "1 refused 56\n "),
+    ("prove parted many", "1 refused 60\n "),
     ("prove bad two", "1 refused 1 1:1\n "),
     ("prove nothing nothing", "1 refused 30 1\n "),
     ("prove nothing two --workers 0", "1 refused 70\n "),
@@ -115,6 +146,29 @@ fn what_is_found_is_in_the_file(rt: HostRuntime) -> Result<(), Fail> {
         return Err(Fail::from("no file"));
     };
     assert_eq!(rt; bytes.as_slice(), EMPTY.as_bytes());
+    Ok(())
+}
+
+/// What a file has.
+fn bytes_of(held: &mut Held, name: &str) -> Result<Vec<u8>, Fail> {
+    match held.read(name, 65_536) {
+        Ok(bytes) => Ok(bytes),
+        Err(_) => Err(Fail::from("no file")),
+    }
+}
+
+#[test]
+fn workers_change_no_certificate(rt: HostRuntime) -> Result<(), Fail> {
+    let mut held = files(rt.alloc())?;
+    let line = "prove total many --workers 1 --out one";
+    let found = told(&rt, rt.alloc(), line, &mut held)?;
+    assert_eq!(rt; found.as_str(), "0 accepted\n ");
+    let line = "prove total many --workers 64 --out other";
+    let found = told(&rt, rt.alloc(), line, &mut held)?;
+    assert_eq!(rt; found.as_str(), "0 accepted\n ");
+    let one = bytes_of(&mut held, "one")?;
+    let other = bytes_of(&mut held, "other")?;
+    assert_eq!(rt; one.as_slice(), other.as_slice());
     Ok(())
 }
 

@@ -15,8 +15,6 @@ mod random;
 mod seen;
 mod solo;
 mod spacing;
-#[cfg(test)]
-mod tests;
 mod told;
 
 pub use observing::observe;

@@ -1,10 +1,10 @@
 //! Loops that are built by hand.
 
-use crate::{Options, guess_plainly, guess_rankings, numbers_of};
 use candidate_lines::{
     Descent, Ranking, Sight, argument, is_same, one_of, try_difference, variable,
 };
 use core_code::tree::{Core, Operator, Relation, Site, Statement, Term, UnaryOperator};
+use kernel_guesses::{Options, guess_plainly, guess_rankings, numbers_of};
 use linear::Symbol;
 use std::alloc::{AllocError, Global};
 use std::test::Fail;

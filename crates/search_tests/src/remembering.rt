@@ -1,8 +1,8 @@
-// What was found is found again, also where facts have moved; quotients.
-use crate::{Memory, quotients};
+//! What was found is found again, also where facts have moved; quotients.
 use cut_proof::refutes;
 use cut_search::Answer;
 use linear::{Form, LinearError, Symbol};
+use proof_memory::{Memory, quotients};
 use std::alloc::{AllocError, Global};
 use std::test::Fail;
 

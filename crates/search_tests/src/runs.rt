@@ -1,14 +1,12 @@
-// A loop that counts to an argument, and a barrier behind it.
+//! A loop that counts to an argument, and a barrier behind it.
 
-use crate::observing::observe;
-use crate::seen::Observed;
-use crate::told::told_by_runs;
 use candidate_lines::{
     Candidate, Descent, Line, Ranking, Sight, argument, one_of, plus, try_difference, variable,
 };
 use core_code::tree::{Core, Function, Operator, Relation, Site, Statement, Term};
 use launch::conditions::{ArgumentRange, Conditions, CountRange, CountRanges};
 use linear::Form;
+use solo_runs::{Observed, observe, told_by_runs};
 use std::alloc::{AllocError, Global};
 use std::test::Fail;
 use words::{Kind, Word};

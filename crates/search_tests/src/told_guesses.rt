@@ -1,9 +1,9 @@
 //! A loop that counts by two, and the barrier behind it.
 
-use crate::{Told, fact_at, guess_told};
 use candidate_lines::{
     Candidate, Leaf, Line, Sight, argument, one_of, plus, try_difference, variable,
 };
+use candidates::{Told, fact_at, guess_told};
 use linear::Form;
 use std::alloc::{AllocError, Global};
 use std::test::Fail;

@@ -1,7 +1,7 @@
 #!/usr/bin/env python3
 """Proves the kernels of a folder and prints a table: kernel, what it is, verdict, milliseconds, candidates and obligations, certificate.
 
-    prove.py KERNELS [WORKERS] [NAME ..]    NAME.cl with NAME.cond, and NAME.expect, which begins with safe or unsafe; those of these names alone
+    prove.py KERNELS [WORKERS] [NAME ..]    NAME.cl with NAME.cond, and NAME.expect, which begins with safe or unsafe; all, or these names
 
 Each certificate is given to `check`, which has to accept it. Build the program first: cd crates/kverify && rt run
 """
@@ -48,8 +48,9 @@ def row(folder, place, name, workers):
         checked = said(["check", *files, out])[0]
         if checked != "accepted":
             line = f"BROKEN: check says {checked}"
-    is_right = (line == "accepted") == (kind == "safe") and "BROKEN" not in line and line.split(" ")[0] in ("accepted", "refused")
-    print(f"| `{name}` | {kind} | {line} | {taken:.0f} | {lines} | {entries} | {size} |{'' if is_right else ' <--'}", flush=True)
+    is_right = (line == "accepted") == (kind == "safe") and line.split(" ")[0] in ("accepted", "refused")
+    mark = "" if is_right else " <--"
+    print(f"| `{name}` | {kind} | {line} | {taken:.0f} | {lines} | {entries} | {size} |{mark}", flush=True)
     return kind, line, taken, size
 
 

@@ -1,6 +1,6 @@
 //! What shows each obligation.
 
-ghost use Rattle.std.specs.Prelude.{◌≡◌, ◌≤◌, ◌<◌, length};
+ghost use Rattle.std.specs.Prelude.{◌≤◌, ◌<◌, length};
 ghost use Rattle.place_pairs.specs.Listed.{listed};
 ghost use Rattle.plain_kernels.specs.Domains.{domain};
 
@@ -9,7 +9,7 @@ use certificate::tree::{Entry, EntrySort};
 use certificate_making::{Names, steps_of};
 use cut_proof::Derivation;
 use cut_search::Answer;
-use guess_walk::{Elements, Shown, both_sides, reached};
+use guess_walk::{Shown, both_sides, reached};
 use linear::Form;
 use path_walk::{Goal, Sort};
 use place_pairs::{Manner, Part, Place};
@@ -62,18 +62,14 @@ fn entry_with(
     };
     let used = used_guesses(alloc, &origin, facts, derivation)?;
     let steps = steps_of(alloc, derivation)?;
-    Ok(
-        Some(
-            Made {
-                entry: Entry {
-                    obligation: number,
-                    sort,
-                    steps,
-                },
-                used,
-            },
-        ),
-    )
+    Ok(Some(Made {
+        entry: Entry {
+            obligation: number,
+            sort,
+            steps,
+        },
+        used,
+    }))
 }
 
 /// An entry by facts, if the search refutes them.
@@ -203,7 +199,15 @@ fn both_entries(
         return Ok(Outcome::Unshown);
     };
     let sort = EntrySort::Quotient(first);
-    let least = entry_with(alloc, ground, number as u64, part, sort, facts, &shown.least)?;
+    let least = entry_with(
+        alloc,
+        ground,
+        number as u64,
+        part,
+        sort,
+        facts,
+        &shown.least,
+    )?;
     let next = (number as u64).saturating_add(1);
     let sort = EntrySort::Quotient(second);
     let most = entry_with(alloc, ground, next, part, sort, facts, &shown.most)?;
@@ -249,19 +253,21 @@ fn congruence(
         &mut points,
     )?;
     match shown {
-        Some(shown) => Ok(
-            both_entries(alloc, ground, names, number, Part::Claim(at), list, &shown)?,
-        ),
+        Some(shown) => Ok(both_entries(
+            alloc,
+            ground,
+            names,
+            number,
+            Part::Claim(at),
+            list,
+            &shown,
+        )?),
         None => Ok(Outcome::Unshown),
     }
 }
 
 /// The form that is to be divided.
-fn divided_form(
-    alloc: Global,
-    ground: &Ground<'_>,
-    at: Place,
-) -> Result<Option<Form>, AllocError> {
+fn divided_form(alloc: Global, ground: &Ground<'_>, at: Place) -> Result<Option<Form>, AllocError> {
     let Some(tagged) = ground.found.paths().get(at.path) else {
         return Ok(None);
     };

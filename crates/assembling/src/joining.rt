@@ -114,13 +114,7 @@ fn of_walk(
         places: places.as_slice(),
         table: &table,
     };
-    entries_of(
-        alloc,
-        &ground,
-        plan,
-        candidates,
-        memory,
-    )
+    entries_of(alloc, &ground, plan, candidates, memory)
 }
 
 /// A certificate without entries.

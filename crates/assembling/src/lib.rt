@@ -1,8 +1,8 @@
 //! Section: Search. Promises nothing: guesses that stand, put together to a certificate; stands on `guess_walk` and `settling`.
 #![tactic(auto)]
 
-mod joining;
 mod entries;
+mod joining;
 mod limits;
 mod needed;
 

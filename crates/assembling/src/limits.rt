@@ -1,6 +1,6 @@
 //! What a loop's form is at most where it opens.
 
-ghost use Rattle.std.specs.Prelude.{◌≡◌, ◌≤◌, ◌<◌, length};
+ghost use Rattle.std.specs.Prelude.{◌≤◌, ◌<◌, length};
 ghost use Rattle.place_pairs.specs.Listed.{listed};
 ghost use Rattle.plain_kernels.specs.Domains.{domain};
 
@@ -86,9 +86,7 @@ fn value_at(point: &[(Symbol, i64)], symbol: Symbol) -> i64 {
 fn value_of(form: &Form, point: &[(Symbol, i64)]) -> Option<i64> {
     let mut sum = form.constant_part();
     for term in form.terms() {
-        let product = term
-            .coefficient
-            .checked_mul(value_at(point, term.symbol))?;
+        let product = term.coefficient.checked_mul(value_at(point, term.symbol))?;
         sum = sum.checked_add(product)?;
     }
     Some(sum)
@@ -103,11 +101,7 @@ enum Passing {
 }
 
 /// The facts with another limit in the last one.
-fn limited(
-    alloc: Global,
-    facts: &[Form],
-    limit: i64,
-) -> Result<Option<Vec<Form>>, FindError> {
+fn limited(alloc: Global, facts: &[Form], limit: i64) -> Result<Option<Vec<Form>>, FindError> {
     let mut list = Vec::new(alloc);
     let Some(count) = facts.len().checked_sub(1) else {
         return Ok(None);
@@ -141,9 +135,7 @@ fn passes_at(
                 .and_then(|last| value_of(last, point.as_slice()));
             match over {
                 // (the last fact is the form less the limit and one)
-                Some(over) => Ok(
-                    Passing::To(over.saturating_add(limit).saturating_add(1)),
-                ),
+                Some(over) => Ok(Passing::To(over.saturating_add(limit).saturating_add(1))),
                 None => Ok(Passing::Perhaps),
             }
         }
@@ -207,9 +199,7 @@ fn least_limit(
     }
     let high = UNLIMITED / 4;
     match passes_somewhere(alloc, openings, high, memory)? {
-        Passing::Never => Ok(
-            Some(least_between(alloc, openings, low.min(high), high, memory)?),
-        ),
+        Passing::Never => Ok(Some(least_between(alloc, openings, low.min(high), high, memory)?)),
         Passing::To(_) | Passing::Perhaps => Ok(None),
     }
 }

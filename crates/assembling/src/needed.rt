@@ -52,14 +52,12 @@ pub fn needed_only(
     for i in 0..candidates.len() {
         if flags.get(i).copied().unwrap_or(false) {
             let candidate = &candidates[i];
-            kept.push(
-                Candidate {
-                    anchor: candidate.anchor,
-                    head: candidate.head,
-                    rank: candidate.rank,
-                    line: candidate.line.copy(alloc)?,
-                },
-            )?;
+            kept.push(Candidate {
+                anchor: candidate.anchor,
+                head: candidate.head,
+                rank: candidate.rank,
+                line: candidate.line.copy(alloc)?,
+            })?;
         }
     }
     Ok(Some(kept))

@@ -5,7 +5,8 @@ use candidate_lines::{Leaf, Ranking, Sight, copied};
 use certificate_making::Names;
 use facts::copy_all;
 use guess_walk::{
-    Begun, Resolved, Subject, Trust, Walked, begun_of, certificate_of, leaves_of, resolve, sights_of,
+    Begun, Resolved, Subject, Trust, Walked, begun_of, certificate_of, leaves_of, resolve,
+    sights_of,
 };
 use linear::Form;
 use place_paths::FindError;
@@ -92,14 +93,10 @@ pub fn hope(
     let leaves = leaves_of(alloc, walked, sights.as_slice(), begun.as_slice())?;
     let known = known_of(alloc, walked, begun.as_slice())?;
     let unsigned = unsigned_of(alloc, subject)?;
-    Ok(
-        Some(
-            Hoped {
-                sights,
-                leaves,
-                known,
-                unsigned,
-            },
-        ),
-    )
+    Ok(Some(Hoped {
+        sights,
+        leaves,
+        known,
+        unsigned,
+    }))
 }

@@ -9,13 +9,11 @@ use std::alloc::{AllocError, Global};
 /// A ranking once more.
 fn again(alloc: Global, ranking: &Ranking) -> Result<Ranking, AllocError> {
     let form = copied(alloc, &ranking.form)?;
-    Ok(
-        Ranking {
-            number: ranking.number,
-            descent: ranking.descent,
-            form,
-        },
-    )
+    Ok(Ranking {
+        number: ranking.number,
+        descent: ranking.descent,
+        form,
+    })
 }
 
 /// No ranking at all: nothing shows it of a loop that turns.
@@ -46,11 +44,7 @@ pub fn chosen(
 }
 
 /// The rankings of one loop that no run refutes; the first one where all are.
-fn unrefuted(
-    alloc: Global,
-    options: Options,
-    observed: &Observed,
-) -> Result<Options, AllocError> {
+fn unrefuted(alloc: Global, options: Options, observed: &Observed) -> Result<Options, AllocError> {
     let Options { number, rankings } = options;
     let mut kept = Vec::new(alloc);
     for ranking in rankings.as_slice() {
@@ -63,7 +57,10 @@ fn unrefuted(
             kept.push(again(alloc, first)?)?;
         }
     }
-    Ok(Options { number, rankings: kept })
+    Ok(Options {
+        number,
+        rankings: kept,
+    })
 }
 
 /// Of each loop those that no run refutes.

@@ -46,12 +46,10 @@ fn find_ways(
     let observed = observe(alloc, core, subject.conditions, sights, &[])?;
     let is_hopeless = is_hopeless(options.as_slice(), &observed);
     let options = all_unrefuted(alloc, options, &observed)?;
-    Ok(
-        Ways {
-            options,
-            is_hopeless,
-        },
-    )
+    Ok(Ways {
+        options,
+        is_hopeless,
+    })
 }
 
 /// Attempts with guesses up to a rank, with one choice of rankings after the other, eight at most.

@@ -200,19 +200,15 @@ fn leaf_of(
     let variables = forms_of(alloc, end.variables.as_slice())?;
     let anchored = anchored_of(alloc, from, way.begun, to)?;
     let ranks = ranks_of(alloc, path.ranks.as_slice(), from, to)?;
-    Ok(
-        Some(
-            Leaf {
-                from: way.from,
-                to: way.to,
-                facts,
-                begun: way.begun.facts,
-                variables,
-                anchored,
-                ranks,
-            },
-        ),
-    )
+    Ok(Some(Leaf {
+        from: way.from,
+        to: way.to,
+        facts,
+        begun: way.begun.facts,
+        variables,
+        anchored,
+        ranks,
+    }))
 }
 
 /// The ends of one path.

@@ -3,7 +3,7 @@
 use candidate_lines::{plus, try_difference, try_multiple};
 use cut_proof::Derivation;
 use cut_search::{Answer, Point};
-use facts::{WalkError, copy_all};
+use facts::copy_all;
 use linear::Form;
 use proof_memory::{Memory, quotients};
 use std::alloc::{AllocError, Global};
@@ -72,15 +72,11 @@ fn tried(
     let Some(most) = side(alloc, facts, &negative, memory, points)? else {
         return Ok(None);
     };
-    Ok(
-        Some(
-            Shown {
-                quotient,
-                least,
-                most,
-            },
-        ),
-    )
+    Ok(Some(Shown {
+        quotient,
+        least,
+        most,
+    }))
 }
 
 /// The form less so many times the quotient.

@@ -1,6 +1,6 @@
 //! Which ranges of unsigned values are taken as shown.
 
-ghost use Rattle.std.specs.Prelude.{◌≡◌, ◌≤◌, ◌<◌, length};
+ghost use Rattle.std.specs.Prelude.{◌≤◌, ◌<◌, length};
 ghost use Rattle.place_pairs.specs.Listed.{listed};
 ghost use Rattle.plain_kernels.specs.Domains.{domain};
 
@@ -8,7 +8,6 @@ use crate::subject::Subject;
 use crate::walking::{Elements, Walked, walk};
 use certificate::Certificate;
 use cut_search::Answer;
-use facts::WalkError;
 use linear::Form;
 use path_walk::Sort;
 use place_pairs::{Manner, Obligations, Part};
@@ -33,6 +32,7 @@ pub struct Resolved {
 
 /// The largest numbers of a range that is hoped for.
 const COEFFICIENT: u64 = 1 << 36;
+
 const CONSTANT: u64 = 1 << 40;
 
 fn is_small(form: &Form) -> bool {
@@ -84,11 +84,7 @@ fn is_taken(
 
 /// The obligation is an end of an unsigned value's range that was taken as shown, and nothing but a search shows it. Such an obligation is
 /// needed where it is taken so.
-fn is_open(
-    alloc: Global,
-    found: &Obligations<Elements>,
-    number: usize,
-) -> Result<bool, FindError>
+fn is_open(alloc: Global, found: &Obligations<Elements>, number: usize) -> Result<bool, FindError>
     requires first { 0 < number }
     requires last { number ≤ length (listed domain found.now) }
 {

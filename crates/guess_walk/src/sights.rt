@@ -10,11 +10,7 @@ use std::alloc::{AllocError, Global};
 
 /// The loops around a statement of that number, the outermost first, if it stands there.
 #[cycle(around)]
-fn around(
-    statement: &Statement,
-    number: u32,
-    loops: &mut Vec<u32>,
-) -> Result<bool, AllocError> {
+fn around(statement: &Statement, number: u32, loops: &mut Vec<u32>) -> Result<bool, AllocError> {
     if number_of(statement) == number {
         return Ok(true);
     }
@@ -26,7 +22,9 @@ fn around(
             around_in(skipped.as_slice(), number, loops)
         }
         Statement::Loop {
-            number: of, body, ..
+            number: of,
+            body,
+            ..
         } => {
             loops.push(*of)?;
             if around_in(body.as_slice(), number, loops)? {
@@ -41,11 +39,7 @@ fn around(
 
 /// The same of statements.
 #[cycle(around)]
-fn around_in(
-    body: &[Statement],
-    number: u32,
-    loops: &mut Vec<u32>,
-) -> Result<bool, AllocError> {
+fn around_in(body: &[Statement], number: u32, loops: &mut Vec<u32>) -> Result<bool, AllocError> {
     for statement in body {
         if around(statement, number, loops)? {
             return Ok(true);

@@ -57,7 +57,6 @@ pub fn certificate_of(
     Certificate::new(alloc, places, bounds, entries)
 }
 
-
 /// All that is to be shown with a certificate, where the obligations that are flagged have an entry; nothing where the kernel lacks what the
 /// certificate names, or has no places.
 pub fn walk(

@@ -1,6 +1,6 @@
 //! What the guesses of a walk rest on.
 
-ghost use Rattle.std.specs.Prelude.{◌≡◌, ◌≤◌, ◌<◌, length};
+ghost use Rattle.std.specs.Prelude.{◌≤◌, ◌<◌, length};
 ghost use Rattle.place_pairs.specs.Listed.{listed};
 ghost use Rattle.plain_kernels.specs.Domains.{domain};
 
@@ -9,7 +9,7 @@ use crate::used::{Ground, used_guesses};
 use candidate_lines::{Candidate, Line, copied};
 use cut_proof::Derivation;
 use cut_search::{Answer, Point};
-use guess_walk::{Elements, both_sides, reached};
+use guess_walk::{both_sides, reached};
 use linear::{Form, Symbol};
 use path_walk::{Claim, Goal, Stop};
 use place_pairs::{About, Manner, Part, Place};
@@ -46,9 +46,7 @@ fn value_at(point: &[(Symbol, i64)], symbol: Symbol) -> i64 {
 fn value_of(form: &Form, point: &[(Symbol, i64)]) -> Option<i64> {
     let mut sum = form.constant_part();
     for term in form.terms() {
-        let product = term
-            .coefficient
-            .checked_mul(value_at(point, term.symbol))?;
+        let product = term.coefficient.checked_mul(value_at(point, term.symbol))?;
         sum = sum.checked_add(product)?;
     }
     Some(sum)
@@ -193,7 +191,15 @@ fn divided(
         return Ok(None);
     }
     let known = known_multiples(alloc, ground, candidates, at.path)?;
-    let Some(shown) = both_sides(alloc, facts, form, modulus, known.as_slice(), memory, points)?
+    let Some(shown) = both_sides(
+        alloc,
+        facts,
+        form,
+        modulus,
+        known.as_slice(),
+        memory,
+        points,
+    )?
     else {
         return Ok(None);
     };
@@ -253,19 +259,17 @@ fn claim_support(
                 return Ok(None);
             };
             drop(facts.pop());
-            Ok(
-                divided(
-                    alloc,
-                    ground,
-                    candidates,
-                    at,
-                    *modulus,
-                    facts.as_slice(),
-                    form,
-                    memory,
-                    points,
-                )?,
-            )
+            Ok(divided(
+                alloc,
+                ground,
+                candidates,
+                at,
+                *modulus,
+                facts.as_slice(),
+                form,
+                memory,
+                points,
+            )?)
         }
         _ => Ok(None),
     }
@@ -337,7 +341,10 @@ fn agreement_demand(
         return Ok(None);
     }
     let Some(facts) = facts_of(alloc, ground, number, Manner::Plainly)? else {
-        return Ok(Some(Demand { guess, support: None }));
+        return Ok(Some(Demand {
+            guess,
+            support: None,
+        }));
     };
     let found = &mut points.points;
     let support = asked(alloc, ground, part, facts.as_slice(), memory, found)?;
@@ -360,7 +367,9 @@ fn demand_of(
     let part = ground.found.part(number);
     match part {
         Part::Claim(at) => {
-            claim_demand(alloc, ground, candidates, number, at, lacking, memory, points)
+            claim_demand(
+                alloc, ground, candidates, number, at, lacking, memory, points,
+            )
         }
         Part::Ends { first, about, .. } => {
             let Some(guess) = agreement_of(ground, first, about) else {

@@ -81,7 +81,13 @@ fn walked(
     let Some(certificate) = certificate else {
         return Err(SettlingError::Unsaid);
     };
-    match resolve(alloc, &matter.subject, &certificate, Trust::Searched, memory)? {
+    match resolve(
+        alloc,
+        &matter.subject,
+        &certificate,
+        Trust::Searched,
+        memory,
+    )? {
         Some(resolved) => Ok(resolved),
         None => Err(SettlingError::Unsaid),
     }
@@ -106,9 +112,7 @@ fn kept(
 
 /// Something was not shown.
 fn any_lacks(demands: &[Demand]) -> bool {
-    demands
-        .iter()
-        .any(|demand| demand.support.is_none())
+    demands.iter().any(|demand| demand.support.is_none())
 }
 
 /// What the guesses of a walk rest on.
@@ -164,15 +168,11 @@ fn round<R: Threads + Sync>(
         memory,
     )?;
     if !any_lacks(demands.as_slice()) {
-        return Ok(
-            Turn::Stands(
-                Settled {
-                    candidates,
-                    resolved,
-                    begun,
-                },
-            ),
-        );
+        return Ok(Turn::Stands(Settled {
+            candidates,
+            resolved,
+            begun,
+        }));
     }
     let Ok(count) = u32::try_from(candidates.len()) else {
         return Err(SettlingError::Unsaid);

@@ -102,13 +102,11 @@ impl<'a> Ground<'a> {
         let place = *self.places.get(path)?;
         let begun = self.begun.get(place)?;
         let lines = self.table.places.get(place)?;
-        Some(
-            Share {
-                count,
-                begun: begun.facts,
-                lines,
-            },
-        )
+        Some(Share {
+            count,
+            begun: begun.facts,
+            lines,
+        })
     }
 
     /// The guesses at a path's anchor.
@@ -122,40 +120,60 @@ impl<'a> Ground<'a> {
     }
 
     fn claim_facts(&self, at: Place) -> Option<usize> {
-        Some(self.found.paths().get(at.path)?.path.claims.get(at.item)?.facts)
+        Some(
+            self.found
+                .paths()
+                .get(at.path)?
+                .path
+                .claims
+                .get(at.item)?
+                .facts,
+        )
     }
 
     fn end_facts(&self, at: Place) -> Option<usize> {
-        Some(self.found.paths().get(at.path)?.path.ends.get(at.item)?.facts)
+        Some(
+            self.found
+                .paths()
+                .get(at.path)?
+                .path
+                .ends
+                .get(at.item)?
+                .facts,
+        )
     }
 
     fn access_facts(&self, at: Place) -> Option<usize> {
-        Some(self.found.paths().get(at.path)?.path.accesses.get(at.item)?.facts)
+        Some(
+            self.found
+                .paths()
+                .get(at.path)?
+                .path
+                .accesses
+                .get(at.item)?
+                .facts,
+        )
     }
 
     /// Two items.
     fn pair(&self, first: Place, second: Place, counts: (usize, usize)) -> Option<Origin<'a>> {
-        Some(
-            Origin {
-                launch: self.found.launch().len(),
-                first: self.share(first.path, counts.0)?,
-                second: Some(self.share(second.path, counts.1)?),
-                anchor: self.at_anchor(first.path),
-            },
-        )
+        Some(Origin {
+            launch: self.found.launch().len(),
+            first: self.share(first.path, counts.0)?,
+            second: Some(self.share(second.path, counts.1)?),
+            anchor: self.at_anchor(first.path),
+        })
     }
 
     /// Where the facts of an obligation come from.
     pub fn origin(&self, part: Part) -> Option<Origin<'a>> {
         match part {
-            Part::Claim(at) => Some(
-                Origin {
-                    launch: self.found.launch().len(),
-                    first: self.share(at.path, self.claim_facts(at)?)?,
-                    second: None,
-                    anchor: None,
-                },
-            ),
+            Part::Claim(at) => Some(Origin {
+                launch: self.found.launch().len(),
+                first: self.share(at.path, self.claim_facts(at)?)?,
+                second: None,
+                anchor: None,
+            }),
             Part::Ends { first, second, .. } => {
                 let counts = (self.end_facts(first)?, self.end_facts(second)?);
                 self.pair(first, second, counts)

@@ -1,9 +1,9 @@
 #!/usr/bin/env python3
-"""Proves the kernels of a folder and prints a table: kernel, what it is, verdict, milliseconds, candidates and obligations, certificate.
+"""Proves the kernels of a folder and prints a table: kernel, what it is, verdict and first finding, milliseconds, certificate.
 
-    prove.py KERNELS [WORKERS] [NAME ..]    NAME.cl with NAME.cond, and NAME.expect, which begins with safe or unsafe; all, or these names
+    prove.py KERNELS [WORKERS] [NAME ..]    NAME.cl with NAME.cond, and NAME.expect, which begins with safe or unsafe KIND; all, or these names
 
-Each certificate is given to `check`, which has to accept it. Build the program first: cd crates/kverify && rt run
+Each certificate is given to `check`, which has to accept it. A finding has to have the kind of an unsafe kernel. Build the program first: cd crates/kverify && rt run
 """
 import os
 import re
@@ -20,14 +20,22 @@ LIMIT = 120
 
 
 def said(words):
-    """The first line that the program prints, and the milliseconds that it took."""
+    """The lines that the program prints, and the milliseconds that it took."""
     started = time.monotonic()
     try:
         done = subprocess.run([PROGRAM, *words], capture_output=True, text=True, timeout=LIMIT)
-        line = (done.stdout + done.stderr).split("\n")[0]
+        lines = (done.stdout + done.stderr).splitlines()
     except subprocess.TimeoutExpired:
-        line = "late"
-    return line, 1000 * (time.monotonic() - started)
+        lines = ["late"]
+    return lines, 1000 * (time.monotonic() - started)
+
+
+def is_told(kind, lines):
+    """Whether a refusal tells the kind of an unsafe kernel: its budget, or a finding."""
+    what = kind.split(" ")[1]
+    if what == "budget":
+        return lines[0] == "refused 56"
+    return any(re.match(f"(fault )?{what} (possible|confirmed): ", it) for it in lines[1:])
 
 
 def row(folder, place, name, workers):
@@ -36,7 +44,8 @@ def row(folder, place, name, workers):
     out = f"{folder}/certificate.txt"
     if os.path.exists(out):
         os.remove(out)
-    line, taken = said(["prove", *files, "--workers", workers, "--out", out])
+    told, taken = said(["prove", *files, "--workers", workers, "--out", out])
+    line = told[0]
     with open(f"{place}/{name}.expect", encoding="utf-8") as it:
         kind = " ".join(it.readline().split())
     lines = size = entries = 0
@@ -46,9 +55,11 @@ def row(folder, place, name, workers):
         size, entries = len(text), len(re.findall("(?m)^ob ", text))
         lines = len(re.findall("(?m)^(same|fact|mod) ", text))
         checked = said(["check", *files, out])[0]
-        if checked != "accepted":
+        if checked != ["accepted"]:
             line = f"BROKEN: check says {checked}"
-    is_right = (line == "accepted") == (kind == "safe") and line.split(" ")[0] in ("accepted", "refused")
+    is_right = line == "accepted" if kind == "safe" else line.startswith("refused ") and is_told(kind, told)
+    if len(told) > 1:
+        line += "; " + told[1].split(":")[0]
     mark = "" if is_right else " <--"
     print(f"| `{name}` | {kind} | {line} | {taken:.0f} | {lines} | {entries} | {size} |{mark}", flush=True)
     return kind, line, taken, size

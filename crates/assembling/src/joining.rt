@@ -1,6 +1,7 @@
 //! A certificate of guesses that stand.
 
 use crate::entries::{Made, Outcome, entry_of};
+use crate::missing::{Mark, Missing, missing_of};
 use candidate_lines::{Candidate, Ranking, Sight};
 use certificate::Certificate;
 use certificate::tree::Entry;
@@ -8,7 +9,6 @@ use certificate_making::Names;
 use guess_walk::{
     LineTable, Resolved, Subject, Trust, begun_of, certificate_of, places_of_paths, resolve,
 };
-use path_walk::Sort;
 use place_paths::FindError;
 use proof_memory::Memory;
 use settling::{Ground, target_of};
@@ -31,12 +31,12 @@ pub struct Use {
     pub guesses: Vec<u32>,
 }
 
-/// The entries of a certificate, what they use, how many obligations nothing shows, and the loops whose ranking is among them.
+/// The entries of a certificate, what they use, what nothing shows, and the loops whose ranking is among that.
 #[derive(Drop)]
 pub struct Assembled {
     pub entries: Vec<Entry>,
     pub uses: Vec<Use>,
-    pub unshown: usize,
+    pub missing: Vec<Missing>,
     pub loops: Vec<u32>,
 }
 
@@ -48,12 +48,12 @@ impl Assembled {
         Ok(())
     }
 
-    fn miss(&mut self, sort: Sort, statement: u32) -> Result<(), AllocError> {
-        self.unshown = self.unshown.saturating_add(1);
-        match sort {
-            Sort::OfRanking => {
-                if !self.loops.as_slice().contains(&statement) {
-                    self.loops.push(statement)?;
+    fn miss(&mut self, missing: Missing) -> Result<(), AllocError> {
+        self.missing.push(missing)?;
+        match (missing.first, missing.second) {
+            (Mark::Loop(number), None) => {
+                if !self.loops.as_slice().contains(&number) {
+                    self.loops.push(number)?;
                 }
                 Ok(())
             }
@@ -73,7 +73,7 @@ fn entries_of(
     let mut assembled = Assembled {
         entries: Vec::new(alloc),
         uses: Vec::new(alloc),
-        unshown: 0,
+        missing: Vec::new(alloc),
         loops: Vec::new(alloc),
     };
     for i in 0..ground.found.len() {
@@ -86,10 +86,7 @@ fn entries_of(
                 assembled.take(of, first)?;
                 assembled.take(of, second)?;
             }
-            Outcome::Unshown => {
-                let spot = ground.found.spot(number);
-                assembled.miss(ground.found.sort(number), spot.statement)?;
-            }
+            Outcome::Unshown => assembled.miss(missing_of(ground, number))?,
         }
     }
     Ok(assembled)

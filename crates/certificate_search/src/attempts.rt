@@ -3,7 +3,7 @@
 use crate::error::SearchError;
 use crate::hoping::{Hoped, hope, unlimited};
 use crate::picking::{picked, unrefuted};
-use assembling::{Assembled, Plan, assemble, least_limits, needed_only};
+use assembling::{Assembled, Missing, Plan, assemble, least_limits, needed_only};
 use candidate_lines::{Candidate, Ranking};
 use candidates::guess_told;
 use certificate::Certificate;
@@ -16,11 +16,14 @@ use solo_runs::{Observed, observe, told_by_runs};
 use std::alloc::{AllocError, Global};
 use std::thread::Threads;
 
-/// How an attempt ends: with a certificate, or with loops whose rankings are not shown, and how much is not.
+/// How an attempt ends: with a certificate, or with loops whose rankings are not shown, and all that is not.
 #[derive(Drop)]
 pub enum Attempt {
     Made(Certificate),
-    Failed { loops: Vec<u32>, unshown: usize },
+    Failed {
+        loops: Vec<u32>,
+        missing: Vec<Missing>,
+    },
 }
 
 /// What all attempts are about.
@@ -87,7 +90,7 @@ fn dropped(
         let Some(next) = assemble(alloc, plan, fewer.as_slice(), memory)? else {
             return Ok(best);
         };
-        if next.unshown > 0 {
+        if !next.missing.is_empty() {
             return Ok(best);
         }
         best = (fewer, next);
@@ -115,7 +118,7 @@ fn written(
     )?;
     match certificate {
         Some(certificate) => Ok(Attempt::Made(certificate)),
-        None => Err(SearchError::NotShown),
+        None => Err(SearchError::Unsaid),
     }
 }
 
@@ -128,13 +131,13 @@ fn concluded(
 ) -> Result<Attempt, SearchError> {
     let found = assemble(alloc, plan, candidates.as_slice(), memory)?;
     let Some(assembled) = found else {
-        return Err(SearchError::NotShown);
+        return Err(SearchError::Unsaid);
     };
-    if assembled.unshown == 0 {
+    if assembled.missing.is_empty() {
         return written(alloc, plan, candidates, assembled, memory);
     }
-    let Assembled { loops, unshown, .. } = assembled;
-    Ok(Attempt::Failed { loops, unshown })
+    let Assembled { loops, missing, .. } = assembled;
+    Ok(Attempt::Failed { loops, missing })
 }
 
 /// Settled guesses, with the least limits of the loops.
@@ -182,7 +185,7 @@ pub fn try_guesses<R: Threads + Sync>(
     memory: &mut Memory,
 ) -> Result<Attempt, SearchError> {
     let Some(hoped) = hope(alloc, &matter.subject, matter.names, rankings, memory)? else {
-        return Err(SearchError::NotShown);
+        return Err(SearchError::Unsaid);
     };
     let core = matter.subject.typed.core();
     let conditions = matter.subject.conditions;

@@ -1,13 +1,16 @@
 //! Why there is no certificate.
 
+use assembling::Missing;
 use place_paths::FindError;
 use settling::SettlingError;
 use std::alloc::AllocError;
 
-/// Something stays unshown, or the walk of a kernel's places comes to no end that can be listed, or there are too many workers or none.
+/// Something stays unshown in the best attempt, or guesses have no text, or the walk of a kernel's places comes to no end that can be
+/// listed, or there are too many workers or none.
 #[derive(Drop)]
 pub enum SearchError {
-    NotShown,
+    NotShown(Vec<Missing>),
+    Unsaid,
     Walk(FindError),
     Workers,
 }
@@ -27,7 +30,7 @@ impl From<AllocError> for SearchError {
 impl From<SettlingError> for SearchError {
     fn from(e: SettlingError) -> SearchError {
         match e {
-            SettlingError::Unsaid => SearchError::NotShown,
+            SettlingError::Unsaid => SearchError::Unsaid,
             SettlingError::Walk(error) => SearchError::Walk(error),
             SettlingError::Workers => SearchError::Workers,
         }

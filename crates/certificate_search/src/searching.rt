@@ -4,6 +4,7 @@ use crate::attempts::{Attempt, Matter, try_guesses};
 use crate::error::SearchError;
 use crate::hoping::hope;
 use crate::ranked::{advance, all_unrefuted, chosen, is_hopeless};
+use assembling::Missing;
 use candidates::guess_told;
 use certificate::Certificate;
 use certificate_making::{Names, names_of};
@@ -32,7 +33,7 @@ fn find_ways(
     let first = guess_rankings(alloc, core, &[])?;
     let rankings = chosen(alloc, first.as_slice(), &[])?;
     let Some(hoped) = hope(alloc, subject, names, rankings.as_slice(), memory)? else {
-        return Err(SearchError::NotShown);
+        return Err(SearchError::Unsaid);
     };
     let told = guess_told(
         alloc,
@@ -52,6 +53,33 @@ fn find_ways(
     })
 }
 
+/// What the best attempt so far does not show.
+#[derive(Drop)]
+struct Shortfall {
+    least: Option<Vec<Missing>>,
+}
+
+impl Shortfall {
+    /// What another attempt does not show: the fewest are kept, and of equally many the first.
+    fn meet(&mut self, missing: Vec<Missing>) {
+        let is_less = match &self.least {
+            Some(least) => missing.len() < least.len(),
+            None => true,
+        };
+        if is_less {
+            self.least = Some(missing);
+        }
+    }
+
+    /// What stays unshown.
+    fn told(self) -> SearchError {
+        match self.least {
+            Some(missing) => SearchError::NotShown(missing),
+            None => SearchError::Unsaid,
+        }
+    }
+}
+
 /// Attempts with guesses up to a rank, with one choice of rankings after the other, eight at most.
 fn stage<R: Threads + Sync>(
     rt: &R,
@@ -60,13 +88,15 @@ fn stage<R: Threads + Sync>(
     options: &[Options],
     rank: u32,
     memory: &mut Memory,
+    shortfall: &mut Shortfall,
 ) -> Result<Option<Certificate>, SearchError> {
     let mut choices = vec![in alloc; 0usize; options.len()]?;
     for _ in 0..8 {
         let rankings = chosen(alloc, options, choices.as_slice())?;
         match try_guesses(rt, alloc, matter, rankings.as_slice(), rank, memory)? {
             Attempt::Made(certificate) => return Ok(Some(certificate)),
-            Attempt::Failed { loops, .. } => {
+            Attempt::Failed { loops, missing } => {
+                shortfall.meet(missing);
                 if !advance(options, choices.as_mut_slice(), loops.as_slice()) {
                     return Ok(None);
                 }
@@ -92,15 +122,17 @@ fn search_named<R: Threads + Sync>(
         workers,
     };
     let options = ways.options.as_slice();
+    let mut shortfall = Shortfall { least: None };
     for rank in 2..5 {
-        if let Some(certificate) = stage(rt, alloc, &matter, options, rank, memory)? {
+        let found = stage(rt, alloc, &matter, options, rank, memory, &mut shortfall)?;
+        if let Some(certificate) = found {
             return Ok(certificate);
         }
         if ways.is_hopeless {
-            return Err(SearchError::NotShown);
+            return Err(shortfall.told());
         }
     }
-    Err(SearchError::NotShown)
+    Err(shortfall.told())
 }
 
 /// A certificate for a kernel under conditions, searched by so many workers.

@@ -21,7 +21,7 @@ use Rattle.launch.specs.declared.launches.Buffers.{Buffers}
 use Rattle.write_log.specs.Written.{words_of}
 use Rattle.executor.specs.Ends.{buffer_cell, IsResultOf, HaveKinds}
 use Rattle.executor.specs.Kinds.{words, typed, read, of_kinds}
-use Rattle.executor.proofs.Buffered.{rows-alike}
+use Rattle.group_workers.proofs.Logs.{rows-alike}
 
 abbrev number : Word → ℤ
 number w = w.value

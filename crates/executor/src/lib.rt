@@ -1,7 +1,7 @@
-//! Section: Runs and program. Promises the result by rounds of an accepted kernel; stands on `cert_check` and `group_rounds`.
+//! Section: Runs and program. Promises the result by rounds of an accepted kernel; stands on `cert_check` and `group_workers`.
 //!
-//! Accepted kernels, run: work-group by work-group, each by rounds. What a run answers is the result by rounds, and so what every
-//! interleaving of all work-items leads to.
+//! Accepted kernels, run: work-group by work-group, each by rounds, by workers on threads. What a run answers is the result by rounds, and
+//! so what every interleaving of all work-items leads to, whatever the number of workers and whichever of them runs which group.
 #![tactic(auto)]
 
 mod error;

@@ -14,9 +14,9 @@ ghost use Rattle.executor.specs.Kinds.{typed};
 ghost use Rattle.executor.specs.Results.{Answers};
 
 use crate::error::RunError;
-use crate::group::run_group;
 use crate::kinds::of_parameters;
 use cert_check::Accepted;
+use group_workers::Task;
 use launch::launches::{Buffers, Launch};
 use launch::meets::meets;
 use reduction::{headline, result_is_defined};
@@ -24,8 +24,6 @@ use std::alloc::{AllocError, Global};
 use std::sync::Wait;
 use std::thread::Threads;
 use words::Gate;
-use work_item::identity::product_of;
-use write_log::apply;
 
 /// The buffers of a launch once more.
 fn copy(alloc: Global, buffers: &Buffers) -> Result<Buffers, AllocError>
@@ -38,30 +36,42 @@ fn copy(alloc: Global, buffers: &Buffers) -> Result<Buffers, AllocError>
     Ok(Buffers { words })
 }
 
-/// Runs the groups one after another.
-fn run_groups(alloc: Global, accepted: &Accepted, launch: &Launch) -> Result<Buffers, AllocError>
-    requires fits { Fits (core_seen (typed_of accepted.now).1) (launch_seen launch.now) }
-    requires meets { Meets (conditions_seen (kept accepted.now)) (launch_seen launch.now) }
-    ensures { IfOk result (λ b. IsResultOf (at_launch (core_seen (typed_of accepted.now).1) (launch_seen launch.now)) (kept accepted.now).budget (words_of b)) }
-{
-    let mut buffers = copy(alloc, &launch.buffers)?;
-    for group in 0..product_of(launch.groups) {
-        let log = run_group(alloc, accepted, launch, group)?;
-        apply(&mut buffers, &log);
-    }
-    Ok(buffers)
-}
-
-/// Runs an accepted kernel at a launch that fits it: the result by rounds, whatever the number of workers, and so what each
-/// interleaving of all work-items that is over ends with. The groups run one after another on the calling thread, and the gate is
-/// told nothing. Each word that is answered has the kind of its buffer's parameter, whatever kind the launch's word has.
-pub fn run<R: Threads + Wait + Sync, G: Gate>(
-    _rt: &R,
+/// Runs the groups, by so many workers.
+fn run_groups<R: Threads + Wait + Sync, G: Gate>(
+    rt: &R,
     alloc: Global,
     accepted: &Accepted,
     launch: &Launch,
     workers: u32,
-    _gate: &G,
+    gate: &G,
+) -> Result<Buffers, AllocError>
+    requires fits { Fits (core_seen (typed_of accepted.now).1) (launch_seen launch.now) }
+    requires meets { Meets (conditions_seen (kept accepted.now)) (launch_seen launch.now) }
+    requires workers { (1 ≤ workers) × (workers ≤ 64) }
+    ensures { IfOk result (λ b. IsResultOf (at_launch (core_seen (typed_of accepted.now).1) (launch_seen launch.now)) (kept accepted.now).budget (words_of b)) }
+{
+    let mut buffers = copy(alloc, &launch.buffers)?;
+    let task = Task {
+        core: accepted.typed().core(),
+        launch,
+        budget: accepted.conditions().budget,
+    };
+    group_workers::run_groups(rt, alloc, task, workers, gate, &mut buffers)?;
+    Ok(buffers)
+}
+
+/// Runs an accepted kernel at a launch that fits it: the result by rounds, whatever the number of workers, and so what each
+/// interleaving of all work-items that is over ends with. Each worker has a thread of its own, but worker 1, which is the calling thread;
+/// a worker whose thread cannot be started is run by the calling thread in its turn, with the same answers. `gate` is told which groups a
+/// worker has claimed and has run, and that it ends, and changes no answer. Each word that is answered has the kind of its buffer's
+/// parameter, whatever kind the launch's word has.
+pub fn run<R: Threads + Wait + Sync, G: Gate>(
+    rt: &R,
+    alloc: Global,
+    accepted: &Accepted,
+    launch: &Launch,
+    workers: u32,
+    gate: &G,
 ) -> Result<Buffers, RunError>
     requires { Fits (core_seen (typed_of accepted.now).1) (launch_seen launch.now) }
     ensures answers { Answers (kept accepted.now) (launch_seen launch.now) workers result }
@@ -75,7 +85,7 @@ pub fn run<R: Threads + Wait + Sync, G: Gate>(
     if workers < 1 || workers > 64 {
         return Err(RunError::Workers);
     }
-    let buffers = run_groups(alloc, accepted, launch)?;
+    let buffers = run_groups(rt, alloc, accepted, launch, workers, gate)?;
     headline();
     result_is_defined();
     let answer = of_parameters(alloc, accepted, &buffers)?;

@@ -1,24 +1,26 @@
 -- What is written of the texts that were asked about.
-use Rattle.std.proofs.Common.{◌≡◌, ℕ, List, [], ◌∷◌, ◌++◌, false, inl, inr, refl, sym, ap, subst}
+use Rattle.std.proofs.Common.{◌≡◌, ℕ, List, [], ◌∷◌, ◌++◌, map, false, inl, inr, refl, sym, ap, subst}
 use Rattle.std.specs.Prelude.{◌⊎◌, Option, Some, None, Result, Ok, Err, IfSome, IfOk, codes}
 use Rattle.std.specs.String.{string_bytes}
 use Rattle.reading.specs.Answers as kernels
 use Rattle.launch_words.specs.Answers as launches
 use Rattle.cert_check.specs.Numbers as checks
 use Rattle.executor.specs.Numbers as runs
-use Rattle.verify.specs.Numbers as searches
-use Rattle.telling.specs.Refusals.{IsRefusalLine, place_seen}
+use Rattle.proof_search.specs.Numbers as searches
+use Rattle.std.proofs.lemmas.List.{append-nil}
+use Rattle.findings.specs.View.{finding as finding_seen}
+use Rattle.telling.specs.Refusals.{IsRefusalLine, refusal_line, place_seen}
 use Rattle.telling.specs.Refusing.{IsRefusedText, IsRefusedKernel, IsUnanswered}
-use Rattle.telling.specs.Proving.{IsProvedText, IsUnproved, proved_lines}
+use Rattle.proof_telling.specs.Proving.{IsProvedText, IsUnproved, proved_lines, found, findings_text}
 use Rattle.command_line.specs.Words.{HasWord, saved_as}
 use Rattle.semantics.specs.Launch.{Launch}
 use Rattle.semantics.specs.Conditions.{Conditions, Meets}
 use Rattle.launch.specs.Least.{probe}
 use Rattle.launch.specs.View.{conditions as conditions_seen}
 use Rattle.telling.specs.Telling.{accepted_line}
-use Rattle.telling.specs.Proving.{no_launch_line}
+use Rattle.proof_telling.specs.Proving.{no_launch_line}
 use Rattle.program.specs.Running.{kernel_read, conditions_read, saving, IsSafeText}
-use Rattle.program.specs.Running.{Read, Write, IsOf, Reads, Does, Saves, own, checked, ran, proved, printed, Success, Output, done, refused, silent, torn}
+use Rattle.program.specs.Running.{Read, Write, IsOf, Reads, Does, Saves, IsRefusalText, own, checked, ran, proved, printed, Success, Output, done, refused, silent, torn}
 use Rattle.program.specs.Refusing.{Refusal}
 use Rattle.program.specs.Verdicts.{Tells, Kept, IsTold, IsWritten}
 use Rattle.telling.specs.declared.Verdict.{Verdict}
@@ -36,15 +38,20 @@ run_line k c p l line (inr (inr (e, kernel, conditions, launch, workers, s, q, r
 print_line : (k line : List ℕ) → IsRefusedKernel k line → IsRefusalLine line
 print_line k line (e, r, h) = (kernels.error_number e, place_seen (checks.at_place (kernels.error_place e)), h)
 
-search_line : (line : List ℕ) → IsUnproved line → IsRefusalLine line
-search_line line (e, h) = (searches.error_number e, place_seen (searches.error_place e), h)
+search_text : (kernel conditions text : List ℕ) → IsUnproved kernel conditions text → IsRefusalText text
+search_text kernel conditions text (e, h) =
+    (refusal_line (searches.error_number e) (place_seen (searches.error_place e)), findings_text (map finding_seen (found e)), (searches.error_number e, place_seen (searches.error_place e), refl), h.lines)
 
-line_of : (given : List Read → Option Write → Type 0) (ws : List (List ℕ)) (line : List ℕ) → Refusal given ws line → IsRefusalLine line
-line_of given ws line (own e g h) = check_line _ _ _ line h
-line_of given ws line (checked k c p kernel conditions certificate w x y z g h) = check_line kernel conditions certificate line h
-line_of given ws line (ran k c p l kernel conditions certificate launch w x y z u g h) = run_line kernel conditions certificate launch line h
-line_of given ws line (proved k c kernel conditions saved w x y g h) = search_line line h.0
-line_of given ws line (printed k kernel w x g h) = print_line kernel line h
+-- with nothing behind it
+alone : (line : List ℕ) → IsRefusalLine line → IsRefusalText line
+alone line h = (line, [], h, sym (append-nil line))
+
+text_of : (given : List Read → Option Write → Type 0) (ws : List (List ℕ)) (text : List ℕ) → Refusal given ws text → IsRefusalText text
+text_of given ws text (own e g h) = alone text (check_line _ _ _ text h)
+text_of given ws text (checked k c p kernel conditions certificate w x y z g h) = alone text (check_line kernel conditions certificate text h)
+text_of given ws text (ran k c p l kernel conditions certificate launch w x y z u g h) = alone text (run_line kernel conditions certificate launch text h)
+text_of given ws text (proved k c kernel conditions saved w x y g h) = search_text kernel conditions text h.0
+text_of given ws text (printed k kernel w x g h) = alone text (print_line kernel text h)
 
 module _ (given : List Read → Option Write → Type 0) (ws : List (List ℕ)) (old new : Option (List ℕ)) (status : ℕ) where
   abbrev Gained : Type 0
@@ -55,7 +62,7 @@ module _ (given : List Read → Option Write → Type 0) (ws : List (List ℕ)) 
   of_text text s (inr h) = torn h.0 text h.1.0 (inl s) h.1.1
 
   of_line : (line : List ℕ) → Refusal given ws line → IsWritten line old new 1 status → Gained
-  of_line line s (inl h) = refused h.0 line (line_of given ws line s) s h.1
+  of_line line s (inl h) = refused h.0 line (text_of given ws line s) s h.1
   of_line line s (inr h) = torn h.0 line h.1.0 (inr s) h.1.1
 
   pub output_of : (v : Verdict) → Tells given ws v → IsTold v old new status → Output (Success given IsProvedText ws) (Refusal given ws) old new status

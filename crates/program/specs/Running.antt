@@ -5,7 +5,7 @@ use Rattle.semantics.specs.Launch.{Launch}
 use Rattle.semantics.specs.Conditions.{Conditions, Meets}
 use Rattle.reading.specs.Kernels.{Kernel}
 use Rattle.telling.specs.Telling.{IsSafe, IsAcceptedText, IsResultText, IsPrintedText, accepted_line}
-use Rattle.telling.specs.Proving.{no_launch_line}
+use Rattle.proof_telling.specs.Proving.{no_launch_line}
 use Rattle.telling.specs.Refusals.{IsRefusalLine}
 use Rattle.command_line.specs.Words.{HasWord, saved_as}
 use Rattle.program.specs.First.{first_kernel, first_conditions, first_certificate}
@@ -97,10 +97,14 @@ Success given proof ws written =
 abbrev pub IsOut : (ws : List (List ℕ)) (name : List ℕ) → Type 0
 IsOut ws name = HasWord ws 0 (codes "prove") × (saved_as false ws ≡ Some name)
 
--- what the standard output has gained, by the status: at 0 what succeeds, at 1 a line that refuses, at 2 and 4 nothing, at 3 nothing
--- or, where the output failed, a front of one of these; `refusal` says of a line what it tells
+-- a line that refuses, and what stands behind it
+abbrev pub IsRefusalText : List ℕ → Type 0
+IsRefusalText text = (line : List ℕ) × (behind : List ℕ) × IsRefusalLine line × (text ≡ line ++ behind)
+
+-- what the standard output has gained, by the status: at 0 what succeeds, at 1 a line that refuses, with findings behind it, at 2 and 4
+-- nothing, at 3 nothing or, where the output failed, a front of one of these; `refusal` says of a refusal what it tells
 pub data Output (success refusal : List ℕ → Type 0) (old new : Option (List ℕ)) (status : ℕ) : Type 0 where
   done : status ≡ 0 → (text : List ℕ) → success text → Appends old new text → Output success refusal old new status
-  refused : status ≡ 1 → (line : List ℕ) → IsRefusalLine line → refusal line → Appends old new line → Output success refusal old new status
+  refused : status ≡ 1 → (text : List ℕ) → IsRefusalText text → refusal text → Appends old new text → Output success refusal old new status
   silent : (status ≡ 2) ⊎ ((status ≡ 3) ⊎ (status ≡ 4)) → Keeps old new → Output success refusal old new status
   torn : status ≡ 3 → (text : List ℕ) (n : ℕ) → success text ⊎ refusal text → Appends old new (take n text) → Output success refusal old new status

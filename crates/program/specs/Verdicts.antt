@@ -3,7 +3,7 @@ use Rattle.std.specs.Prelude.{◌≡◌, ◌⊎◌, ℕ, List, Option, None, tak
 use Rattle.std.specs.String.{string_bytes}
 use Rattle.std.specs.Io.KnownBytes.{Appends, Keeps}
 use Rattle.telling.specs.Verdicts.{Checks, Runs, Prints}
-use Rattle.telling.specs.Proving.{IsProvedText, IsUnproved}
+use Rattle.proof_telling.specs.Proving.{IsProvedText, IsUnproved}
 use Rattle.telling.specs.declared.Verdict.{Verdict}
 use Rattle.telling.specs.declared.Verdict.TheVariants as verdicts
 use Rattle.program.specs.Running.{Read, Write, Answers, Saves, saving, IsFound}
@@ -11,13 +11,13 @@ use Rattle.program.specs.Running.{Read, Write, Answers, Saves, saving, IsFound}
 -- of a search: what was found is in the file that the words name, if they name one; a refusal writes none
 abbrev pub Finds : (ws : List (List ℕ)) → Verdict → (kernel conditions : List ℕ) → Option Write → Type 0
 Finds ws (verdicts.Done text) kernel conditions saved = IsFound IsProvedText ws kernel conditions text.items saved
-Finds ws (verdicts.Refused line) kernel conditions saved = IsUnproved (string_bytes line) × (saved ≡ None)
+Finds ws (verdicts.Refused line) kernel conditions saved = IsUnproved kernel conditions (string_bytes line) × (saved ≡ None)
 Finds ws verdicts.OutOfMemory kernel conditions saved = Unit {0}
 
 -- of a search, where what is found is put into a file of this name
 abbrev pub Kept : {F : Type 0} → (contents : F → List ℕ → Option (List ℕ)) → (before after : F) → (out : Option (List ℕ)) → (kernel conditions : List ℕ) → Verdict → Type 0
 Kept contents before after out kernel conditions (verdicts.Done text) = (certificate : List ℕ) × IsProvedText kernel conditions certificate text.items × Saves contents before after (saving out certificate)
-Kept contents before after out kernel conditions (verdicts.Refused line) = IsUnproved (string_bytes line) × (after ≡ before)
+Kept contents before after out kernel conditions (verdicts.Refused line) = IsUnproved kernel conditions (string_bytes line) × (after ≡ before)
 Kept contents before after out kernel conditions verdicts.OutOfMemory = after ≡ before
 
 -- of the texts that were asked about

@@ -2,8 +2,9 @@
 
 ghost use Rattle.std.specs.Prelude.{◌≡◌, ◌≢◌, ℕ, List, [], ◌∷◌, IfOk, OnOk, codes};
 ghost use Rattle.std.specs.Option.{option_map};
-ghost use Rattle.telling.specs.Proving.{IsProvedText};
-ghost use Rattle.telling.specs.Verdicts.{Checks, Proves};
+ghost use Rattle.telling.specs.Verdicts.{Checks};
+ghost use Rattle.proof_telling.specs.Proving.{IsProvedText};
+ghost use Rattle.proof_telling.specs.Verdicts.{Proves};
 ghost use Rattle.command_line.specs.Words.{texts, HasWord, HasNames, HasSearch};
 ghost use Rattle.program.specs.First.{first_kernel, first_conditions, first_certificate};
 ghost use Rattle.program.specs.Running.{IsOf, Reads, Does, IsPut, Saves, saving, kernel_read, conditions_read, certificate_read, Success, IsOut, Output};
@@ -14,11 +15,12 @@ use crate::files::{FileFault, Files};
 use crate::first::first_texts;
 use crate::writing::is_written;
 use command_line::{Line, Names, Search, read_line};
+use proof_telling::{Sought, prove_texts};
 use std::alloc::Global;
 use std::io::Write;
 use std::sync::Wait;
 use std::thread::Threads;
-use telling::{Finding, Texts, Verdict, check_texts, print_text, prove_texts, run_texts};
+use telling::{Texts, Verdict, check_texts, print_text, run_texts};
 
 const USAGE: &[u8] = b"usage: kverify prove | check | run | print\n";
 
@@ -145,21 +147,21 @@ fn saved<'a, F: Files>(files: &mut F, out: Option<&'a str>, text: &[u8]) -> Resu
 fn kept<'a, F: Files>(
     files: &mut F,
     out: Option<&'a str>,
-    finding: Finding,
+    sought: Sought,
 ) -> Result<Verdict, Stop<'a>>
-    ensures verdict { (kernel conditions : List ℕ) → Proves finding kernel conditions → IfOk result (λ v. Kept F.contents files.old files.new (option_map (λ w. w.now) out.entry) kernel conditions v) }
+    ensures verdict { (kernel conditions : List ℕ) → Proves sought kernel conditions → IfOk result (λ v. Kept F.contents files.old files.new (option_map (λ w. w.now) out.entry) kernel conditions v) }
     ensures others { (n : List ℕ) → option_map (λ w. w.now) out.entry ≢ Some n → F.contents files.new n ≡ F.contents files.old n }
 {
-    match finding {
-        Finding::Found {
+    match sought {
+        Sought::Found {
             written,
             certificate,
         } => {
             saved(files, out, &certificate)?;
             Ok(Verdict::Done(written))
         }
-        Finding::Refused(line) => Ok(Verdict::Refused(line)),
-        Finding::OutOfMemory => Ok(Verdict::OutOfMemory),
+        Sought::Refused(text) => Ok(Verdict::Refused(text)),
+        Sought::OutOfMemory => Ok(Verdict::OutOfMemory),
     }
 }
 
@@ -169,7 +171,7 @@ fn searched<'a, R: Threads + Wait + Sync, F: Files>(
     alloc: Global,
     search: Search<'a>,
     files: &mut F,
-) -> Result<Finding, Stop<'a>>
+) -> Result<Sought, Stop<'a>>
     ensures reads { IfOk result (λ f. (kernel : List ℕ) × (conditions : List ℕ) × Reads F.contents F.gives files.old files.new (kernel_read search.entry.kernel.now kernel ∷ conditions_read search.entry.conditions.now conditions ∷ []) × Proves f kernel conditions) }
     ensures same { (n : List ℕ) → F.contents files.new n ≡ F.contents files.old n }
 {
@@ -188,8 +190,8 @@ fn proved<'a, R: Threads + Wait + Sync, F: Files>(
     ensures verdict { (ws : List (List ℕ)) → HasWord ws 0 (codes "prove") → HasSearch ws search.entry → IfOk result (λ v. Tells (Does F.contents F.gives files.old files.new) ws v) }
     ensures others { (n : List ℕ) → option_map (λ w. w.now) search.entry.out ≢ Some n → F.contents files.new n ≡ F.contents files.old n }
 {
-    let finding = searched(rt, alloc, search, files)?;
-    kept(files, search.out, finding)
+    let sought = searched(rt, alloc, search, files)?;
+    kept(files, search.out, sought)
 }
 
 /// The canonical text of a file's kernel.

@@ -3,7 +3,7 @@ use Rattle.std.proofs.Common.{◌≡◌, ℕ, List, [], ◌∷◌, map, refl, ap
 use Rattle.std.specs.Prelude.{Vec}
 use Rattle.std.specs.declared.alloc.Global.{Global}
 use Rattle.semantics.specs.Launch.{Fits}
-use Rattle.semantics.specs.Conditions.{Conditions as Meaning, Meets}
+use Rattle.semantics.specs.Conditions.{Meets}
 use Rattle.semantics.specs.Rounds.{IsDefined}
 use Rattle.texts.specs.ConditionsReading.{meant}
 use Rattle.texts.specs.ConditionsText.{IsConditionsText}
@@ -27,11 +27,9 @@ use Rattle.launch_text.proofs.LeastFits.{conditions_meant, launch_meant}
 use Rattle.reading.specs.Answers.{kernel_seen}
 use Rattle.reading.specs.Texts.{IsTextOf}
 use Rattle.cert_check.specs.Accepting.{at_launch, HasHeadline}
-use Rattle.cert_check.specs.Refusing.{IsPassed}
 use Rattle.write_log.specs.Written.{words_of}
 use Rattle.executor.specs.Ends.{IsResultOf, EndsEvery, HaveKinds}
 use Rattle.telling.specs.Telling.{IsSafe, IsRun}
-use Rattle.telling.specs.Proving.{IsProof}
 
 row_seen : (ws : List Word) → map number (map word ws) ≡ map value_of ws
 row_seen [] = refl
@@ -44,9 +42,6 @@ rows_seen (b ∷ bs) = ap (λ x. x ∷ map (map number) (map view.words bs)) (ro
 pub is_safe : (kernel conditions : List ℕ) (t : Kernel × Core) (c : Conditions) → IsTextOf kernel (kernel_seen t) → IsConditionsText (tree_seen t.0).parameters conditions (meant (lined c)) → HasHeadline (core_seen t.1) (conditions_seen c)
     → IsSafe kernel conditions (kernel_seen t) (conditions_seen c)
 is_safe kernel conditions t c text said h = record { kernel_text = text; conditions_text = subst (IsConditionsText (tree_seen t.0).parameters conditions) (conditions_meant c) said; headline = h }
-
-pub is_proof : (t : Kernel × Core) (c : Meaning) (certificate : List ℕ) → IsPassed t c certificate → IsProof (kernel_seen t) c certificate
-is_proof t c certificate (met, cert, n, is, said, passes) = (met, cert, is, (n, said, passes))
 
 pub is_run : (t : Kernel × Core) (c : Conditions) (launch written : List ℕ) (l : Launch) (b : Buffers) → IsLaunchText (tree_seen t.0).parameters launch (given.meant (view.launch l)) → Fits (core_seen t.1) (launch_seen l)
     → Meets (conditions_seen c) (launch_seen l) → IsDefined (at_launch (core_seen t.1) (launch_seen l)) c.budget → IsResultOf (at_launch (core_seen t.1) (launch_seen l)) c.budget (words_of b)

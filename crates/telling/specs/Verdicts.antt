@@ -4,11 +4,8 @@ use Rattle.std.specs.String.{string_bytes}
 use Rattle.entry_check.specs.declared.error.Place as code
 use Rattle.telling.specs.Refusing.{IsLineOf, IsRefusedText, IsRefusedKernel, IsUnanswered}
 use Rattle.telling.specs.Telling.{IsAcceptedText, IsResultText, IsPrintedText}
-use Rattle.telling.specs.Proving.{IsProvedText, IsUnproved}
 use Rattle.telling.specs.declared.Verdict.{Verdict}
 use Rattle.telling.specs.declared.Verdict.TheVariants as verdicts
-use Rattle.telling.specs.declared.proving.Finding.{Finding}
-use Rattle.telling.specs.declared.proving.Finding.TheVariants as findings
 
 -- a refusal by this number and place, or want of memory
 abbrev pub IsRefusal : (number : ℕ) → Option code.Place → Verdict → Type 0
@@ -30,8 +27,3 @@ abbrev pub Prints : Verdict → (kernel : List ℕ) → Type 0
 Prints (verdicts.Done text) kernel = IsPrintedText kernel text.items
 Prints (verdicts.Refused line) kernel = IsRefusedKernel kernel (string_bytes line)
 Prints verdicts.OutOfMemory kernel = Unit {0}
-
-abbrev pub Proves : Finding → (kernel conditions : List ℕ) → Type 0
-Proves (findings.Found text certificate) kernel conditions = IsProvedText kernel conditions certificate.items text.items
-Proves (findings.Refused line) kernel conditions = IsUnproved (string_bytes line)
-Proves findings.OutOfMemory kernel conditions = Unit {0}

@@ -1,7 +1,7 @@
 //! Section: Runs and program. Promises what is written says `accepted` only of what is; stands on `cert_check` and `executor`.
 //!
-//! What the program says of texts: it checks them, runs an accepted kernel, looks for a certificate, or prints a kernel's canonical text, and
-//! tells the answer or the refusal.
+//! What the program says of texts: it checks them, runs an accepted kernel, or prints a kernel's canonical text, and tells the answer or the
+//! refusal.
 #![tactic(auto)]
 
 ghost use Rattle.std.specs.Prelude.{◌≡◌};
@@ -11,7 +11,6 @@ ghost use Rattle.cert_check.specs.Numbers.{at_line};
 ghost use Rattle.executor.specs.Numbers as runs;
 ghost use Rattle.telling.specs.Verdicts.{Checks, Runs, Prints, IsRefusal};
 
-mod proving;
 mod refusal;
 
 use cert_check::check;
@@ -23,10 +22,9 @@ use launch_grammar::laws::{
 use launch_text::error::LaunchTextError;
 use launch_text::{read_launch, write_buffers};
 use printer::print;
-pub use proving::{Finding, prove_texts};
 use reading::laws::bytes_are_the_text_of_what_is_read;
 use reading::read_kernel;
-use refusal::Refusal;
+pub use refusal::Refusal;
 use std::alloc::Global;
 use std::sync::Wait;
 use std::thread::Threads;

@@ -1,5 +1,5 @@
 -- What is promised of a kernel that is proved.
-use Rattle.std.specs.Prelude.{◌≡◌, ◌<◌, ◌⊎◌, ℕ, List, Ok}
+use Rattle.std.specs.Prelude.{◌≡◌, ℕ, List, Ok}
 use Rattle.texts.specs.ConditionsReading.{conditions_of}
 use Rattle.syntax.specs.View.{kernel as tree_seen}
 use Rattle.core_code.specs.View.{kernel as core_seen}
@@ -11,8 +11,6 @@ use Rattle.cert_check.specs.Accepting.{IsAccepted, HasHeadline}
 use Rattle.cert_check.specs.Refusing.{IsPassed}
 use Rattle.cert_check.specs.View.{typed_of, kept}
 use Rattle.cert_check.specs.declared.accepted.Accepted.{Accepted}
-use Rattle.verify.specs.declared.error.VerifyError.{VerifyError}
-use Rattle.verify.specs.declared.error.VerifyError.TheVariants as errors
 
 -- what is accepted are the kernel and the conditions of these bytes; with the certificate that the bytes say no obligation stops the check;
 -- so at each launch that meets the conditions the kernel is pair-safe, and the headline holds
@@ -22,11 +20,3 @@ pub record IsVerified (kernel_text conditions_text certificate_text : List ℕ) 
   pub passed : IsPassed (typed_of a) (conditions_seen (kept a)) certificate_text
   pub pair : IsAccepted (core_seen (typed_of a).1) (conditions_seen (kept a))
   pub headline : HasHeadline (core_seen (typed_of a).1) (conditions_seen (kept a))
-
--- 70 is told of workers outside 1 to 64 alone; nothing else is promised of an error
-abbrev pub TellsOf : VerifyError → (workers : ℕ) → Type 0
-TellsOf (errors.Check e) workers = Unit {0}
-TellsOf errors.Workers workers = (workers ≡ 0) ⊎ (64 < workers)
-TellsOf errors.NotShown workers = Unit {0}
-TellsOf errors.TooLong workers = Unit {0}
-TellsOf errors.Memory workers = Unit {0}

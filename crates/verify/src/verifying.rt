@@ -1,12 +1,12 @@
 //! The search for a certificate, and its check.
 
-ghost use Rattle.std.specs.Prelude.{ℕ, IfOk, IfErr};
-ghost use Rattle.verify.specs.Verifying.{IsVerified, TellsOf};
+ghost use Rattle.std.specs.Prelude.{ℕ, List, IfOk, IfErr};
+ghost use Rattle.proof_search.specs.Searching.{TellsOf};
+ghost use Rattle.verify.specs.Verifying.{IsVerified};
 
-use crate::error::VerifyError;
-use crate::finding::find_text;
 use cert_check::error::CheckError;
 use cert_check::{Accepted, check};
+use proof_search::{VerifyError, find_text};
 use std::alloc::Global;
 use std::sync::Wait;
 use std::thread::Threads;
@@ -22,17 +22,17 @@ pub struct Verified {
 const LACKING: u8 = 52;
 
 /// What is said where a certificate is not enough.
-fn unproved(error: CheckError) -> VerifyError
-    ensures { (workers : ℕ) → TellsOf result workers }
+fn unproved(alloc: Global, error: CheckError) -> VerifyError
+    ensures { (workers : ℕ) (k c : List ℕ) → TellsOf result workers k c }
 {
     if error.number() == LACKING {
-        return VerifyError::NotShown;
+        return VerifyError::NotShown(Vec::new(alloc));
     }
     VerifyError::Check(error)
 }
 
 /// A kernel and launch conditions, each by its text: the kernel is accepted with the certificate that is found, as the check has it. That
-/// none is found says nothing of the kernel.
+/// none is found says nothing of the kernel; but what a finding confirms, a launch that meets the conditions does.
 pub fn verify<R: Threads + Wait + Sync>(
     rt: &R,
     alloc: Global,
@@ -41,7 +41,7 @@ pub fn verify<R: Threads + Wait + Sync>(
     workers: u32,
 ) -> Result<Verified, VerifyError>
     ensures verified { IfOk result (λ v. IsVerified kernel.now conditions.now v.certificate.items v.accepted) }
-    ensures workers { IfErr result (λ e. TellsOf e workers) }
+    ensures told { IfErr result (λ e. TellsOf e workers kernel.now conditions.now) }
 {
     if workers < 1 || workers > 64 {
         return Err(VerifyError::Workers);
@@ -55,6 +55,6 @@ pub fn verify<R: Threads + Wait + Sync>(
             accepted,
             certificate,
         }),
-        Err(error) => Err(unproved(error)),
+        Err(error) => Err(unproved(alloc, error)),
     }
 }

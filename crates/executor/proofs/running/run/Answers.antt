@@ -23,7 +23,7 @@ meets-requires-clause-buffers g c =
     a.ok.0 ∙ ap (λ x. length x.lengths.items) c.conditions.ensures.value ∙ buffers-alike (kernel (typed_of c.args.accepted.now).1) (kept c.args.accepted.now).lengths.items b.items c.conditions.ensures.parameters.buffers c.requires.buffers ∙ sym b.ok.0
 
 pub run_groups-requires-clause-meets : goal.run_groups-requires-clause-meets
-run_groups-requires-clause-meets g c =
+run_groups-requires-clause-meets g c = λ _ _.
     subst (λ x. Meets (conditions x) (launch c.args.launch.now)) c.conditions.ensures.value (c.in_ok-meets.ensures.met.0 refl)
 
 pub returns-clause-value : goal.returns-clause-value

@@ -7,7 +7,7 @@ use Rattle.program.proofs.one_run.proved.Goals as goal
 
 pub returns-clause-verdict : goal.returns-clause-verdict
 returns-clause-verdict g c = λ ws command search.
-    let f = c.in_ok-finding.ensures.reads in
+    let f = c.in_ok-sought.ensures.reads in
     let s = c.args.search in
     let before = c.args.files.now in
     let next = c.searched.new.files in

@@ -1,0 +1,23 @@
+use Rattle.std.proofs.Common.{◌≡◌, ap, sym, ◌∙◌, subst}
+use Rattle.std.specs.Prelude.{IfSome}
+use Rattle.syntax.specs.View.{kernel}
+use Rattle.work_item.specs.View.{setup_of}
+use Rattle.machine.specs.Worlds.{setup, world}
+use Rattle.diagnostics.specs.Confirming.{IsConfirmed}
+use Rattle.diagnostics.specs.Replays.{finding_of}
+use Rattle.sightings.specs.Visits.{IsSighting}
+use Rattle.diagnostics.proofs.Runs.{confirms}
+use Rattle.diagnostics.proofs.confirmation.confirm.Goals as goal
+
+pub returns-in-Some : goal.returns-in-Some
+returns-in-Some c =
+    let w = c.in_ok-world.world in
+    let u = c.play.new.world in
+    let k = kernel c.args.typed.now.0 in
+    let x = c.in-Some.seen in
+    let events = c.play.new.events.items in
+    let same : setup u ≡ setup_of c.args.typed.now.1 c.args.launch.now =
+    c.in_ok-seen.ensures.setup ∙ ap (λ y. setup_of y w.launch.now) c.in_ok-world.ensures.core ∙ ap (λ z. setup_of c.core-core.result.now z) c.in_ok-world.ensures.launch ∙ ap (λ y. setup_of y c.args.launch.now) c.core-core.ensures.value in
+    let seen : IsSighting (setup u) k (world u) x = subst (λ o. IfSome o (IsSighting (setup u) k (world u))) c.in-Some.is c.in_ok-seen.ensures.seen in
+    subst (IsConfirmed (setup_of c.args.typed.now.1 c.args.launch.now) k) (sym c.in_ok-confirmed-in-Some.ensures)
+    (subst (λ s. IsConfirmed s k (finding_of x events)) same (confirms (setup u) k (world u) x events c.in_ok-seen.ensures.after.run seen))

@@ -1,0 +1,4 @@
+pub mod Findings
+pub mod View
+pub mod Likeness
+pub mod Wording

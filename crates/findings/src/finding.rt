@@ -1,0 +1,82 @@
+//! Findings.
+
+ghost use Rattle.std.specs.Prelude.{◌≡◌, [], map, None, IfOk};
+ghost use Rattle.findings.specs.View.{kind as kind_seen, spot as spot_seen, work_item as work_item_seen, schedule, finding as finding_seen};
+
+use core_code::tree::Site;
+use launch::launches::Counts;
+use machine::world::Event;
+use std::alloc::{AllocError, Global};
+use words::Fault;
+
+/// What is wrong.
+#[derive(Clone, Copy, PartialEq, Eq)]
+pub enum Kind {
+    /// Two accesses of one element that no barrier orders.
+    Race,
+    /// An item waits at a barrier where another of its group does not.
+    Divergence,
+    Fault(Fault),
+    /// A loop whose turns may be too many.
+    Bound,
+}
+
+/// Where: an access by its array's name, a barrier, an item's end, an operator or index that faults, a loop's word.
+#[derive(Clone, Copy, PartialEq, Eq)]
+pub enum Spot {
+    Store(Site),
+    Load(Site),
+    Barrier(Site),
+    End,
+    /// Of faults and of loops.
+    At(Site),
+}
+
+/// A work-item by its number, with the ids of its group and its own within it.
+#[derive(Clone, Copy)]
+pub struct WorkItem {
+    pub number: u64,
+    pub group: Counts,
+    pub local: Counts,
+}
+
+/// How sure it is: a confirmed one has the schedule that shows it.
+#[derive(Drop)]
+pub enum Grade {
+    Possible,
+    Confirmed(Vec<Event>),
+}
+
+/// What is wrong, where, and of a confirmed one which work-items come there, one for each site.
+#[derive(Drop)]
+pub struct Finding {
+    pub kind: Kind,
+    pub sites: Vec<Spot>,
+    pub items: Vec<WorkItem>,
+    pub grade: Grade,
+}
+
+/// A finding of these parts.
+pub fn assemble(
+    alloc: Global,
+    kind: Kind,
+    sites: &[Spot],
+    items: &[WorkItem],
+    grade: Grade,
+) -> Result<Finding, AllocError>
+    ensures { IfOk result (λ f. finding_seen f ≡ record { kind = kind_seen kind; sites = map spot_seen sites.now; items = map work_item_seen items.now; schedule = schedule grade }) }
+{
+    Ok(Finding {
+        kind,
+        sites: Vec::from_slice(alloc, sites)?,
+        items: Vec::from_slice(alloc, items)?,
+        grade,
+    })
+}
+
+/// A finding that nothing confirms: it promises nothing.
+pub fn possible(alloc: Global, kind: Kind, sites: &[Spot]) -> Result<Finding, AllocError>
+    ensures { IfOk result (λ f. finding_seen f ≡ record { kind = kind_seen kind; sites = map spot_seen sites.now; items = []; schedule = None }) }
+{
+    assemble(alloc, kind, sites, &[], Grade::Possible)
+}

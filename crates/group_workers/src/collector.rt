@@ -1,0 +1,89 @@
+//! The collector: the logs in the order of their groups.
+
+ghost use Rattle.std.specs.Prelude.{◌≡◌, ◌<◌, IfOk, IfSome, OnOk, length};
+ghost use Rattle.write_log.specs.Written.{words_of};
+ghost use Rattle.group_workers.specs.Writing.{HasLog, HasLogs};
+ghost use Rattle.group_workers.specs.Tasks.{IsTask, groups, logs_of};
+
+use crate::task::{GroupLog, Logged, Task};
+use crate::worker::Logs;
+use launch::launches::Buffers;
+use std::alloc::{AllocError, Global};
+use write_log::apply;
+
+/// The log at this place, if it is the group's.
+fn handed_over<J: Logged>(logs: &Logs<J>, place: Option<usize>, group: u64) -> Option<&GroupLog<J>>
+    ensures { IfSome result (λ log. log.now.group ≡ group) }
+{
+    let Some(place) = place else {
+        return None;
+    };
+    let Some(log) = logs.get(place) else {
+        return None;
+    };
+    if log.group != group {
+        return None;
+    }
+    Some(log)
+}
+
+/// Writes the log of a group: the one at this place, or else what a run of the group gives.
+fn write<J: Logged>(
+    alloc: Global,
+    task: Task,
+    logs: &Logs<J>,
+    place: Option<usize>,
+    group: u64,
+    buffers: &mut Buffers,
+) -> Result<(), AllocError>
+    requires task { IsTask J.logs task }
+    requires group { group < groups task }
+    ensures { OnOk result (HasLog (logs_of task.entry group) (words_of buffers.old) (words_of buffers.new)) }
+{
+    if let Some(log) = handed_over(logs, place, group) {
+        apply(buffers, &log.log);
+        return Ok(());
+    }
+    let log = GroupLog::<J>::of(alloc, task, group)?;
+    apply(buffers, &log.log);
+    Ok(())
+}
+
+/// Where the log of each group stands, as far as one was handed over.
+fn places_by_group<J: Logged>(
+    alloc: Global,
+    logs: &Logs<J>,
+    places: &[usize],
+    count: u64,
+) -> Result<Vec<Option<usize>>, AllocError>
+    ensures { IfOk result (λ v. length v.items ≡ count) }
+{
+    let mut found = Vec::from_elem(alloc, None, count as usize)?;
+    for place in places {
+        if let Some(log) = logs.get(*place) {
+            if log.group < count {
+                found[log.group as usize] = Some(*place);
+            }
+        }
+    }
+    Ok(found)
+}
+
+/// Writes one log a group, in the order of the groups. A group whose log stands at none of these places is run here.
+pub fn collect<J: Logged>(
+    alloc: Global,
+    task: Task,
+    logs: &Logs<J>,
+    places: &[usize],
+    buffers: &mut Buffers,
+) -> Result<(), AllocError>
+    requires { IsTask J.logs task }
+    ensures { OnOk result (HasLogs (logs_of task.entry) (groups task.entry) (words_of buffers.old) (words_of buffers.new)) }
+{
+    let count = task.groups();
+    let found = places_by_group(alloc, logs, places, count)?;
+    for group in 0..count {
+        write(alloc, task, logs, found[group as usize], group, buffers)?;
+    }
+    Ok(())
+}

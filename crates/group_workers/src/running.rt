@@ -1,0 +1,116 @@
+//! The workers, each in a thread of its own.
+
+ghost use Rattle.std.specs.Prelude.{◌≡◌, ◌≤◌, true, OnOk};
+ghost use Rattle.std.specs.Thread.{IsSync, IsSend};
+ghost use Rattle.semantics.specs.Launch.{Fits};
+ghost use Rattle.core_code.specs.View.{kernel as kernel_seen};
+ghost use Rattle.launch.specs.View.{launch as launch_seen};
+ghost use Rattle.work_item.specs.Proper.{is_proper};
+ghost use Rattle.write_log.specs.Written.{words_of};
+ghost use Rattle.group_workers.specs.Writing.{HasLogs};
+ghost use Rattle.group_workers.specs.Tasks.{IsTask, groups, logs_of};
+
+use crate::collector::collect;
+use crate::deque::{Deque, Shares, Thief};
+use crate::task::{Logged, Task};
+use crate::worker::{Logs, Shared};
+use launch::launches::Buffers;
+use std::alloc::{AllocError, Global};
+use std::marker::Brand;
+use std::sync::Wait;
+use std::thread::{Threads, join};
+use words::Gate;
+
+/// The workers from 1 on, one a deque: where the logs stand that they handed over. The lowest runs on the calling thread. A worker whose
+/// thread cannot be started is run by the calling thread in its turn (`join` does so).
+#[cycle(workers)]
+fn run_workers<J: Logged + Send + Sync, D: Shares + Send + Sync, R: Threads + Wait + Sync, G: Gate>(
+    shared: &Shared<'_, J, D, R, G>,
+    mut deques: Vec<Deque<D>>,
+) -> Vec<usize>
+    requires { IsTask J.logs shared.now.task }
+{
+    let Some(deque) = deques.pop() else {
+        return Vec::new(shared.alloc);
+    };
+    let worker = u32::try_from(deques.len()).unwrap_or(0).wrapping_add(1);
+    if deques.is_empty() {
+        return shared.work(deque, worker);
+    }
+    let (mut theirs, mut ours) = join(
+        shared.rt,
+        move || -> Vec<usize>
+            requires { IsSync R.row × IsSync G.row × IsSync J.row × IsSend J.row × IsSync D.row × IsSend D.row × IsTask J.logs shared.now.task }
+        { shared.work(deque, worker) },
+        move || -> Vec<usize>
+            requires { IsSync R.row × IsSync G.row × IsSync J.row × IsSend J.row × IsSync D.row × IsSend D.row × IsTask J.logs shared.now.task }
+        { run_workers(shared, deques) },
+    );
+    // Where memory is refused, the collector runs the groups again whose logs stand at these places.
+    let _kept = ours.append(&mut theirs);
+    ours
+}
+
+/// The deques of all workers, each with its share of the groups, and what takes from them.
+fn deal<D: Shares>(
+    alloc: Global,
+    workers: u32,
+    count: u64,
+) -> Result<(Vec<Deque<D>>, Vec<Thief<D>>), AllocError>
+    requires { (workers ≡ D.workers) × (1 ≤ workers) }
+{
+    let mut deques = Vec::new(alloc);
+    let mut thieves = Vec::new(alloc);
+    for share in 0..workers {
+        let deque = Deque::dealt(alloc, share as u64, workers as u64, count)?;
+        thieves.push(deque.thief()?)?;
+        deques.push(deque)?;
+    }
+    Ok((deques, thieves))
+}
+
+fn run_as<J: Logged + Send + Sync, D: Shares + Send + Sync, R: Threads + Wait + Sync, G: Gate>(
+    rt: &R,
+    alloc: Global,
+    task: Task,
+    workers: u32,
+    gate: &G,
+    buffers: &mut Buffers,
+) -> Result<(), AllocError>
+    requires task { IsTask J.logs task }
+    requires workers { (workers ≡ D.workers) × (1 ≤ workers) }
+    ensures { OnOk result (HasLogs (logs_of task.entry) (groups task.entry) (words_of buffers.old) (words_of buffers.new)) }
+{
+    let logs: Logs<J> = boxcar::Vec::new(alloc)?;
+    let (deques, thieves) = deal::<D>(alloc, workers, task.groups())?;
+    let shared = Shared {
+        rt,
+        alloc,
+        task,
+        thieves: thieves.as_slice(),
+        logs: &logs,
+        gate,
+    };
+    let places = run_workers(&shared, deques);
+    collect(alloc, task, &logs, places.as_slice(), buffers)
+}
+
+/// Runs all groups of a proper kernel at a launch that fits it, by so many workers, and writes their logs to the buffers in the order of
+/// the groups. The calling thread is worker 1. `gate` is told what each worker does, and changes nothing that is written. A worker stops
+/// where memory is refused; there is want of memory where it is refused to the calling thread. Then buffers may have the logs of the first
+/// groups.
+pub fn run_groups<R: Threads + Wait + Sync, G: Gate>(
+    rt: &R,
+    alloc: Global,
+    task: Task,
+    workers: u32,
+    gate: &G,
+    buffers: &mut Buffers,
+) -> Result<(), AllocError>
+    requires proper { is_proper (kernel_seen task.core.now) ≡ true }
+    requires fits { Fits (kernel_seen task.core.now) (launch_seen task.launch.now) }
+    requires workers { (1 ≤ workers) × (workers ≤ 64) }
+    ensures { OnOk result (HasLogs (logs_of task.entry) (groups task.entry) (words_of buffers.old) (words_of buffers.new)) }
+{
+    run_as::<Brand, Brand, R, G>(rt, alloc, task, workers, gate, buffers)
+}

@@ -1,0 +1,73 @@
+//! What the workers of a run have in common, and the logs of its groups.
+
+ghost use Rattle.std.specs.Prelude.{◌≡◌, ◌<◌, ℕ, None, IfOk};
+ghost use Rattle.write_log.specs.Written.{written};
+ghost use Rattle.group_workers.specs.Writing.{Log};
+
+use core_code::tree::Core;
+use group_rounds::run_group;
+use launch::launches::Launch;
+use std::alloc::{AllocError, Global};
+use std::marker::{Brand, PhantomData};
+use work_item::identity::product_of;
+use write_log::WriteLog;
+
+/// A kernel, its launch, and the steps that are its budget.
+#[derive(Clone, Copy)]
+pub struct Task<'b> {
+    pub core: &'b Core,
+    pub launch: &'b Launch,
+    pub budget: u64,
+}
+
+impl Task<'_> {
+    ghost use Rattle.semantics.specs.Launch.{Fits};
+    ghost use Rattle.core_code.specs.View.{kernel as kernel_seen};
+    ghost use Rattle.launch.specs.View.{launch as launch_seen};
+    ghost use Rattle.group_workers.specs.Tasks.{groups};
+
+    /// How many groups there are.
+    #[tactic(auto, unfolding(semantics::specs::Setup::group_count))]
+    pub fn groups(&self) -> u64
+        requires { Fits (kernel_seen self.now.core.now) (launch_seen self.now.launch.now) }
+        ensures { result ≡ groups self.now }
+    {
+        product_of(self.launch.groups)
+    }
+}
+
+/// Whose logs are handed over. Each call picks it.
+pub trait Logged {
+    ghost logs: { ℕ → Log };
+}
+
+impl Logged for Brand {
+    ghost logs = { λ _ _ _. None };
+}
+
+/// The log of one group, of the run that `J` names.
+#[derive(Drop)]
+pub struct GroupLog<J: Logged> {
+    pub group: u64,
+    pub log: WriteLog,
+    of: PhantomData<J>,
+    ghost right: { (buffer index : ℕ) → written log buffer index ≡ J.logs group buffer index },
+}
+
+impl<J: Logged> GroupLog<J> {
+    ghost use Rattle.group_workers.specs.Tasks.{IsTask, groups};
+
+    /// Runs a group.
+    pub fn of(alloc: Global, task: Task, group: u64) -> Result<GroupLog<J>, AllocError>
+        requires task { IsTask J.logs task }
+        requires group { group < groups task }
+        ensures { IfOk result (λ l. l.group ≡ group) }
+    {
+        let log = run_group(alloc, task.core, task.launch, task.budget, group)?;
+        Ok(GroupLog {
+            group,
+            log,
+            of: PhantomData,
+        })
+    }
+}

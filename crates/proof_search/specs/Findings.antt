@@ -1,0 +1,39 @@
+-- What the findings of a search tell of a kernel under conditions.
+use Rattle.std.specs.Prelude.{ℕ, List, IfSome}
+use Rattle.std.specs.List.{All}
+use Rattle.semantics.specs.Launch.{Launch, Fits}
+use Rattle.semantics.specs.Conditions.{Conditions, Meets}
+use Rattle.texts.specs.ConditionsText.{IsConditionsText}
+use Rattle.reading.specs.Kernels.{Kernel}
+use Rattle.reading.specs.Texts.{IsTextOf}
+use Rattle.reading.specs.Answers.{kernel_seen}
+use Rattle.syntax.specs.declared.tree.Kernel as trees
+use Rattle.core_code.specs.declared.tree.Core.{Core}
+use Rattle.launch.specs.View.{conditions as conditions_seen}
+use Rattle.launch.specs.declared.conditions.Conditions as code
+use Rattle.findings.specs.Findings.{Finding}
+use Rattle.diagnostics.specs.Confirming.{IsConfirmed}
+use Rattle.findings.specs.View.{finding as finding_seen}
+use Rattle.findings.specs.declared.finding.Finding as findings
+
+-- a launch of the kernel that meets the conditions, and there the schedule of the finding shows it
+pub record IsWitness (k : Kernel) (c : Conditions) (f : Finding) (l : Launch) : Type 0 where
+  pub fits : Fits k.core l
+  pub meets : Meets c l
+  pub shown : IsConfirmed (record { kernel = k.core; launch = l }) k.tree f
+
+-- what is confirmed has such a launch; of what is possible nothing is said
+abbrev pub IsTrue : Kernel → Conditions → Finding → Type 0
+IsTrue k c f = IfSome f.schedule (λ events. (l : Launch) × IsWitness k c f l)
+
+-- of the kernel and the conditions that the bytes say, by the grammar and case by case
+abbrev pub IsTrueOf : (kernel conditions : List ℕ) → Finding → Type 0
+IsTrueOf kernel conditions f =
+    IfSome f.schedule (λ events. (k : Kernel) × (c : Conditions) × IsTextOf kernel k × IsConditionsText k.tree.parameters conditions c × ((l : Launch) × IsWitness k c f l))
+
+-- as code has them
+abbrev pub AreTrue : trees.Kernel × Core → code.Conditions → List findings.Finding → Type 0
+AreTrue t c fs = All (λ f. IsTrue (kernel_seen t) (conditions_seen c) (finding_seen f)) fs
+
+abbrev pub AreTrueOf : (kernel conditions : List ℕ) → List findings.Finding → Type 0
+AreTrueOf kernel conditions fs = All (λ f. IsTrueOf kernel conditions (finding_seen f)) fs

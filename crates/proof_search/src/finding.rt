@@ -1,0 +1,154 @@
+//! The text of a certificate that is looked for.
+
+ghost use Rattle.std.specs.Prelude.{◌≡◌, ℕ, true, IfErr};
+ghost use Rattle.core_code.specs.View.{kernel as core_seen};
+ghost use Rattle.core_code.specs.declared.tree.Core.{Core};
+ghost use Rattle.syntax.specs.declared.tree.Kernel as trees;
+ghost use Rattle.launch.specs.declared.conditions.Conditions as code;
+ghost use Rattle.launch_text.specs.Fits.{IsOf};
+ghost use Rattle.launch_words.specs.View.{lined};
+ghost use Rattle.work_item.specs.Proper.{is_proper};
+ghost use Rattle.facts.specs.Launching.{are_sizes};
+ghost use Rattle.proof_search.specs.Searching.{Means, TellsOf};
+
+use crate::error::VerifyError;
+use crate::shortfall::findings_of;
+use assembling::Missing;
+use cert_check::error::{CheckError, ShowError};
+use certificate::{Certificate, LIMIT, write};
+use certificate_search::{SearchError, search};
+use facts::WalkError;
+use guess_walk::Subject;
+use launch::conditions::Conditions;
+use launch_grammar::laws::what_is_read_of_conditions_is_their_text;
+use launch_text::read_conditions;
+use place_paths::FindError;
+use places::{PlaceError, places};
+use proper_kernels::laws::what_is_read_is_proper;
+use reading::laws::{bytes_are_the_text_of_what_is_read, local_sizes_are_within_limits};
+use reading::read_kernel;
+use statement_sites::site_at;
+use std::alloc::Global;
+use std::thread::Threads;
+use types::typed::Typed;
+
+/// What is said where the places of a kernel cannot be walked to an end.
+fn unwalked(typed: &Typed, error: FindError) -> VerifyError
+    ensures { (t : trees.Kernel × Core) (c : code.Conditions) → Means t c result }
+{
+    match error {
+        FindError::ManyPaths(statement) => {
+            VerifyError::Check(CheckError::ManyPaths(site_at(typed.kernel(), statement)))
+        }
+        FindError::Walk(WalkError::Memory) => VerifyError::Memory,
+        FindError::Walk(error) => VerifyError::Check(CheckError::Show(ShowError::Walk(error))),
+    }
+}
+
+/// What is said of what is not shown.
+fn lacking(
+    alloc: Global,
+    typed: &Typed,
+    conditions: &Conditions,
+    missing: &[Missing],
+) -> VerifyError
+    requires proper { is_proper (core_seen typed.now.1) ≡ true }
+    requires of { IsOf (core_seen typed.now.1) (lined conditions.now) }
+    ensures { Means typed.now conditions.now result }
+{
+    match findings_of(alloc, typed, conditions, missing) {
+        Ok(findings) => VerifyError::NotShown(findings),
+        Err(_) => VerifyError::Memory,
+    }
+}
+
+/// What is said where nothing is found.
+fn unfound(alloc: Global, typed: &Typed, conditions: &Conditions, error: SearchError) -> VerifyError
+    requires proper { is_proper (core_seen typed.now.1) ≡ true }
+    requires of { IsOf (core_seen typed.now.1) (lined conditions.now) }
+    ensures { Means typed.now conditions.now result }
+{
+    match error {
+        SearchError::NotShown(missing) => lacking(alloc, typed, conditions, missing.as_slice()),
+        SearchError::Unsaid | SearchError::Workers => lacking(alloc, typed, conditions, &[]),
+        SearchError::Walk(error) => unwalked(typed, error),
+    }
+}
+
+/// What is said where there are no places.
+fn unplaced(typed: &Typed, error: PlaceError) -> VerifyError
+    ensures { (t : trees.Kernel × Core) (c : code.Conditions) → Means t c result }
+{
+    match error {
+        PlaceError::Missed(number) => {
+            VerifyError::Check(CheckError::Missed(site_at(typed.kernel(), Some(number))))
+        }
+        PlaceError::Memory => VerifyError::Memory,
+    }
+}
+
+/// A certificate's text, of at most so many bytes as are read.
+fn text_of(alloc: Global, certificate: &Certificate) -> Result<Vec<u8>, VerifyError>
+    ensures { IfErr result (λ e. (t : trees.Kernel × Core) (c : code.Conditions) → Means t c e) }
+{
+    let Ok(text) = write(alloc, certificate) else {
+        return Err(VerifyError::Memory);
+    };
+    if text.len() > LIMIT {
+        return Err(VerifyError::TooLong);
+    }
+    Ok(text)
+}
+
+/// The certificate that is found for a kernel under conditions, as text.
+fn searched<R: Threads + Sync>(
+    rt: &R,
+    alloc: Global,
+    typed: &Typed,
+    conditions: &Conditions,
+    workers: u32,
+) -> Result<Vec<u8>, VerifyError>
+    requires sizes { are_sizes (core_seen typed.now.1).sizes ≡ true }
+    requires proper { is_proper (core_seen typed.now.1) ≡ true }
+    requires of { IsOf (core_seen typed.now.1) (lined conditions.now) }
+    ensures { IfErr result (Means typed.now conditions.now) }
+{
+    let all = match places(alloc, typed.core()) {
+        Ok(all) => all,
+        Err(error) => return Err(unplaced(typed, error)),
+    };
+    let subject = Subject {
+        typed,
+        conditions,
+        places: all.as_slice(),
+    };
+    match search(rt, alloc, subject, workers) {
+        Ok(certificate) => text_of(alloc, &certificate),
+        Err(error) => Err(unfound(alloc, typed, conditions, error)),
+    }
+}
+
+/// The text of a certificate for a kernel and launch conditions, each by its text.
+pub fn find_text<R: Threads + Sync>(
+    rt: &R,
+    alloc: Global,
+    kernel: &[u8],
+    conditions: &[u8],
+    workers: u32,
+) -> Result<Vec<u8>, VerifyError>
+    ensures { IfErr result (λ e. (workers : ℕ) → TellsOf e workers kernel.now conditions.now) }
+{
+    bytes_are_the_text_of_what_is_read();
+    what_is_read_of_conditions_is_their_text();
+    what_is_read_is_proper();
+    let typed = match read_kernel(alloc, kernel) {
+        Ok(typed) => typed,
+        Err(error) => return Err(VerifyError::Check(CheckError::Kernel(error))),
+    };
+    let conditions = match read_conditions(alloc, &typed, conditions) {
+        Ok(conditions) => conditions,
+        Err(error) => return Err(VerifyError::Check(CheckError::Conditions(error))),
+    };
+    local_sizes_are_within_limits();
+    searched(rt, alloc, &typed, &conditions, workers)
+}

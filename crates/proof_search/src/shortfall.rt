@@ -1,0 +1,164 @@
+//! What is told where nothing is found.
+
+ghost use Rattle.std.specs.Prelude.{◌≡◌, true, None, IfOk, IfSome, OnOk};
+ghost use Rattle.core_code.specs.View.{kernel as core_seen};
+ghost use Rattle.core_code.specs.declared.tree.Core.{Core};
+ghost use Rattle.syntax.specs.declared.tree.Kernel as trees;
+ghost use Rattle.launch.specs.declared.conditions.Conditions as code;
+ghost use Rattle.launch.specs.View.{conditions as conditions_seen};
+ghost use Rattle.launch_text.specs.Fits.{IsOf};
+ghost use Rattle.launch_words.specs.View.{lined};
+ghost use Rattle.reading.specs.Answers.{kernel_seen};
+ghost use Rattle.work_item.specs.Proper.{is_proper};
+ghost use Rattle.findings.specs.View.{finding as finding_seen};
+ghost use Rattle.proof_search.specs.Findings.{IsTrue, AreTrue};
+
+use assembling::{Mark, Missing};
+use diagnostics::{Finding, Spot, confirm, possible};
+use launch::conditions::Conditions;
+use launch::probe::probe;
+use launch_grammar::laws::a_least_launch_fits;
+use path_walk::Sort;
+use statement_sites::site_at;
+use std::alloc::{AllocError, Global};
+use types::typed::Typed;
+use words::{Fault, Kind};
+
+/// How many findings are told at most.
+const MOST: usize = 16;
+
+/// What may be wrong where such an obligation is not shown. That a value of `uint` was not wrapped round, and that a guess holds, the
+/// kernel does not ask for.
+fn kind_of(sort: Sort) -> Option<diagnostics::Kind> {
+    match sort {
+        Sort::OfRange(Kind::Int) | Sort::OfQuotient => {
+            Some(diagnostics::Kind::Fault(Fault::Overflow))
+        }
+        Sort::OfIndex => Some(diagnostics::Kind::Fault(Fault::OutOfBounds)),
+        Sort::OfDivisor => Some(diagnostics::Kind::Fault(Fault::DivisionByZero)),
+        Sort::OfRanking => Some(diagnostics::Kind::Bound),
+        Sort::OfPair => Some(diagnostics::Kind::Race),
+        Sort::OfSame | Sort::OfMeeting => Some(diagnostics::Kind::Divergence),
+        Sort::OfRange(Kind::Uint) | Sort::OfFact | Sort::OfCongruence => None,
+    }
+}
+
+/// Where it is.
+fn spot_of(typed: &Typed, mark: Mark) -> Spot {
+    match mark {
+        Mark::Store(site) => Spot::Store(site),
+        Mark::Load(site) => Spot::Load(site),
+        Mark::At(site) => Spot::At(site),
+        Mark::Barrier(number) => Spot::Barrier(site_at(typed.kernel(), Some(number))),
+        Mark::Loop(number) => Spot::At(site_at(typed.kernel(), Some(number))),
+        Mark::End => Spot::End,
+    }
+}
+
+/// What may be wrong where this is not shown.
+fn suspected(alloc: Global, typed: &Typed, missing: Missing) -> Result<Option<Finding>, AllocError>
+    ensures { IfOk result (λ found. IfSome found (λ f. (finding_seen f).schedule ≡ None)) }
+{
+    let Some(kind) = kind_of(missing.sort) else {
+        return Ok(None);
+    };
+    let first = spot_of(typed, missing.first);
+    let finding = match missing.second {
+        Some(mark) => possible(alloc, kind, &[first, spot_of(typed, mark)])?,
+        None => possible(alloc, kind, &[first])?,
+    };
+    Ok(Some(finding))
+}
+
+/// One more that is only possible, where it is not like one that is there, and there are not too many.
+fn push_new(all: &mut Vec<Finding>, finding: Finding) -> Result<(), AllocError>
+    requires { (finding_seen finding).schedule ≡ None }
+    ensures { OnOk result ((t : trees.Kernel × Core) (c : code.Conditions) → AreTrue t c all.old.items → AreTrue t c all.new.items) }
+{
+    if all.len() >= MOST || all.iter().any(|other| other.is_like(&finding)) {
+        return Ok(());
+    }
+    all.push(finding)?;
+    Ok(())
+}
+
+/// What a replay of the launch at the least values confirms.
+fn confirmed(
+    alloc: Global,
+    typed: &Typed,
+    conditions: &Conditions,
+) -> Result<Option<Finding>, AllocError>
+    requires proper { is_proper (core_seen typed.now.1) ≡ true }
+    requires of { IsOf (core_seen typed.now.1) (lined conditions.now) }
+    ensures { IfOk result (λ found. IfSome found (λ f. IsTrue (kernel_seen typed.now) (conditions_seen conditions.now) (finding_seen f))) }
+{
+    a_least_launch_fits();
+    let found = probe(alloc, conditions)?;
+    match found {
+        Some(launch) => confirm(alloc, typed, &launch),
+        None => Ok(None),
+    }
+}
+
+/// What a replay confirms, alone in a list.
+fn replayed(
+    alloc: Global,
+    typed: &Typed,
+    conditions: &Conditions,
+) -> Result<Vec<Finding>, AllocError>
+    requires proper { is_proper (core_seen typed.now.1) ≡ true }
+    requires of { IsOf (core_seen typed.now.1) (lined conditions.now) }
+    ensures { IfOk result (λ v. AreTrue typed.now conditions.now v.items) }
+{
+    let mut all = Vec::new(alloc);
+    if let Some(finding) = confirmed(alloc, typed, conditions)? {
+        all.push(finding)?;
+    }
+    Ok(all)
+}
+
+/// What may be wrong where this is not shown, behind what is there.
+fn push_suspect(
+    alloc: Global,
+    typed: &Typed,
+    missing: Missing,
+    all: &mut Vec<Finding>,
+) -> Result<(), AllocError>
+    ensures { OnOk result ((t : trees.Kernel × Core) (c : code.Conditions) → AreTrue t c all.old.items → AreTrue t c all.new.items) }
+{
+    match suspected(alloc, typed, missing)? {
+        Some(finding) => push_new(all, finding),
+        None => Ok(()),
+    }
+}
+
+/// What is not shown, behind what a replay confirms.
+fn push_suspects(
+    alloc: Global,
+    typed: &Typed,
+    missing: &[Missing],
+    all: &mut Vec<Finding>,
+) -> Result<(), AllocError>
+    ensures { OnOk result ((t : trees.Kernel × Core) (c : code.Conditions) → AreTrue t c all.old.items → AreTrue t c all.new.items) }
+{
+    for one in missing {
+        push_suspect(alloc, typed, *one, all)?;
+    }
+    Ok(())
+}
+
+/// What is not shown as findings: what a replay confirms comes first, in the place of its like.
+pub fn findings_of(
+    alloc: Global,
+    typed: &Typed,
+    conditions: &Conditions,
+    missing: &[Missing],
+) -> Result<Vec<Finding>, AllocError>
+    requires proper { is_proper (core_seen typed.now.1) ≡ true }
+    requires of { IsOf (core_seen typed.now.1) (lined conditions.now) }
+    ensures { IfOk result (λ v. AreTrue typed.now conditions.now v.items) }
+{
+    let mut all = replayed(alloc, typed, conditions)?;
+    push_suspects(alloc, typed, missing, &mut all)?;
+    Ok(all)
+}

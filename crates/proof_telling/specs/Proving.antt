@@ -1,0 +1,69 @@
+-- What the program promises of a kernel for which it found a certificate.
+use Rattle.std.specs.Prelude.{◌≡◌, ℕ, List, [], ◌++◌, map, codes, Option, Some, None, IfSome, Ok}
+use Rattle.std.specs.List.{flat_map}
+use Rattle.semantics.specs.Launch.{Launch}
+use Rattle.semantics.specs.Conditions as meaning
+use Rattle.semantics.specs.Conditions.{Meets}
+use Rattle.texts.specs.Certificate.{Certificate}
+use Rattle.texts.specs.CertificateReading.{certificate_of}
+use Rattle.arrivals.specs.Loops.{unmet}
+use Rattle.launch.specs.Least.{probe}
+use Rattle.launch.specs.View.{conditions as conditions_seen}
+use Rattle.launch.specs.declared.conditions.Conditions.{Conditions}
+use Rattle.reading.specs.Kernels.{Kernel}
+use Rattle.cert_check.specs.Checked.{PassesWith}
+use Rattle.findings.specs.Findings.{Finding}
+use Rattle.findings.specs.Wording.{finding_text}
+use Rattle.findings.specs.View.{finding as finding_seen}
+use Rattle.findings.specs.declared.finding.Finding as code
+use Rattle.proof_search.specs.Findings.{AreTrueOf}
+use Rattle.proof_search.specs.Numbers.{error_number, error_place}
+use Rattle.proof_search.specs.declared.error.VerifyError.{VerifyError}
+use Rattle.proof_search.specs.declared.error.VerifyError.TheVariants as errors
+use Rattle.telling.specs.Refusals.{refusal_line, place_seen}
+use Rattle.telling.specs.Telling.{IsSafe, accepted_line}
+
+-- the check accepts the kernel with the certificate of these bytes: no loop misses its barrier, the bytes say a certificate, and with it
+-- nothing stops the check
+abbrev pub IsProof : Kernel → meaning.Conditions → (certificate : List ℕ) → Type 0
+IsProof k c certificate = (unmet k.core.body ≡ None) × (cert : Certificate) × (certificate_of certificate ≡ Ok cert) × PassesWith k.core k.tree c cert
+
+abbrev pub no_launch_line : List ℕ
+no_launch_line = codes "no launch found at least values\n"
+
+-- `accepted`, and a line more where the least values are no launch
+abbrev pub proved_lines : Option Launch → List ℕ
+proved_lines (Some l) = accepted_line
+proved_lines None = accepted_line ++ no_launch_line
+
+-- the headline holds at each launch that meets the conditions, and the check accepts this certificate; the launch at the least values meets
+-- them, where there is one
+pub record IsProved (kernel conditions certificate written : List ℕ) (k : Kernel) (c : Conditions) : Type 0 where
+  pub safe : IsSafe kernel conditions k (conditions_seen c)
+  pub proof : IsProof k (conditions_seen c) certificate
+  pub least : IfSome (probe c) (Meets (conditions_seen c))
+  pub text : written ≡ proved_lines (probe c)
+
+abbrev pub IsProvedText : (kernel conditions certificate written : List ℕ) → Type 0
+IsProvedText kernel conditions certificate written = (k : Kernel) × (c : Conditions) × IsProved kernel conditions certificate written k c
+
+-- the findings that an error has
+abbrev pub found : VerifyError → List code.Finding
+found (errors.Check e) = []
+found errors.Workers = []
+found (errors.NotShown findings) = findings.items
+found errors.TooLong = []
+found errors.Memory = []
+
+-- a line for each finding
+abbrev pub findings_text : List Finding → List ℕ
+findings_text fs = flat_map finding_text fs
+
+-- the line has the number and the place of an error, and behind it stands a line for each of its findings; what these confirm is true of the
+-- kernel and the conditions that the bytes say; nothing else is said of the kernel
+pub record IsShortfall (kernel conditions text : List ℕ) (e : VerifyError) : Type 0 where
+  pub lines : text ≡ refusal_line (error_number e) (place_seen (error_place e)) ++ findings_text (map finding_seen (found e))
+  pub findings : AreTrueOf kernel conditions (found e)
+
+abbrev pub IsUnproved : (kernel conditions text : List ℕ) → Type 0
+IsUnproved kernel conditions text = (e : VerifyError) × IsShortfall kernel conditions text e

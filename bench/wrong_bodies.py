@@ -1,0 +1,43 @@
+#!/usr/bin/env python3
+"""Tries the wrong bodies that the gate leaves out for its time: bench/wrong_bodies/CRATE/NAME.edit, each of which the proof of CRATE must
+refuse. They have the form of the edits in crates/CRATE/must-fail, and are tried as the gate tries those.
+
+usage: bench/wrong_bodies.py [CRATE..], at the top of the repository; without a crate, all. The libraries below a crate are built where they
+are not. The status is 1 where one is not refused.
+"""
+import glob
+import os
+import sys
+
+sys.path.insert(0, os.path.dirname(os.path.abspath(__file__)))
+from gate_times import parts_of_rt
+
+FOLDER = "bench/wrong_bodies"
+
+
+def tries(rt, crate):
+    """What the prover says to each wrong body of the crate: whether it is refused, and the line that tells it."""
+    edits = [os.path.abspath(it) for it in sorted(glob.glob(f"{FOLDER}/{crate.name}/*.edit"))]
+    if any(below.build_rlib(["--jobs", "1"], anew=False) for below in crate.below()):
+        return [(False, f"{crate.name}: a library below it is not proved")]
+    return rt.must_fail_all(crate, edits, ["--jobs", "1"])
+
+
+def main(names):
+    rt = parts_of_rt()
+    rt.rtlib.guarded()
+    known = sorted(os.listdir(FOLDER))
+    if unknown := [it for it in names if it not in known]:
+        sys.exit(f"there is no folder of these crates in {FOLDER}: {' '.join(unknown)}")
+    failed = 0
+    for crate in rt.rtlib.crates_below(os.getcwd()):
+        if crate.name in (names or known):
+            for is_refused, line in tries(rt, crate):
+                print(line, flush=True)
+                failed += not is_refused
+    print(f"{failed} not refused")
+    return 1 if failed else 0
+
+
+if __name__ == "__main__":
+    sys.exit(main(sys.argv[1:]))

@@ -17,10 +17,6 @@ mod placing;
 mod point;
 mod pointing;
 mod reaching;
-#[cfg(test)]
-mod test_kernels;
-#[cfg(test)]
-mod tests;
 
 pub use error::PlaceError;
 pub use faults::unmet;

@@ -1,14 +1,23 @@
 // Places of small kernels.
 
-use crate::error::PlaceError;
-use crate::parts::number_of;
-use crate::place::Place;
-use crate::placing::places;
-use crate::point::Point;
-use crate::test_kernels::{left_early, may_miss, two_heads};
-use core_code::tree::Core;
+use crate::place_kernels::{left_early, may_miss, two_heads};
+use core_code::tree::{Core, Statement};
+use places::{Place, PlaceError, Point, places};
 use std::alloc::Global;
 use std::test::Fail;
+
+fn number_of(statement: &Statement) -> u32 {
+    match statement {
+        Statement::Set { number, .. }
+        | Statement::Store { number, .. }
+        | Statement::If { number, .. }
+        | Statement::Loop { number, .. }
+        | Statement::Barrier { number, .. }
+        | Statement::Return { number }
+        | Statement::Break { number, .. }
+        | Statement::Continue { number, .. } => *number,
+    }
+}
 
 fn name(point: &Option<Point<'_>>) -> u32 {
     match point {

@@ -1,6 +1,6 @@
 // Sums, multiples and substitutions at the ends of i64.
 
-use linear::{Form, LinearError, Symbol};
+use linear::{Form, LinearError, Symbol, Term};
 use std::alloc::Global;
 use std::test::Fail;
 
@@ -11,6 +11,32 @@ fn weighted(alloc: Global, parts: &[(Symbol, i64)], constant: i64) -> Result<For
         form = form.add(alloc, &scaled)?;
     }
     Ok(form)
+}
+
+fn is_term(term: Option<&Term>, told: (u64, i64)) -> bool {
+    match term {
+        Some(term) => term.symbol.number == told.0 && term.coefficient == told.1,
+        None => false,
+    }
+}
+
+fn is_sum(form: &Form, terms: &[(u64, i64)], constant: i64) -> bool {
+    if form.constant_part() != constant || form.terms().len() != terms.len() {
+        return false;
+    }
+    for i in 0..terms.len() {
+        if !is_term(form.terms().get(i), terms[i]) {
+            return false;
+        }
+    }
+    true
+}
+
+fn gives(found: Result<Form, LinearError>, terms: &[(u64, i64)], constant: i64) -> bool {
+    match found {
+        Ok(form) => is_sum(&form, terms, constant),
+        Err(_) => false,
+    }
 }
 
 #[test]
@@ -28,71 +54,61 @@ fn too_large(rt: HostRuntime) -> Result<(), Fail> {
     Ok(())
 }
 
+const X: Symbol = Symbol { number: 4 };
+
+const Y: Symbol = Symbol { number: 2 };
+
 #[test]
-fn terms(rt: HostRuntime) -> Result<(), Fail> {
-    let alloc = rt.alloc();
-    let x = Form::symbol(alloc, Symbol { number: 4 })?;
-    let y = Form::symbol(alloc, Symbol { number: 2 })?;
-    let Ok(twice) = x.times(alloc, 6) else {
-        assert!(rt; false);
-        return Ok(());
-    };
-    let Ok(both) = twice.add(alloc, &y) else {
-        assert!(rt; false);
-        return Ok(());
-    };
-    let [first, second] = both.terms() else {
-        assert!(rt; false);
-        return Ok(());
-    };
-    assert_eq!(rt; first.symbol.number, 2);
-    assert_eq!(rt; first.coefficient, 1);
-    assert_eq!(rt; second.coefficient, 6);
-    assert!(rt; both.divided(alloc, 2)?.is_none());
-    let Some(third) = twice.divided(alloc, 3)? else {
-        assert!(rt; false);
-        return Ok(());
-    };
-    let [only] = third.terms() else {
-        assert!(rt; false);
-        return Ok(());
-    };
-    assert_eq!(rt; only.coefficient, 2);
-    let Ok(none) = x.sub(alloc, &x) else {
-        assert!(rt; false);
-        return Ok(());
-    };
-    assert!(rt; none.terms().is_empty());
-    assert_eq!(rt; none.copy(alloc)?.constant_part(), 0);
-    Ok(())
+fn terms(rt: HostRuntime) {
+    let sum = weighted(rt.alloc(), &[(X, 6), (Y, 1)], 0);
+    assert!(rt; gives(sum, &[(2, 1), (4, 6)], 0));
 }
 
-// `3*x + 2*y + 1` with `2*y - 5` in place of `x` is `8*y - 14`.
+fn third(alloc: Global, parts: &[(Symbol, i64)]) -> Result<Option<Form>, LinearError> {
+    Ok(weighted(alloc, parts, 0)?.divided(alloc, 3)?)
+}
+
+fn half(alloc: Global, parts: &[(Symbol, i64)]) -> Result<Option<Form>, LinearError> {
+    Ok(weighted(alloc, parts, 0)?.divided(alloc, 2)?)
+}
+
 #[test]
-fn substituted(rt: HostRuntime) -> Result<(), Fail> {
-    let alloc = rt.alloc();
-    let (x, y) = (Symbol { number: 0 }, Symbol { number: 1 });
-    let Ok(form) = weighted(alloc, &[(x, 3), (y, 2)], 1) else {
-        assert!(rt; false);
-        return Ok(());
-    };
-    let Ok(other) = weighted(alloc, &[(y, 2)], -5) else {
-        assert!(rt; false);
-        return Ok(());
-    };
-    let Ok(result) = form.substitute(alloc, x, &other) else {
-        assert!(rt; false);
-        return Ok(());
-    };
-    let [only] = result.terms() else {
-        assert!(rt; false);
-        return Ok(());
-    };
-    assert_eq!(rt; only.symbol.number, 1);
-    assert_eq!(rt; only.coefficient, 8);
-    assert_eq!(rt; result.constant_part(), -14);
-    assert_eq!(rt; result.coefficient(x), 0);
-    Ok(())
+fn quotients(rt: HostRuntime) {
+    match third(rt.alloc(), &[(X, 6)]) {
+        Ok(Some(third)) => assert!(rt; is_sum(&third, &[(4, 2)], 0)),
+        Ok(None) | Err(_) => assert!(rt; false),
+    }
+    match half(rt.alloc(), &[(X, 6), (Y, 1)]) {
+        Ok(None) => {}
+        Ok(Some(_)) | Err(_) => assert!(rt; false),
+    }
+}
+
+fn nothing(alloc: Global) -> Result<Form, LinearError> {
+    let x = Form::symbol(alloc, X)?;
+    Ok(x.sub(alloc, &x)?.copy(alloc)?)
+}
+
+#[test]
+fn a_form_less_itself(rt: HostRuntime) {
+    assert!(rt; gives(nothing(rt.alloc()), &[], 0));
+}
+
+// `3*x + 2*y + 1` with `2*y - 5` in place of `x`.
+fn replaced(alloc: Global) -> Result<Form, LinearError> {
+    let form = weighted(alloc, &[(X, 3), (Y, 2)], 1)?;
+    form.substitute(alloc, X, &weighted(alloc, &[(Y, 2)], -5)?)
+}
+
+#[test]
+fn substituted(rt: HostRuntime) {
+    match replaced(rt.alloc()) {
+        Ok(form) => {
+            assert!(rt; is_sum(&form, &[(2, 8)], -14));
+            assert_eq!(rt; form.coefficient(X), 0);
+        }
+        Err(_) => assert!(rt; false),
+    }
 }
 
 // Numbers on the way may leave i64: `2*x - MAX` with MAX in place of `x`, and -1 - MIN.

@@ -40,54 +40,57 @@ const FIFTH: &str = "ob 5 show\ng 10\ng 21\ng 33\ng 34\ns 1 1 1 2 64 3 1 4\n";
 
 const SIXTH: &str = "ob 6 show\ng 9\ng 22\ng 33\ng 35\ns 1 1 1 2 64 3 1 4\n";
 
+/// The entries of four obligations, what stands behind them, and what is answered.
+const ENTRIES: &[(&str, &str, &str, &str, &str, &str)] = &[
+    (THIRD, FOURTH, FIFTH, SIXTH, "", "accepted 64 1"),
+    ("", FOURTH, FIFTH, SIXTH, "", "52 3"),
+    (THIRD, "", FIFTH, SIXTH, "", "52 4"),
+    (THIRD, FOURTH, "", SIXTH, "", "52 5"),
+    (THIRD, FOURTH, FIFTH, "", "", "52 6"),
+    (THIRD, FOURTH, FIFTH, SIXTH, "ob 7 show\ng 1\n", "52 0"),
+    (
+        "ob 3 show\ng 34\ng 39\ng 40\ns 63 1 1 2 1 3\n",
+        FOURTH,
+        FIFTH,
+        SIXTH,
+        "",
+        "52 3",
+    ),
+    (
+        "ob 3 show\ng 34\ng 39\ng 40\ns -64 1 1 2 1 3\n",
+        FOURTH,
+        FIFTH,
+        SIXTH,
+        "",
+        "52 3",
+    ),
+    (
+        "ob 3 pos\ng 34\ng 39\ng 40\ns 64 1 1 2 1 3\n",
+        FOURTH,
+        FIFTH,
+        SIXTH,
+        "",
+        "52 3",
+    ),
+    (
+        "ob 1 show\ng 1\nob 3 show\ng 34\n",
+        FOURTH,
+        FIFTH,
+        SIXTH,
+        "",
+        "52 3",
+    ),
+    ("loop 1 down 1 1 0\n", FOURTH, FIFTH, SIXTH, "", "52 0"),
+];
+
 #[test]
 fn checks_the_entries_of_a_fill(rt: HostRuntime) -> Result<(), Fail> {
-    for (third, fourth, fifth, sixth, more, want) in [
-        (THIRD, FOURTH, FIFTH, SIXTH, "", "accepted 64 1"),
-        ("", FOURTH, FIFTH, SIXTH, "", "52 3"),
-        (THIRD, "", FIFTH, SIXTH, "", "52 4"),
-        (THIRD, FOURTH, "", SIXTH, "", "52 5"),
-        (THIRD, FOURTH, FIFTH, "", "", "52 6"),
-        (THIRD, FOURTH, FIFTH, SIXTH, "ob 7 show\ng 1\n", "52 0"),
-        (
-            "ob 3 show\ng 34\ng 39\ng 40\ns 63 1 1 2 1 3\n",
-            FOURTH,
-            FIFTH,
-            SIXTH,
-            "",
-            "52 3",
-        ),
-        (
-            "ob 3 show\ng 34\ng 39\ng 40\ns -64 1 1 2 1 3\n",
-            FOURTH,
-            FIFTH,
-            SIXTH,
-            "",
-            "52 3",
-        ),
-        (
-            "ob 3 pos\ng 34\ng 39\ng 40\ns 64 1 1 2 1 3\n",
-            FOURTH,
-            FIFTH,
-            SIXTH,
-            "",
-            "52 3",
-        ),
-        (
-            "ob 1 show\ng 1\nob 3 show\ng 34\n",
-            FOURTH,
-            FIFTH,
-            SIXTH,
-            "",
-            "52 3",
-        ),
-        ("loop 1 down 1 1 0\n", FOURTH, FIFTH, SIXTH, "", "52 0"),
-    ] {
+    for (third, fourth, fifth, sixth, more, want) in ENTRIES {
         let text = format!(in rt.alloc();
             "certificate 1\n{third}{fourth}{fifth}{sixth}{more}end\n"
         )?;
         let found = checked(rt.alloc(), KERNEL, CONDITIONS, text.as_str())?;
-        assert_eq!(rt; found.as_str(), want);
+        assert_eq!(rt; found.as_str(), *want);
     }
     Ok(())
 }

@@ -1,14 +1,12 @@
-//! One run of the program after another.
+// The search for a certificate, one run of the program after another.
 
 ghost use Rattle.std.specs.Prelude.{◌≡◌, refl, None};
 
+use crate::tests::{USAGE, put, told};
 use program::files::{FileFault, Files};
 use program::held::Held;
-use program::tool;
 use std::alloc::Global;
-use std::sync::Wait;
 use std::test::Fail;
-use std::thread::Threads;
 
 const NAMED: &[(&str, &str)] = &[
     (
@@ -57,8 +55,6 @@ const NAMED: &[(&str, &str)] = &[
 
 const EMPTY: &str = "certificate 1\nend\n";
 
-const USAGE: &str = "2  usage: kverify prove | check | run | print\n";
-
 const LINES: &[(&str, &str)] = &[
     ("prove nothing two", "0 accepted\n "),
     ("prove nothing two --workers 64", "0 accepted\n "),
@@ -93,48 +89,16 @@ const LINES: &[(&str, &str)] = &[
     ("check nothing two found --out other", USAGE),
 ];
 
-fn put(held: &mut Held, name: &str, text: &str) -> Result<(), Fail> {
-    match held.write(name, text.as_bytes()) {
-        Ok(()) => Ok(()),
-        Err(_) => Err(Fail::from("memory")),
-    }
-}
-
 fn files(alloc: Global) -> Result<Held, Fail> {
     let mut held = Held::new(alloc);
     for (name, text) in NAMED {
-        put(&mut held, name, text)?;
+        put(&mut held, name, text.as_bytes())?;
     }
     Ok(held)
 }
 
-/// The words of a line.
-fn words_of(alloc: Global, line: &str) -> Result<Vec<String>, Fail> {
-    let mut words = Vec::new(alloc);
-    for word in line.split(' ') {
-        words.push(String::from_str(alloc, word)?)?;
-    }
-    Ok(words)
-}
-
-/// The status and what is written, of a line of words.
-fn told<R: Threads + Wait + Sync, F: Files>(
-    rt: &R,
-    alloc: Global,
-    line: &str,
-    files: &mut F,
-) -> Result<String, Fail> {
-    let words = words_of(alloc, line)?;
-    let mut out: Vec<u8> = Vec::new(alloc);
-    let mut err: Vec<u8> = Vec::new(alloc);
-    let status = tool(rt, alloc, words.as_slice(), files, &mut out, &mut err);
-    let out = String::from_utf8_lossy(alloc, &out)?;
-    let err = String::from_utf8_lossy(alloc, &err)?;
-    Ok(format!(in alloc; "{status} {out} {err}")?)
-}
-
 #[test]
-fn lines_are_answered(rt: HostRuntime) -> Result<(), Fail> {
+fn searches_are_answered(rt: HostRuntime) -> Result<(), Fail> {
     let mut held = files(rt.alloc())?;
     for (line, want) in LINES {
         let found = told(&rt, rt.alloc(), line, &mut held)?;
@@ -155,7 +119,7 @@ fn what_is_found_is_in_the_file(rt: HostRuntime) -> Result<(), Fail> {
     Ok(())
 }
 
-/// What a file has.
+// What a file has.
 fn bytes_of(held: &mut Held, name: &str) -> Result<Vec<u8>, Fail> {
     match held.read(name, 65_536) {
         Ok(bytes) => Ok(bytes),
@@ -178,7 +142,7 @@ fn workers_change_no_certificate(rt: HostRuntime) -> Result<(), Fail> {
     Ok(())
 }
 
-/// Files that cannot be written.
+// Files that cannot be written.
 #[derive(Drop)]
 struct Sealed(Held);
 

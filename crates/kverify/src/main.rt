@@ -16,6 +16,8 @@ mod disk;
 #[cfg(test)]
 mod print_tests;
 #[cfg(test)]
+mod rows;
+#[cfg(test)]
 mod searches;
 #[cfg(test)]
 mod tests;

@@ -6,6 +6,7 @@ use Rattle.std.specs.String.{string_bytes}
 use Rattle.std.specs.declared.alloc.Global.{Global}
 use Rattle.command_line.specs.declared.Names.{Names}
 use Rattle.command_line.specs.declared.Search.{Search}
+use Rattle.command_line.specs.declared.Subject.{Subject}
 use Rattle.command_line.specs.declared.Line.{Line}
 use Rattle.command_line.specs.declared.Line.TheVariants as lines
 
@@ -43,10 +44,17 @@ pub record HasSearch (ws : List (List ℕ)) (search : Search) : Type 0 where
   pub conditions : HasWord ws 2 search.conditions.now
   pub out : option_map (λ w. w.now) search.out ≡ saved_as false ws
 
+-- the kernel and the conditions come first, then the certificate, where there is one
+pub record HasSubject (ws : List (List ℕ)) (subject : Subject) : Type 0 where
+  pub kernel : HasWord ws 1 subject.kernel.now
+  pub conditions : HasWord ws 2 subject.conditions.now
+  pub certificate : option_map (λ w. w.now) subject.certificate ≡ slice_get (operands false ws) 3
+
 abbrev pub Asks : List (List ℕ) → Line → Type 0
 Asks ws lines.First = ws ≡ []
 Asks ws (lines.Check names) = HasWord ws 0 (codes "check") × HasNames ws names
 Asks ws (lines.Run names launch workers) = HasWord ws 0 (codes "run") × HasNames ws names × HasWord ws 4 launch.now
 Asks ws (lines.Prove search) = HasWord ws 0 (codes "prove") × HasSearch ws search
+Asks ws (lines.Explain subject) = HasWord ws 0 (codes "explain") × HasSubject ws subject
 Asks ws (lines.Print kernel) = HasWord ws 0 (codes "print") × HasWord ws 1 kernel.now
 Asks ws lines.Usage = Unit {0}

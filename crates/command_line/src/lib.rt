@@ -5,7 +5,7 @@
 
 ghost use Rattle.std.specs.Prelude.{◌≡◌, ℕ, List, IfOk, IfSome, false, codes, slice_get};
 ghost use Rattle.std.specs.Option.{option_map};
-ghost use Rattle.command_line.specs.Words.{texts, operands, saved_as, HasWord, HasNames, Asks};
+ghost use Rattle.command_line.specs.Words.{texts, operands, saved_as, HasWord, HasNames, HasSubject, Asks};
 
 use clap::error::{Error, ErrorKind};
 use clap::{Arg, ArgAction, ArgMatches, Command};
@@ -23,6 +23,7 @@ pub enum Line<'a> {
         workers: u32,
     },
     Prove(Search<'a>),
+    Explain(Subject<'a>),
     /// The canonical text of a file's kernel.
     Print(&'a str),
     /// No command line.
@@ -44,6 +45,14 @@ pub struct Search<'a> {
     pub conditions: &'a str,
     pub out: Option<&'a str>,
     pub workers: u32,
+}
+
+/// What a refusal is explained of: the files of a kernel and its conditions, and that of a certificate, where one is named.
+#[derive(Clone, Copy)]
+pub struct Subject<'a> {
+    pub kernel: &'a str,
+    pub conditions: &'a str,
+    pub certificate: Option<&'a str>,
 }
 
 /// A decimal of at most 4294967295, with no sign and no zero before it.
@@ -98,6 +107,12 @@ fn run_command<'a>(alloc: Global) -> Result<Command<'a>, AllocError> {
 fn prove_command<'a>(alloc: Global) -> Result<Command<'a>, AllocError> {
     let command = with_texts(alloc, "prove")?.arg(option(alloc, "workers"))?;
     command.arg(option(alloc, "out"))
+}
+
+/// `explain`, with the file of a certificate or without.
+fn explain_command<'a>(alloc: Global) -> Result<Command<'a>, AllocError> {
+    let certificate = Arg::new(alloc, "CERTIFICATE").action(ArgAction::Set);
+    with_texts(alloc, "explain")?.arg(certificate)
 }
 
 /// The n-th word that is neither an option nor the word behind one, from 0.
@@ -252,6 +267,42 @@ fn prove_line<'a>(alloc: Global, words: &'a [String]) -> Result<Line<'a>, AllocE
     }
 }
 
+/// The kernel, the conditions and the certificate that the words name, if they name one.
+fn subject_of<'a>(words: &'a [String]) -> Option<Subject<'a>>
+    ensures { IfSome result (λ subject. HasSubject (texts words.now) subject) }
+{
+    Some(Subject {
+        kernel: operand(words, 1)?,
+        conditions: operand(words, 2)?,
+        certificate: operand(words, 3),
+    })
+}
+
+/// What `explain` is asked for.
+fn explain_of<'a>(words: &'a [String]) -> Line<'a>
+    requires { HasWord (texts words.now) 0 (codes "explain") }
+    ensures { Asks (texts words.now) result }
+{
+    match subject_of(words) {
+        Some(subject) => Line::Explain(subject),
+        None => Line::Usage,
+    }
+}
+
+/// `explain`, where the words are such a line.
+fn explain_line<'a>(alloc: Global, words: &'a [String]) -> Result<Line<'a>, AllocError>
+    requires { HasWord (texts words.now) 0 (codes "explain") }
+    ensures { IfOk result (λ line. Asks (texts words.now) line) }
+{
+    if !is_spelled(words, &[]) {
+        return Ok(Line::Usage);
+    }
+    match explain_command(alloc)?.try_get_matches_from(words) {
+        Ok(_) => Ok(explain_of(words)),
+        Err(error) => unread(&error),
+    }
+}
+
 /// What `print` is asked for.
 fn print_of<'a>(words: &'a [String]) -> Line<'a>
     requires { HasWord (texts words.now) 0 (codes "print") }
@@ -289,6 +340,7 @@ pub fn read_line<'a>(alloc: Global, words: &'a [String]) -> Result<Line<'a>, All
         Some(command) if command == "check" => check_line(alloc, words),
         Some(command) if command == "run" => run_line(alloc, words),
         Some(command) if command == "prove" => prove_line(alloc, words),
+        Some(command) if command == "explain" => explain_line(alloc, words),
         Some(command) if command == "print" => print_line(alloc, words),
         _ => Ok(Line::Usage),
     }

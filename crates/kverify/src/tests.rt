@@ -23,7 +23,7 @@ const HEAD: &str =
 
 const EMPTY: &str = "certificate 1\nend\n";
 
-pub const USAGE: &str = "2  usage: kverify prove | check | run | print\n";
+pub const USAGE: &str = "2  usage: kverify prove | check | explain | run | print\n";
 
 /// Files of a fill, its conditions, certificate and launch, of two kernels that are not shown, and of texts that are too long.
 fn files(alloc: Global) -> Result<Held, Fail> {

@@ -1,5 +1,5 @@
 -- What is written of the texts that were asked about.
-use Rattle.std.proofs.Common.{◌≡◌, ℕ, List, [], ◌∷◌, ◌++◌, map, false, inl, inr, refl, sym, ap, subst}
+use Rattle.std.proofs.Common.{◌≡◌, ℕ, List, [], ◌∷◌, ◌++◌, map, false, inl, inr, refl, sym, ap, ◌∙◌, subst, append_assoc}
 use Rattle.std.specs.Prelude.{◌⊎◌, Option, Some, None, Result, Ok, Err, IfSome, IfOk, codes}
 use Rattle.std.specs.String.{string_bytes}
 use Rattle.reading.specs.Answers as kernels
@@ -19,10 +19,11 @@ use Rattle.launch.specs.Least.{probe}
 use Rattle.launch.specs.View.{conditions as conditions_seen}
 use Rattle.telling.specs.Telling.{accepted_line}
 use Rattle.proof_telling.specs.Proving.{no_launch_line}
+use Rattle.proof_telling.specs.Verdicts.{Begins, Explains}
 use Rattle.program.specs.Running.{kernel_read, conditions_read, saving, IsSafeText}
-use Rattle.program.specs.Running.{Read, Write, IsOf, Reads, Does, Saves, IsRefusalText, own, checked, ran, proved, printed, Success, Output, done, refused, silent, torn}
+use Rattle.program.specs.Running.{Read, Write, IsOf, Reads, Does, Saves, IsRefusalText, own, checked, ran, proved, explained, explained_check, printed, Success, Output, done, refused, silent, torn}
 use Rattle.program.specs.Refusing.{Refusal}
-use Rattle.program.specs.Verdicts.{Tells, Kept, IsTold, IsWritten}
+use Rattle.program.specs.Verdicts.{Tells, Kept, Explained, IsTold, IsWritten}
 use Rattle.telling.specs.declared.Verdict.{Verdict}
 use Rattle.telling.specs.declared.Verdict.TheVariants as verdicts
 
@@ -46,11 +47,20 @@ search_text kernel conditions text (e, h) =
 alone : (line : List ℕ) → IsRefusalLine line → IsRefusalText line
 alone line h = (line, [], h, sym (append-nil line))
 
+-- with more behind it
+begun : (tells : List ℕ → Type 0) → ((told : List ℕ) → tells told → IsRefusalText told) → (text : List ℕ) → Begins tells text → IsRefusalText text
+begun tells f text h =
+    let r = f h.0 h.2 in
+    (r.0, r.1 ++ h.1, r.2, h.3 ∙ ap (λ t. t ++ h.1) r.3 ∙ append_assoc r.0 r.1 h.1)
+
 text_of : (given : List Read → Option Write → Type 0) (ws : List (List ℕ)) (text : List ℕ) → Refusal given ws text → IsRefusalText text
 text_of given ws text (own e g h) = alone text (check_line _ _ _ text h)
 text_of given ws text (checked k c p kernel conditions certificate w x y z g h) = alone text (check_line kernel conditions certificate text h)
 text_of given ws text (ran k c p l kernel conditions certificate launch w x y z u g h) = alone text (run_line kernel conditions certificate launch text h)
 text_of given ws text (proved k c kernel conditions saved w x y g h) = search_text kernel conditions text h.0
+text_of given ws text (explained k c kernel conditions w x y z g h) = begun (IsUnproved kernel conditions) (search_text kernel conditions) text h
+text_of given ws text (explained_check k c p kernel conditions certificate w x y z g h) =
+    begun (IsRefusedText kernel conditions certificate) (λ line refusal. alone line (check_line kernel conditions certificate line refusal)) text h
 text_of given ws text (printed k kernel w x g h) = alone text (print_line kernel text h)
 
 module _ (given : List Read → Option Write → Type 0) (ws : List (List ℕ)) (old new : Option (List ℕ)) (status : ℕ) where
@@ -89,6 +99,11 @@ told_of m written None h e = inr e
 
 is_safe_text : (kernel conditions certificate written : List ℕ) → IsProvedText kernel conditions certificate written → IsSafeText kernel conditions written
 is_safe_text kernel conditions certificate written h = (h.0, conditions_seen h.1, h.2.safe, told_of (conditions_seen h.1) written (probe h.1) h.2.least h.2.text)
+
+pub is_explained : (kernel conditions : List ℕ) (v : Verdict) → Explains v kernel conditions → Explained v kernel conditions
+is_explained kernel conditions (verdicts.Done text) h = (is_safe_text kernel conditions h.0 text.items h.1, h)
+is_explained kernel conditions (verdicts.Refused text) h = h
+is_explained kernel conditions verdicts.OutOfMemory h = tt
 
 -- a search of files whose answer was kept tells of it
 module _ {F : Type 0} (contents : F → List ℕ → Option (List ℕ)) (gives : F → List ℕ → ℕ → List ℕ → F → Type 0) (before next after : F) (ws : List (List ℕ)) (k c kernel conditions : List ℕ) (out : Option (List ℕ)) where

@@ -5,24 +5,24 @@ ghost use Rattle.std.specs.Option.{option_map};
 ghost use Rattle.telling.specs.Verdicts.{Checks};
 ghost use Rattle.proof_telling.specs.Proving.{IsProvedText};
 ghost use Rattle.proof_telling.specs.Verdicts.{Proves};
-ghost use Rattle.command_line.specs.Words.{texts, HasWord, HasNames, HasSearch};
+ghost use Rattle.command_line.specs.Words.{texts, HasWord, HasNames, HasSearch, HasSubject};
 ghost use Rattle.program.specs.First.{first_kernel, first_conditions, first_certificate};
-ghost use Rattle.program.specs.Running.{IsOf, Reads, Does, IsPut, Saves, saving, kernel_read, conditions_read, certificate_read, Success, IsOut, Output};
+ghost use Rattle.program.specs.Running.{IsOf, Reads, Does, IsPut, Saves, saving, kernel_read, conditions_read, certificate_read, HasNoWord, Success, IsOut, Output};
 ghost use Rattle.program.specs.Refusing.{Refusal};
 ghost use Rattle.program.specs.Verdicts.{Tells, Kept, IsTold, IsWritten, IsStopped};
 
 use crate::files::{FileFault, Files};
 use crate::first::first_texts;
 use crate::writing::is_written;
-use command_line::{Line, Names, Search, read_line};
-use proof_telling::{Sought, prove_texts};
+use command_line::{Line, Names, Search, Subject, read_line};
+use proof_telling::{Sought, explain_check, explain_texts, prove_texts};
 use std::alloc::Global;
 use std::io::Write;
 use std::sync::Wait;
 use std::thread::Threads;
 use telling::{Texts, Verdict, check_texts, print_text, run_texts};
 
-const USAGE: &[u8] = b"usage: kverify prove | check | run | print\n";
+const USAGE: &[u8] = b"usage: kverify prove | check | explain | run | print\n";
 
 /// Why there is no verdict.
 #[derive(Clone, Copy)]
@@ -194,6 +194,63 @@ fn proved<'a, R: Threads + Wait + Sync, F: Files>(
     kept(files, search.out, sought)
 }
 
+/// The check of files, its refusal explained.
+fn explained_check<'a, F: Files>(
+    alloc: Global,
+    names: Names<'a>,
+    files: &mut F,
+) -> Result<Verdict, Stop<'a>>
+    ensures verdict { (ws : List (List ℕ)) → HasWord ws 0 (codes "explain") → HasNames ws names.entry → IfOk result (λ v. Tells (Does F.contents F.gives files.old files.new) ws v) }
+    ensures same { (n : List ℕ) → F.contents files.new n ≡ F.contents files.old n }
+{
+    let found = texts_of(files, names)?;
+    Ok(explain_check(alloc, found.texts()))
+}
+
+/// The search for a certificate of files, its refusal explained.
+fn explained_search<'a, R: Threads + Wait + Sync, F: Files>(
+    rt: &R,
+    alloc: Global,
+    subject: Subject<'a>,
+    files: &mut F,
+) -> Result<Verdict, Stop<'a>>
+    ensures verdict { (ws : List (List ℕ)) → HasWord ws 0 (codes "explain") → HasWord ws 1 subject.entry.kernel.now → HasWord ws 2 subject.entry.conditions.now → HasNoWord ws 3 → IfOk result (λ v. Tells (Does F.contents F.gives files.old files.new) ws v) }
+    ensures same { (n : List ℕ) → F.contents files.new n ≡ F.contents files.old n }
+{
+    let kernel = text_of(files, subject.kernel, 65_536)?;
+    let conditions = text_of(files, subject.conditions, 65_536)?;
+    Ok(explain_texts(rt, alloc, &kernel, &conditions))
+}
+
+/// Of files, a refusal with its meaning: that of the check, where a certificate is named, else that of the search.
+fn explained<'a, R: Threads + Wait + Sync, F: Files>(
+    rt: &R,
+    alloc: Global,
+    subject: Subject<'a>,
+    files: &mut F,
+) -> Result<Verdict, Stop<'a>>
+    ensures verdict { (ws : List (List ℕ)) → HasWord ws 0 (codes "explain") → HasSubject ws subject.entry → IfOk result (λ v. Tells (Does F.contents F.gives files.old files.new) ws v) }
+    ensures same { (n : List ℕ) → F.contents files.new n ≡ F.contents files.old n }
+{
+    let Subject {
+        kernel,
+        conditions,
+        certificate,
+    } = subject;
+    match certificate {
+        Some(certificate) => explained_check(
+            alloc,
+            Names {
+                kernel,
+                conditions,
+                certificate,
+            },
+            files,
+        ),
+        None => explained_search(rt, alloc, subject, files),
+    }
+}
+
 /// The canonical text of a file's kernel.
 fn printed<'a, F: Files>(alloc: Global, kernel: &'a str, files: &mut F) -> Result<Verdict, Stop<'a>>
     ensures verdict { (ws : List (List ℕ)) → HasWord ws 0 (codes "print") → HasWord ws 1 kernel.now → IfOk result (λ v. Tells (Does F.contents F.gives files.old files.new) ws v) }
@@ -224,6 +281,7 @@ fn verdict_of<'a, R: Threads + Wait + Sync, F: Files>(
             },
         ) => ran(rt, alloc, names, launch, workers, files),
         Ok(Line::Prove(search)) => proved(rt, alloc, search, files),
+        Ok(Line::Explain(subject)) => explained(rt, alloc, subject, files),
         Ok(Line::Print(kernel)) => printed(alloc, kernel, files),
         Ok(Line::Usage) => Err(Stop::Usage),
         Err(_) => Err(Stop::Memory),

@@ -1,6 +1,6 @@
 //! What is told where a certificate is looked for.
 
-ghost use Rattle.std.specs.Prelude.{◌≡◌, ◌++◌, ℕ, List, map, IfOk, OnOk, IfSome};
+ghost use Rattle.std.specs.Prelude.{◌≡◌, ◌++◌, ℕ, List, map, IfOk, IfErr, OnOk, IfSome};
 ghost use Rattle.std.specs.String.{string_bytes};
 ghost use Rattle.semantics.specs.Conditions.{Meets};
 ghost use Rattle.launch.specs.Least as least;
@@ -8,7 +8,7 @@ ghost use Rattle.launch.specs.View.{conditions as conditions_seen};
 ghost use Rattle.findings.specs.View.{finding as finding_seen};
 ghost use Rattle.findings.specs.Wording.{finding_text};
 ghost use Rattle.proof_search.specs.Searching.{TellsOf};
-ghost use Rattle.proof_telling.specs.Proving.{proved_lines, found, findings_text};
+ghost use Rattle.proof_telling.specs.Proving.{IsProvedText, proved_lines, found as found_in, findings_text};
 ghost use Rattle.proof_telling.specs.Verdicts.{Proves};
 
 use diagnostics::{Finding, line};
@@ -35,6 +35,13 @@ pub enum Sought {
     OutOfMemory,
 }
 
+/// What is written of a kernel that is proved, and its certificate's text.
+#[derive(Drop)]
+pub struct Proved {
+    pub written: Vec<u8>,
+    pub certificate: Vec<u8>,
+}
+
 /// What is written of a kernel that is proved under conditions.
 fn lines(alloc: Global, conditions: &Conditions) -> Result<Vec<u8>, AllocError>
     ensures text { IfOk result (λ v. v.items ≡ proved_lines (least.probe conditions.now)) }
@@ -47,8 +54,8 @@ fn lines(alloc: Global, conditions: &Conditions) -> Result<Vec<u8>, AllocError>
 }
 
 /// The findings of an error.
-fn findings_of(error: &VerifyError) -> &[Finding]
-    ensures { result.now ≡ found error.now }
+pub fn findings_of(error: &VerifyError) -> &[Finding]
+    ensures { result.now ≡ found_in error.now }
 {
     match error {
         VerifyError::NotShown(findings) => findings.as_slice(),
@@ -78,7 +85,7 @@ fn push_lines(alloc: Global, text: &mut String, findings: &[Finding]) -> Result<
 
 /// What is said where no certificate is found.
 #[tactic(auto, using(crate::proofs::Meanings::are_true))]
-fn unproved(alloc: Global, error: &VerifyError) -> Sought
+pub fn unproved(alloc: Global, error: &VerifyError) -> Sought
     ensures { (workers : ℕ) (kernel conditions : List ℕ) → TellsOf error.now workers kernel conditions → Proves result kernel conditions }
 {
     let refusal = Refusal {
@@ -94,6 +101,35 @@ fn unproved(alloc: Global, error: &VerifyError) -> Sought
     }
 }
 
+/// A certificate that is found, with what is written of it, or why there is none.
+pub fn found<R: Threads + Wait + Sync>(
+    rt: &R,
+    alloc: Global,
+    kernel: &[u8],
+    conditions: &[u8],
+    workers: u32,
+) -> Result<Proved, VerifyError>
+    ensures proved { IfOk result (λ p. IsProvedText kernel.now conditions.now p.certificate.items p.written.items) }
+    ensures told { IfErr result (λ e. TellsOf e workers kernel.now conditions.now) }
+{
+    bytes_are_the_text_of_what_is_read();
+    what_is_read_of_conditions_is_their_text();
+    let Verified {
+        accepted,
+        certificate,
+    } = match verify(rt, alloc, kernel, conditions, workers) {
+        Ok(verified) => verified,
+        Err(error) => return Err(error),
+    };
+    match lines(alloc, accepted.conditions()) {
+        Ok(written) => Ok(Proved {
+            written,
+            certificate,
+        }),
+        Err(_) => Err(VerifyError::Memory),
+    }
+}
+
 /// Looks for a certificate: `accepted` and the certificate, or why there is none.
 pub fn prove_texts<R: Threads + Wait + Sync>(
     rt: &R,
@@ -104,20 +140,16 @@ pub fn prove_texts<R: Threads + Wait + Sync>(
 ) -> Sought
     ensures { Proves result kernel.now conditions.now }
 {
-    bytes_are_the_text_of_what_is_read();
-    what_is_read_of_conditions_is_their_text();
-    let Verified {
-        accepted,
-        certificate,
-    } = match verify(rt, alloc, kernel, conditions, workers) {
-        Ok(verified) => verified,
-        Err(error) => return unproved(alloc, &error),
-    };
-    match lines(alloc, accepted.conditions()) {
-        Ok(written) => Sought::Found {
+    match found(rt, alloc, kernel, conditions, workers) {
+        Ok(
+            Proved {
+                written,
+                certificate,
+            },
+        ) => Sought::Found {
             written,
             certificate,
         },
-        Err(_) => Sought::OutOfMemory,
+        Err(error) => unproved(alloc, &error),
     }
 }

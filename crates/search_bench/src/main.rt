@@ -8,9 +8,6 @@
 //! of facts as `FIRST LAST`. Facts are counted from 1 in each kernel.
 #![tactic(auto)]
 
-#[cfg(test)]
-mod tests;
-
 use cut_proof::Line;
 use cut_search::{Answer, Start, search};
 use linear::{Fact, Form, LinearError, Symbol};

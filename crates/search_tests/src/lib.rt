@@ -1,6 +1,8 @@
-//! Section: Search. Promises nothing: the tests of `candidates`, `kernel_guesses`, `solo_runs` and `proof_memory`; stands on them.
+//! Section: Search. Promises nothing: tests of `candidates`, `kernel_guesses`, `solo_runs`, `proof_memory`, `cut_search`; stands on them.
 #![tactic(auto)]
 
+#[cfg(test)]
+mod derivations;
 #[cfg(test)]
 mod remembering;
 #[cfg(test)]

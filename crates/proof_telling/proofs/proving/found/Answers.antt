@@ -10,10 +10,10 @@ use Rattle.cert_check.specs.View.{typed_of, kept}
 use Rattle.proof_telling.specs.Proving.{proved_lines}
 use Rattle.telling.proofs.Meanings.{is_safe}
 use Rattle.proof_telling.proofs.Meanings.{is_proof}
-use Rattle.proof_telling.proofs.proving.prove_texts.Goals as goal
+use Rattle.proof_telling.proofs.proving.found.Goals as goal
 
-pub returns-in-Ok-lines : goal.returns-in-Ok-lines
-returns-in-Ok-lines g c =
+pub returns-in-Ok-lines-clause-proved : goal.returns-in-Ok-lines-clause-proved
+returns-in-Ok-lines-clause-proved g c =
     let a = c.in-Ok.verified.accepted in
     let t = typed_of a in
     let k = c.args.kernel.now in
@@ -28,6 +28,3 @@ returns-in-Ok-lines g c =
         text = subst (λ x. c.in-Ok-lines.written.items ≡ proved_lines (probe x)) c.conditions.ensures.value c.in-Ok-lines.ensures.text;
       },
     )
-
-pub returns-in-Err : goal.returns-in-Err
-returns-in-Err g c = c.unproved.ensures c.args.workers c.args.kernel.now c.args.conditions.now c.in-Err.ensures.told

@@ -1,0 +1,213 @@
+//! The explanation of a refusal.
+
+ghost use Rattle.std.specs.Prelude.{◌≡◌, ◌++◌, ℕ, List, true, OnOk};
+ghost use Rattle.std.specs.String.{string_bytes};
+ghost use Rattle.core_code.specs.View.{kernel as core_seen};
+ghost use Rattle.work_item.specs.Proper.{is_proper};
+ghost use Rattle.launch_text.specs.Fits.{IsOf};
+ghost use Rattle.launch_words.specs.View.{lined};
+
+use crate::meaning::{POSSIBLE, meaning};
+use crate::paragraph::push_paragraph;
+use crate::scene::{push_scene, site_of};
+use crate::source::{push_label, push_site};
+use crate::titles::{confirmed, label, meant, possible};
+use core_code::tree::Site;
+use findings::{Finding, Grade, Spot};
+use launch::conditions::Conditions;
+use launch::probe::probe;
+use launch_grammar::laws::a_least_launch_fits;
+use launch_text::read_conditions;
+use machine::world::Event;
+use proper_kernels::kernel::read_proper_kernel;
+use std::alloc::{AllocError, Global};
+use types::typed::Typed;
+
+/// The texts of a kernel and its conditions.
+#[derive(Clone, Copy)]
+struct Subject<'a> {
+    kernel: &'a [u8],
+    conditions: &'a [u8],
+}
+
+/// The number and the title of a finding.
+fn push_title(
+    alloc: Global,
+    number: usize,
+    finding: &Finding,
+    out: &mut String,
+) -> Result<(), AllocError> {
+    let meant = meant(finding.kind);
+    let text = match finding.grade {
+        Grade::Possible => {
+            let name = possible(finding.kind);
+            format!(in alloc; "{number}. Possible {name}: {meant}")?
+        }
+        Grade::Confirmed(_) => {
+            let name = confirmed(finding.kind);
+            format!(in alloc; "{number}. {name}, confirmed by a replay: {meant}")?
+        }
+    };
+    push_paragraph(out, "", &text)
+}
+
+/// The line of a site that another one has, too, is shown once.
+fn line_of(finding: &Finding, number: usize) -> Option<u32> {
+    match site_of(*finding.sites.get(number)?) {
+        Some(site) => Some(site.line),
+        None => None,
+    }
+}
+
+/// A site, with who comes there.
+fn push_spot(
+    alloc: Global,
+    kernel: &[u8],
+    finding: &Finding,
+    number: usize,
+    spot: Spot,
+    out: &mut String,
+) -> Result<(), AllocError> {
+    let label = label(alloc, finding.kind, spot, finding.items.get(number))?;
+    match site_of(spot) {
+        Some(site) => {
+            let is_shown = number > 0 && line_of(finding, number - 1) == Some(site.line);
+            push_site(alloc, out, kernel, site, is_shown, &label)
+        }
+        None => push_label(out, &label),
+    }
+}
+
+/// The sites of a finding.
+fn push_spots(
+    alloc: Global,
+    kernel: &[u8],
+    finding: &Finding,
+    out: &mut String,
+) -> Result<(), AllocError> {
+    for (number, spot) in finding.sites.iter().enumerate() {
+        push_spot(alloc, kernel, finding, number, *spot, out)?;
+    }
+    Ok(())
+}
+
+/// What a replay of the launch at the least values shows.
+fn push_replay(
+    alloc: Global,
+    typed: &Typed,
+    conditions: &Conditions,
+    finding: &Finding,
+    events: &[Event],
+    out: &mut String,
+) -> Result<(), AllocError>
+    requires proper { is_proper (core_seen typed.now.1) ≡ true }
+    requires of { IsOf (core_seen typed.now.1) (lined conditions.now) }
+{
+    a_least_launch_fits();
+    let found = probe(alloc, conditions)?;
+    match found {
+        Some(launch) => push_scene(alloc, typed, &launch, finding, events, out),
+        None => Ok(()),
+    }
+}
+
+/// The same of the text of the conditions.
+fn push_under(
+    alloc: Global,
+    typed: &Typed,
+    conditions: &[u8],
+    finding: &Finding,
+    events: &[Event],
+    out: &mut String,
+) -> Result<(), AllocError>
+    requires { is_proper (core_seen typed.now.1) ≡ true }
+{
+    match read_conditions(alloc, typed, conditions) {
+        Ok(conditions) => push_replay(alloc, typed, &conditions, finding, events, out),
+        Err(_) => Err(AllocError),
+    }
+}
+
+/// The same of the texts of both.
+fn push_shown(
+    alloc: Global,
+    subject: Subject,
+    finding: &Finding,
+    events: &[Event],
+    out: &mut String,
+) -> Result<(), AllocError> {
+    match read_proper_kernel(alloc, subject.kernel) {
+        Ok(typed) => push_under(alloc, &typed, subject.conditions, finding, events, out),
+        Err(_) => Err(AllocError),
+    }
+}
+
+/// What is known of a finding, behind an empty line.
+fn push_finding(
+    alloc: Global,
+    subject: Subject,
+    number: usize,
+    finding: &Finding,
+    out: &mut String,
+) -> Result<(), AllocError> {
+    out.push_str("\n")?;
+    push_title(alloc, number, finding, out)?;
+    push_spots(alloc, subject.kernel, finding, out)?;
+    match &finding.grade {
+        Grade::Confirmed(events) => push_shown(alloc, subject, finding, events.as_slice(), out),
+        Grade::Possible => Ok(()),
+    }
+}
+
+fn is_possible(finding: &Finding) -> bool {
+    matches!(finding.grade, Grade::Possible)
+}
+
+/// All findings, and what to do about those that are only possible.
+fn push_findings(
+    alloc: Global,
+    subject: Subject,
+    findings: &[Finding],
+    out: &mut String,
+) -> Result<(), AllocError> {
+    for (place, finding) in findings.iter().enumerate() {
+        push_finding(alloc, subject, place.saturating_add(1), finding, out)?;
+    }
+    if findings.iter().any(is_possible) {
+        out.push_str("\n")?;
+        push_paragraph(out, "", POSSIBLE)?;
+    }
+    Ok(())
+}
+
+/// What a refusal means.
+fn explanation(
+    alloc: Global,
+    subject: Subject,
+    number: u8,
+    findings: &[Finding],
+) -> Result<String, AllocError> {
+    let mut out = String::new(alloc);
+    if findings.is_empty() {
+        out.push_str("\n")?;
+        push_paragraph(&mut out, "", meaning(number))?;
+    }
+    push_findings(alloc, subject, findings, &mut out)?;
+    Ok(out)
+}
+
+/// What a refusal of a number with these findings means, behind what is written.
+pub fn explain(
+    alloc: Global,
+    kernel: &[u8],
+    conditions: &[u8],
+    number: u8,
+    findings: &[Finding],
+    out: &mut String,
+) -> Result<(), AllocError>
+    ensures { OnOk result ((more : List ℕ) × (string_bytes out.new ≡ string_bytes out.old ++ more)) }
+{
+    let subject = Subject { kernel, conditions };
+    let text = explanation(alloc, subject, number, findings)?;
+    out.push_str(&text)
+}

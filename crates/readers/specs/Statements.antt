@@ -10,7 +10,7 @@ use Rattle.texts.specs.Tokens.{TokenKind}
 use Rattle.texts.specs.Lexemes.{Lexeme, assign_of}
 use Rattle.texts.specs.ParseFaults.{Expected, TooDeep, TooMany}
 use Rattle.texts.specs.KernelGrammar.{is_else}
-use Rattle.texts.specs.Surface.{AssignSign, Expression, Declaration, Assignment, First, FirstDeclares, FirstAssigns, Statement, Declare, DeclareArray, Assign, If, While, For, Barrier, Block, Statements, none, one}
+use Rattle.texts.specs.Surface.{AssignSign, Expression, Declaration, Assignment, First, FirstDeclares, FirstAssigns, JumpWord, Return, Break, Continue, Statement, Declare, DeclareArray, Assign, If, While, For, Barrier, Jump, Block, Statements, none, one}
 use Rattle.readers.specs.Reader.{Reader, Gives, Fails, Looks, Passes, Then}
 use Rattle.readers.specs.Expressions.{is_left_parenthesis, is_right_parenthesis, is_left_bracket, is_right_bracket, expects, kind_at, expression_reader}
 
@@ -143,6 +143,10 @@ named room depth n at x =
     cond (bytes_eq x (codes "barrier")) (Passes (Then (tested room depth) (λ flags. Then (expects is_semicolon) (λ semicolon. Gives (Barrier n at flags, n + 1)))))
     (Then (assignment_reader room depth n) (λ a. Then (expects is_semicolon) (λ semicolon. Gives (Assign a, n + 1))))
 
+-- over the word of a jump statement, and its semicolon
+unfoldable pub jump_reader : (n : ℕ) → Site → JumpWord → Reader (Statement × ℕ)
+jump_reader n at jump = Passes (Then (expects is_semicolon) (λ semicolon. Gives (Jump n at jump, n + 1)))
+
 abbrev pub statement_by : (body block : (room n : ℕ) → Reader (Statements × ℕ)) → (room depth n : ℕ) → Site → TokenKind → Reader (Statement × ℕ)
 statement_by body block room depth n at (token.Name x) = named room depth n at x
 statement_by body block room depth n at (token.Mark signs.LeftBrace) = bracket room (λ room. Then (block room (n + 1)) (λ ss. Gives (Block n at ss.0, ss.1)))
@@ -150,6 +154,9 @@ statement_by body block room depth n at (token.Word words.If) = Passes (Then (te
 statement_by body block room depth n at (token.Word words.While) = Passes (Then (tested room depth) (λ e. Then (body room (n + 1)) (λ b. Gives (While n at e b.0, b.1))))
 statement_by body block room depth n at (token.Word words.For) =
     cond (nat_lt 510 n) (Fails TooMany) (Passes (Then (head_reader room depth (n + 1)) (λ h. Then (body room (n + 3)) (λ b. Gives (For n at h.first h.test h.update b.0, b.1)))))
+statement_by body block room depth n at (token.Word words.Return) = jump_reader n at Return
+statement_by body block room depth n at (token.Word words.Break) = jump_reader n at Break
+statement_by body block room depth n at (token.Word words.Continue) = jump_reader n at Continue
 statement_by body block room depth n at kind = Fails Expected
 
 -- a statement more than 512 is one too many; a `for` has two more statements in its head

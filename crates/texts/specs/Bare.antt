@@ -1,7 +1,7 @@
 -- Trees, positions aside.
 use Rattle.std.specs.Prelude.{map, Option, Some, None}
 use Rattle.semantics.specs.Core.{Site}
-use Rattle.texts.specs.Surface.{Expression, Number, Name, Element, Call, Prefix, Cast, Infix, Conditional, Expressions, nothing, also, Declaration, Assignment, First, FirstDeclares, FirstAssigns, Statement, Declare, DeclareArray, Assign, If, While, For, Barrier, Block, Statements, none, one, Parameter, Buffer, Value, Kernel}
+use Rattle.texts.specs.Surface.{Expression, Number, Name, Element, Call, Prefix, Cast, Infix, Conditional, Expressions, nothing, also, Declaration, Assignment, First, FirstDeclares, FirstAssigns, Statement, Declare, DeclareArray, Assign, If, While, For, Barrier, Jump, Block, Statements, none, one, Parameter, Buffer, Value, Kernel}
 
 abbrev pub nowhere : Site
 nowhere = record { line = 0; column = 0 }
@@ -44,6 +44,7 @@ abbrev mutual
   bare_statement (While n site test body) = While n nowhere (bare_expression test) (bare_statements body)
   bare_statement (For n site first test update body) = For n nowhere (bare_first first) (bare_expression test) (bare_assignment update) (bare_statements body)
   bare_statement (Barrier n site flags) = Barrier n nowhere (bare_expression flags)
+  bare_statement (Jump n site jump) = Jump n nowhere jump
   bare_statement (Block n site body) = Block n nowhere (bare_statements body)
 
   pub bare_statements : Statements → Statements

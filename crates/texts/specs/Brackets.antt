@@ -1,7 +1,7 @@
 -- How many brackets a canonical text opens one inside another.
 use Rattle.std.specs.Prelude.{ℕ, zero, suc, Bool, true, false, Option, Some, None}
 use Rattle.texts.specs.Canonical.{is_compound}
-use Rattle.texts.specs.Surface.{Expression, Number, Name, Element, Call, Prefix, Cast, Infix, Conditional, Expressions, nothing, also, Assignment, First, FirstDeclares, FirstAssigns, Statement, Declare, DeclareArray, Assign, If, While, For, Barrier, Block, Statements, none, one}
+use Rattle.texts.specs.Surface.{Expression, Number, Name, Element, Call, Prefix, Cast, Infix, Conditional, Expressions, nothing, also, Assignment, First, FirstDeclares, FirstAssigns, Statement, Declare, DeclareArray, Assign, If, While, For, Barrier, Jump, Block, Statements, none, one}
 
 -- one bracket more is opened, and what stands in it has the room that is left
 abbrev pub InBrackets : (room : ℕ) → (ℕ → Type 0) → Type 0
@@ -50,6 +50,7 @@ abbrev mutual
   OpensStatement room (While n site test body) = InBrackets room (λ m. Opens m test × AllOpenStatements m body)
   OpensStatement room (For n site first test update body) = InBrackets room (λ m. OpensFirst m first × Opens m test × OpensAssignment m update × AllOpenStatements m body)
   OpensStatement room (Barrier n site flags) = InBrackets room (λ m. Opens m flags)
+  OpensStatement room (Jump n site jump) = Unit {0}
   OpensStatement room (Block n site body) = InBrackets room (λ m. AllOpenStatements m body)
 
   pub AllOpenStatements : (room : ℕ) → Statements → Type 0

@@ -3,7 +3,7 @@
 use Rattle.std.specs.Prelude.{ℕ, List, [], ◌∷◌, ◌++◌, Bool, true, false, Option, Some, None, codes}
 use Rattle.std.specs.Fmt.{decimal}
 use Rattle.semantics.specs.Word.{Kind, Int, Uint, Operator, Add, Subtract, Multiply, Divide, Remainder, BitAnd, BitOr, BitXor, Relation, Less, AtMost, More, AtLeast, Equal, Unequal}
-use Rattle.texts.specs.Surface.{PrefixSign, Minus, LogicalNot, BitNot, InfixSign, Arithmetic, LeftShift, RightShift, Comparison, LogicalAnd, LogicalOr, AssignSign, Plain, With, WithLeftShift, WithRightShift, Expression, Number, Name, Element, Call, Prefix, Cast, Infix, Conditional, Expressions, nothing, also, Declaration, Assignment, First, FirstDeclares, FirstAssigns, Statement, Declare, DeclareArray, Assign, If, While, For, Barrier, Block, Statements, none, one, Parameter, Buffer, Value, Kernel}
+use Rattle.texts.specs.Surface.{PrefixSign, Minus, LogicalNot, BitNot, InfixSign, Arithmetic, LeftShift, RightShift, Comparison, LogicalAnd, LogicalOr, AssignSign, Plain, With, WithLeftShift, WithRightShift, Expression, Number, Name, Element, Call, Prefix, Cast, Infix, Conditional, Expressions, nothing, also, Declaration, Assignment, First, FirstDeclares, FirstAssigns, JumpWord, Return, Break, Continue, Statement, Declare, DeclareArray, Assign, If, While, For, Barrier, Jump, Block, Statements, none, one, Parameter, Buffer, Value, Kernel}
 
 abbrev pub kind_text : Kind → List ℕ
 kind_text Int = codes "int"
@@ -110,6 +110,11 @@ array_text kind x length = codes "__local " ++ (kind_text kind ++ (codes " " ++ 
 abbrev pub for_text : First → Expression → Assignment → List ℕ
 for_text first test update = codes "for (" ++ (first_text first ++ (codes "; " ++ (expression_text test ++ (codes "; " ++ (assignment_text update ++ codes ")")))))
 
+abbrev pub jump_text : JumpWord → List ℕ
+jump_text Return = codes "return"
+jump_text Break = codes "break"
+jump_text Continue = codes "continue"
+
 -- a line that begins with the blanks of its level
 abbrev pub line : (pad text : List ℕ) → List ℕ
 line pad text = pad ++ (text ++ 10 ∷ [])
@@ -131,6 +136,7 @@ abbrev mutual
   statement_text pad (For n site first test update body) =
       line pad (for_text first test update ++ codes " {") ++ (statements_text (deeper pad) body ++ line pad (codes "}"))
   statement_text pad (Barrier n site flags) = line pad (codes "barrier(" ++ (expression_text flags ++ codes ");"))
+  statement_text pad (Jump n site jump) = line pad (jump_text jump ++ codes ";")
   statement_text pad (Block n site body) = line pad (codes "{") ++ (statements_text (deeper pad) body ++ line pad (codes "}"))
 
   pub statements_text : (pad : List ℕ) → Statements → List ℕ

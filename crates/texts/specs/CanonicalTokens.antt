@@ -11,11 +11,16 @@ use Rattle.texts.specs.Tokens as token
 use Rattle.texts.specs.Tokens.{TokenKind, Word, Mark}
 use Rattle.texts.specs.CertificateForms.{is_identifier}
 use Rattle.texts.specs.Canonical.{is_compound}
-use Rattle.texts.specs.Surface.{PrefixSign, Minus, LogicalNot, BitNot, InfixSign, Arithmetic, LeftShift, RightShift, Comparison, LogicalAnd, LogicalOr, AssignSign, Plain, With, WithLeftShift, WithRightShift, Expression, Number, Name, Element, Call, Prefix, Cast, Infix, Conditional, Expressions, nothing, also, Declaration, Assignment, First, FirstDeclares, FirstAssigns, Statement, Declare, DeclareArray, Assign, If, While, For, Barrier, Block, Statements, none, one, Parameter, Buffer, Value, Kernel}
+use Rattle.texts.specs.Surface.{PrefixSign, Minus, LogicalNot, BitNot, InfixSign, Arithmetic, LeftShift, RightShift, Comparison, LogicalAnd, LogicalOr, AssignSign, Plain, With, WithLeftShift, WithRightShift, Expression, Number, Name, Element, Call, Prefix, Cast, Infix, Conditional, Expressions, nothing, also, Declaration, Assignment, First, FirstDeclares, FirstAssigns, JumpWord, Return, Break, Continue, Statement, Declare, DeclareArray, Assign, If, While, For, Barrier, Jump, Block, Statements, none, one, Parameter, Buffer, Value, Kernel}
 
 abbrev pub kind_word : Kind → Reserved
 kind_word Int = words.Int
 kind_word Uint = words.Uint
+
+abbrev pub jump_word : JumpWord → Reserved
+jump_word Return = words.Return
+jump_word Break = words.Break
+jump_word Continue = words.Continue
 
 abbrev pub operator_sign : Operator → Sign
 operator_sign Add = signs.Plus
@@ -143,6 +148,7 @@ abbrev mutual
       (Mark RightParenthesis ∷ Mark LeftBrace ∷ statements_tokens body (Mark RightBrace ∷ after))))
   statement_tokens (Barrier n site flags) after =
       token.Name (codes "barrier") ∷ Mark LeftParenthesis ∷ expression_tokens flags (Mark RightParenthesis ∷ Mark Semicolon ∷ after)
+  statement_tokens (Jump n site jump) after = Word (jump_word jump) ∷ Mark Semicolon ∷ after
   statement_tokens (Block n site body) after = Mark LeftBrace ∷ statements_tokens body (Mark RightBrace ∷ after)
 
   pub statements_tokens : Statements → (after : List TokenKind) → List TokenKind
@@ -208,6 +214,7 @@ abbrev mutual
   IsPrintableStatement (While n site test body) = IsPrintable test × ArePrintableStatements body
   IsPrintableStatement (For n site first test update body) = IsPrintableFirst first × IsPrintable test × IsPrintableAssignment update × ArePrintableStatements body
   IsPrintableStatement (Barrier n site flags) = IsPrintable flags
+  IsPrintableStatement (Jump n site jump) = Unit {0}
   IsPrintableStatement (Block n site body) = ArePrintableStatements body
 
   pub ArePrintableStatements : Statements → Type 0

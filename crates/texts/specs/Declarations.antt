@@ -1,6 +1,6 @@
 -- How many names a kernel declares, of whatever sort.
 use Rattle.std.specs.Prelude.{ℕ, ◌+◌, ◌≤◌, length}
-use Rattle.texts.specs.Surface.{First, FirstDeclares, FirstAssigns, Statement, Declare, DeclareArray, Assign, If, While, For, Barrier, Block, Statements, none, one, Kernel}
+use Rattle.texts.specs.Surface.{First, FirstDeclares, FirstAssigns, Statement, Declare, DeclareArray, Assign, If, While, For, Barrier, Jump, Block, Statements, none, one, Kernel}
 
 abbrev pub declared_first : First → ℕ
 declared_first (FirstDeclares d) = 1
@@ -16,6 +16,7 @@ abbrev mutual
   declared_in (While n site test body) = declared_by body
   declared_in (For n site first test update body) = declared_first first + declared_by body
   declared_in (Barrier n site flags) = 0
+  declared_in (Jump n site jump) = 0
   declared_in (Block n site body) = declared_by body
 
   pub declared_by : Statements → ℕ

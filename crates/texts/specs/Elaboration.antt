@@ -6,8 +6,8 @@ use Rattle.semantics.specs.Word.{Kind, BitOr}
 use Rattle.semantics.specs.Core as core
 use Rattle.semantics.specs.Core.{Site, Array}
 use Rattle.semantics.specs.Launch as launch
-use Rattle.texts.specs.Surface.{Arithmetic, LeftShift, RightShift, AssignSign, Plain, With, WithLeftShift, WithRightShift, Expression, Number, Name, Element, Call, Prefix, Cast, Infix, Conditional, Expressions, nothing, also, Declaration, Assignment, First, FirstDeclares, FirstAssigns, Statement, Declare, DeclareArray, Assign, If, While, For, Barrier, Block, Statements, none, one, Parameter, Buffer, Value, Kernel, site_of}
-use Rattle.texts.specs.TypeFaults.{UnknownName, WrongType, WriteToConst, ArrayInBlock, LoadInCompoundIndex, BarrierFlags, Checked, refused, then, when, found}
+use Rattle.texts.specs.Surface.{Arithmetic, LeftShift, RightShift, AssignSign, Plain, With, WithLeftShift, WithRightShift, Expression, Number, Name, Element, Call, Prefix, Cast, Infix, Conditional, Expressions, nothing, also, Declaration, Assignment, First, FirstDeclares, FirstAssigns, JumpWord, Return, Break, Continue, Statement, Declare, DeclareArray, Assign, If, While, For, Barrier, Jump, Block, Statements, none, one, Parameter, Buffer, Value, Kernel, site_of}
+use Rattle.texts.specs.TypeFaults.{UnknownName, WrongType, WriteToConst, ArrayInBlock, LoadInCompoundIndex, BarrierFlags, JumpOutsideLoop, Checked, refused, then, when, found}
 use Rattle.texts.specs.Scope.{Meaning, VariableAt, ArrayAt, Scope, empty_scope, leave_block, meaning_of, declare_variable, declare_buffer, declare_array}
 use Rattle.texts.specs.Typing.{TypedTerm, typed, bring, infix_term, type_of}
 
@@ -111,33 +111,62 @@ barrier_of n (Infix site (Arithmetic BitOr) left right) =
     when ((a && not b) || (not a && b)) BarrierFlags (site_of right) (core.Barrier n true true)))
 barrier_of n flags = then (one_flag flags) (λ local. Ok (core.Barrier n local (not local)))
 
--- a statement's core statements; `top` says that it stands directly in the kernel's body, where local arrays may
-unfoldable mutual
-  pub elaborate_statement : (top : Bool) → Scope → Statement → Checked Elaborated
-  elaborate_statement top scope (Declare d) = elaborate_declaration scope d
-  elaborate_statement top scope (DeclareArray n site kind name_site name size) =
-      then (when top ArrayInBlock site scope) (λ outer. then (declare_array outer name_site name kind size) (λ inner. Ok (elaborated core.none inner)))
-  elaborate_statement top scope (Assign a) = then (elaborate_assignment scope a) (λ s. Ok (elaborated (single s) scope))
-  elaborate_statement top scope (If n site test taken skipped) =
-      then (type_of scope.visible test) (λ t. then (elaborate_all false scope taken) (λ a.
-      then (elaborate_all false (leave_block scope a.scope) skipped) (λ b.
-      Ok (elaborated (single (core.If n t.term a.statements b.statements)) (leave_block scope b.scope)))))
-  elaborate_statement top scope (While n site test body) =
-      then (type_of scope.visible test) (λ t. then (elaborate_all false scope body) (λ b.
-      Ok (elaborated (single (core.Loop n t.term b.statements core.none)) (leave_block scope b.scope))))
-  elaborate_statement top scope (For n site first test update body) =
-      then (elaborate_first scope first) (λ f. then (type_of f.scope.visible test) (λ t.
-      then (elaborate_assignment f.scope update) (λ u. then (elaborate_all false f.scope body) (λ b.
-      Ok (elaborated (join f.statements (single (core.Loop n t.term b.statements (single u)))) (leave_block scope b.scope))))))
-  elaborate_statement top scope (Barrier n site flags) =
-      then (barrier_of n flags) (λ s. Ok (elaborated (single s) scope))
-  elaborate_statement top scope (Block n site body) =
-      then (elaborate_all false scope body) (λ b. Ok (elaborated b.statements (leave_block scope b.scope)))
+-- where a statement stands: directly in the kernel's body, in a block outside all loops, or in loops, the innermost of which has the number
+pub data Around : Type 0 where
+  InKernel : Around
+  InBlock : Around
+  InLoop : (number : ℕ) → Around
 
-  pub elaborate_all : (top : Bool) → Scope → Statements → Checked Elaborated
-  elaborate_all top scope none = Ok (elaborated core.none scope)
-  elaborate_all top scope (one s ss) =
-      then (elaborate_statement top scope s) (λ a. then (elaborate_all top a.scope ss) (λ b.
+abbrev pub is_in_kernel : Around → Bool
+is_in_kernel InKernel = true
+is_in_kernel InBlock = false
+is_in_kernel (InLoop n) = false
+
+-- where the parts of an `if` and the statements of a block stand
+abbrev pub inside : Around → Around
+inside InKernel = InBlock
+inside InBlock = InBlock
+inside (InLoop n) = InLoop n
+
+abbrev pub innermost_loop : Around → Option ℕ
+innermost_loop InKernel = None
+innermost_loop InBlock = None
+innermost_loop (InLoop n) = Some n
+
+-- `break` and `continue` are of the innermost loop around them (C99 6.8.6.2p2, 6.8.6.3p2)
+abbrev pub jump_to : (number : ℕ) → Site → Around → JumpWord → Checked core.Statement
+jump_to n site around Return = Ok (core.Return n)
+jump_to n site around Break = then (found (innermost_loop around) JumpOutsideLoop site) (λ loop. Ok (core.Break n loop))
+jump_to n site around Continue = then (found (innermost_loop around) JumpOutsideLoop site) (λ loop. Ok (core.Continue n loop))
+
+-- a statement's core statements; local arrays may stand directly in the kernel's body alone
+unfoldable mutual
+  pub elaborate_statement : (around : Around) → Scope → Statement → Checked Elaborated
+  elaborate_statement around scope (Declare d) = elaborate_declaration scope d
+  elaborate_statement around scope (DeclareArray n site kind name_site name size) =
+      then (when (is_in_kernel around) ArrayInBlock site scope) (λ outer. then (declare_array outer name_site name kind size) (λ inner. Ok (elaborated core.none inner)))
+  elaborate_statement around scope (Assign a) = then (elaborate_assignment scope a) (λ s. Ok (elaborated (single s) scope))
+  elaborate_statement around scope (If n site test taken skipped) =
+      then (type_of scope.visible test) (λ t. then (elaborate_all (inside around) scope taken) (λ a.
+      then (elaborate_all (inside around) (leave_block scope a.scope) skipped) (λ b.
+      Ok (elaborated (single (core.If n t.term a.statements b.statements)) (leave_block scope b.scope)))))
+  elaborate_statement around scope (While n site test body) =
+      then (type_of scope.visible test) (λ t. then (elaborate_all (InLoop n) scope body) (λ b.
+      Ok (elaborated (single (core.Loop n t.term b.statements core.none)) (leave_block scope b.scope))))
+  elaborate_statement around scope (For n site first test update body) =
+      then (elaborate_first scope first) (λ f. then (type_of f.scope.visible test) (λ t.
+      then (elaborate_assignment f.scope update) (λ u. then (elaborate_all (InLoop n) f.scope body) (λ b.
+      Ok (elaborated (join f.statements (single (core.Loop n t.term b.statements (single u)))) (leave_block scope b.scope))))))
+  elaborate_statement around scope (Barrier n site flags) =
+      then (barrier_of n flags) (λ s. Ok (elaborated (single s) scope))
+  elaborate_statement around scope (Jump n site jump) = then (jump_to n site around jump) (λ s. Ok (elaborated (single s) scope))
+  elaborate_statement around scope (Block n site body) =
+      then (elaborate_all (inside around) scope body) (λ b. Ok (elaborated b.statements (leave_block scope b.scope)))
+
+  pub elaborate_all : (around : Around) → Scope → Statements → Checked Elaborated
+  elaborate_all around scope none = Ok (elaborated core.none scope)
+  elaborate_all around scope (one s ss) =
+      then (elaborate_statement around scope s) (λ a. then (elaborate_all around a.scope ss) (λ b.
       Ok (elaborated (join a.statements b.statements) b.scope)))
 
 abbrev pub declare_parameter : Scope → Parameter → Checked Scope
@@ -151,7 +180,7 @@ declare_parameters scope (p ∷ ps) = then (declare_parameter scope p) (λ inner
 -- the elaborated kernel, or the first fault: a kernel is well typed where this is `Ok`
 unfoldable pub elaborate : Kernel → Checked launch.Kernel
 elaborate k =
-    then (declare_parameters empty_scope k.parameters) (λ outer. then (elaborate_all true outer k.body) (λ b. Ok (record {
+    then (declare_parameters empty_scope k.parameters) (λ outer. then (elaborate_all InKernel outer k.body) (λ b. Ok (record {
       sizes = k.sizes;
       buffers = outer.buffers;
       arguments = outer.slots;

@@ -8,8 +8,8 @@ use Rattle.texts.specs.Signs.{Sign, LeftParenthesis, RightParenthesis, LeftBrace
 use Rattle.texts.specs.Reserved as words
 use Rattle.texts.specs.Reserved.{Reserved}
 use Rattle.texts.specs.Tokens.{TokenKind, Word, End}
-use Rattle.texts.specs.Lexemes.{Lexeme, mark, word, name, number, kind_of, assign_of}
-use Rattle.texts.specs.Surface.{AssignSign, Expression, Declaration, Assignment, First, FirstDeclares, FirstAssigns, Statement, Declare, DeclareArray, Assign, If, While, For, Barrier, Block, Statements, none, one, Parameter, Buffer, Value, Kernel}
+use Rattle.texts.specs.Lexemes.{Lexeme, mark, word, name, number, kind_of, assign_of, jump_of}
+use Rattle.texts.specs.Surface.{AssignSign, Expression, Declaration, Assignment, First, FirstDeclares, FirstAssigns, JumpWord, Statement, Declare, DeclareArray, Assign, If, While, For, Barrier, Jump, Block, Statements, none, one, Parameter, Buffer, Value, Kernel}
 use Rattle.texts.specs.Grammar.{IsExpression}
 
 pub data IsAssignment : (room number : ℕ) → List Lexeme → Assignment → (rest : List Lexeme) → Type 0 where
@@ -63,6 +63,8 @@ mutual
     barrier : {room n : ℕ} {ts rest : List Lexeme} {flags : Expression} (at opening closing semicolon : Site) →
         IsExpression room ts flags (mark RightParenthesis closing ∷ mark Semicolon semicolon ∷ rest) →
         IsStatement (suc room) n (name (codes "barrier") at ∷ mark LeftParenthesis opening ∷ ts) (Barrier n at flags) (n + 1) rest
+    jump : {room n : ℕ} {rest : List Lexeme} (w : Reserved) (jump : JumpWord) (at semicolon : Site) → jump_of w ≡ Some jump →
+        IsStatement room n (word w at ∷ mark Semicolon semicolon ∷ rest) (Jump n at jump) (n + 1) rest
     block : {room n next : ℕ} {ts rest : List Lexeme} {body : Statements} (at : Site) →
         IsItems room (n + 1) ts body next rest → IsStatement (suc room) n (mark LeftBrace at ∷ ts) (Block n at body) next rest
 

@@ -1,6 +1,6 @@
 -- What it is for a kernel to be within the limits (ours). How many brackets are open at once the grammar has: at most 64.
 use Rattle.std.specs.Prelude.{◌≡◌, ℕ, ◌+◌, ◌*◌, ◌≤◌, List, None, Ok}
-use Rattle.texts.specs.Surface.{Statement, Declare, DeclareArray, Assign, If, While, For, Barrier, Block, Statements, none, one, Kernel}
+use Rattle.texts.specs.Surface.{Statement, Declare, DeclareArray, Assign, If, While, For, Barrier, Jump, Block, Statements, none, one, Kernel}
 use Rattle.texts.specs.Lexemes.{Lexeme}
 use Rattle.texts.specs.Ended.{IsShort}
 use Rattle.texts.specs.ParseFaults.{ParseFault, Expected, TooDeep, TooMany}
@@ -16,6 +16,7 @@ abbrev mutual
   ArraysFit (While n site test body) = AllArraysFit body
   ArraysFit (For n site first test update body) = AllArraysFit body
   ArraysFit (Barrier n site flags) = Unit {0}
+  ArraysFit (Jump n site jump) = Unit {0}
   ArraysFit (Block n site body) = AllArraysFit body
 
   pub AllArraysFit : Statements → Type 0
@@ -32,6 +33,7 @@ abbrev mutual
   statements_in (While n site test body) = 1 + statements_of body
   statements_in (For n site first test update body) = 3 + statements_of body
   statements_in (Barrier n site flags) = 1
+  statements_in (Jump n site jump) = 1
   statements_in (Block n site body) = 1 + statements_of body
 
   pub statements_of : Statements → ℕ

@@ -8,7 +8,7 @@ use Rattle.texts.specs.Signs.{Sign}
 use Rattle.texts.specs.Reserved as words
 use Rattle.texts.specs.Reserved.{Reserved}
 use Rattle.texts.specs.Tokens.{TokenKind, Name, Word, Number, Mark, Token}
-use Rattle.texts.specs.Surface.{PrefixSign, Minus, LogicalNot, BitNot, InfixSign, Arithmetic, LeftShift, RightShift, Comparison, LogicalAnd, LogicalOr, AssignSign, Plain, With, WithLeftShift, WithRightShift}
+use Rattle.texts.specs.Surface.{PrefixSign, Minus, LogicalNot, BitNot, InfixSign, Arithmetic, LeftShift, RightShift, Comparison, LogicalAnd, LogicalOr, AssignSign, Plain, With, WithLeftShift, WithRightShift, JumpWord, Return, Break, Continue}
 
 pub record Lexeme : Type 0 where
   pub kind : TokenKind
@@ -81,3 +81,10 @@ abbrev pub kind_of : Reserved → Option Kind
 kind_of words.Int = Some Int
 kind_of words.Uint = Some Uint
 kind_of w = None
+
+-- the words of jump statements (C99 6.8.6), `goto` aside
+abbrev pub jump_of : Reserved → Option JumpWord
+jump_of words.Return = Some Return
+jump_of words.Break = Some Break
+jump_of words.Continue = Some Continue
+jump_of w = None

@@ -2,7 +2,7 @@
 -- private variables together, 16 local arrays. (512 statements, an array's length and the local sizes are limited as they are read.)
 use Rattle.std.specs.Prelude.{ℕ, ◌+◌, List, [], ◌∷◌, Option, Some, None, Result, Ok, Err, cond, nat_lt}
 use Rattle.semantics.specs.Core.{Site}
-use Rattle.texts.specs.Surface.{Expression, Number, Name, Element, Call, Prefix, Cast, Infix, Conditional, Expressions, nothing, also, Declaration, Assignment, First, FirstDeclares, FirstAssigns, Statement, Declare, DeclareArray, Assign, If, While, For, Barrier, Block, Statements, none, one, Parameter, Buffer, Value, Kernel}
+use Rattle.texts.specs.Surface.{Expression, Number, Name, Element, Call, Prefix, Cast, Infix, Conditional, Expressions, nothing, also, Declaration, Assignment, First, FirstDeclares, FirstAssigns, Statement, Declare, DeclareArray, Assign, If, While, For, Barrier, Jump, Block, Statements, none, one, Parameter, Buffer, Value, Kernel}
 use Rattle.texts.specs.Elaboration.{either}
 use Rattle.texts.specs.ParseFaults.{ParseFault, TooDeep, TooMany}
 
@@ -51,6 +51,7 @@ abbrev mutual
   deep_statement depth (For n site first test update body) =
       past depth site (either (deep_first (depth + 1) first) (either (deep_expression (depth + 1) test) (either (deep_assignment (depth + 1) update) (deep_statements (depth + 1) body))))
   deep_statement depth (Barrier n site flags) = past depth site (deep_expression (depth + 1) flags)
+  deep_statement depth (Jump n site jump) = past depth site None
   deep_statement depth (Block n site body) = past depth site (deep_statements (depth + 1) body)
 
   pub deep_statements : (depth : ℕ) → Statements → Option Site
@@ -101,6 +102,7 @@ abbrev mutual
   count_statement c (While n site test body) = count_statements c body
   count_statement c (For n site first test update body) = next (count_first c first) (λ c. count_statements c body)
   count_statement c (Barrier n site flags) = Ok c
+  count_statement c (Jump n site jump) = Ok c
   count_statement c (Block n site body) = count_statements c body
 
   pub count_statements : Counts → Statements → Result Counts Site

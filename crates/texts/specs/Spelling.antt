@@ -6,7 +6,7 @@ use Rattle.texts.specs.Tokens as token
 use Rattle.texts.specs.Tokens.{TokenKind}
 use Rattle.texts.specs.Lexemes.{Lexeme}
 use Rattle.texts.specs.CertificateForms.{is_identifier}
-use Rattle.texts.specs.Surface.{Expression, Number, Name, Element, Call, Prefix, Cast, Infix, Conditional, Expressions, nothing, also, Declaration, Assignment, First, FirstDeclares, FirstAssigns, Statement, Declare, DeclareArray, Assign, If, While, For, Barrier, Block, Statements, none, one, Parameter, Buffer, Value, Kernel}
+use Rattle.texts.specs.Surface.{Expression, Number, Name, Element, Call, Prefix, Cast, Infix, Conditional, Expressions, nothing, also, Declaration, Assignment, First, FirstDeclares, FirstAssigns, Statement, Declare, DeclareArray, Assign, If, While, For, Barrier, Jump, Block, Statements, none, one, Parameter, Buffer, Value, Kernel}
 use Rattle.texts.specs.KernelLimits.{statements_in, statements_of}
 
 abbrev pub IsIdentifier : List ℕ → Type 0
@@ -61,6 +61,7 @@ abbrev mutual
   SpellsStatement (While n site test body) = SpellsExpression test × SpellsStatements body
   SpellsStatement (For n site first test update body) = SpellsFirst first × SpellsExpression test × SpellsAssignment update × SpellsStatements body
   SpellsStatement (Barrier n site flags) = SpellsExpression flags
+  SpellsStatement (Jump n site jump) = Unit {0}
   SpellsStatement (Block n site body) = SpellsStatements body
 
   pub SpellsStatements : Statements → Type 0
@@ -89,6 +90,7 @@ abbrev mutual
   IsNumbered n (While m site test body) = (m ≡ n) × AreNumbered (n + 1) body
   IsNumbered n (For m site first test update body) = (m ≡ n) × (first_number first ≡ n + 1) × (update.number ≡ n + 2) × AreNumbered (n + 3) body
   IsNumbered n (Barrier m site flags) = m ≡ n
+  IsNumbered n (Jump m site jump) = m ≡ n
   IsNumbered n (Block m site body) = (m ≡ n) × AreNumbered (n + 1) body
 
   pub AreNumbered : (n : ℕ) → Statements → Type 0

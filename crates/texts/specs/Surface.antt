@@ -62,6 +62,12 @@ pub record Assignment : Type 0 where
   pub sign_site : Site
   pub value : Expression
 
+-- which jump statement it is (C99 6.8.6)
+pub data JumpWord : Type 0 where
+  Return : JumpWord
+  Break : JumpWord
+  Continue : JumpWord
+
 -- the first part of a `for`
 pub data First : Type 0 where
   FirstDeclares : (declaration : Declaration) → First
@@ -76,6 +82,7 @@ mutual
     While : (number : ℕ) (site : Site) (test : Expression) (body : Statements) → Statement
     For : (number : ℕ) (site : Site) (first : First) (test : Expression) (update : Assignment) (body : Statements) → Statement
     Barrier : (number : ℕ) (site : Site) (flags : Expression) → Statement
+    Jump : (number : ℕ) (site : Site) (jump : JumpWord) → Statement
     Block : (number : ℕ) (site : Site) (body : Statements) → Statement
 
   pub data Statements : Type 0 where
@@ -112,6 +119,7 @@ begins_at (If n site test a b) = site
 begins_at (While n site test body) = site
 begins_at (For n site first test update body) = site
 begins_at (Barrier n site flags) = site
+begins_at (Jump n site jump) = site
 begins_at (Block n site body) = site
 
 abbrev pub number_of : Statement → ℕ
@@ -122,4 +130,5 @@ number_of (If n site test a b) = n
 number_of (While n site test body) = n
 number_of (For n site first test update body) = n
 number_of (Barrier n site flags) = n
+number_of (Jump n site jump) = n
 number_of (Block n site body) = n

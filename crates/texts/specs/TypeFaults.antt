@@ -11,6 +11,7 @@ pub data TypeFault : Type 0 where
   LoadInCompoundIndex : TypeFault
   BarrierFlags : TypeFault
   LeftOutWord : TypeFault
+  JumpOutsideLoop : TypeFault
 
 -- the number that each is printed under
 abbrev pub type_fault_number : TypeFault → ℕ
@@ -22,6 +23,7 @@ type_fault_number ArrayInBlock = 24
 type_fault_number LoadInCompoundIndex = 25
 type_fault_number BarrierFlags = 26
 type_fault_number LeftOutWord = 27
+type_fault_number JumpOutsideLoop = 28
 
 -- what typing gives, or its first fault with its place
 abbrev pub Checked : Type 0 → Type 0

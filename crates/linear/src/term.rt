@@ -5,7 +5,6 @@ ghost use Rattle.linear.specs.Exact.{Terms, fits_i64, fits_terms, put, divides};
 ghost use Rattle.linear.specs.Terms.{term, terms};
 
 use super::form::LinearError;
-use smallvec::SmallVec;
 use std::alloc::AllocError;
 
 /// What a number stands for, by its number in a table of the caller's.
@@ -21,8 +20,8 @@ pub struct Term {
     pub coefficient: i64,
 }
 
-/// Terms, of which a form has few: four and fewer lie in the form itself.
-pub type TermList = SmallVec<Term, 4>;
+/// Terms in rising order of their symbols.
+pub type TermList = Vec<Term>;
 
 /// A number and a multiple of another one, which are small enough for `i128`.
 fn wide(x: i64, k: i64, y: i64) -> i128

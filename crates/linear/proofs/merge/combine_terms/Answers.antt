@@ -77,7 +77,7 @@ pub returns-clause-exact : goal.returns-clause-exact
 returns-clause-exact c =
     let fk = c.ranges.k in
     let e = simp to_z-of_z at c.loop-j.invariant.same in
-    merged_rest c.args.k c.loop-j.out.items _ c.args.a.now c.args.b.now c.loop-j.i c.loop-j.j _ (rw take_rest at c.in_ok-extend_from_slice.ensures.ok) c.loop-j-test.false e
+    merged_rest c.args.k c.loop-j.out.items _ c.args.a.now c.args.b.now c.loop-j.i c.loop-j.j _ (rw take_rest at c.in_ok-extend_from_slice.ensures.items) c.loop-j-test.false e
 
 pub returns-clause-fits : goal.returns-clause-fits
-returns-clause-fits c = fits_rest c.loop-j.out.items _ c.args.a.now c.loop-j.i (rw take_rest at c.in_ok-extend_from_slice.ensures.ok) c.loop-j.invariant.fits c.requires.left_fits
+returns-clause-fits c = fits_rest c.loop-j.out.items _ c.args.a.now c.loop-j.i (rw take_rest at c.in_ok-extend_from_slice.ensures.items) c.loop-j.invariant.fits c.requires.left_fits

@@ -25,53 +25,90 @@ const EMPTY: &str = "certificate 1\nend\n";
 
 pub const USAGE: &str = "2  usage: kverify prove | check | explain | run | print\n";
 
-/// Files of a fill, its conditions, certificate and launch, of two kernels that are not shown, and of texts that are too long.
-fn files(alloc: Global) -> Result<Held, Fail> {
-    let mut held = Held::new(alloc);
-    let texts = first_texts();
-    put(&mut held, "k", texts.kernel)?;
-    put(&mut held, "c", texts.conditions)?;
-    put(&mut held, "p", texts.certificate)?;
-    put(&mut held, "l", LAUNCH.as_bytes())?;
-    put(
-        &mut held,
+/// A launch of too many groups and one with too short a buffer, a certificate without entries, and two kernels that are not shown.
+const FILES: &[(&str, &str)] = &[
+    ("l", LAUNCH),
+    (
         "many",
-        b"launch 1\ngroups 2000 1 1\nbuffer a fill 65536 0\nfill 0\n",
-    )?;
-    put(
-        &mut held,
+        "launch 1\ngroups 2000 1 1\nbuffer a fill 65536 0\nfill 0\n",
+    ),
+    (
         "short",
-        b"launch 1\ngroups 1 1 1\nbuffer a fill 65535 0\nfill 0\n",
-    )?;
-    put(&mut held, "empty", EMPTY.as_bytes())?;
-    put(
-        &mut held,
+        "launch 1\ngroups 1 1 1\nbuffer a fill 65535 0\nfill 0\n",
+    ),
+    ("empty", EMPTY),
+    (
         "wraps",
-        b"kernel __attribute__((reqd_work_group_size(64, 1, 1))) void k(__global uint *a) { a[get_global_id(0) * 67108864u] = 1u; }\n",
-    )?;
-    put(
-        &mut held,
+        "kernel __attribute__((reqd_work_group_size(64, 1, 1))) void k(__global uint *a) { a[get_global_id(0) * 67108864u] = 1u; }\n",
+    ),
+    (
         "two",
-        b"conditions 1\ngroups 2..2 1..1 1..1\nlength a >= 128\nbudget 1\n",
-    )?;
-    put(
-        &mut held,
+        "conditions 1\ngroups 2..2 1..1 1..1\nlength a >= 128\nbudget 1\n",
+    ),
+    (
         "races",
-        b"kernel __attribute__((reqd_work_group_size(1, 1, 1))) void k(__global uint *a) { a[0] = 1u; }\n",
-    )?;
-    let mut stores = String::from_str(alloc, HEAD)?;
-    for _ in 0..513 {
-        stores.push_str("a[get_global_id(0)] = 1u;\n")?;
+        "kernel __attribute__((reqd_work_group_size(1, 1, 1))) void k(__global uint *a) { a[0] = 1u; }\n",
+    ),
+];
+
+/// The text with as many lines behind it, and the brace that closes it.
+fn with_lines(alloc: Global, head: &str, line: &str, count: u32) -> Result<String, Fail> {
+    let mut text = String::from_str(alloc, head)?;
+    for _ in 0..count {
+        text.push_str(line)?;
     }
-    stores.push_str("}")?;
-    put(&mut held, "stores", stores.as_bytes())?;
-    let mut full = Vec::from_slice(alloc, texts.kernel)?;
-    for _ in texts.kernel.len()..65_536 {
+    text.push_str("}")?;
+    Ok(text)
+}
+
+/// The bytes with blanks behind them, up to a length.
+fn filled_up(alloc: Global, bytes: &[u8], length: usize) -> Result<Vec<u8>, Fail> {
+    let mut full = Vec::from_slice(alloc, bytes)?;
+    for _ in bytes.len()..length {
         full.push(b' ')?;
     }
-    put(&mut held, "full", &full)?;
-    put(&mut held, "long", &vec![in alloc; b' '; 65_537]?)?;
-    put(&mut held, "longer", &vec![in alloc; b' '; 4_194_305]?)?;
+    Ok(full)
+}
+
+/// A fill with its conditions and certificate.
+fn put_fill(held: &mut Held) -> Result<(), Fail> {
+    let texts = first_texts();
+    put(held, "k", texts.kernel)?;
+    put(held, "c", texts.conditions)?;
+    put(held, "p", texts.certificate)
+}
+
+/// A kernel of 513 statements.
+fn put_stores(alloc: Global, held: &mut Held) -> Result<(), Fail> {
+    let stores = with_lines(alloc, HEAD, "a[get_global_id(0)] = 1u;\n", 513)?;
+    put(held, "stores", stores.as_bytes())
+}
+
+/// A kernel as long as it may be.
+fn put_full(alloc: Global, held: &mut Held) -> Result<(), Fail> {
+    let full = filled_up(alloc, first_texts().kernel, 65_536)?;
+    put(held, "full", &full)
+}
+
+/// Texts that are longer than a kernel, and than a launch, may be.
+fn put_long(alloc: Global, held: &mut Held) -> Result<(), Fail> {
+    for (name, length) in [("long", 65_537), ("longer", 4_194_305)] {
+        let blanks = filled_up(alloc, b"", length)?;
+        put(held, name, &blanks)?;
+    }
+    Ok(())
+}
+
+/// Files of a fill and its launch, of kernels that are not shown, and of texts that are too long.
+fn files(alloc: Global) -> Result<Held, Fail> {
+    let mut held = Held::new(alloc);
+    put_fill(&mut held)?;
+    for (name, text) in FILES {
+        put(&mut held, name, text.as_bytes())?;
+    }
+    put_stores(alloc, &mut held)?;
+    put_full(alloc, &mut held)?;
+    put_long(alloc, &mut held)?;
     Ok(held)
 }
 

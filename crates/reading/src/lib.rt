@@ -65,7 +65,7 @@ impl KernelError {
     }
 }
 
-/// The kernel of a text, typed, or its first fault with its place (numbers 1 to 5, 10 to 12, 20 to 27).
+/// The kernel of a text, typed, or its first fault with its place (numbers 1 to 5, 10 to 12, 20 to 28).
 #[tactic(auto, using(crate::proofs::Lexemes::lexemes_seen), unfolding(crate::specs::Kernels::read))]
 pub fn read_kernel(alloc: Global, bytes: &[u8]) -> Result<Typed, KernelError>
     ensures { Gives result (read bytes.now) }

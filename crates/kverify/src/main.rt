@@ -15,6 +15,8 @@ mod check_tests;
 mod choices;
 mod disk;
 #[cfg(test)]
+mod exits;
+#[cfg(test)]
 mod explained;
 mod patience;
 #[cfg(test)]

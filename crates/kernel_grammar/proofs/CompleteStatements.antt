@@ -23,7 +23,7 @@ use Rattle.kernel_grammar.proofs.Beginnings.{inner, parts, too-deep-statement}
 use Rattle.kernel_grammar.proofs.CompleteExpressions.{Shallow, semicolon_closes}
 use Rattle.kernel_grammar.proofs.CompleteParts.{type-taken, assignment-complete, declaration-complete, typed-front, tested-complete, head-complete, length-complete}
 use Rattle.kernel_grammar.proofs.SoundStatements.{name-of}
-use Rattle.kernel_grammar.proofs.StatementReads.{statement-begins, item-begins, no-brace, no-statement-level, no-item-level, statement-step, item-step, single-step, no-braces, braces-step, block-step, no-item-left, end-step, items-step, no-else-read, assign-step, barrier-step}
+use Rattle.kernel_grammar.proofs.StatementReads.{statement-begins, item-begins, no-brace, no-statement-level, no-item-level, statement-step, item-step, single-step, no-braces, braces-step, block-step, no-item-left, end-step, items-step, no-else-read, assign-step, barrier-step, jump-step}
 
 -- no more lexemes than a text has, no more than 512 statements, and arrays of a fair length
 abbrev pub FewStatements : (next : ℕ) → (fair : Type 0) → List Lexeme → Type 0
@@ -86,6 +86,8 @@ mutual
   statement-complete n (rules.barrier at opening closing semicolon h) first (suc depth) room d le =
       statement-step depth room n (λ f. omega (arith, f.1)) (barrier-step (body_reader depth) (block_reader depth) room depth n at
       (both (tested-complete opening closing h room depth (d + 1) (omega (arith, le))) (λ f. (f.0, inner d at _ f.1)) (λ f. omega (arith, f.0)) (sure refl gives)))
+  statement-complete n (rules.jump w jump at semicolon found) first (suc depth) room d le =
+      statement-step depth room n (λ f. omega (arith, f.1)) (jump-step (body_reader depth) (block_reader depth) room depth n w jump at semicolon found)
   statement-complete n (rules.block at h) first (suc depth) zero d le = statement-step depth zero n (λ f. omega (arith, f.1, items-counts (n + 1) h)) (refuses-deep (λ f. omega (arith, f.0)))
   statement-complete n (rules.block at h) first (suc depth) (suc room) d le =
       statement-step depth (suc room) n (λ f. omega (arith, f.1, items-counts (n + 1) h)) (passes

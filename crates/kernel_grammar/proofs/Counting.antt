@@ -1,7 +1,7 @@
 -- The numbers of statements count them.
 use Rattle.std.proofs.Common.{◌≡◌, ◌≤◌, ℕ, ◌+◌, List, refl, arith}
 use Rattle.texts.specs.Lexemes.{Lexeme}
-use Rattle.texts.specs.Surface.{Statement, Declare, DeclareArray, Assign, If, While, For, Barrier, Block, Statements}
+use Rattle.texts.specs.Surface.{Statement, Declare, DeclareArray, Assign, If, While, For, Barrier, Jump, Block, Statements}
 use Rattle.texts.specs.KernelLimits.{statements_in, statements_of}
 use Rattle.texts.specs.KernelGrammar as kernels
 use Rattle.texts.specs.KernelGrammar.{IsStatement, IsBody, IsItems, IsItem}
@@ -14,6 +14,7 @@ at-least-one (If n site test a b) = omega arith
 at-least-one (While n site test body) = omega arith
 at-least-one (For n site first test update body) = omega arith
 at-least-one (Barrier n site flags) = omega arith
+at-least-one (Jump n site jump) = omega arith
 at-least-one (Block n site body) = omega arith
 
 mutual
@@ -24,6 +25,7 @@ mutual
   statement-counts n (kernels.while at opening closing h a) = omega (arith, body-counts (n + 1) a)
   statement-counts n (kernels.for at opening semicolon then closing f h u a) = omega (arith, body-counts (n + 3) a)
   statement-counts n (kernels.barrier at opening closing semicolon h) = refl
+  statement-counts n (kernels.jump w jump at semicolon found) = refl
   statement-counts n (kernels.block at h) = omega (arith, items-counts (n + 1) h)
 
   pub body-counts : {room : ℕ} (n : ℕ) {next : ℕ} {ts rest : List Lexeme} {ss : Statements} → IsBody room n ts ss next rest → next ≡ n + statements_of ss

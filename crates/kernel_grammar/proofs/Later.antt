@@ -77,6 +77,7 @@ mutual
   statement-later (kernels.while at opening closing h a) = over refl (over refl (past refl (expression-later h) (body-later a)))
   statement-later (kernels.for at opening semicolon then closing f h u a) = over refl (over refl (past refl (first-later f) (past refl (expression-later h) (past refl (assignment-later u) (body-later a)))))
   statement-later (kernels.barrier at opening closing semicolon h) = over refl (over refl (past refl (expression-later h) (over refl stays)))
+  statement-later (kernels.jump w jump at semicolon found) = over refl (over refl stays)
   statement-later (kernels.block at h) = over refl (items-later h)
 
   pub body-later : {room n next : ℕ} {ts rest : List Lexeme} {ss : Statements} → IsBody room n ts ss next rest → Later ts rest

@@ -7,17 +7,18 @@ use Rattle.semantics.specs.Word.{Kind}
 use Rattle.semantics.specs.Core.{Site}
 use Rattle.texts.specs.Signs as signs
 use Rattle.texts.specs.Reserved as words
+use Rattle.texts.specs.Reserved.{Reserved}
 use Rattle.texts.specs.Tokens as token
 use Rattle.texts.specs.Tokens.{TokenKind}
-use Rattle.texts.specs.Lexemes.{Lexeme, mark, word, name, number}
+use Rattle.texts.specs.Lexemes.{Lexeme, mark, word, name, number, jump_of}
 use Rattle.texts.specs.ParseFaults.{Expected, TooDeep, TooMany}
-use Rattle.texts.specs.Surface.{Expression, Assignment, Statement, Declare, DeclareArray, Assign, If, While, For, Barrier, Block, Statements, none, one}
+use Rattle.texts.specs.Surface.{Expression, Assignment, JumpWord, Return, Break, Continue, Statement, Declare, DeclareArray, Assign, If, While, For, Barrier, Jump, Block, Statements, none, one}
 use Rattle.texts.specs.KernelLimits.{ArraysFit, AllArraysFit}
 use Rattle.texts.specs.KernelGrammar as rules
 use Rattle.texts.specs.KernelGrammar.{IsAssignment, IsDeclaration, IsStatement, IsBody, IsItems, IsItem, is_else, no_else, is_block}
 use Rattle.readers.specs.Reader.{Reader, Gives, Fails, Looks, Passes, Then, Took, front, behind, run}
 use Rattle.readers.specs.Expressions.{is_left_bracket, is_right_bracket, expects, kind_at}
-use Rattle.readers.specs.Statements.{is_semicolon, is_left_brace, is_right_brace, is_local, bracket, block_reader, tested, Head, head_reader, assignment_reader, declaration_reader, items, most_items, else_reader, named, statement_by, counted, length_reader, array_reader, item_by, body_by, levels}
+use Rattle.readers.specs.Statements.{is_semicolon, is_left_brace, is_right_brace, is_local, bracket, block_reader, tested, Head, head_reader, assignment_reader, declaration_reader, items, most_items, else_reader, named, jump_reader, statement_by, counted, length_reader, array_reader, item_by, body_by, levels}
 use Rattle.readers.specs.Kernels.{is_end}
 use Rattle.kernel_grammar.proofs.Inversion.{not-taken, on-test, front-is, same-value, same-rest}
 use Rattle.kernel_grammar.proofs.Marks.{left_bracket}
@@ -73,6 +74,7 @@ no-block (rules.if_else at opening closing other h a b) e = refl
 no-block (rules.while at opening closing h a) e = refl
 no-block (rules.for at opening semicolon then closing f h u a) e = refl
 no-block (rules.barrier at opening closing semicolon h) e = refl
+no-block (rules.jump w jump at semicolon found) e = refl
 no-block (rules.block at h) e = absurd (false≢true (sym e))
 
 body-sound : (statement : (room n : ℕ) → Reader (Statement × ℕ)) (block : (room n : ℕ) → Reader (Statements × ℕ)) → StatementsSound statement → BlocksSound block → BodiesSound (body_by statement block)
@@ -156,6 +158,14 @@ choice-sound body sound room n at ts us vs rest e a b test h k =
 fronted : (room n : ℕ) (ts rest : List Lexeme) (s : Statement × ℕ) (kind : TokenKind) → is_end kind ≡ false → (front ts).kind ≡ kind → StatementRead room n (record { kind = kind; site = (front ts).site } ∷ behind ts) s rest → StatementRead room n ts s rest
 fronted room n ts rest s kind stays q h = subst (λ l. StatementRead room n l s rest) (sym (front-is ts kind stays q)) h
 
+jump-sound : (room n : ℕ) → n ≤ 512 → (ts rest : List Lexeme) (s : Statement × ℕ) (w : Reserved) (jump : JumpWord) → jump_of w ≡ Some jump → (front ts).kind ≡ token.Word w → run (jump_reader n (front ts).site jump) ts ≡ Took s rest → StatementRead room n ts s rest
+unfolding jump_reader
+jump-sound room n le ts rest s w jump found q k =
+    let c = taking (Then (expects is_semicolon) (λ semicolon. Gives (Jump n (front ts).site jump, n + 1))) (behind ts) rest s k in
+    fronted room n ts rest s (token.Word w) refl q (settled (StatementRead room n (word w (front ts).site ∷ behind ts)) s (Jump n (front ts).site jump, n + 1) c.1 rest c.3
+    (subst (λ l. IsStatement room n (word w (front ts).site ∷ l) (Jump n (front ts).site jump) (n + 1) c.1) (sym (semicolon_due (behind ts) c.1 c.0 c.2))
+    (rules.jump w jump (front ts).site (front (behind ts)).site found), omega (arith, le), tt))
+
 by-word : (body block : (room n : ℕ) → Reader (Statements × ℕ)) → BodiesSound body → BlocksSound block → (room depth n : ℕ) → n ≤ 512 → (ts rest : List Lexeme) (s : Statement × ℕ) (kind : TokenKind) → (front ts).kind ≡ kind → run (statement_by body block room depth n (front ts).site kind) ts ≡ Took s rest → StatementRead room n ts s rest
 by-word body block bodies blocks room depth n le ts rest s (token.Name x) q k = named-sound room depth n le ts rest x s q k
 by-word body block bodies blocks room depth n le ts rest s (token.Mark signs.LeftBrace) q k =
@@ -186,6 +196,9 @@ by-word body block bodies blocks room depth n le ts rest s (token.Word words.For
     let h = bodies room (n + 3) (omega (arith, ltb-false 510 n few)) w.1 a.1 a.0 a.2 in
     fronted room n ts rest s (token.Word words.For) refl q (settled (StatementRead room n (word words.For (front ts).site ∷ behind ts)) s (For n (front ts).site w.0.first w.0.test w.0.update a.0.0, a.0.1) a.1 rest a.3
     (for-read n (front ts).site (head-sound room depth (n + 1) (behind ts) w.1 w.0 w.2) h.0, h.1, h.2)))
+by-word body block bodies blocks room depth n le ts rest s (token.Word words.Return) q k = jump-sound room n le ts rest s words.Return Return refl q k
+by-word body block bodies blocks room depth n le ts rest s (token.Word words.Break) q k = jump-sound room n le ts rest s words.Break Break refl q k
+by-word body block bodies blocks room depth n le ts rest s (token.Word words.Continue) q k = jump-sound room n le ts rest s words.Continue Continue refl q k
 by-word body block bodies blocks room depth n le ts rest s kind q k = absurd (not-taken Expected ts rest s k)
 
 -- a local array

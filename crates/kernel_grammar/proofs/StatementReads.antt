@@ -5,19 +5,28 @@ use Rattle.std.proofs.lemmas.Bool.{false≢true, le-ltb, false_from_ne_true}
 use Rattle.std.proofs.lemmas.Slice.Eq.{bytes_eq-Decides}
 use Rattle.semantics.specs.Core.{Site}
 use Rattle.texts.specs.Signs as signs
+use Rattle.texts.specs.Reserved as words
+use Rattle.texts.specs.Reserved.{Reserved}
 use Rattle.texts.specs.Tokens as token
 use Rattle.texts.specs.Tokens.{TokenKind}
-use Rattle.texts.specs.Lexemes.{Lexeme, mark, name}
-use Rattle.texts.specs.Surface.{Statement, Statements, Assign, Barrier, none, one}
+use Rattle.texts.specs.Lexemes.{Lexeme, mark, word, name, kind_of, jump_of}
+use Rattle.texts.specs.Surface.{JumpWord, Return, Break, Continue, Statement, Statements, Assign, Barrier, Jump, none, one}
 use Rattle.texts.specs.KernelGrammar as rules
 use Rattle.texts.specs.KernelGrammar.{IsStatement, IsItem, is_else, no_else, is_block}
 use Rattle.readers.specs.Reader.{Reader, Gives, Passes, Then, Took, front, run}
 use Rattle.readers.specs.Expressions.{expects, kind_at}
-use Rattle.readers.specs.Statements.{is_semicolon, is_left_brace, is_right_brace, is_local, tested, assignment_reader, named, items, else_reader, statement_by, item_by, statement_reader, body_reader, block_reader, item_reader}
-use Rattle.kernel_grammar.proofs.Options.{none-some}
-use Rattle.kernel_grammar.proofs.Answers.{Answers, gives, refuses-deep, refuses-many, looks, passes, if-false, if-not}
+use Rattle.readers.specs.Statements.{is_semicolon, is_left_brace, is_right_brace, is_local, tested, assignment_reader, named, jump_reader, items, else_reader, statement_by, item_by, statement_reader, body_reader, block_reader, item_reader}
+use Rattle.kernel_grammar.proofs.Options.{none-some, same-some}
+use Rattle.kernel_grammar.proofs.Answers.{Answers, takes, gives, refuses-deep, refuses-many, looks, passes, if-false, if-not}
 use Rattle.kernel_grammar.proofs.CompleteParts.{typed-front}
 use Rattle.kernel_grammar.proofs.SoundStatements.{name-of}
+
+-- a jump's word is no type, nor a qualifier
+jump-begins : (w : Reserved) (jump : JumpWord) → jump_of w ≡ Some jump → (kind_of w ≡ None) × (is_local (token.Word w) ≡ false)
+jump-begins words.Return jump h = (refl, refl)
+jump-begins words.Break jump h = (refl, refl)
+jump-begins words.Continue jump h = (refl, refl)
+jump-begins w jump h = absurd (none-some jump h)
 
 -- how statements begin
 pub statement-begins : {room n next : ℕ} {ts rest : List Lexeme} {s : Statement} → IsStatement room n ts s next rest → (kind_at (front ts).kind ≡ None) × (is_local (front ts).kind ≡ false) × (is_right_brace (front ts).kind ≡ false)
@@ -27,6 +36,7 @@ statement-begins (rules.if_else at opening closing other h a b) = (refl, refl, r
 statement-begins (rules.while at opening closing h a) = (refl, refl, refl)
 statement-begins (rules.for at opening semicolon then closing f h u a) = (refl, refl, refl)
 statement-begins (rules.barrier at opening closing semicolon h) = (refl, refl, refl)
+statement-begins (rules.jump w jump at semicolon found) = let b = jump-begins w jump found in (b.0, b.1, refl)
 statement-begins (rules.block at h) = (refl, refl, refl)
 
 typed-is : (kind : TokenKind) (k : _) → kind_at kind ≡ Some k → is_right_brace kind ≡ false
@@ -46,6 +56,7 @@ no-brace (rules.if_else at opening closing other h a b) e = refl
 no-brace (rules.while at opening closing h a) e = refl
 no-brace (rules.for at opening semicolon then closing f h u a) e = refl
 no-brace (rules.barrier at opening closing semicolon h) e = refl
+no-brace (rules.jump w jump at semicolon found) e = refl
 no-brace (rules.block at h) e = absurd (false≢true (sym e))
 
 pub no-statement-level : (room n : ℕ) {ts rest : List Lexeme} {s : Statement × ℕ} {deep many : Type 0} → (deep → ⊥) → Answers (statement_reader zero room n) ts s rest deep many
@@ -120,3 +131,12 @@ pub barrier-step : (body block : (room n : ℕ) → Reader (Statements × ℕ)) 
     Answers (Then (tested room depth) (λ flags. Then (expects is_semicolon) (λ semicolon. Gives (Barrier n at flags, n + 1)))) ts s rest deep many → Answers (statement_by body block room depth n at (token.Name (codes "barrier"))) (name (codes "barrier") at ∷ ts) s rest deep many
 unfolding named
 barrier-step body block room depth n at h = passes h
+
+-- a jump is sure to be taken
+pub jump-step : (body block : (room n : ℕ) → Reader (Statements × ℕ)) (room depth n : ℕ) {rest : List Lexeme} {deep many : Type 0} (w : Reserved) (jump : JumpWord) (at semicolon : Site) → jump_of w ≡ Some jump →
+    Answers (statement_by body block room depth n at (token.Word w)) (word w at ∷ mark signs.Semicolon semicolon ∷ rest) (Jump n at jump, n + 1) rest deep many
+unfolding jump_reader
+jump-step body block room depth n {rest = rest} words.Return jump at semicolon found = takes (ap (λ j. Took (Jump n at j, n + 1) rest) (same-some (Some Return) Return jump refl found))
+jump-step body block room depth n {rest = rest} words.Break jump at semicolon found = takes (ap (λ j. Took (Jump n at j, n + 1) rest) (same-some (Some Break) Break jump refl found))
+jump-step body block room depth n {rest = rest} words.Continue jump at semicolon found = takes (ap (λ j. Took (Jump n at j, n + 1) rest) (same-some (Some Continue) Continue jump refl found))
+jump-step body block room depth n w jump at semicolon found = absurd (none-some jump found)

@@ -64,6 +64,7 @@ mutual
       let more = (left (expression-later h) rest).1 in
       (first-spelt f a.1.1, expression-spelt h rest, assignment-spelt u more, body-spelt b (left (assignment-later u) more).1)
   statement-spelt (kernels.barrier at opening closing semicolon h) a = expression-spelt h a.1.1
+  statement-spelt (kernels.jump w jump at semicolon found) a = tt
   statement-spelt (kernels.block at h) a = items-spelt h a.1
 
   body-spelt : {room n next : ℕ} {ts rest : List Lexeme} {ss : Statements} → IsBody room n ts ss next rest → AreSpelt ts → SpellsStatements ss
@@ -109,6 +110,7 @@ mutual
   statement-numbered n (kernels.while at opening closing h a) = (refl, body-numbered (n + 1) a)
   statement-numbered n (kernels.for at opening semicolon then closing f h u a) = (refl, first-number f, assignment-number u, body-numbered (n + 3) a)
   statement-numbered n (kernels.barrier at opening closing semicolon h) = refl
+  statement-numbered n (kernels.jump w jump at semicolon found) = refl
   statement-numbered n (kernels.block at h) = (refl, items-numbered (n + 1) h)
 
   body-numbered : (n : ℕ) {room next : ℕ} {ts rest : List Lexeme} {ss : Statements} → IsBody room n ts ss next rest → AreNumbered n ss

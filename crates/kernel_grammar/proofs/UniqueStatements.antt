@@ -6,8 +6,8 @@ use Rattle.texts.specs.Signs as signs
 use Rattle.texts.specs.Reserved as words
 use Rattle.texts.specs.Tokens as token
 use Rattle.texts.specs.Tokens.{TokenKind}
-use Rattle.texts.specs.Lexemes.{Lexeme, mark, word, kind_of, assign_of}
-use Rattle.texts.specs.Surface.{Declaration, Assignment, First, FirstDeclares, FirstAssigns, Statement, Declare, DeclareArray, Assign, If, While, For, Barrier, Block, Statements, none, one}
+use Rattle.texts.specs.Lexemes.{Lexeme, mark, word, kind_of, assign_of, jump_of}
+use Rattle.texts.specs.Surface.{Declaration, Assignment, First, FirstDeclares, FirstAssigns, Statement, Declare, DeclareArray, Assign, If, While, For, Barrier, Jump, Block, Statements, none, one}
 use Rattle.texts.specs.Grammar.{IsExpression}
 use Rattle.texts.specs.KernelGrammar as rules
 use Rattle.texts.specs.KernelGrammar.{IsAssignment, IsDeclaration, IsFirst, IsStatement, IsBody, IsItems, IsItem, no_else}
@@ -95,6 +95,7 @@ mutual
   statement-unique (rules.assigns semicolon differs h) (rules.while at opening closing e a) = absurd (no-name h (token.Word words.While) refl refl)
   statement-unique (rules.assigns semicolon differs h) (rules.for at opening semicolon' then closing f e u a) = absurd (no-name h (token.Word words.For) refl refl)
   statement-unique (rules.assigns semicolon differs h) (rules.barrier at opening closing semicolon' e) = absurd (differs (its-name h (codes "barrier") refl))
+  statement-unique (rules.assigns semicolon differs h) (rules.jump w jump at semicolon' found) = absurd (no-name h (token.Word w) refl refl)
   statement-unique (rules.assigns semicolon differs h) (rules.block at a) = absurd (no-name h (token.Mark signs.LeftBrace) refl refl)
   statement-unique (rules.if_alone at opening closing e a free) (rules.assigns semicolon differs h) = absurd (no-name h (token.Word words.If) refl refl)
   statement-unique {n = n} (rules.if_alone {e = e} {a = a} at opening closing h b free) (rules.if_alone {room = other} {next = over} {rest = left} {e = f} {a = c} at' opening' closing' h' b' free') =
@@ -130,6 +131,8 @@ mutual
   statement-unique (rules.barrier at opening closing semicolon' e) (rules.assigns semicolon differs h) = absurd (differs (its-name h (codes "barrier") refl))
   statement-unique {n = n} (rules.barrier at opening closing semicolon h) (rules.barrier at' opening' closing' semicolon' h') =
       let q = expression-unique h h' parenthesis_closes parenthesis_closes in (ap (Barrier n at) q.0, refl, ap (λ l. behind (behind l)) q.1)
+  statement-unique (rules.jump w jump at semicolon' found) (rules.assigns semicolon differs h) = absurd (no-name h (token.Word w) refl refl)
+  statement-unique {n = n} (rules.jump w jump at semicolon found) (rules.jump w' jump' at' semicolon' found') = (ap (Jump n at) (same-some (jump_of w) jump jump' found found'), refl, refl)
   statement-unique (rules.block at a) (rules.assigns semicolon differs h) = absurd (no-name h (token.Mark signs.LeftBrace) refl refl)
   statement-unique {n = n} (rules.block at h) (rules.block at' h') = let q = items-unique h h' in (ap (Block n at) q.0, q.1, q.2)
 

@@ -5,7 +5,7 @@ use Rattle.semantics.specs.Core.{Site}
 use Rattle.texts.specs.Bare.{nowhere, bare_expression, bare_expressions, bare_declaration, bare_index, bare_assignment, bare_first, bare_statement, bare_statements, bare_parameter, bare_kernel}
 use Rattle.texts.specs.Limits.{past, deep_expression, deep_arguments, deep_index, deep_declaration, deep_assignment, deep_first, deep_statement, deep_statements, Counts, nothing_declared, next, count_parameter, count_parameters, count_first, count_statement, count_statements}
 use Rattle.texts.specs.KernelLimits.{ArraysFit, AllArraysFit, statements_in, statements_of, IsWithinLimits}
-use Rattle.texts.specs.Surface.{Expression, Number, Name, Element, Call, Prefix, Cast, Infix, Conditional, Expressions, nothing, also, Declaration, Assignment, First, FirstDeclares, FirstAssigns, Statement, Declare, DeclareArray, Assign, If, While, For, Barrier, Block, Statements, none, one, Parameter, Buffer, Value, Kernel}
+use Rattle.texts.specs.Surface.{Expression, Number, Name, Element, Call, Prefix, Cast, Infix, Conditional, Expressions, nothing, also, Declaration, Assignment, First, FirstDeclares, FirstAssigns, Statement, Declare, DeclareArray, Assign, If, While, For, Barrier, Jump, Block, Statements, none, one, Parameter, Buffer, Value, Kernel}
 use Rattle.printing_laws.proofs.BareStatements.{bare_place, bare-both}
 
 -- depth
@@ -58,6 +58,7 @@ mutual
       bare-past depth site _ _ (bare-both _ _ _ _ (deep-first (depth + 1) first) (bare-both _ _ _ _ (deep-expression (depth + 1) test)
       (bare-both _ _ _ _ (deep-assignment (depth + 1) update) (deep-statements (depth + 1) body))))
   deep-statement depth (Barrier n site flags) = bare-past depth site _ _ (deep-expression (depth + 1) flags)
+  deep-statement depth (Jump n site jump) = bare-past depth site _ _ refl
   deep-statement depth (Block n site body) = bare-past depth site _ _ (deep-statements (depth + 1) body)
 
   deep-statements : (depth : ℕ) (ss : Statements) → deep_statements depth (bare_statements ss) ≡ bare_place (deep_statements depth ss)
@@ -98,6 +99,7 @@ mutual
   count-statement c (While n site test body) = count-statements c body
   count-statement c (For n site first test update body) = bare-next _ _ _ _ (count-first c first) (λ d. count-statements d body)
   count-statement c (Barrier n site flags) = refl
+  count-statement c (Jump n site jump) = refl
   count-statement c (Block n site body) = count-statements c body
 
   count-statements : (c : Counts) (ss : Statements) → count_statements c (bare_statements ss) ≡ bare_counts (count_statements c ss)
@@ -114,6 +116,7 @@ mutual
   statements-in (While n site test body) = ap (λ m. 1 + m) (statements-of body)
   statements-in (For n site first test update body) = ap (λ m. 3 + m) (statements-of body)
   statements-in (Barrier n site flags) = refl
+  statements-in (Jump n site jump) = refl
   statements-in (Block n site body) = ap (λ m. 1 + m) (statements-of body)
 
   statements-of : (ss : Statements) → statements_of (bare_statements ss) ≡ statements_of ss
@@ -129,6 +132,7 @@ mutual
   arrays-on (While n site test body) h = all-arrays-on body h
   arrays-on (For n site first test update body) h = all-arrays-on body h
   arrays-on (Barrier n site flags) h = tt
+  arrays-on (Jump n site jump) h = tt
   arrays-on (Block n site body) h = all-arrays-on body h
 
   all-arrays-on : (ss : Statements) → AllArraysFit ss → AllArraysFit (bare_statements ss)
@@ -144,6 +148,7 @@ mutual
   arrays-back (While n site test body) h = all-arrays-back body h
   arrays-back (For n site first test update body) h = all-arrays-back body h
   arrays-back (Barrier n site flags) h = tt
+  arrays-back (Jump n site jump) h = tt
   arrays-back (Block n site body) h = all-arrays-back body h
 
   all-arrays-back : (ss : Statements) → AllArraysFit (bare_statements ss) → AllArraysFit ss

@@ -5,11 +5,11 @@ use Rattle.semantics.specs.Word.{Add, Subtract, Multiply, Divide, Remainder, Bit
 use Rattle.semantics.specs.Core as core
 use Rattle.semantics.specs.Core.{Site}
 use Rattle.texts.specs.Bare.{nowhere, bare_expression, bare_expressions, bare_declaration, bare_index, bare_assignment, bare_first, bare_statement, bare_statements, bare_parameter, bare_kernel}
-use Rattle.texts.specs.Surface.{Arithmetic, LeftShift, RightShift, Comparison, LogicalAnd, LogicalOr, AssignSign, Plain, With, WithLeftShift, WithRightShift, Expression, Number, Name, Element, Call, Prefix, Cast, Infix, Conditional, Expressions, nothing, also, Declaration, Assignment, First, FirstDeclares, FirstAssigns, Statement, Declare, DeclareArray, Assign, If, While, For, Barrier, Block, Statements, none, one, Parameter, Buffer, Value, Kernel, site_of}
-use Rattle.texts.specs.TypeFaults.{UnknownName, NameTwice, WriteToConst, ArrayInBlock, LoadInCompoundIndex, BarrierFlags, then, when}
+use Rattle.texts.specs.Surface.{Arithmetic, LeftShift, RightShift, Comparison, LogicalAnd, LogicalOr, AssignSign, Plain, With, WithLeftShift, WithRightShift, Expression, Number, Name, Element, Call, Prefix, Cast, Infix, Conditional, Expressions, nothing, also, Declaration, Assignment, First, FirstDeclares, FirstAssigns, JumpWord, Return, Break, Continue, Statement, Declare, DeclareArray, Assign, If, While, For, Barrier, Jump, Block, Statements, none, one, Parameter, Buffer, Value, Kernel, site_of}
+use Rattle.texts.specs.TypeFaults.{UnknownName, NameTwice, WriteToConst, ArrayInBlock, LoadInCompoundIndex, BarrierFlags, JumpOutsideLoop, then, when}
 use Rattle.texts.specs.Scope.{Meaning, VariableAt, ArrayAt, Scope, empty_scope, leave_block, meaning_of, may_declare}
 use Rattle.texts.specs.Typing.{TypedTerm, typed}
-use Rattle.texts.specs.Elaboration.{Elaborated, elaborated, single, join, assigned, either, first_load, first_load_in, without_load, site_or, target_array, target_slot, assign_to, elaborate_assignment, elaborate_declaration, elaborate_first, flag_named, one_flag, barrier_of, elaborate_statement, elaborate_all, declare_parameter, declare_parameters, elaborate}
+use Rattle.texts.specs.Elaboration.{Elaborated, elaborated, single, join, assigned, either, first_load, first_load_in, without_load, site_or, target_array, target_slot, assign_to, elaborate_assignment, elaborate_declaration, elaborate_first, flag_named, one_flag, barrier_of, Around, InKernel, InLoop, is_in_kernel, inside, innermost_loop, jump_to, elaborate_statement, elaborate_all, declare_parameter, declare_parameters, elaborate}
 use Rattle.printing_laws.specs.BareCore.{bare_term, bare_step, bare_steps, bare_core, bare_checked}
 use Rattle.printing_laws.proofs.BareTerms.{same, bare_typed, bare-then, bare-found, bare-when, bare-bring, bare-infix, bare-type}
 
@@ -158,31 +158,38 @@ bare-barrier n (Prefix site sign e) = refl
 bare-barrier n (Cast site kind e) = refl
 bare-barrier n (Conditional site test a b) = refl
 
+-- jumps
+bare-jump : (n : ℕ) (site : Site) (around : Around) (jump : JumpWord) → jump_to n nowhere around jump ≡ bare_checked bare_step (jump_to n site around jump)
+bare-jump n site around Return = refl
+bare-jump n site around Break = bare-then same bare_step _ _ _ _ (bare-found (innermost_loop around) JumpOutsideLoop site) (λ loop. refl)
+bare-jump n site around Continue = bare-then same bare_step _ _ _ _ (bare-found (innermost_loop around) JumpOutsideLoop site) (λ loop. refl)
+
 mutual
   unfolding elaborate_statement
 
-  bare-elaborate_statement : (top : Bool) (scope : Scope) (s : Statement) → elaborate_statement top scope (bare_statement s) ≡ bare_checked bare_elaborated (elaborate_statement top scope s)
-  bare-elaborate_statement top scope (Declare d) = bare-elaborate_declaration scope d
-  bare-elaborate_statement top scope (DeclareArray n site kind name_site x size) =
-      bare-then same bare_elaborated _ _ _ _ (bare-when same top ArrayInBlock site scope) (λ outer.
+  bare-elaborate_statement : (around : Around) (scope : Scope) (s : Statement) → elaborate_statement around scope (bare_statement s) ≡ bare_checked bare_elaborated (elaborate_statement around scope s)
+  bare-elaborate_statement around scope (Declare d) = bare-elaborate_declaration scope d
+  bare-elaborate_statement around scope (DeclareArray n site kind name_site x size) =
+      bare-then same bare_elaborated _ _ _ _ (bare-when same (is_in_kernel around) ArrayInBlock site scope) (λ outer.
       bare-then same bare_elaborated _ _ _ _ (bare-when same (may_declare outer x) NameTwice name_site _) (λ inner. refl))
-  bare-elaborate_statement top scope (Assign a) = bare-then bare_step bare_elaborated _ _ _ _ (bare-elaborate_assignment scope a) (λ s. refl)
-  bare-elaborate_statement top scope (If n site test taken skipped) =
-      bare-then bare_typed bare_elaborated _ _ _ _ (bare-type scope.visible test) (λ t. bare-then bare_elaborated bare_elaborated _ _ _ _ (bare-elaborate_all false scope taken) (λ a.
-      bare-then bare_elaborated bare_elaborated _ _ _ _ (bare-elaborate_all false _ skipped) (λ b. refl)))
-  bare-elaborate_statement top scope (While n site test body) =
-      bare-then bare_typed bare_elaborated _ _ _ _ (bare-type scope.visible test) (λ t. bare-then bare_elaborated bare_elaborated _ _ _ _ (bare-elaborate_all false scope body) (λ b. refl))
-  bare-elaborate_statement top scope (For n site first test update body) =
+  bare-elaborate_statement around scope (Assign a) = bare-then bare_step bare_elaborated _ _ _ _ (bare-elaborate_assignment scope a) (λ s. refl)
+  bare-elaborate_statement around scope (If n site test taken skipped) =
+      bare-then bare_typed bare_elaborated _ _ _ _ (bare-type scope.visible test) (λ t. bare-then bare_elaborated bare_elaborated _ _ _ _ (bare-elaborate_all (inside around) scope taken) (λ a.
+      bare-then bare_elaborated bare_elaborated _ _ _ _ (bare-elaborate_all (inside around) _ skipped) (λ b. refl)))
+  bare-elaborate_statement around scope (While n site test body) =
+      bare-then bare_typed bare_elaborated _ _ _ _ (bare-type scope.visible test) (λ t. bare-then bare_elaborated bare_elaborated _ _ _ _ (bare-elaborate_all (InLoop n) scope body) (λ b. refl))
+  bare-elaborate_statement around scope (For n site first test update body) =
       bare-then bare_elaborated bare_elaborated _ _ _ _ (bare-elaborate_first scope first) (λ f. bare-then bare_typed bare_elaborated _ _ _ _ (bare-type f.scope.visible test) (λ t.
-      bare-then bare_step bare_elaborated _ _ _ _ (bare-elaborate_assignment f.scope update) (λ u. bare-then bare_elaborated bare_elaborated _ _ _ _ (bare-elaborate_all false f.scope body) (λ b.
+      bare-then bare_step bare_elaborated _ _ _ _ (bare-elaborate_assignment f.scope update) (λ u. bare-then bare_elaborated bare_elaborated _ _ _ _ (bare-elaborate_all (InLoop n) f.scope body) (λ b.
       ap (λ ss. Ok (elaborated ss (leave_block scope b.scope))) (bare-join f.statements (single (core.Loop n t.term b.statements (single u))))))))
-  bare-elaborate_statement top scope (Barrier n site flags) = bare-then bare_step bare_elaborated _ _ _ _ (bare-barrier n flags) (λ s. refl)
-  bare-elaborate_statement top scope (Block n site body) = bare-then bare_elaborated bare_elaborated _ _ _ _ (bare-elaborate_all false scope body) (λ b. refl)
+  bare-elaborate_statement around scope (Barrier n site flags) = bare-then bare_step bare_elaborated _ _ _ _ (bare-barrier n flags) (λ s. refl)
+  bare-elaborate_statement around scope (Jump n site jump) = bare-then bare_step bare_elaborated _ _ _ _ (bare-jump n site around jump) (λ s. refl)
+  bare-elaborate_statement around scope (Block n site body) = bare-then bare_elaborated bare_elaborated _ _ _ _ (bare-elaborate_all (inside around) scope body) (λ b. refl)
 
-  bare-elaborate_all : (top : Bool) (scope : Scope) (ss : Statements) → elaborate_all top scope (bare_statements ss) ≡ bare_checked bare_elaborated (elaborate_all top scope ss)
-  bare-elaborate_all top scope none = refl
-  bare-elaborate_all top scope (one s ss) =
-      bare-then bare_elaborated bare_elaborated _ _ _ _ (bare-elaborate_statement top scope s) (λ a. bare-then bare_elaborated bare_elaborated _ _ _ _ (bare-elaborate_all top a.scope ss) (λ b.
+  bare-elaborate_all : (around : Around) (scope : Scope) (ss : Statements) → elaborate_all around scope (bare_statements ss) ≡ bare_checked bare_elaborated (elaborate_all around scope ss)
+  bare-elaborate_all around scope none = refl
+  bare-elaborate_all around scope (one s ss) =
+      bare-then bare_elaborated bare_elaborated _ _ _ _ (bare-elaborate_statement around scope s) (λ a. bare-then bare_elaborated bare_elaborated _ _ _ _ (bare-elaborate_all around a.scope ss) (λ b.
       ap (λ ss. Ok (elaborated ss b.scope)) (bare-join a.statements b.statements)))
 
 -- parameters and kernels
@@ -197,4 +204,4 @@ bare-declare_all scope (p ∷ ps) = bare-then same same _ _ _ _ (bare-declare sc
 pub bare-elaborate : (k : Kernel) → elaborate (bare_kernel k) ≡ bare_checked bare_core (elaborate k)
 unfolding elaborate
 bare-elaborate k =
-    bare-then same bare_core _ _ _ _ (bare-declare_all empty_scope k.parameters) (λ outer. bare-then bare_elaborated bare_core _ _ _ _ (bare-elaborate_all true outer k.body) (λ b. refl))
+    bare-then same bare_core _ _ _ _ (bare-declare_all empty_scope k.parameters) (λ outer. bare-then bare_elaborated bare_core _ _ _ _ (bare-elaborate_all InKernel outer k.body) (λ b. refl))

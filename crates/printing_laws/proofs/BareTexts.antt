@@ -3,7 +3,7 @@ use Rattle.std.proofs.Common.{◌≡◌, ℕ, List, [], ◌∷◌, ◌++◌, map
 use Rattle.std.specs.Prelude.{Option, Some, None}
 use Rattle.texts.specs.Canonical.{kind_text, prefix_text, infix_text, assign_text, is_compound, parenthesised, expression_text, arguments_text, declaration_text, index_text, assignment_text, first_text, for_text, line, deeper, statement_text, statements_text, else_text, parameter_text, parameters_text, sizes_text, canonical}
 use Rattle.texts.specs.Bare.{bare_expression, bare_expressions, bare_declaration, bare_index, bare_assignment, bare_first, bare_statement, bare_statements, bare_parameter, bare_kernel}
-use Rattle.texts.specs.Surface.{Expression, Number, Name, Element, Call, Prefix, Cast, Infix, Conditional, Expressions, nothing, also, Declaration, Assignment, First, FirstDeclares, FirstAssigns, Statement, Declare, DeclareArray, Assign, If, While, For, Barrier, Block, Statements, none, one, Parameter, Buffer, Value, Kernel}
+use Rattle.texts.specs.Surface.{Expression, Number, Name, Element, Call, Prefix, Cast, Infix, Conditional, Expressions, nothing, also, Declaration, Assignment, First, FirstDeclares, FirstAssigns, Statement, Declare, DeclareArray, Assign, If, While, For, Barrier, Jump, Block, Statements, none, one, Parameter, Buffer, Value, Kernel}
 
 compound-bare : (e : Expression) → is_compound (bare_expression e) ≡ is_compound e
 compound-bare (Number site kind n) = refl
@@ -66,6 +66,7 @@ mutual
   statement-bare pad (While n site test body) = two (λ t u. line pad (codes "while (" ++ (t ++ codes ") {")) ++ (u ++ line pad (codes "}"))) (expression-bare test) (statements-bare (deeper pad) body)
   statement-bare pad (For n site first test update body) = two (λ t u. line pad (t ++ codes " {") ++ (u ++ line pad (codes "}"))) (for-bare first test update) (statements-bare (deeper pad) body)
   statement-bare pad (Barrier n site flags) = ap (λ t. line pad (codes "barrier(" ++ (t ++ codes ");"))) (expression-bare flags)
+  statement-bare pad (Jump n site jump) = refl
   statement-bare pad (Block n site body) = ap (λ t. line pad (codes "{") ++ (t ++ line pad (codes "}"))) (statements-bare (deeper pad) body)
 
   statements-bare : (pad : List ℕ) (ss : Statements) → statements_text pad (bare_statements ss) ≡ statements_text pad ss

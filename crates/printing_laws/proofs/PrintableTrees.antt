@@ -75,6 +75,7 @@ mutual
       let more = (left (expression-later h) rest).1 in
       (first-printable first a.1.1, expression-printable h rest, assignment-printable u more, body-printable b (left (assignment-later u) more).1 f)
   statement-printable (kernels.barrier at opening closing semicolon h) a f = expression-printable h a.1.1
+  statement-printable (kernels.jump w jump at semicolon found) a f = tt
   statement-printable (kernels.block at h) a f = items-printable h a.1 f
 
   body-printable : {room n next : ℕ} {ts rest : List Lexeme} {ss : Statements} → IsBody room n ts ss next rest → ArePrintableTokens ts → AllArraysFit ss → ArePrintableStatements ss

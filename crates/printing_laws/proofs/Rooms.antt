@@ -7,7 +7,7 @@ use Rattle.texts.specs.Elaboration.{either}
 use Rattle.texts.specs.Canonical.{is_compound}
 use Rattle.texts.specs.Brackets.{InBrackets, AsOperand, Opens, AllOpen, OpensIndex, OpensAssignment, OpensFirst, OpensStatement, AllOpenStatements}
 use Rattle.texts.specs.Limits.{past, deep_expression, deep_arguments, deep_index, deep_declaration, deep_assignment, deep_first, deep_statement, deep_statements}
-use Rattle.texts.specs.Surface.{Expression, Number, Name, Element, Call, Prefix, Cast, Infix, Conditional, Expressions, nothing, also, Declaration, Assignment, First, FirstDeclares, FirstAssigns, Statement, Declare, DeclareArray, Assign, If, While, For, Barrier, Block, Statements, none, one}
+use Rattle.texts.specs.Surface.{Expression, Number, Name, Element, Call, Prefix, Cast, Infix, Conditional, Expressions, nothing, also, Declaration, Assignment, First, FirstDeclares, FirstAssigns, Statement, Declare, DeclareArray, Assign, If, While, For, Barrier, Jump, Block, Statements, none, one}
 
 -- no place is told of either part
 no-either : (a b : Option Site) → either a b ≡ None → (a ≡ None) × (b ≡ None)
@@ -107,6 +107,7 @@ mutual
       bracket room depth (λ m. OpensFirst m first × Opens m test × OpensAssignment m update × AllOpenStatements m body) p.0 h
       (λ m l. (first-opens first (depth + 1) m l q.0, opens test (depth + 1) m l r.0, assignment-opens update (depth + 1) m l u.0, statements-open body (depth + 1) m l u.1))
   statement-opens (Barrier n site flags) depth room h e = let p = no-past depth site _ e in bracket room depth (λ m. Opens m flags) p.0 h (λ m l. opens flags (depth + 1) m l p.1)
+  statement-opens (Jump n site jump) depth room h e = tt
   statement-opens (Block n site body) depth room h e = let p = no-past depth site _ e in bracket room depth (λ m. AllOpenStatements m body) p.0 h (λ m l. statements-open body (depth + 1) m l p.1)
 
   pub statements-open : (ss : Statements) (depth room : ℕ) → 33 ≤ depth + room → deep_statements depth ss ≡ None → AllOpenStatements room ss

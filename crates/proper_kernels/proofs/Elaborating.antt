@@ -5,11 +5,11 @@ use Rattle.semantics.specs.Word.{Add, Subtract, Multiply, Divide, Remainder, Bit
 use Rattle.semantics.specs.Core as core
 use Rattle.semantics.specs.Core.{Site, Array}
 use Rattle.semantics.specs.Launch as launch
-use Rattle.texts.specs.Surface.{Arithmetic, LeftShift, RightShift, Comparison, LogicalAnd, LogicalOr, AssignSign, Plain, With, WithLeftShift, WithRightShift, Expression, Number, Name, Element, Call, Prefix, Cast, Infix, Conditional, Declaration, Assignment, First, FirstDeclares, FirstAssigns, Statement, Declare, DeclareArray, Assign, If, While, For, Barrier, Block, Statements, none, one, Kernel, site_of}
-use Rattle.texts.specs.TypeFaults.{UnknownName, LoadInCompoundIndex, ArrayInBlock, BarrierFlags, then, when, found}
+use Rattle.texts.specs.Surface.{Arithmetic, LeftShift, RightShift, Comparison, LogicalAnd, LogicalOr, AssignSign, Plain, With, WithLeftShift, WithRightShift, Expression, Number, Name, Element, Call, Prefix, Cast, Infix, Conditional, Declaration, Assignment, First, FirstDeclares, FirstAssigns, JumpWord, Return, Break, Continue, Statement, Declare, DeclareArray, Assign, If, While, For, Barrier, Jump, Block, Statements, none, one, Kernel, site_of}
+use Rattle.texts.specs.TypeFaults.{UnknownName, LoadInCompoundIndex, ArrayInBlock, BarrierFlags, JumpOutsideLoop, then, when, found}
 use Rattle.texts.specs.Scope.{Meaning, Scope, empty_scope, meaning_of, leave_block, declare_variable, declare_array}
 use Rattle.texts.specs.Typing.{TypedTerm, typed, bring, type_of}
-use Rattle.texts.specs.Elaboration.{Elaborated, elaborated, single, join, assigned, first_load, without_load, site_or, target_array, target_slot, assign_to, elaborate_assignment, elaborate_declaration, elaborate_first, one_flag, barrier_of, elaborate_statement, elaborate_all, declare_parameters, elaborate}
+use Rattle.texts.specs.Elaboration.{Elaborated, elaborated, single, join, assigned, first_load, without_load, site_or, target_array, target_slot, assign_to, elaborate_assignment, elaborate_declaration, elaborate_first, one_flag, barrier_of, Around, InKernel, InLoop, is_in_kernel, inside, innermost_loop, jump_to, elaborate_statement, elaborate_all, declare_parameters, elaborate}
 use Rattle.texts.specs.Spelling.{SpellsExpression, SpellsIndex, SpellsDeclaration, SpellsAssignment, SpellsFirst, SpellsStatement, SpellsStatements}
 use Rattle.work_item.specs.Proper.{is_proper_term, is_proper_statement, are_proper}
 use Rattle.proper_kernels.proofs.Holding.{Holds, then-holds, then-any, when-holds, held, both}
@@ -99,38 +99,44 @@ barrier-fit n (Prefix site sign e) = flags-fit n (Prefix site sign e)
 barrier-fit n (Cast site kind e) = flags-fit n (Cast site kind e)
 barrier-fit n (Conditional site test a b) = flags-fit n (Conditional site test a b)
 
+jump-fit : (n : ℕ) (site : Site) (around : Around) (jump : JumpWord) → Holds IsFit (jump_to n site around jump)
+jump-fit n site around Return = refl
+jump-fit n site around Break = then-any IsFit (found (innermost_loop around) JumpOutsideLoop site) _ (λ loop. refl)
+jump-fit n site around Continue = then-any IsFit (found (innermost_loop around) JumpOutsideLoop site) _ (λ loop. refl)
+
 mutual
   unfolding elaborate_statement elaborate_all
 
-  statement-fit : (top : Bool) (scope : Scope) (s : Statement) → SpellsStatement s → Holds AreFit (elaborate_statement top scope s)
-  statement-fit top scope (Declare d) h = declaration-fit scope d h
-  statement-fit top scope (DeclareArray n site kind name_site x size) h =
-      then-any AreFit (when top ArrayInBlock site scope) _ (λ outer. then-any AreFit (declare_array outer name_site x kind size) _ (λ inner. refl))
-  statement-fit top scope (Assign a) h = single-assignment scope a h
-  statement-fit top scope (If n site test taken skipped) h =
+  statement-fit : (around : Around) (scope : Scope) (s : Statement) → SpellsStatement s → Holds AreFit (elaborate_statement around scope s)
+  statement-fit around scope (Declare d) h = declaration-fit scope d h
+  statement-fit around scope (DeclareArray n site kind name_site x size) h =
+      then-any AreFit (when (is_in_kernel around) ArrayInBlock site scope) _ (λ outer. then-any AreFit (declare_array outer name_site x kind size) _ (λ inner. refl))
+  statement-fit around scope (Assign a) h = single-assignment scope a h
+  statement-fit around scope (If n site test taken skipped) h =
       then-holds IsProper AreFit (type_of scope.visible test) _ (type-proper scope.visible test h.0) (λ t p.
-      then-holds AreFit AreFit (elaborate_all false scope taken) _ (all-fit false scope taken h.1) (λ a q.
-      then-holds AreFit AreFit (elaborate_all false (leave_block scope a.scope) skipped) _ (all-fit false (leave_block scope a.scope) skipped h.2) (λ b r.
+      then-holds AreFit AreFit (elaborate_all (inside around) scope taken) _ (all-fit (inside around) scope taken h.1) (λ a q.
+      then-holds AreFit AreFit (elaborate_all (inside around) (leave_block scope a.scope) skipped) _ (all-fit (inside around) (leave_block scope a.scope) skipped h.2) (λ b r.
       single-fit (core.If n t.term a.statements b.statements) (both (is_proper_term t.term) (are_proper a.statements && are_proper b.statements) p (both (are_proper a.statements) (are_proper b.statements) q r)))))
-  statement-fit top scope (While n site test body) h =
+  statement-fit around scope (While n site test body) h =
       then-holds IsProper AreFit (type_of scope.visible test) _ (type-proper scope.visible test h.0) (λ t p.
-      then-holds AreFit AreFit (elaborate_all false scope body) _ (all-fit false scope body h.1) (λ b q.
+      then-holds AreFit AreFit (elaborate_all (InLoop n) scope body) _ (all-fit (InLoop n) scope body h.1) (λ b q.
       single-fit (core.Loop n t.term b.statements core.none) (both (is_proper_term t.term) (are_proper b.statements && true) p (both (are_proper b.statements) true q refl))))
-  statement-fit top scope (For n site first test update body) h =
+  statement-fit around scope (For n site first test update body) h =
       then-holds AreFit AreFit (elaborate_first scope first) _ (first-fit scope first h.0) (λ f o.
       then-holds IsProper AreFit (type_of f.scope.visible test) _ (type-proper f.scope.visible test h.1) (λ t p.
       then-holds IsFit AreFit (elaborate_assignment f.scope update) _ (assignment-fit f.scope update h.2) (λ u r.
-      then-holds AreFit AreFit (elaborate_all false f.scope body) _ (all-fit false f.scope body h.3) (λ b q.
+      then-holds AreFit AreFit (elaborate_all (InLoop n) f.scope body) _ (all-fit (InLoop n) f.scope body h.3) (λ b q.
       join-fit f.statements (single (core.Loop n t.term b.statements (single u))) o
       (single-fit (core.Loop n t.term b.statements (single u)) (both (is_proper_term t.term) (are_proper b.statements && are_proper (single u)) p (both (are_proper b.statements) (are_proper (single u)) q (single-fit u r))))))))
-  statement-fit top scope (Barrier n site flags) h = then-holds IsFit AreFit (barrier_of n flags) _ (barrier-fit n flags) (λ s p. single-fit s p)
-  statement-fit top scope (Block n site body) h = then-holds AreFit AreFit (elaborate_all false scope body) _ (all-fit false scope body h) (λ b q. q)
+  statement-fit around scope (Barrier n site flags) h = then-holds IsFit AreFit (barrier_of n flags) _ (barrier-fit n flags) (λ s p. single-fit s p)
+  statement-fit around scope (Jump n site jump) h = then-holds IsFit AreFit (jump_to n site around jump) _ (jump-fit n site around jump) (λ s p. single-fit s p)
+  statement-fit around scope (Block n site body) h = then-holds AreFit AreFit (elaborate_all (inside around) scope body) _ (all-fit (inside around) scope body h) (λ b q. q)
 
-  all-fit : (top : Bool) (scope : Scope) (ss : Statements) → SpellsStatements ss → Holds AreFit (elaborate_all top scope ss)
-  all-fit top scope none h = refl
-  all-fit top scope (one s ss) h =
-      then-holds AreFit AreFit (elaborate_statement top scope s) _ (statement-fit top scope s h.0) (λ a p.
-      then-holds AreFit AreFit (elaborate_all top a.scope ss) _ (all-fit top a.scope ss h.1) (λ b q. join-fit a.statements b.statements p q))
+  all-fit : (around : Around) (scope : Scope) (ss : Statements) → SpellsStatements ss → Holds AreFit (elaborate_all around scope ss)
+  all-fit around scope none h = refl
+  all-fit around scope (one s ss) h =
+      then-holds AreFit AreFit (elaborate_statement around scope s) _ (statement-fit around scope s h.0) (λ a p.
+      then-holds AreFit AreFit (elaborate_all around a.scope ss) _ (all-fit around a.scope ss h.1) (λ b q. join-fit a.statements b.statements p q))
 
 abbrev IsFitKernel : launch.Kernel → Type 0
 IsFitKernel k = are_proper k.body ≡ true
@@ -139,7 +145,7 @@ elaborated-fit : (tree : Kernel) → SpellsStatements tree.body → Holds IsFitK
 unfolding elaborate
 elaborated-fit tree h =
     then-any IsFitKernel (declare_parameters empty_scope tree.parameters) _ (λ outer.
-    then-holds AreFit IsFitKernel (elaborate_all true outer tree.body) _ (all-fit true outer tree.body h) (λ b q. q))
+    then-holds AreFit IsFitKernel (elaborate_all InKernel outer tree.body) _ (all-fit InKernel outer tree.body h) (λ b q. q))
 
 pub elaborated-proper : (tree : Kernel) (k : launch.Kernel) → SpellsStatements tree.body → elaborate tree ≡ Ok k → are_proper k.body ≡ true
 elaborated-proper tree k h e = held IsFitKernel (elaborate tree) k e (elaborated-fit tree h)

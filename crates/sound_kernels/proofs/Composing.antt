@@ -1,5 +1,6 @@
 -- Statements in order, put together of their parts: assignments, choices and loops.
 use Rattle.std.proofs.Common.{◌≡◌, ℕ, ◌+◌, ◌≤◌, ◌<◌, List, [], ◌∷◌, ◌++◌, arith, refl, sym, subst, inl, inr}
+use Rattle.std.specs.Prelude.{Some}
 use Rattle.semantics.specs.Core.{Term, Statement, Set, Store, If, Loop, Barrier, Return, Break, Continue, Statements, none}
 use Rattle.texts.specs.Elaboration.{single, join}
 use Rattle.arrivals.specs.Points.{Has}
@@ -46,6 +47,18 @@ step-ordered loops low high n s h a b = record {
 
 pub barrier-ordered : (loops : List ℕ) (low high n : ℕ) (l g : _) → low ≤ n → n < high → Ordered loops low high (single (Barrier n l g))
 barrier-ordered loops low high n l g a b = record { rises = ((a, b), tt); once = ((λ m. m), tt); placed = (tt, tt) }
+
+pub return-ordered : (loops : List ℕ) (low high n : ℕ) → low ≤ n → n < high → Ordered loops low high (single (Return n))
+return-ordered loops low high n a b = record { rises = ((a, b), tt); once = ((λ m. m), tt); placed = (tt, tt) }
+
+-- out of the innermost of the loops
+pub break-ordered : (loops : List ℕ) (low high n k : ℕ) → Some k ≡ innermost loops → low ≤ n → n < high → Ordered loops low high (single (Break n k))
+break-ordered [] low high n k e a b = absurd cc
+break-ordered (l ∷ loops) low high n k e a b = let q : k ≡ l = cc in record { rises = ((a, b, inl q), tt); once = ((λ m. m), tt); placed = (q, tt) }
+
+pub continue-ordered : (loops : List ℕ) (low high n k : ℕ) → Some k ≡ innermost loops → low ≤ n → n < high → Ordered loops low high (single (Continue n k))
+continue-ordered [] low high n k e a b = absurd cc
+continue-ordered (l ∷ loops) low high n k e a b = let q : k ≡ l = cc in record { rises = ((a, b, inl q), tt); once = ((λ m. m), tt); placed = (q, tt) }
 
 above : (loops : List ℕ) (low high n : ℕ) (ss : Statements) → n < low → Ordered loops low high ss → Has n (numbers_in ss) → ⊥
 above loops low high n ss a o m = let f = has-from loops low high ss o n m in omega (arith, a, f.0)

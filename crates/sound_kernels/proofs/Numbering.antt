@@ -1,22 +1,23 @@
 -- What is elaborated of statements that are numbered in the order of the source is ordered.
-use Rattle.std.proofs.Common.{◌≡◌, ℕ, ◌+◌, ◌≤◌, ◌<◌, List, [], ◌∷◌, Bool, true, false, ◌&&◌, ◌||◌, not, refl, sym, subst, length, arith}
+use Rattle.std.proofs.Common.{◌≡◌, ℕ, ◌+◌, ◌≤◌, ◌<◌, List, [], ◌∷◌, Bool, true, false, ◌&&◌, ◌||◌, not, refl, ap, sym, ◌∙◌, subst, length, arith}
 use Rattle.std.specs.Prelude.{Option, Some, None, Ok}
 use Rattle.semantics.specs.Word.{Add, Subtract, Multiply, Divide, Remainder, BitAnd, BitOr, BitXor}
 use Rattle.semantics.specs.Core as core
+use Rattle.semantics.specs.Core.{Site}
 use Rattle.semantics.specs.Launch as launch
-use Rattle.texts.specs.Surface.{Arithmetic, LeftShift, RightShift, Comparison, LogicalAnd, LogicalOr, Expression, Number, Name, Element, Call, Prefix, Cast, Infix, Conditional, Declaration, Assignment, First, FirstDeclares, FirstAssigns, Statement, Declare, DeclareArray, Assign, If, While, For, Barrier, Block, Statements, none, one, Kernel, site_of}
+use Rattle.texts.specs.Surface.{Arithmetic, LeftShift, RightShift, Comparison, LogicalAnd, LogicalOr, Expression, Number, Name, Element, Call, Prefix, Cast, Infix, Conditional, Declaration, Assignment, First, FirstDeclares, FirstAssigns, JumpWord, Return, Break, Continue, Statement, Declare, DeclareArray, Assign, If, While, For, Barrier, Jump, Block, Statements, none, one, Kernel, site_of}
 use Rattle.texts.specs.KernelLimits.{statements_in, statements_of}
 use Rattle.texts.specs.TypeFaults.{UnknownName, LoadInCompoundIndex, ArrayInBlock, BarrierFlags, then, when, found}
 use Rattle.texts.specs.Scope.{Meaning, Scope, empty_scope, meaning_of, leave_block, declare_variable, declare_array}
 use Rattle.texts.specs.Spelling.{IsNumbered, AreNumbered, first_number}
 use Rattle.texts.specs.Typing.{typed, bring, type_of}
-use Rattle.texts.specs.Elaboration.{Elaborated, elaborated, single, join, assigned, first_load, without_load, site_or, target_array, target_slot, assign_to, elaborate_assignment, elaborate_declaration, elaborate_first, one_flag, barrier_of, elaborate_statement, elaborate_all, declare_parameters, elaborate}
+use Rattle.texts.specs.Elaboration.{Elaborated, elaborated, single, join, assigned, first_load, without_load, site_or, target_array, target_slot, assign_to, elaborate_assignment, elaborate_declaration, elaborate_first, one_flag, barrier_of, Around, InKernel, InBlock, InLoop, is_in_kernel, inside, innermost_loop, jump_to, elaborate_statement, elaborate_all, declare_parameters, elaborate}
 use Rattle.sound_kernels.specs.Order.{AllNumbered}
 use Rattle.sound_kernels.specs.Told.{AreTold}
 use Rattle.proper_kernels.proofs.Holding.{Holds, then-holds, then-any, when-holds, held}
 use Rattle.sound_kernels.proofs.Mapping.{mapped}
-use Rattle.sound_kernels.proofs.Ordering.{Ordered, wider, nothing-ordered, follows}
-use Rattle.sound_kernels.proofs.Composing.{IsStep, AreStep, step-ordered, barrier-ordered, if-ordered, while-ordered, for-ordered}
+use Rattle.sound_kernels.proofs.Ordering.{Ordered, innermost, wider, nothing-ordered, follows}
+use Rattle.sound_kernels.proofs.Composing.{IsStep, AreStep, step-ordered, barrier-ordered, return-ordered, break-ordered, continue-ordered, if-ordered, while-ordered, for-ordered}
 
 abbrev AreFrom : (loops : List ℕ) (low high : ℕ) → Elaborated → Type 0
 AreFrom loops low high e = Ordered loops low high e.statements
@@ -82,49 +83,70 @@ barrier-holds P n k (Conditional site test a b) = flags-hold P n k (Conditional 
 step-from : (loops : List ℕ) (low high n m : ℕ) (c : Elaborated) → m ≡ n → low ≤ n → n < high → AreStep m c.statements → AreFrom loops low high c
 step-from loops low high n m c e a b h = subst (Ordered loops low high) (sym h.1) (step-ordered loops low high m h.0 h.2 (omega (arith, e, a)) (omega (arith, e, b)))
 
+-- the innermost of these loops is the one that statements there stand in
+abbrev IsInnermost : Around → List ℕ → Type 0
+IsInnermost around loops = innermost_loop around ≡ innermost loops
+
+inside-same : (around : Around) → innermost_loop (inside around) ≡ innermost_loop around
+inside-same InKernel = refl
+inside-same InBlock = refl
+inside-same (InLoop n) = refl
+
+jump-ordered : (loops : List ℕ) (around : Around) (low high n : ℕ) (site : Site) (jump : JumpWord) → IsInnermost around loops → low ≤ n → n < high → Holds (λ s. Ordered loops low high (single s)) (jump_to n site around jump)
+jump-ordered loops around low high n site Return e a b = return-ordered loops low high n a b
+jump-ordered loops InKernel low high n site Break e a b = tt
+jump-ordered loops InBlock low high n site Break e a b = tt
+jump-ordered loops (InLoop k) low high n site Break e a b = break-ordered loops low high n k e a b
+jump-ordered loops InKernel low high n site Continue e a b = tt
+jump-ordered loops InBlock low high n site Continue e a b = tt
+jump-ordered loops (InLoop k) low high n site Continue e a b = continue-ordered loops low high n k e a b
+
 mutual
   unfolding elaborate_statement elaborate_all
 
-  statement-ordered : (loops : List ℕ) (top : Bool) (scope : Scope) (n : ℕ) (s : Statement) → IsNumbered n s → Holds (AreFrom loops n (n + statements_in s)) (elaborate_statement top scope s)
-  statement-ordered loops top scope n (Declare d) h =
+  statement-ordered : (loops : List ℕ) (around : Around) → IsInnermost around loops → (scope : Scope) (n : ℕ) (s : Statement) → IsNumbered n s → Holds (AreFrom loops n (n + statements_in s)) (elaborate_statement around scope s)
+  statement-ordered loops around e scope n (Declare d) h =
       mapped (AreOneStep d.number) (AreFrom loops n (n + 1)) (elaborate_declaration scope d) (λ c. step-from loops n (n + 1) n d.number c h (omega arith) (omega arith)) (declaration-steps scope d)
-  statement-ordered loops top scope n (DeclareArray m site kind name_site x size) h =
-      then-any (AreFrom loops n (n + 1)) (when top ArrayInBlock site scope) _ (λ outer. then-any (AreFrom loops n (n + 1)) (declare_array outer name_site x kind size) _ (λ inner. nothing-ordered loops n (n + 1)))
-  statement-ordered loops top scope n (Assign a) h =
+  statement-ordered loops around e scope n (DeclareArray m site kind name_site x size) h =
+      then-any (AreFrom loops n (n + 1)) (when (is_in_kernel around) ArrayInBlock site scope) _ (λ outer. then-any (AreFrom loops n (n + 1)) (declare_array outer name_site x kind size) _ (λ inner. nothing-ordered loops n (n + 1)))
+  statement-ordered loops around e scope n (Assign a) h =
       then-holds (IsStep a.number) (AreFrom loops n (n + 1)) (elaborate_assignment scope a) _ (assignment-steps scope a) (λ s p.
       step-ordered loops n (n + 1) a.number s p (omega (arith, h)) (omega (arith, h)))
-  statement-ordered loops top scope n (If m site test taken skipped) h =
+  statement-ordered loops around e scope n (If m site test taken skipped) h =
       let high : ℕ = n + (1 + (statements_of taken + statements_of skipped)) in
       then-any (AreFrom loops n high) (type_of scope.visible test) _ (λ t.
-      then-holds (AreFrom loops (n + 1) (n + 1 + statements_of taken)) (AreFrom loops n high) (elaborate_all false scope taken) _ (all-ordered loops false scope (n + 1) taken h.1) (λ a q.
-      then-holds (AreFrom loops (n + 1 + statements_of taken) (n + 1 + statements_of taken + statements_of skipped)) (AreFrom loops n high) (elaborate_all false (leave_block scope a.scope) skipped) _
-      (all-ordered loops false (leave_block scope a.scope) (n + 1 + statements_of taken) skipped h.2) (λ b r.
+      then-holds (AreFrom loops (n + 1) (n + 1 + statements_of taken)) (AreFrom loops n high) (elaborate_all (inside around) scope taken) _ (all-ordered loops (inside around) (inside-same around ∙ e) scope (n + 1) taken h.1) (λ a q.
+      then-holds (AreFrom loops (n + 1 + statements_of taken) (n + 1 + statements_of taken + statements_of skipped)) (AreFrom loops n high) (elaborate_all (inside around) (leave_block scope a.scope) skipped) _
+      (all-ordered loops (inside around) (inside-same around ∙ e) (leave_block scope a.scope) (n + 1 + statements_of taken) skipped h.2) (λ b r.
       if-ordered loops n m (n + 1 + statements_of taken) (n + 1 + statements_of taken + statements_of skipped) high t.term a.statements b.statements h.0 (omega arith) (omega arith) (omega arith) q r)))
-  statement-ordered loops top scope n (While m site test body) h =
+  statement-ordered loops around e scope n (While m site test body) h =
       let high : ℕ = n + (1 + statements_of body) in
       then-any (AreFrom loops n high) (type_of scope.visible test) _ (λ t.
-      then-holds (AreFrom (n ∷ loops) (n + 1) (n + 1 + statements_of body)) (AreFrom loops n high) (elaborate_all false scope body) _ (all-ordered (n ∷ loops) false scope (n + 1) body h.1) (λ b q.
+      then-holds (AreFrom (n ∷ loops) (n + 1) (n + 1 + statements_of body)) (AreFrom loops n high) (elaborate_all (InLoop m) scope body) _ (all-ordered (n ∷ loops) (InLoop m) (ap Some h.0) scope (n + 1) body h.1) (λ b q.
       while-ordered loops n m (n + 1 + statements_of body) high t.term b.statements h.0 (omega arith) (omega arith) q))
-  statement-ordered loops top scope n (For m site first test update body) h =
+  statement-ordered loops around e scope n (For m site first test update body) h =
       let high : ℕ = n + (3 + statements_of body) in
       then-holds (AreOneStep (first_number first)) (AreFrom loops n high) (elaborate_first scope first) _ (first-steps scope first) (λ f o.
       then-any (AreFrom loops n high) (type_of f.scope.visible test) _ (λ t.
       then-holds (IsStep update.number) (AreFrom loops n high) (elaborate_assignment f.scope update) _ (assignment-steps f.scope update) (λ u r.
-      then-holds (AreFrom (n ∷ loops) (n + 3) (n + 3 + statements_of body)) (AreFrom loops n high) (elaborate_all false f.scope body) _ (all-ordered (n ∷ loops) false f.scope (n + 3) body h.3) (λ b q.
+      then-holds (AreFrom (n ∷ loops) (n + 3) (n + 3 + statements_of body)) (AreFrom loops n high) (elaborate_all (InLoop m) f.scope body) _ (all-ordered (n ∷ loops) (InLoop m) (ap Some h.0) f.scope (n + 3) body h.3) (λ b q.
       for-ordered loops n m (first_number first) update.number (n + 3 + statements_of body) high f.statements t.term b.statements u h.0 h.1 h.2 (omega arith) (omega arith) o r q))))
-  statement-ordered loops top scope n (Barrier m site flags) h =
+  statement-ordered loops around e scope n (Barrier m site flags) h =
       then-holds (λ s. Ordered loops n (n + 1) (single s)) (AreFrom loops n (n + 1)) (barrier_of m flags) _
       (barrier-holds (λ s. Ordered loops n (n + 1) (single s)) m (λ l g. barrier-ordered loops n (n + 1) m l g (omega (arith, h)) (omega (arith, h))) flags) (λ s p. p)
-  statement-ordered loops top scope n (Block m site body) h =
-      then-holds (AreFrom loops (n + 1) (n + 1 + statements_of body)) (AreFrom loops n (n + (1 + statements_of body))) (elaborate_all false scope body) _ (all-ordered loops false scope (n + 1) body h.1) (λ b q.
+  statement-ordered loops around e scope n (Jump m site jump) h =
+      then-holds (λ s. Ordered loops n (n + 1) (single s)) (AreFrom loops n (n + 1)) (jump_to m site around jump) _
+      (jump-ordered loops around n (n + 1) m site jump e (omega (arith, h)) (omega (arith, h))) (λ s p. p)
+  statement-ordered loops around e scope n (Block m site body) h =
+      then-holds (AreFrom loops (n + 1) (n + 1 + statements_of body)) (AreFrom loops n (n + (1 + statements_of body))) (elaborate_all (inside around) scope body) _ (all-ordered loops (inside around) (inside-same around ∙ e) scope (n + 1) body h.1) (λ b q.
       wider loops (n + 1) (n + 1 + statements_of body) n (n + (1 + statements_of body)) b.statements (omega arith) (omega arith) q)
 
-  all-ordered : (loops : List ℕ) (top : Bool) (scope : Scope) (n : ℕ) (ss : Statements) → AreNumbered n ss → Holds (AreFrom loops n (n + statements_of ss)) (elaborate_all top scope ss)
-  all-ordered loops top scope n none h = nothing-ordered loops n (n + 0)
-  all-ordered loops top scope n (one s ss) h =
+  all-ordered : (loops : List ℕ) (around : Around) → IsInnermost around loops → (scope : Scope) (n : ℕ) (ss : Statements) → AreNumbered n ss → Holds (AreFrom loops n (n + statements_of ss)) (elaborate_all around scope ss)
+  all-ordered loops around e scope n none h = nothing-ordered loops n (n + 0)
+  all-ordered loops around e scope n (one s ss) h =
       let high : ℕ = n + (statements_in s + statements_of ss) in
-      then-holds (AreFrom loops n (n + statements_in s)) (AreFrom loops n high) (elaborate_statement top scope s) _ (statement-ordered loops top scope n s h.0) (λ a p.
-      then-holds (AreFrom loops (n + statements_in s) (n + statements_in s + statements_of ss)) (AreFrom loops n high) (elaborate_all top a.scope ss) _ (all-ordered loops top a.scope (n + statements_in s) ss h.1) (λ b q.
+      then-holds (AreFrom loops n (n + statements_in s)) (AreFrom loops n high) (elaborate_statement around scope s) _ (statement-ordered loops around e scope n s h.0) (λ a p.
+      then-holds (AreFrom loops (n + statements_in s) (n + statements_in s + statements_of ss)) (AreFrom loops n high) (elaborate_all around a.scope ss) _ (all-ordered loops around e a.scope (n + statements_in s) ss h.1) (λ b q.
       wider loops n (n + statements_in s + statements_of ss) n high (join a.statements b.statements) (omega arith) (omega arith)
       (follows loops n (n + statements_in s) (n + statements_in s + statements_of ss) a.statements b.statements (omega arith) (omega arith) p q)))
 
@@ -135,7 +157,7 @@ kernel-ordered : (tree : Kernel) → AreNumbered 1 tree.body → Holds (IsFrom 1
 unfolding elaborate
 kernel-ordered tree h =
     then-any (IsFrom 1 (1 + statements_of tree.body)) (declare_parameters empty_scope tree.parameters) _ (λ outer.
-    then-holds (AreFrom [] 1 (1 + statements_of tree.body)) (IsFrom 1 (1 + statements_of tree.body)) (elaborate_all true outer tree.body) _ (all-ordered [] true outer 1 tree.body h) (λ b q. q))
+    then-holds (AreFrom [] 1 (1 + statements_of tree.body)) (IsFrom 1 (1 + statements_of tree.body)) (elaborate_all InKernel outer tree.body) _ (all-ordered [] InKernel refl outer 1 tree.body h) (λ b q. q))
 
 pub elaborated-ordered : (tree : Kernel) (k : launch.Kernel) → AreNumbered 1 tree.body → elaborate tree ≡ Ok k → Ordered [] 1 (1 + statements_of tree.body) k.body
 elaborated-ordered tree k h e = held (IsFrom 1 (1 + statements_of tree.body)) (elaborate tree) k e (kernel-ordered tree h)

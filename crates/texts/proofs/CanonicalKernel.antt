@@ -8,14 +8,14 @@ use Rattle.texts.specs.Signs.{LeftParenthesis, RightParenthesis, LeftBrace, Righ
 use Rattle.texts.specs.Reserved as words
 use Rattle.texts.specs.Tokens as token
 use Rattle.texts.specs.Tokens.{TokenKind, Mark, Word}
-use Rattle.texts.specs.Lexemes.{Lexeme, mark, word, name, number, assign_of}
+use Rattle.texts.specs.Lexemes.{Lexeme, mark, word, name, number, assign_of, jump_of}
 use Rattle.texts.specs.Grammar.{IsExpression}
 use Rattle.texts.specs.KernelGrammar as grammar
 use Rattle.texts.specs.KernelGrammar.{IsAssignment, to_variable, to_element, IsDeclaration, declared, IsFirst, first_declares, first_assigns, no_else, IsStatement, assigns, if_alone, if_else, while, for, barrier, block, IsBody, braces, IsItems, end, item, IsItem, statement, declares, array, IsParameter, buffer, constant_buffer, value, IsParameters, no_parameter, last_parameter, another_parameter, IsKernel}
 use Rattle.texts.specs.KernelLimits.{statements_in, statements_of}
 use Rattle.texts.specs.Spelling.{first_number, IsNumbered, AreNumbered}
-use Rattle.texts.specs.CanonicalTokens.{kind_word, assign_sign, expression_tokens, declaration_tokens, index_tokens, assignment_tokens, first_tokens, statement_tokens, statements_tokens, else_tokens, parameter_tokens, more_parameters, parameters_tokens, kernel_tokens, IsPrintableStatement, ArePrintableStatements, IsPrintableKernel}
-use Rattle.texts.specs.Surface.{AssignSign, Plain, With, WithLeftShift, WithRightShift, Expression, Declaration, Assignment, First, FirstDeclares, FirstAssigns, Statement, Declare, DeclareArray, Assign, If, While, For, Barrier, Block, Statements, none, one, Parameter, Buffer, Value, Kernel}
+use Rattle.texts.specs.CanonicalTokens.{kind_word, jump_word, assign_sign, expression_tokens, declaration_tokens, index_tokens, assignment_tokens, first_tokens, statement_tokens, statements_tokens, else_tokens, parameter_tokens, more_parameters, parameters_tokens, kernel_tokens, IsPrintableStatement, ArePrintableStatements, IsPrintableKernel}
+use Rattle.texts.specs.Surface.{AssignSign, Plain, With, WithLeftShift, WithRightShift, Expression, Declaration, Assignment, First, FirstDeclares, FirstAssigns, JumpWord, Return, Break, Continue, Statement, Declare, DeclareArray, Assign, If, While, For, Barrier, Jump, Block, Statements, none, one, Parameter, Buffer, Value, Kernel}
 use Rattle.texts.specs.Bare.{nowhere, bare_expression, bare_declaration, bare_assignment, bare_first, bare_statement, bare_statements, bare_parameter, bare_kernel}
 use Rattle.texts.specs.Brackets.{Opens, OpensIndex, OpensAssignment, OpensFirst, OpensStatement, AllOpenStatements}
 use Rattle.texts.proofs.CanonicalGrammar.{Placed, over, placed, Says, say_expression, kind_back, placed_of}
@@ -48,6 +48,11 @@ assign_back (With BitOr) = refl
 assign_back (With BitXor) = refl
 assign_back WithLeftShift = refl
 assign_back WithRightShift = refl
+
+jump_back : (jump : JumpWord) → jump_of (jump_word jump) ≡ Some jump
+jump_back Return = refl
+jump_back Break = refl
+jump_back Continue = refl
 
 plain_declaration : ℕ → Kind → List ℕ → Expression → Declaration
 plain_declaration n kind x e = record { number = n; site = nowhere; kind = kind; name_site = nowhere; name = x; value = e }
@@ -126,6 +131,12 @@ unfolding fronts
 kind_front Int ks = refl
 kind_front Uint ks = refl
 
+jump_front : (jump : JumpWord) (ks : List TokenKind) → fronts (Word (jump_word jump) ∷ ks) ≡ true
+unfolding fronts
+jump_front Return ks = refl
+jump_front Break ks = refl
+jump_front Continue ks = refl
+
 brace_front : (ks : List TokenKind) → fronts (Mark RightBrace ∷ ks) ≡ true
 unfolding fronts
 brace_front ks = refl
@@ -140,6 +151,7 @@ statements_front (one (If n site test a b) ss) ks h = refl
 statements_front (one (While n site test body) ss) ks h = refl
 statements_front (one (For n site first test update body) ss) ks h = refl
 statements_front (one (Barrier n site flags) ss) ks h = refl
+statements_front (one (Jump n site jump) ss) ks h = jump_front jump (Mark Semicolon ∷ statements_tokens ss ks)
 statements_front (one (Block n site body) ss) ks h = refl
 
 found_declare : (d : Declaration) (n next room : ℕ) (ks : List TokenKind) (ts : List Lexeme) → next ≡ n + 1 → Found (IsDeclaration room n) bare_declaration d (Mark Semicolon ∷ ks) ts → Counted (IsItem room n) bare_statement (Declare d) next ks ts
@@ -284,6 +296,8 @@ mutual
       (λ us q. say_expression e room _ us h.1 q) (λ us q. find_assignment u (n + 2) room _ us m.2 h.2 q) (λ us q. all_found body (n + 3) room ks us m.3 pr.3 h.3 q))
   found (Barrier k site e) n zero ks ts m pr h f p = absurd h
   found (Barrier k site e) n (suc room) ks ts m pr h f (placed a0 at (placed a1 opening p)) = found_barrier site k n _ room e ks at opening m refl (say_expression e room _ _ h p)
+  found (Jump k site jump) n room ks ts m pr h f (placed a0 at (placed a1 semicolon p)) =
+      record { tree = Jump n at jump; rest = _; relates = statement (grammar.jump (jump_word jump) jump at semicolon (jump_back jump)); left = p; same = ap (λ k. Jump k nowhere jump) (sym m) }
   found (Block k site body) n zero ks ts m pr h f p = absurd h
   found (Block k site body) n (suc room) ks ts m pr h f (placed a0 at p) =
       let r = all_found body (n + 1) room ks _ m.1 pr h p in

@@ -8,9 +8,9 @@ use Rattle.texts.specs.Reserved as w
 use Rattle.texts.specs.Reserved.{Reserved, reserved_words}
 use Rattle.texts.specs.Tokens as token
 use Rattle.texts.specs.Tokens.{TokenKind, Mark, Word}
-use Rattle.texts.specs.Canonical.{kind_text, assign_text, expression_text, declaration_text, index_text, assignment_text, first_text, array_text, for_text, line, deeper, statement_text, statements_text, else_text, parameter_text, parameters_text, sizes_text, canonical}
-use Rattle.texts.specs.CanonicalTokens.{IsName, IsSize, kind_word, number_token, expression_tokens, declaration_tokens, index_tokens, assignment_tokens, first_tokens, statement_tokens, statements_tokens, else_tokens, parameter_tokens, more_parameters, parameters_tokens, sizes_tokens, kernel_tokens, IsPrintable, IsPrintableDeclaration, IsPrintableIndex, IsPrintableAssignment, IsPrintableFirst, IsPrintableStatement, ArePrintableStatements, parameter_name, ArePrintableParameters, IsPrintableKernel}
-use Rattle.texts.specs.Surface.{Expression, Plain, Declaration, Assignment, First, FirstDeclares, FirstAssigns, Statement, Declare, DeclareArray, Assign, If, While, For, Barrier, Block, Statements, none, one, Parameter, Buffer, Value, Kernel}
+use Rattle.texts.specs.Canonical.{kind_text, assign_text, jump_text, expression_text, declaration_text, index_text, assignment_text, first_text, array_text, for_text, line, deeper, statement_text, statements_text, else_text, parameter_text, parameters_text, sizes_text, canonical}
+use Rattle.texts.specs.CanonicalTokens.{IsName, IsSize, kind_word, jump_word, number_token, expression_tokens, declaration_tokens, index_tokens, assignment_tokens, first_tokens, statement_tokens, statements_tokens, else_tokens, parameter_tokens, more_parameters, parameters_tokens, sizes_tokens, kernel_tokens, IsPrintable, IsPrintableDeclaration, IsPrintableIndex, IsPrintableAssignment, IsPrintableFirst, IsPrintableStatement, ArePrintableStatements, parameter_name, ArePrintableParameters, IsPrintableKernel}
+use Rattle.texts.specs.Surface.{Expression, Plain, Declaration, Assignment, First, FirstDeclares, FirstAssigns, JumpWord, Return, Break, Continue, Statement, Declare, DeclareArray, Assign, If, While, For, Barrier, Jump, Block, Statements, none, one, Parameter, Buffer, Value, Kernel}
 use Rattle.texts.proofs.CanonicalPieces.{Lexes, lex_piece, lex_end}
 use Rattle.texts.proofs.CanonicalSigns.{blank, feed, opening, closing, bracket, bracket_end, brace, brace_end, semicolon, comma, assign, IsFirst}
 use Rattle.texts.proofs.CanonicalNames.{lex_name, lex_number, front_name}
@@ -53,6 +53,12 @@ else_word {rest} go = brace_end (blank (lex_piece _ 101 (codes "lse") (32 ∷ 12
 barrier_name : {rest : List ℕ} {ks : List TokenKind} → Lexes rest ks → Lexes (codes "barrier(" ++ rest) (token.Name (codes "barrier") ∷ Mark LeftParenthesis ∷ ks)
 unfolding reserved_words
 barrier_name {rest} go = lex_piece _ 98 (codes "arrier") (40 ∷ rest) _ refl (opening go)
+
+jump_ends : (jump : JumpWord) {rest : List ℕ} {ks : List TokenKind} → Lexes rest ks → Lexes ((jump_text jump ++ codes ";") ++ (10 ∷ rest)) (Word (jump_word jump) ∷ Mark Semicolon ∷ ks)
+unfolding reserved_words
+jump_ends Return {rest} go = lex_piece _ 114 (codes "eturn") (59 ∷ 10 ∷ rest) _ refl (semicolon (feed go))
+jump_ends Break {rest} go = lex_piece _ 98 (codes "reak") (59 ∷ 10 ∷ rest) _ refl (semicolon (feed go))
+jump_ends Continue {rest} go = lex_piece _ 99 (codes "ontinue") (59 ∷ 10 ∷ rest) _ refl (semicolon (feed go))
 
 size_name : {rest : List ℕ} {ks : List TokenKind} → Lexes rest ks → Lexes (codes "reqd_work_group_size(" ++ rest) (token.Name (codes "reqd_work_group_size") ∷ Mark LeftParenthesis ∷ ks)
 unfolding reserved_words
@@ -177,6 +183,7 @@ mutual
   lex_statement pad (Barrier n site flags) rest ks p h go =
       lex_line pad (codes "barrier(" ++ (expression_text flags ++ codes ");")) _ p
       (barrier_name (moved (append_assoc (expression_text flags) (codes ");") (10 ∷ rest)) (lex_expression flags _ _ h refl (closing (semicolon (feed go))))))
+  lex_statement pad (Jump n site jump) rest ks p h go = lex_line pad (jump_text jump ++ codes ";") rest p (jump_ends jump go)
   lex_statement pad (Block n site body) rest ks p h go =
       moved (in_turn (line pad (codes "{")) (statements_text (deeper pad) body) (line pad (codes "}")) rest)
       (lex_line pad (codes "{") _ p (brace (feed (lex_statements (deeper pad) body _ _ (deeper_pad pad p) h (lex_brace pad rest p go)))))

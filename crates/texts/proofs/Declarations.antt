@@ -3,7 +3,7 @@ use Rattle.std.proofs.Common.{◌≡◌, ◌≤◌, ◌<◌, ℕ, ◌+◌, Bool,
 use Rattle.std.proofs.lemmas.Bool.{ltb-true}
 use Rattle.semantics.specs.Core.{Site}
 use Rattle.texts.specs.ParseFaults.{ParseFault}
-use Rattle.texts.specs.Surface.{First, FirstDeclares, FirstAssigns, Statement, Declare, DeclareArray, Assign, If, While, For, Barrier, Block, Statements, none, one, Parameter, Buffer, Value, Kernel}
+use Rattle.texts.specs.Surface.{First, FirstDeclares, FirstAssigns, Statement, Declare, DeclareArray, Assign, If, While, For, Barrier, Jump, Block, Statements, none, one, Parameter, Buffer, Value, Kernel}
 use Rattle.texts.specs.Limits.{Counts, nothing_declared, one_buffer, one_variable, one_array, next, count_parameter, count_parameters, count_first, count_statement, count_statements, measured, deep_statements, within_limits}
 use Rattle.texts.specs.Declarations.{declared_first, declared_in, declared_by, HasFewNames}
 
@@ -82,6 +82,7 @@ mutual
   statement-counted c (While n site test body) few = statements-counted c body few
   statement-counted c (For n site first test update body) few = both-counted c (declared_first first) (declared_by body) (count_first c first) (λ c. count_statements c body) (first-counted c first few) (λ d f. statements-counted d body f)
   statement-counted c (Barrier n site flags) few = none-counted c few
+  statement-counted c (Jump n site jump) few = none-counted c few
   statement-counted c (Block n site body) few = statements-counted c body few
 
   statements-counted : (c : Counts) (ss : Statements) → Few c → Counted c (declared_by ss) (count_statements c ss)

@@ -14,7 +14,9 @@ use Rattle.syntax.specs.declared.tree.Declaration.{Declaration}
 use Rattle.syntax.specs.declared.tree.Assignment.{Assignment}
 use Rattle.syntax.specs.declared.tree.First.{First}
 use Rattle.syntax.specs.declared.tree.First.TheVariants as firsts
-use Rattle.syntax.specs.declared.tree.Stmt.{Stmt, Declare, DeclareArray, Assign, If', While', For', Barrier, Block', Row_of-Stmt, end_of-Stmt, more_of-Stmt}
+use Rattle.syntax.specs.declared.tree.JumpWord.{JumpWord}
+use Rattle.syntax.specs.declared.tree.JumpWord.TheVariants as jumps
+use Rattle.syntax.specs.declared.tree.Stmt.{Stmt, Declare, DeclareArray, Assign, If', While', For', Barrier, Jump, Block', Row_of-Stmt, end_of-Stmt, more_of-Stmt}
 use Rattle.syntax.specs.declared.tree.Parameter.{Parameter}
 use Rattle.syntax.specs.declared.tree.Parameter.TheVariants as parameters
 use Rattle.syntax.specs.declared.tree.Kernel.{Kernel}
@@ -72,6 +74,11 @@ abbrev pub first : First → surface.First
 first (firsts.Declares d) = surface.FirstDeclares (declaration d)
 first (firsts.Assigns a) = surface.FirstAssigns (assignment a)
 
+abbrev pub jump_word : JumpWord → surface.JumpWord
+jump_word jumps.Return = surface.Return
+jump_word jumps.Break = surface.Break
+jump_word jumps.Continue = surface.Continue
+
 abbrev mutual
   pub statement : Stmt → surface.Statement
   statement (Declare d) = surface.Declare (declaration d)
@@ -81,6 +88,7 @@ abbrev mutual
   statement (While' n s test m body) = surface.While n (site s) (expression test) (body_row body)
   statement (For' n s begin test update m body) = surface.For n (site s) (first begin) (expression test) (assignment update) (body_row body)
   statement (Barrier n s flags) = surface.Barrier n (site s) (expression flags)
+  statement (Jump n s jump) = surface.Jump n (site s) (jump_word jump)
   statement (Block' n s m body) = surface.Block n (site s) (body_row body)
 
   pub body_row : {m : _} → Row_of-Stmt m → surface.Statements

@@ -114,6 +114,14 @@ pub enum First {
     Assigns(Assignment),
 }
 
+/// Which jump statement it is.
+#[derive(Clone, Copy)]
+pub enum JumpWord {
+    Return,
+    Break,
+    Continue,
+}
+
 /// A statement with its number in the source, from 1.
 #[derive(Drop)]
 pub enum Stmt {
@@ -152,6 +160,11 @@ pub enum Stmt {
         number: u32,
         site: Site,
         flags: Expr,
+    },
+    Jump {
+        number: u32,
+        site: Site,
+        jump: JumpWord,
     },
     Block {
         number: u32,
@@ -216,6 +229,7 @@ impl Stmt {
             | Stmt::While { site, .. }
             | Stmt::For { site, .. }
             | Stmt::Barrier { site, .. }
+            | Stmt::Jump { site, .. }
             | Stmt::Block { site, .. } => *site,
         }
     }
@@ -232,6 +246,7 @@ impl Stmt {
             | Stmt::While { number, .. }
             | Stmt::For { number, .. }
             | Stmt::Barrier { number, .. }
+            | Stmt::Jump { number, .. }
             | Stmt::Block { number, .. } => *number,
         }
     }

@@ -74,6 +74,10 @@ const MEANINGS: &[(u8, &str)] = &[
         "A function is called that the language leaves out: do without it.",
     ),
     (
+        28,
+        "A break or a continue stands outside of any loop: drop it, or write return; to end the work-item there.",
+    ),
+    (
         30,
         "Something else is due in that line of the conditions: compare it with docs/FORMATS.md.",
     ),

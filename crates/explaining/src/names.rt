@@ -84,7 +84,7 @@ impl<'a> Names<'a> {
             Stmt::While { body, .. } | Stmt::Block { body, .. } => {
                 push_block(left, body.as_slice())
             }
-            Stmt::Assign(_) | Stmt::Barrier { .. } => Ok(()),
+            Stmt::Assign(_) | Stmt::Barrier { .. } | Stmt::Jump { .. } => Ok(()),
         }
     }
 }

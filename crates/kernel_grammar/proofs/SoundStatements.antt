@@ -162,9 +162,12 @@ jump-sound : (room n : ℕ) → n ≤ 512 → (ts rest : List Lexeme) (s : State
 unfolding jump_reader
 jump-sound room n le ts rest s w jump found q k =
     let c = taking (Then (expects is_semicolon) (λ semicolon. Gives (Jump n (front ts).site jump, n + 1))) (behind ts) rest s k in
-    fronted room n ts rest s (token.Word w) refl q (settled (StatementRead room n (word w (front ts).site ∷ behind ts)) s (Jump n (front ts).site jump, n + 1) c.1 rest c.3
-    (subst (λ l. IsStatement room n (word w (front ts).site ∷ l) (Jump n (front ts).site jump) (n + 1) c.1) (sym (semicolon_due (behind ts) c.1 c.0 c.2))
-    (rules.jump w jump (front ts).site (front (behind ts)).site found), omega (arith, le), tt))
+    fronted room n ts rest s (token.Word w) refl q (settled (StatementRead room n (word w (front ts).site ∷ behind ts)) s (Jump n (front ts).site jump, n + 1) c.1 rest c.3 (
+      subst (λ l. IsStatement room n (word w (front ts).site ∷ l) (Jump n (front ts).site jump) (n + 1) c.1) (sym (semicolon_due (behind ts) c.1 c.0 c.2))
+          (rules.jump w jump (front ts).site (front (behind ts)).site found),
+      omega (arith, le),
+      tt,
+    ))
 
 by-word : (body block : (room n : ℕ) → Reader (Statements × ℕ)) → BodiesSound body → BlocksSound block → (room depth n : ℕ) → n ≤ 512 → (ts rest : List Lexeme) (s : Statement × ℕ) (kind : TokenKind) → (front ts).kind ≡ kind → run (statement_by body block room depth n (front ts).site kind) ts ≡ Took s rest → StatementRead room n ts s rest
 by-word body block bodies blocks room depth n le ts rest s (token.Name x) q k = named-sound room depth n le ts rest x s q k

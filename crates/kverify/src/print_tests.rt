@@ -23,6 +23,10 @@ const ROWS: &[(&str, &str)] = &[
         "kernel __attribute__((reqd_work_group_size(4,1,1))) void k(global int*a,int n){if(n)if(a[0])a[1]=-(-1);else a[2]=n?1:2;}",
         "__kernel __attribute__((reqd_work_group_size(4, 1, 1))) void k(__global int *a, int n) {\n  if (n) {\n    if (a[0]) {\n      a[1] = -(-1);\n    } else {\n      a[2] = n ? 1 : 2;\n    }\n  }\n}\n",
     ),
+    (
+        "kernel __attribute__((reqd_work_group_size(1,1,1))) void k(uint n){while(n){if(n<3u)break;else{n=0u;continue;}}return;}",
+        "__kernel __attribute__((reqd_work_group_size(1, 1, 1))) void k(uint n) {\n  while (n) {\n    if (n < 3u) {\n      break;\n    } else {\n      n = 0u;\n      continue;\n    }\n  }\n  return;\n}\n",
+    ),
     (SIGNS, SIGNS_PRINTED),
 ];
 

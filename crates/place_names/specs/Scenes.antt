@@ -3,7 +3,7 @@
 use Rattle.std.specs.Prelude.{ℕ, Bool, true, false, cond, List, [], ◌∷◌, ◌++◌, length, take}
 use Rattle.semantics.specs.Launch as launch
 use Rattle.place_obligations.specs.Roots.{is_kept}
-use Rattle.texts.specs.Surface.{First, FirstDeclares, FirstAssigns, Statement, Declare, DeclareArray, Assign, If, While, For, Barrier, Block, Statements, none, one, Parameter, Buffer, Value, Kernel}
+use Rattle.texts.specs.Surface.{First, FirstDeclares, FirstAssigns, Statement, Declare, DeclareArray, Assign, If, While, For, Barrier, Jump, Block, Statements, none, one, Parameter, Buffer, Value, Kernel}
 
 pub record Named : Type 0 where
   pub name : List ℕ
@@ -70,6 +70,7 @@ abbrev mutual
   go (While n site test body) g = turning (go_all body) n g
   go (For n site first test update body) g = counted (go_all body) n first g
   go (Barrier n site flags) g = stand false n g
+  go (Jump n site jump) g = g
   go (Block n site body) g = within (go_all body) g
 
   pub go_all : Statements → Gone → Gone

@@ -88,7 +88,7 @@ fn go<'a>(alloc: Global, statement: &'a Stmt, gone: &mut Gone<'a>) -> Result<(),
 {
     match statement {
         Stmt::Declare(declaration) => gone.declare(declaration.name.as_str()),
-        Stmt::DeclareArray { .. } | Stmt::Assign(_) => Ok(()),
+        Stmt::DeclareArray { .. } | Stmt::Assign(_) | Stmt::Jump { .. } => Ok(()),
         Stmt::If { taken, skipped, .. } => {
             block(alloc, taken.as_slice(), gone)?;
             block(alloc, skipped.as_slice(), gone)

@@ -9,7 +9,7 @@ ghost use Rattle.syntax.specs.View as view;
 
 use core_code::tree::{Operator, Relation};
 use std::alloc::AllocError;
-use syntax::tree::{AssignSign, InfixSign, PrefixSign};
+use syntax::tree::{AssignSign, InfixSign, JumpWord, PrefixSign};
 use words::Kind;
 
 pub fn push_kind(out: &mut String, kind: Kind) -> Result<(), AllocError>
@@ -92,5 +92,15 @@ pub fn push_number(out: &mut String, kind: Kind, value: u32) -> Result<(), Alloc
     match kind {
         Kind::Int => write!(out, "{value}"),
         Kind::Uint => write!(out, "{value}u"),
+    }
+}
+
+pub fn push_jump(out: &mut String, jump: JumpWord) -> Result<(), AllocError>
+    ensures { OnOk result (string_bytes out.new ≡ string_bytes out.old ++ text.jump_text (view.jump_word jump)) }
+{
+    match jump {
+        JumpWord::Return => out.push_str("return"),
+        JumpWord::Break => out.push_str("break"),
+        JumpWord::Continue => out.push_str("continue"),
     }
 }

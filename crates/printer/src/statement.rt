@@ -7,7 +7,7 @@ ghost use Rattle.words.specs.View.{kind as kind_seen};
 ghost use Rattle.syntax.specs.View.{expression, assignment as assignment_seen, declaration as declaration_seen, first as first_seen, index_of, statement as statement_seen, statements};
 
 use crate::expression::push_expression;
-use crate::sign::{push_assign, push_kind};
+use crate::sign::{push_assign, push_jump, push_kind};
 use std::alloc::{AllocError, Global};
 use syntax::tree::{Assignment, Declaration, Expr, First, Stmt};
 use words::Kind;
@@ -222,6 +222,11 @@ fn push_statement(
             write!(out, "{pad}barrier(")?;
             push_expression(out, flags)?;
             out.push_str(");\n")
+        }
+        Stmt::Jump { jump, .. } => {
+            out.push_str(pad)?;
+            push_jump(out, *jump)?;
+            out.push_str(";\n")
         }
         Stmt::Block { body, .. } => {
             writeln!(out, "{pad}{{")?;

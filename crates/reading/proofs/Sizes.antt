@@ -1,9 +1,9 @@
 -- The local sizes of what is read.
-use Rattle.std.proofs.Common.{◌≡◌, ℕ, true, List, Ok, Err, sym, ap, subst}
+use Rattle.std.proofs.Common.{◌≡◌, ℕ, List, Ok, Err, sym, ap, subst}
 use Rattle.semantics.specs.Launch as launch
 use Rattle.texts.specs.Surface as surface
 use Rattle.texts.specs.TypeFaults.{Checked, then}
-use Rattle.texts.specs.Elaboration.{elaborate, elaborate_all, declare_parameters}
+use Rattle.texts.specs.Elaboration.{elaborate, InKernel, elaborate_all, declare_parameters}
 use Rattle.texts.specs.Scope.{empty_scope}
 use Rattle.texts.specs.KernelLimits.{IsLocalSize}
 use Rattle.reading.specs.Kernels.{Kernel, read}
@@ -23,7 +23,7 @@ core-sizes : (t : surface.Kernel) (k : launch.Kernel) → elaborate t ≡ Ok k �
 unfolding elaborate sizes-or
 core-sizes t k h =
     let outer = then-took (declare_parameters empty_scope t.parameters) _ k h in
-    let body = then-took (elaborate_all true outer.0 t.body) _ k outer.1 in
+    let body = then-took (elaborate_all InKernel outer.0 t.body) _ k outer.1 in
     sym (ap (sizes-or t.sizes) body.1)
 
 pub sizes-read : (bytes : List ℕ) (k : Kernel) → read bytes ≡ Ok k → HasLocalSizes k.core

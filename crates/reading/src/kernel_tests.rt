@@ -77,7 +77,11 @@ const TREES: &[(&str, &str, &str)] = &[
         "__local uint t[16384]; __local uint u[16385];\n}",
         "12 3:39",
     ),
-    ("", "return;\n}", "10 3:1"),
+    ("", "return;\n}", "1"),
+    ("", "if (1) break; else continue; return;\n}", "2"),
+    ("", "return 1;\n}", "10 3:8"),
+    ("", "continue\n}", "10 4:1"),
+    ("", "goto;\n}", "10 3:1"),
 ];
 
 #[test]
@@ -179,6 +183,11 @@ const KERNELS: &[(&str, &str)] = &[
     ),
     ("n = abs(1);\n}", "27 3:5 27"),
     ("n = atomic_add(1u);\n}", "27 3:5 27"),
+    ("return; if (n) return;\n}", "2"),
+    ("while (n) { { break; } if (n) continue; }\n}", "1"),
+    ("break;\n}", "28 3:1 28"),
+    ("{ if (n) break; }\n}", "28 3:10 28"),
+    ("while (n) n = 0; continue;\n}", "28 3:18 28"),
     ("b[0] = 1u; @", "1 3:12 1"),
     ("b[0] = z }", "10 3:10 10"),
 ];
@@ -258,5 +267,61 @@ fn a_kernel_has_its_core(rt: HostRuntime) -> Result<(), Fail> {
         return Err(Fail::new(format_args!("a kernel is due")));
     };
     assert!(rt; is_its_core(typed.core()));
+    Ok(())
+}
+
+/// What a statement is: a loop or a jump statement, with its number and its loop's.
+fn push_jump(text: &mut String, statement: &Statement) -> Result<(), Fail> {
+    match statement {
+        Statement::Loop { number, .. } => write!(text, " loop {number}")?,
+        Statement::Return { number } => write!(text, " return {number}")?,
+        Statement::Break { number, of } => write!(text, " break {number} {of}")?,
+        Statement::Continue { number, of } => write!(text, " continue {number} {of}")?,
+        _ => {}
+    }
+    Ok(())
+}
+
+fn statements_in(statement: &Statement) -> &[Statement] {
+    match statement {
+        Statement::If { taken, .. } => taken.as_slice(),
+        Statement::Loop { body, .. } => body.as_slice(),
+        _ => &[],
+    }
+}
+
+/// The jump statements of a core and its loops, each before what stands in it.
+#[cycle(jumps)]
+fn push_jumps(text: &mut String, body: &[Statement]) -> Result<(), Fail> {
+    for statement in body {
+        push_jump(text, statement)?;
+        push_jumps(text, statements_in(statement))?;
+    }
+    Ok(())
+}
+
+const JUMPS: &[(&str, &str)] = &[
+    (
+        "while (n) { while (n) { if (n) break; n = 0u; } continue; } return;\n}",
+        " loop 1 loop 2 break 4 2 continue 6 1 return 7",
+    ),
+    (
+        "for (uint i = 0u; i < n; i += 1u) { if (i) { continue; } while (1) { { break; } } if (n) return; }\n}",
+        " loop 1 continue 5 1 loop 6 break 8 6 return 10",
+    ),
+];
+
+#[test]
+fn jumps_name_their_loop(rt: HostRuntime) -> Result<(), Fail> {
+    let alloc = rt.alloc();
+    for (body, want) in JUMPS {
+        let text = text_of(alloc, "uint n", body)?;
+        let Ok(typed) = read_kernel(alloc, text.as_bytes()) else {
+            return Err(Fail::new(format_args!("a kernel is due")));
+        };
+        let mut made = String::new(alloc);
+        push_jumps(&mut made, typed.core().body.as_slice())?;
+        assert_eq!(rt; made.as_str(), *want, "in {body}");
+    }
     Ok(())
 }

@@ -113,6 +113,7 @@ fn statement(text: &mut String, s: &Stmt) -> Result<(), Fail> {
             statements(text, body)
         }
         Stmt::Barrier { flags, .. } => expression(text, flags),
+        Stmt::Jump { .. } => Ok(()),
         Stmt::Block { body, .. } => statements(text, body),
     }
 }
@@ -164,6 +165,10 @@ const BODIES: &[(&str, &str)] = &[
     (
         "{ { x = y << 2; } z = 1; }\nfor (x = 0; x; x -= 1) { }\n",
         " { 1 2:1 { 2 2:3 { 3 2:5 2:7 2:11 2:9 2:14 } 4 2:19 2:21 2:23 } 5 3:1 6 3:6 3:8 3:10 3:13 7 3:16 3:18 3:21 { } }",
+    ),
+    (
+        "while (x) { break; }\nif (x) return; else continue;\n",
+        " { 1 2:1 2:8 { 2 2:13 } 3 3:1 3:5 { 4 3:8 } { 5 3:21 } }",
     ),
 ];
 

@@ -25,6 +25,7 @@ fault faults.ArrayInBlock = rules.ArrayInBlock
 fault faults.LoadInCompoundIndex = rules.LoadInCompoundIndex
 fault faults.BarrierFlags = rules.BarrierFlags
 fault faults.LeftOutWord = rules.LeftOutWord
+fault faults.JumpOutsideLoop = rules.JumpOutsideLoop
 
 -- the number that an error is printed under, and its place, where it has one
 abbrev pub error_number : TypeError → ℕ

@@ -17,6 +17,7 @@ pub enum TypeFault {
     LoadInCompoundIndex,
     BarrierFlags,
     LeftOutWord,
+    JumpOutsideLoop,
 }
 
 impl TypeFault {
@@ -36,6 +37,7 @@ impl TypeFault {
             TypeFault::LoadInCompoundIndex => 25,
             TypeFault::BarrierFlags => 26,
             TypeFault::LeftOutWord => 27,
+            TypeFault::JumpOutsideLoop => 28,
         }
     }
 }

@@ -2,7 +2,7 @@
 //! statement.
 
 ghost use Rattle.std.specs.Prelude.{◌≡◌, ◌≤◌, ◌+◌};
-ghost use Rattle.syntax.specs.View.{expression};
+ghost use Rattle.syntax.specs.View.{expression, jump_word};
 ghost use Rattle.core_code.specs.View.{site as site_of};
 ghost use Rattle.readers.specs.Reader.{run, Looks};
 ghost use Rattle.readers.specs.View.{lexemes, Reads, numbered, all_numbered};
@@ -18,7 +18,7 @@ use readers::front::{
     pass, site_at,
 };
 use std::alloc::Global;
-use syntax::tree::{Expr, Stmt};
+use syntax::tree::{Expr, JumpWord, Stmt};
 
 /// A kernel has fewer statements than this.
 const MOST_ITEMS: u32 = 513;
@@ -52,6 +52,22 @@ fn named<'a>(
         let (_, rest) = pass(is_semicolon(kind_at(rest)), rest)?;
         Ok(((Stmt::Assign(assigned), number + 1), rest))
     }
+}
+
+// At the word of a jump statement.
+#[tactic(auto, using(readers::proofs::Steps::part_steps), unfolding(readers::specs::Statements::jump_reader))]
+fn jump<'a>(
+    number: u32,
+    site: Site,
+    jump: JumpWord,
+    tokens: &'a [Token<'a>],
+) -> Result<((Stmt, u32), &'a [Token<'a>]), Stop<'a>>
+    requires { number ≤ 512 }
+    ensures { Reads numbered result (run (reads.jump_reader number (site_of site) (jump_word jump)) (lexemes tokens.now)) }
+{
+    let (_, rest) = pass(is_semicolon(kind_at(behind(tokens))), behind(tokens))?;
+    let tree = Stmt::Jump { number, site, jump };
+    Ok(((tree, number + 1), rest))
 }
 
 /// A statement.
@@ -120,6 +136,9 @@ fn below<'a>(
             }
             counting(alloc, room, depth, number, site, behind(tokens))
         }
+        TokenKind::Reserved(Reserved::Return) => jump(number, site, JumpWord::Return, tokens),
+        TokenKind::Reserved(Reserved::Break) => jump(number, site, JumpWord::Break, tokens),
+        TokenKind::Reserved(Reserved::Continue) => jump(number, site, JumpWord::Continue, tokens),
         _ => Err(Stop::Refused(ParseFault::Expected, tokens)),
     }
 }

@@ -1,7 +1,7 @@
 -- Where a statement begins in the source, by its number.
 use Rattle.std.specs.Prelude.{ℕ, cond, nat_eq, Option, Some, None}
 use Rattle.semantics.specs.Core.{Site}
-use Rattle.texts.specs.Surface.{First, FirstDeclares, FirstAssigns, Statement, Declare, DeclareArray, Assign, If, While, For, Barrier, Block, Statements, none, one, Kernel}
+use Rattle.texts.specs.Surface.{First, FirstDeclares, FirstAssigns, Statement, Declare, DeclareArray, Assign, If, While, For, Barrier, Jump, Block, Statements, none, one, Kernel}
 
 -- the first that has the number, else what is found behind
 abbrev pub by_number : ℕ → (own : ℕ) → Site → Option Site → Option Site
@@ -20,6 +20,7 @@ abbrev mutual
   in_statement n (While m site test body) behind = by_number n m site (in_statements n body behind)
   in_statement n (For m site first test update body) behind = by_number n m site (in_first n first (by_number n update.number update.site (in_statements n body behind)))
   in_statement n (Barrier m site flags) behind = by_number n m site behind
+  in_statement n (Jump m site jump) behind = by_number n m site behind
   in_statement n (Block m site body) behind = by_number n m site (in_statements n body behind)
 
   pub in_statements : ℕ → Statements → Option Site → Option Site

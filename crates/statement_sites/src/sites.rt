@@ -44,9 +44,9 @@ fn in_statement(wanted: u32, statement: &Stmt, behind: Option<Site>) -> Option<S
             behind,
         ),
         Stmt::Assign(assignment) => by_number(wanted, assignment.number, assignment.site, behind),
-        Stmt::DeclareArray { number, site, .. } | Stmt::Barrier { number, site, .. } => {
-            by_number(wanted, *number, *site, behind)
-        }
+        Stmt::DeclareArray { number, site, .. }
+        | Stmt::Barrier { number, site, .. }
+        | Stmt::Jump { number, site, .. } => by_number(wanted, *number, *site, behind),
         Stmt::If {
             number,
             site,

@@ -1,7 +1,7 @@
 -- A node below 32 levels is the first such node.
 use Rattle.std.proofs.Common.{◌≡◌, ℕ, nat_lt, true, cond, Option, Some, ap}
 use Rattle.semantics.specs.Core.{Site}
-use Rattle.texts.specs.Surface.{Expression, Number, Name, Element, Call, Prefix, Cast, Infix, Conditional, Statement, Declare, DeclareArray, Assign, If, While, For, Barrier, Block, site_of, begins_at}
+use Rattle.texts.specs.Surface.{Expression, Number, Name, Element, Call, Prefix, Cast, Infix, Conditional, Statement, Declare, DeclareArray, Assign, If, While, For, Barrier, Jump, Block, site_of, begins_at}
 use Rattle.texts.specs.Limits.{past, deep_expression, deep_statement}
 
 here : (depth : ℕ) (site : Site) (inner : Option Site) → nat_lt 32 depth ≡ true → past depth site inner ≡ Some site
@@ -25,6 +25,7 @@ statement-here depth (If n site test a b) h = here depth site _ h
 statement-here depth (While n site test body) h = here depth site _ h
 statement-here depth (For n site first test update body) h = here depth site _ h
 statement-here depth (Barrier n site flags) h = here depth site _ h
+statement-here depth (Jump n site jump) h = here depth site _ h
 statement-here depth (Block n site body) h = here depth site _ h
 
 pub ruleset deep_here = (expression-here)

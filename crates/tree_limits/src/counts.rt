@@ -104,7 +104,7 @@ fn count_statement(so_far: Counts, s: &Stmt) -> Result<Counts, Site>
     match s {
         Stmt::Declare(declared) => one_variable(so_far, declared.name_site),
         Stmt::DeclareArray { name_site, .. } => one_array(so_far, *name_site),
-        Stmt::Assign(_) | Stmt::Barrier { .. } => Ok(so_far),
+        Stmt::Assign(_) | Stmt::Barrier { .. } | Stmt::Jump { .. } => Ok(so_far),
         Stmt::If { taken, skipped, .. } => {
             let middle = count_statements(so_far, taken.as_slice())?;
             count_statements(middle, skipped.as_slice())

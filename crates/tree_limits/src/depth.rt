@@ -136,7 +136,7 @@ fn deep_statement(depth: u32, s: &Stmt) -> Option<Site>
     }
     match s {
         Stmt::Declare(declared) => deep_declaration(depth, declared),
-        Stmt::DeclareArray { .. } => None,
+        Stmt::DeclareArray { .. } | Stmt::Jump { .. } => None,
         Stmt::Assign(assigned) => deep_assignment(depth, assigned),
         Stmt::If {
             test,

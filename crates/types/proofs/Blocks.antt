@@ -1,12 +1,12 @@
 -- Blocks, and statements behind others.
-use Rattle.std.proofs.Common.{◌≡◌, ℕ, suc, ◌+◌, ◌<◌, ◌≤◌, Bool, false, List, [], ◌∷◌, ◌++◌, length, drop, get_or, Result, Ok, Err, refl, ap, ◌∙◌, sym, add-one, drop-cons}
+use Rattle.std.proofs.Common.{◌≡◌, ℕ, suc, ◌+◌, ◌<◌, ◌≤◌, List, [], ◌∷◌, ◌++◌, length, drop, get_or, Result, Ok, Err, refl, ap, ◌∙◌, sym, add-one, drop-cons}
 use Rattle.std.proofs.Math.ListN.{drop_of_length-le}
 use Rattle.semantics.specs.Core as core
 use Rattle.texts.specs.Surface as surface
 use Rattle.texts.specs.TypeFaults.{Checked, then}
 use Rattle.texts.specs.Scope.{Scope, leave_block}
 use Rattle.texts.specs.Typing.{TypedTerm, type_of}
-use Rattle.texts.specs.Elaboration.{Elaborated, elaborated, single, join, elaborate_first, elaborate_assignment, elaborate_statement, elaborate_all}
+use Rattle.texts.specs.Elaboration.{Elaborated, elaborated, single, join, elaborate_first, elaborate_assignment, Around, InLoop, inside, elaborate_statement, elaborate_all}
 use Rattle.core_code.specs.View.{statement, statements}
 use Rattle.types.specs.Blocks.{behind, block, repeated, turn, otherwise}
 use Rattle.scopes.specs.Answers.{Gives, Refuses}
@@ -21,17 +21,17 @@ then-then : {A B C : Type 0} → (a : Checked A) (f : A → Checked B) (g : B �
 then-then (Ok a) f g = refl
 then-then (Err e) f g = refl
 
-pub block-if : (top : Bool) (sc : Scope) (n : ℕ) (s : core.Site) (e : surface.Expression) (a b : surface.Statements) → elaborate_statement top sc (surface.If n s e a b) ≡ then (type_of sc.visible e) (λ t. then (block sc a) (λ x. otherwise x.scope n t.term x.statements b))
+pub block-if : (around : Around) (sc : Scope) (n : ℕ) (s : core.Site) (e : surface.Expression) (a b : surface.Statements) → elaborate_statement around sc (surface.If n s e a b) ≡ then (type_of sc.visible e) (λ t. then (block around sc a) (λ x. otherwise around x.scope n t.term x.statements b))
 unfolding elaborate_statement
-block-if top sc n s e a b = simp then-then
+block-if around sc n s e a b = simp then-then
 
-pub block-while : (top : Bool) (sc : Scope) (n : ℕ) (s : core.Site) (e : surface.Expression) (a : surface.Statements) → elaborate_statement top sc (surface.While n s e a) ≡ then (type_of sc.visible e) (λ t. then (block sc a) (λ x. Ok (elaborated (single (core.Loop n t.term x.statements core.none)) x.scope)))
+pub block-while : (around : Around) (sc : Scope) (n : ℕ) (s : core.Site) (e : surface.Expression) (a : surface.Statements) → elaborate_statement around sc (surface.While n s e a) ≡ then (type_of sc.visible e) (λ t. then (block (InLoop n) sc a) (λ x. Ok (elaborated (single (core.Loop n t.term x.statements core.none)) x.scope)))
 unfolding elaborate_statement
-block-while top sc n s e a = simp then-then
+block-while around sc n s e a = simp then-then
 
-pub block-for : (top : Bool) (sc : Scope) (n : ℕ) (s : core.Site) (first : surface.First) (e : surface.Expression) (update : surface.Assignment) (a : surface.Statements) → elaborate_statement top sc (surface.For n s first e update a) ≡ then (elaborate_first sc first) (λ f. then (repeated f.scope n e update a) (λ x. Ok (elaborated (join f.statements x.statements) (leave_block sc x.scope))))
+pub block-for : (around : Around) (sc : Scope) (n : ℕ) (s : core.Site) (first : surface.First) (e : surface.Expression) (update : surface.Assignment) (a : surface.Statements) → elaborate_statement around sc (surface.For n s first e update a) ≡ then (elaborate_first sc first) (λ f. then (repeated f.scope n e update a) (λ x. Ok (elaborated (join f.statements x.statements) (leave_block sc x.scope))))
 unfolding elaborate_statement
-block-for top sc n s first e update a = simp then-then
+block-for around sc n s first e update a = simp then-then
 
 pub join-none : (a : core.Statements) → join a core.none ≡ a
 join-none core.none = refl
@@ -46,9 +46,9 @@ statements-snoc [] s = refl
 statements-snoc (x ∷ xs) s = ap (core.one (statement x)) (statements-snoc xs s)
 
 -- one statement behind others, then what follows it
-pub behind-one : (top : Bool) (before : core.Statements) (sc : Scope) (s : surface.Statement) (ss : surface.Statements) → behind before (elaborate_all top sc (surface.one s ss)) ≡ then (behind before (elaborate_statement top sc s)) (λ a. behind a.statements (elaborate_all top a.scope ss))
+pub behind-one : (around : Around) (before : core.Statements) (sc : Scope) (s : surface.Statement) (ss : surface.Statements) → behind before (elaborate_all around sc (surface.one s ss)) ≡ then (behind before (elaborate_statement around sc s)) (λ a. behind a.statements (elaborate_all around a.scope ss))
 unfolding elaborate_statement
-behind-one top before sc s ss = simp (then-then, join-join)
+behind-one around before sc s ss = simp (then-then, join-join)
 
 pub behind-nothing : (before : core.Statements) (sc : Scope) → behind before (Ok (elaborated core.none sc)) ≡ Ok (elaborated before sc)
 behind-nothing before sc = ap (λ b. Ok (elaborated b sc)) (join-none before)
@@ -57,12 +57,12 @@ pub behind-none : (answer : Checked Elaborated) → behind core.none answer ≡ 
 behind-none (Ok e) = refl
 behind-none (Err e) = refl
 
-pub all-done : (top : Bool) (out : core.Statements) (sc : Scope) (ss : List Stmt) (i : ℕ) → length ss ≤ i → behind out (elaborate_all top sc (stmts (drop i ss))) ≡ Ok (elaborated out sc)
+pub all-done : (around : Around) (out : core.Statements) (sc : Scope) (ss : List Stmt) (i : ℕ) → length ss ≤ i → behind out (elaborate_all around sc (stmts (drop i ss))) ≡ Ok (elaborated out sc)
 unfolding elaborate_statement
-all-done top out sc ss i h = rw (drop_of_length-le ss h) (ap (λ b. Ok (elaborated b sc)) (join-none out))
+all-done around out sc ss i h = rw (drop_of_length-le ss h) (ap (λ b. Ok (elaborated b sc)) (join-none out))
 
-pub all-step : (top : Bool) (out : core.Statements) (sc : Scope) (ss : List Stmt) (i : ℕ) (s : Stmt) → i < length ss → s ≡ get_or ss i s → behind out (elaborate_all top sc (stmts (drop i ss))) ≡ then (behind out (elaborate_statement top sc (stmt s))) (λ a. behind a.statements (elaborate_all top a.scope (stmts (drop (i + 1) ss))))
-all-step top out sc ss i s h e = rw (add-one, drop-cons ss i s, ← e) (behind-one top out sc (stmt s) (stmts (drop (suc i) ss)))
+pub all-step : (around : Around) (out : core.Statements) (sc : Scope) (ss : List Stmt) (i : ℕ) (s : Stmt) → i < length ss → s ≡ get_or ss i s → behind out (elaborate_all around sc (stmts (drop i ss))) ≡ then (behind out (elaborate_statement around sc (stmt s))) (λ a. behind a.statements (elaborate_all around a.scope (stmts (drop (i + 1) ss))))
+all-step around out sc ss i s h e = rw (add-one, drop-cons ss i s, ← e) (behind-one around out sc (stmt s) (stmts (drop (suc i) ss)))
 
 -- what an answer stands for, behind others
 pub gives-behind : {A : Type 0} → (r : Result A TypeError) (x : Checked Elaborated) (out : core.Statements) (after : Scope) → Gives (λ _. elaborated core.none after) r x → Gives (λ _. elaborated out after) r (behind out x)
@@ -75,39 +75,39 @@ gives-alone (Ok s) x sc h = rw h refl
 gives-alone (Err (errors.At f s)) x sc h = rw h refl
 gives-alone (Err errors.Memory) x sc h = tt
 
-pub if-taken : (top : Bool) (sc : Scope) (n : ℕ) (s : core.Site) (e : surface.Expression) (a b : surface.Statements) (t : TypedTerm) (x : Elaborated) → type_of sc.visible e ≡ Ok t → behind core.none (block sc a) ≡ Ok x → elaborate_statement top sc (surface.If n s e a b) ≡ otherwise x.scope n t.term x.statements b
-if-taken top sc n s e a b t x p q = block-if top sc n s e a b ∙ rw (p, sym (behind-none (block sc a)) ∙ q) refl
+pub if-taken : (around : Around) (sc : Scope) (n : ℕ) (s : core.Site) (e : surface.Expression) (a b : surface.Statements) (t : TypedTerm) (x : Elaborated) → type_of sc.visible e ≡ Ok t → behind core.none (block around sc a) ≡ Ok x → elaborate_statement around sc (surface.If n s e a b) ≡ otherwise around x.scope n t.term x.statements b
+if-taken around sc n s e a b t x p q = block-if around sc n s e a b ∙ rw (p, sym (behind-none (block around sc a)) ∙ q) refl
 
-pub if-refused : (top : Bool) (sc : Scope) (n : ℕ) (s : core.Site) (e : surface.Expression) (a b : surface.Statements) (t : TypedTerm) (error : TypeError) (out : core.Statements) → type_of sc.visible e ≡ Ok t → Refuses error (behind core.none (block sc a)) → Refuses error (behind out (elaborate_statement top sc (surface.If n s e a b)))
-if-refused top sc n s e a b t (errors.At f at) out p q = rw (block-if top sc n s e a b, p, sym (behind-none (block sc a)) ∙ q) refl
-if-refused top sc n s e a b t errors.Memory out p q = tt
+pub if-refused : (around : Around) (sc : Scope) (n : ℕ) (s : core.Site) (e : surface.Expression) (a b : surface.Statements) (t : TypedTerm) (error : TypeError) (out : core.Statements) → type_of sc.visible e ≡ Ok t → Refuses error (behind core.none (block around sc a)) → Refuses error (behind out (elaborate_statement around sc (surface.If n s e a b)))
+if-refused around sc n s e a b t (errors.At f at) out p q = rw (block-if around sc n s e a b, p, sym (behind-none (block around sc a)) ∙ q) refl
+if-refused around sc n s e a b t errors.Memory out p q = tt
 
 outside : (sc : Scope) (out : core.Statements) (a : Checked Elaborated) (x : Elaborated) → behind out a ≡ Ok x → behind out (then a (λ b. Ok (elaborated b.statements (leave_block sc b.scope)))) ≡ Ok (elaborated x.statements (leave_block sc x.scope))
 outside sc out (Ok e) x h = let k : elaborated (join out e.statements) e.scope ≡ x = cc in ap (λ y. Ok (elaborated y.statements (leave_block sc y.scope))) k
 outside sc out (Err e) x h = cc
 
-pub block-done : (sc : Scope) (body : surface.Statements) (out : core.Statements) (x : Elaborated) → behind out (elaborate_all false sc body) ≡ Ok x → behind out (block sc body) ≡ Ok (elaborated x.statements (leave_block sc x.scope))
-block-done sc body out x h = outside sc out (elaborate_all false sc body) x h
+pub block-done : (around : Around) (sc : Scope) (body : surface.Statements) (out : core.Statements) (x : Elaborated) → behind out (elaborate_all (inside around) sc body) ≡ Ok x → behind out (block around sc body) ≡ Ok (elaborated x.statements (leave_block sc x.scope))
+block-done around sc body out x h = outside sc out (elaborate_all (inside around) sc body) x h
 
-pub otherwise-done : (sc : Scope) (n : ℕ) (test : core.Term) (taken : core.Statements) (skipped : surface.Statements) (x : Elaborated) → behind core.none (block sc skipped) ≡ Ok x → otherwise sc n test taken skipped ≡ Ok (elaborated (single (core.If n test taken x.statements)) x.scope)
-otherwise-done sc n test taken skipped x h = rw (sym (behind-none (block sc skipped)) ∙ h) refl
+pub otherwise-done : (around : Around) (sc : Scope) (n : ℕ) (test : core.Term) (taken : core.Statements) (skipped : surface.Statements) (x : Elaborated) → behind core.none (block around sc skipped) ≡ Ok x → otherwise around sc n test taken skipped ≡ Ok (elaborated (single (core.If n test taken x.statements)) x.scope)
+otherwise-done around sc n test taken skipped x h = rw (sym (behind-none (block around sc skipped)) ∙ h) refl
 
-pub while-done : (top : Bool) (sc : Scope) (n : ℕ) (s : core.Site) (e : surface.Expression) (body : surface.Statements) (t : TypedTerm) (x : Elaborated) → type_of sc.visible e ≡ Ok t → behind core.none (block sc body) ≡ Ok x → elaborate_statement top sc (surface.While n s e body) ≡ Ok (elaborated (single (core.Loop n t.term x.statements core.none)) x.scope)
-while-done top sc n s e body t x p q = block-while top sc n s e body ∙ rw (p, sym (behind-none (block sc body)) ∙ q) refl
+pub while-done : (around : Around) (sc : Scope) (n : ℕ) (s : core.Site) (e : surface.Expression) (body : surface.Statements) (t : TypedTerm) (x : Elaborated) → type_of sc.visible e ≡ Ok t → behind core.none (block (InLoop n) sc body) ≡ Ok x → elaborate_statement around sc (surface.While n s e body) ≡ Ok (elaborated (single (core.Loop n t.term x.statements core.none)) x.scope)
+while-done around sc n s e body t x p q = block-while around sc n s e body ∙ rw (p, sym (behind-none (block (InLoop n) sc body)) ∙ q) refl
 
-pub repeated-done : (sc : Scope) (n : ℕ) (e : surface.Expression) (update : surface.Assignment) (body : surface.Statements) (u : core.Term × core.Statement) (x : Elaborated) → turn sc e update ≡ Ok u → behind core.none (block sc body) ≡ Ok x → repeated sc n e update body ≡ Ok (elaborated (single (core.Loop n u.0 x.statements (single u.1))) x.scope)
-repeated-done sc n e update body u x q r = rw (q, sym (behind-none (block sc body)) ∙ r) refl
+pub repeated-done : (sc : Scope) (n : ℕ) (e : surface.Expression) (update : surface.Assignment) (body : surface.Statements) (u : core.Term × core.Statement) (x : Elaborated) → turn sc e update ≡ Ok u → behind core.none (block (InLoop n) sc body) ≡ Ok x → repeated sc n e update body ≡ Ok (elaborated (single (core.Loop n u.0 x.statements (single u.1))) x.scope)
+repeated-done sc n e update body u x q r = rw (q, sym (behind-none (block (InLoop n) sc body)) ∙ r) refl
 
-pub for-done : (top : Bool) (sc : Scope) (n : ℕ) (s : core.Site) (first : surface.First) (e : surface.Expression) (update : surface.Assignment) (body : surface.Statements) (f x : Elaborated) → elaborate_first sc first ≡ Ok f → repeated f.scope n e update body ≡ Ok x → elaborate_statement top sc (surface.For n s first e update body) ≡ Ok (elaborated (join f.statements x.statements) (leave_block sc x.scope))
-for-done top sc n s first e update body f x p q = block-for top sc n s first e update body ∙ rw (p, q) refl
+pub for-done : (around : Around) (sc : Scope) (n : ℕ) (s : core.Site) (first : surface.First) (e : surface.Expression) (update : surface.Assignment) (body : surface.Statements) (f x : Elaborated) → elaborate_first sc first ≡ Ok f → repeated f.scope n e update body ≡ Ok x → elaborate_statement around sc (surface.For n s first e update body) ≡ Ok (elaborated (join f.statements x.statements) (leave_block sc x.scope))
+for-done around sc n s first e update body f x p q = block-for around sc n s first e update body ∙ rw (p, q) refl
 
-pub for-first : (top : Bool) (sc : Scope) (n : ℕ) (s : core.Site) (first : surface.First) (e : surface.Expression) (update : surface.Assignment) (body : surface.Statements) (error : TypeError) (out : core.Statements) → Refuses error (elaborate_first sc first) → Refuses error (behind out (elaborate_statement top sc (surface.For n s first e update body)))
-for-first top sc n s first e update body (errors.At f at) out p = rw (block-for top sc n s first e update body, p) refl
-for-first top sc n s first e update body errors.Memory out p = tt
+pub for-first : (around : Around) (sc : Scope) (n : ℕ) (s : core.Site) (first : surface.First) (e : surface.Expression) (update : surface.Assignment) (body : surface.Statements) (error : TypeError) (out : core.Statements) → Refuses error (elaborate_first sc first) → Refuses error (behind out (elaborate_statement around sc (surface.For n s first e update body)))
+for-first around sc n s first e update body (errors.At f at) out p = rw (block-for around sc n s first e update body, p) refl
+for-first around sc n s first e update body errors.Memory out p = tt
 
-pub for-repeated : (top : Bool) (sc : Scope) (n : ℕ) (s : core.Site) (first : surface.First) (e : surface.Expression) (update : surface.Assignment) (body : surface.Statements) (f : Elaborated) (error : TypeError) (out : core.Statements) → elaborate_first sc first ≡ Ok f → Refuses error (repeated f.scope n e update body) → Refuses error (behind out (elaborate_statement top sc (surface.For n s first e update body)))
-for-repeated top sc n s first e update body f (errors.At fault at) out p q = rw (block-for top sc n s first e update body, p, q) refl
-for-repeated top sc n s first e update body f errors.Memory out p q = tt
+pub for-repeated : (around : Around) (sc : Scope) (n : ℕ) (s : core.Site) (first : surface.First) (e : surface.Expression) (update : surface.Assignment) (body : surface.Statements) (f : Elaborated) (error : TypeError) (out : core.Statements) → elaborate_first sc first ≡ Ok f → Refuses error (repeated f.scope n e update body) → Refuses error (behind out (elaborate_statement around sc (surface.For n s first e update body)))
+for-repeated around sc n s first e update body f (errors.At fault at) out p q = rw (block-for around sc n s first e update body, p, q) refl
+for-repeated around sc n s first e update body f errors.Memory out p q = tt
 
 pub behind-two : (out : List Statement) (a b : Statement) → join (statements out) (join (single (statement a)) (single (statement b))) ≡ statements ((out ++ a ∷ []) ++ b ∷ [])
 behind-two out a b = sym (statements-snoc (out ++ a ∷ []) b ∙ ap (λ x. join x (single (statement b))) (statements-snoc out a) ∙ join-join (statements out) (single (statement a)) (single (statement b)))

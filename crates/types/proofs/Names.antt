@@ -10,7 +10,7 @@ use Rattle.texts.specs.Scope.{Scope, Binding, ArrayAt, may_declare, bind, declar
 use Rattle.types.specs.Blocks.{behind, block, repeated}
 use Rattle.scopes.specs.Names.{binding, names}
 use Rattle.scopes.specs.declared.scope.Binding.{Binding as Bound}
-use Rattle.texts.specs.Elaboration.{Elaborated, elaborated, join, elaborate_declaration, elaborate_first, elaborate_statement, elaborate_all}
+use Rattle.texts.specs.Elaboration.{Elaborated, elaborated, join, elaborate_declaration, elaborate_first, Around, InKernel, InBlock, InLoop, elaborate_statement, elaborate_all}
 
 abbrev pub Extends : List Binding → List Binding → Type 0
 Extends old new = (more : List Binding) × (new ≡ old ++ more)
@@ -67,29 +67,31 @@ keeps-first : (sc : Scope) (first : surface.First) → Keeps sc.visible (elabora
 keeps-first sc (surface.FirstDeclares d) = keeps-declaration sc d
 keeps-first sc (surface.FirstAssigns a) = search (keeps-then, same)
 
-keeps-statement : (top : Bool) (sc : Scope) (s : surface.Statement) → Keeps sc.visible (elaborate_statement top sc s)
+keeps-statement : (around : Around) (sc : Scope) (s : surface.Statement) → Keeps sc.visible (elaborate_statement around sc s)
 unfolding elaborate_statement
-keeps-statement top sc (surface.Declare d) = keeps-declaration sc d
-keeps-statement true sc (surface.DeclareArray n s k t name size) = keeps-array sc t k name size
-keeps-statement false sc (surface.DeclareArray n s k t name size) = tt
-keeps-statement top sc (surface.Assign a) = search (keeps-then, same)
-keeps-statement top sc (surface.If n s test a b) = search (keeps-then, same)
-keeps-statement top sc (surface.While n s test a) = search (keeps-then, same)
-keeps-statement top sc (surface.For n s first test update a) = search (keeps-then, same)
-keeps-statement top sc (surface.Barrier n s flags) = search (keeps-then, same)
-keeps-statement top sc (surface.Block n s a) = search (keeps-then, same)
+keeps-statement around sc (surface.Declare d) = keeps-declaration sc d
+keeps-statement InKernel sc (surface.DeclareArray n s k t name size) = keeps-array sc t k name size
+keeps-statement InBlock sc (surface.DeclareArray n s k t name size) = tt
+keeps-statement (InLoop loop) sc (surface.DeclareArray n s k t name size) = tt
+keeps-statement around sc (surface.Assign a) = search (keeps-then, same)
+keeps-statement around sc (surface.If n s test a b) = search (keeps-then, same)
+keeps-statement around sc (surface.While n s test a) = search (keeps-then, same)
+keeps-statement around sc (surface.For n s first test update a) = search (keeps-then, same)
+keeps-statement around sc (surface.Barrier n s flags) = search (keeps-then, same)
+keeps-statement around sc (surface.Jump n s jump) = search (keeps-then, same)
+keeps-statement around sc (surface.Block n s a) = search (keeps-then, same)
 
-keeps-all : (top : Bool) (sc : Scope) (ss : surface.Statements) → Keeps sc.visible (elaborate_all top sc ss)
+keeps-all : (around : Around) (sc : Scope) (ss : surface.Statements) → Keeps sc.visible (elaborate_all around sc ss)
 unfolding elaborate_statement
-keeps-all top sc surface.none = same sc.visible
-keeps-all top sc (surface.one s ss) =
-    keeps-both sc.visible (elaborate_statement top sc s) (λ a. then (elaborate_all top a.scope ss) (λ b. Ok (elaborated (join a.statements b.statements) b.scope)))
-    (keeps-statement top sc s)
-    (λ a. keeps-both a.scope.visible (elaborate_all top a.scope ss) (λ b. Ok (elaborated (join a.statements b.statements) b.scope)) (keeps-all top a.scope ss) (λ b. same b.scope.visible))
+keeps-all around sc surface.none = same sc.visible
+keeps-all around sc (surface.one s ss) =
+    keeps-both sc.visible (elaborate_statement around sc s) (λ a. then (elaborate_all around a.scope ss) (λ b. Ok (elaborated (join a.statements b.statements) b.scope)))
+    (keeps-statement around sc s)
+    (λ a. keeps-both a.scope.visible (elaborate_all around a.scope ss) (λ b. Ok (elaborated (join a.statements b.statements) b.scope)) (keeps-all around a.scope ss) (λ b. same b.scope.visible))
 
 -- as many names as were visible before are those, at the end
-pub names-left : (top : Bool) (before : Scope) (ss : surface.Statements) (out : core.Statements) (answer : Elaborated) → behind out (elaborate_all top before ss) ≡ Ok answer → take (length before.visible) answer.scope.visible ≡ before.visible
-names-left top before ss out answer h = left before.visible out (elaborate_all top before ss) answer (keeps-all top before ss) h
+pub names-left : (around : Around) (before : Scope) (ss : surface.Statements) (out : core.Statements) (answer : Elaborated) → behind out (elaborate_all around before ss) ≡ Ok answer → take (length before.visible) answer.scope.visible ≡ before.visible
+names-left around before ss out answer h = left before.visible out (elaborate_all around before ss) answer (keeps-all around before ss) h
 
 -- a block, and what a `for` repeats, leave as many names as they found
 Leaves : List Binding → Checked Elaborated → Type 0
@@ -109,11 +111,11 @@ unfolding Leaves
 ends names (Ok x) f h = λ e i. let k : elaborated (f x) x.scope ≡ e = cc in ap (λ y. y.scope.visible) (sym k) ∙ h x refl
 ends names (Err e) f h = λ e i. cc
 
-block-leaves : (sc : Scope) (body : surface.Statements) → Leaves sc.visible (block sc body)
-block-leaves sc body = search (leaves-then, leaves-ok)
+block-leaves : (around : Around) (sc : Scope) (body : surface.Statements) → Leaves sc.visible (block around sc body)
+block-leaves around sc body = search (leaves-then, leaves-ok)
 
 repeated-leaves : (sc : Scope) (n : ℕ) (e : surface.Expression) (update : surface.Assignment) (body : surface.Statements) → Leaves sc.visible (repeated sc n e update body)
-repeated-leaves sc n e update body = search (leaves-then, ends, block-leaves sc body)
+repeated-leaves sc n e update body = search (leaves-then, ends, block-leaves (InLoop n) sc body)
 
 pub for-left : (sc : Scope) (first : surface.First) (f : Elaborated) (n : ℕ) (e : surface.Expression) (update : surface.Assignment) (body : surface.Statements) (x : Elaborated) → elaborate_first sc first ≡ Ok f → repeated f.scope n e update body ≡ Ok x → take (length sc.visible) x.scope.visible ≡ sc.visible
 unfolding Leaves

@@ -8,7 +8,7 @@ use Rattle.texts.specs.TypeFaults.{TypeFault, NameTwice, Checked, then, when}
 use Rattle.texts.specs.Scope.{Scope, VariableAt, ArrayAt, may_declare, bind, declare_array, leave_block}
 use Rattle.texts.specs.Typing.{type_of}
 use Rattle.texts.specs.Declarations.{declared_first, declared_in, declared_by}
-use Rattle.texts.specs.Elaboration.{Elaborated, elaborated, declare_parameter, declare_parameters, elaborate_assignment, elaborate_declaration, elaborate_first, elaborate_statement, elaborate_all, barrier_of}
+use Rattle.texts.specs.Elaboration.{Elaborated, elaborated, declare_parameter, declare_parameters, elaborate_assignment, elaborate_declaration, elaborate_first, elaborate_statement, elaborate_all, barrier_of, Around, InKernel, InBlock, InLoop, inside, jump_to}
 use Rattle.types.specs.Blocks.{behind, block}
 use Rattle.scopes.specs.Rooms.{declared}
 use Rattle.std.specs.Prelude.{Vec}
@@ -59,33 +59,35 @@ holds-first sc (surface.FirstAssigns a) = holds-then (declared sc + 0) (elaborat
 mutual
   unfolding elaborate_statement
 
-  holds-statement : (top : Bool) (sc : Scope) (s : surface.Statement) → Holds (declared sc + declared_in s) (elaborate_statement top sc s)
-  holds-statement top sc (surface.Declare d) = holds-declaration sc d
-  holds-statement true sc (surface.DeclareArray n s k t name size) = holds-array sc t k name size
-  holds-statement false sc (surface.DeclareArray n s k t name size) = tt
-  holds-statement top sc (surface.Assign a) = holds-then (declared sc + 0) (elaborate_assignment sc a) _ (λ s. omega arith)
-  holds-statement top sc (surface.If n s test a b) =
+  holds-statement : (around : Around) (sc : Scope) (s : surface.Statement) → Holds (declared sc + declared_in s) (elaborate_statement around sc s)
+  holds-statement around sc (surface.Declare d) = holds-declaration sc d
+  holds-statement InKernel sc (surface.DeclareArray n s k t name size) = holds-array sc t k name size
+  holds-statement InBlock sc (surface.DeclareArray n s k t name size) = tt
+  holds-statement (InLoop loop) sc (surface.DeclareArray n s k t name size) = tt
+  holds-statement around sc (surface.Assign a) = holds-then (declared sc + 0) (elaborate_assignment sc a) _ (λ s. omega arith)
+  holds-statement around sc (surface.If n s test a b) =
       holds-then (declared sc + (declared_by a + declared_by b)) (type_of sc.visible test) _ (λ t.
-      holds-both (declared sc + declared_by a) (declared sc + (declared_by a + declared_by b)) (elaborate_all false sc a) _ (holds-all false sc a) (λ x h.
-      holds-both (declared x.scope + declared_by b) (declared sc + (declared_by a + declared_by b)) (elaborate_all false (leave_block sc x.scope) b) _ (holds-all false (leave_block sc x.scope) b) (λ y k.
+      holds-both (declared sc + declared_by a) (declared sc + (declared_by a + declared_by b)) (elaborate_all (inside around) sc a) _ (holds-all (inside around) sc a) (λ x h.
+      holds-both (declared x.scope + declared_by b) (declared sc + (declared_by a + declared_by b)) (elaborate_all (inside around) (leave_block sc x.scope) b) _ (holds-all (inside around) (leave_block sc x.scope) b) (λ y k.
       omega (arith, h, k))))
-  holds-statement top sc (surface.While n s test a) =
+  holds-statement around sc (surface.While n s test a) =
       holds-then (declared sc + declared_by a) (type_of sc.visible test) _ (λ t.
-      holds-both (declared sc + declared_by a) (declared sc + declared_by a) (elaborate_all false sc a) _ (holds-all false sc a) (λ x h. h))
-  holds-statement top sc (surface.For n s first test update a) =
+      holds-both (declared sc + declared_by a) (declared sc + declared_by a) (elaborate_all (InLoop n) sc a) _ (holds-all (InLoop n) sc a) (λ x h. h))
+  holds-statement around sc (surface.For n s first test update a) =
       holds-both (declared sc + declared_first first) (declared sc + (declared_first first + declared_by a)) (elaborate_first sc first) _ (holds-first sc first) (λ f h.
       holds-then (declared sc + (declared_first first + declared_by a)) (type_of f.scope.visible test) _ (λ t.
       holds-then (declared sc + (declared_first first + declared_by a)) (elaborate_assignment f.scope update) _ (λ u.
-      holds-both (declared f.scope + declared_by a) (declared sc + (declared_first first + declared_by a)) (elaborate_all false f.scope a) _ (holds-all false f.scope a) (λ x k.
+      holds-both (declared f.scope + declared_by a) (declared sc + (declared_first first + declared_by a)) (elaborate_all (InLoop n) f.scope a) _ (holds-all (InLoop n) f.scope a) (λ x k.
       omega (arith, h, k)))))
-  holds-statement top sc (surface.Barrier n s flags) = holds-then (declared sc + 0) (barrier_of n flags) _ (λ s. omega arith)
-  holds-statement top sc (surface.Block n s a) = holds-both (declared sc + declared_by a) (declared sc + declared_by a) (elaborate_all false sc a) _ (holds-all false sc a) (λ x h. h)
+  holds-statement around sc (surface.Barrier n s flags) = holds-then (declared sc + 0) (barrier_of n flags) _ (λ s. omega arith)
+  holds-statement around sc (surface.Jump n s jump) = holds-then (declared sc + 0) (jump_to n s around jump) _ (λ s. omega arith)
+  holds-statement around sc (surface.Block n s a) = holds-both (declared sc + declared_by a) (declared sc + declared_by a) (elaborate_all (inside around) sc a) _ (holds-all (inside around) sc a) (λ x h. h)
 
-  holds-all : (top : Bool) (sc : Scope) (ss : surface.Statements) → Holds (declared sc + declared_by ss) (elaborate_all top sc ss)
-  holds-all top sc surface.none = omega arith
-  holds-all top sc (surface.one s ss) =
-      holds-both (declared sc + declared_in s) (declared sc + (declared_in s + declared_by ss)) (elaborate_statement top sc s) _ (holds-statement top sc s) (λ a h.
-      holds-both (declared a.scope + declared_by ss) (declared sc + (declared_in s + declared_by ss)) (elaborate_all top a.scope ss) _ (holds-all top a.scope ss) (λ b k.
+  holds-all : (around : Around) (sc : Scope) (ss : surface.Statements) → Holds (declared sc + declared_by ss) (elaborate_all around sc ss)
+  holds-all around sc surface.none = omega arith
+  holds-all around sc (surface.one s ss) =
+      holds-both (declared sc + declared_in s) (declared sc + (declared_in s + declared_by ss)) (elaborate_statement around sc s) _ (holds-statement around sc s) (λ a h.
+      holds-both (declared a.scope + declared_by ss) (declared sc + (declared_in s + declared_by ss)) (elaborate_all around a.scope ss) _ (holds-all around a.scope ss) (λ b k.
       omega (arith, h, k)))
 
 grown : (most : ℕ) (out : core.Statements) (x : Checked Elaborated) (answer : Elaborated) → Holds most x → behind out x ≡ Ok answer → declared answer.scope ≤ most
@@ -93,8 +95,8 @@ grown most out (Ok e) answer h p = let i : e.scope ≡ answer.scope = cc in subs
 grown most out (Err e) answer h p = cc
 
 -- what a statement, a first part and a block leave room for
-pub statement-grown : (top : Bool) (sc : Scope) (s : surface.Statement) (out : core.Statements) (answer : Elaborated) → behind out (elaborate_statement top sc s) ≡ Ok answer → declared answer.scope ≤ declared sc + declared_in s
-statement-grown top sc s out answer p = grown (declared sc + declared_in s) out (elaborate_statement top sc s) answer (holds-statement top sc s) p
+pub statement-grown : (around : Around) (sc : Scope) (s : surface.Statement) (out : core.Statements) (answer : Elaborated) → behind out (elaborate_statement around sc s) ≡ Ok answer → declared answer.scope ≤ declared sc + declared_in s
+statement-grown around sc s out answer p = grown (declared sc + declared_in s) out (elaborate_statement around sc s) answer (holds-statement around sc s) p
 
 pub first-grown : (sc : Scope) (first : surface.First) (answer : Elaborated) → elaborate_first sc first ≡ Ok answer → declared answer.scope ≤ declared sc + declared_first first
 first-grown sc first answer p = by (elaborate_first sc first) (holds-first sc first) p
@@ -103,10 +105,10 @@ first-grown sc first answer p = by (elaborate_first sc first) (holds-first sc fi
     by (Ok e) h q = let i : e.scope ≡ answer.scope = cc in subst (λ s. declared s ≤ declared sc + declared_first first) i h
     by (Err e) h q = cc
 
-pub block-grown : (sc : Scope) (body : surface.Statements) (out : core.Statements) (answer : Elaborated) → behind out (block sc body) ≡ Ok answer → declared answer.scope ≤ declared sc + declared_by body
-block-grown sc body out answer p =
-    grown (declared sc + declared_by body) out (block sc body) answer
-    (holds-both (declared sc + declared_by body) (declared sc + declared_by body) (elaborate_all false sc body) _ (holds-all false sc body) (λ x h. h)) p
+pub block-grown : (around : Around) (sc : Scope) (body : surface.Statements) (out : core.Statements) (answer : Elaborated) → behind out (block around sc body) ≡ Ok answer → declared answer.scope ≤ declared sc + declared_by body
+block-grown around sc body out answer p =
+    grown (declared sc + declared_by body) out (block around sc body) answer
+    (holds-both (declared sc + declared_by body) (declared sc + declared_by body) (elaborate_all (inside around) sc body) _ (holds-all (inside around) sc body) (λ x h. h)) p
 
 -- parameters
 HoldsScope : (most : ℕ) → Checked Scope → Type 0

@@ -1,19 +1,19 @@
 -- Statements behind others, and blocks.
-use Rattle.std.specs.Prelude.{ℕ, Ok, false}
+use Rattle.std.specs.Prelude.{ℕ, Ok}
 use Rattle.semantics.specs.Core as core
 use Rattle.texts.specs.Surface as surface
 use Rattle.texts.specs.TypeFaults.{Checked, then}
 use Rattle.texts.specs.Scope.{Scope, leave_block}
 use Rattle.texts.specs.Typing.{type_of}
-use Rattle.texts.specs.Elaboration.{Elaborated, elaborated, single, join, elaborate_assignment, elaborate_all}
+use Rattle.texts.specs.Elaboration.{Elaborated, elaborated, single, join, elaborate_assignment, Around, InLoop, inside, elaborate_all}
 
 -- what is typed comes behind these statements
 abbrev pub behind : core.Statements → Checked Elaborated → Checked Elaborated
 behind before answer = then answer (λ e. Ok (elaborated (join before e.statements) e.scope))
 
--- a block: at its end its names go
-abbrev pub block : Scope → surface.Statements → Checked Elaborated
-block outer body = then (elaborate_all false outer body) (λ b. Ok (elaborated b.statements (leave_block outer b.scope)))
+-- a block that stands there: at its end its names go
+abbrev pub block : Around → Scope → surface.Statements → Checked Elaborated
+block around outer body = then (elaborate_all (inside around) outer body) (λ b. Ok (elaborated b.statements (leave_block outer b.scope)))
 
 -- the test and the update of a loop
 abbrev pub turn : Scope → surface.Expression → surface.Assignment → Checked (core.Term × core.Statement)
@@ -22,9 +22,9 @@ turn scope test update = then (type_of scope.visible test) (λ t. then (elaborat
 -- a loop with an update, its scope that of its first part
 abbrev pub repeated : Scope → ℕ → surface.Expression → surface.Assignment → surface.Statements → Checked Elaborated
 repeated scope n test update body =
-    then (turn scope test update) (λ u. then (block scope body) (λ x. Ok (elaborated (single (core.Loop n u.0 x.statements (single u.1))) x.scope)))
+    then (turn scope test update) (λ u. then (block (InLoop n) scope body) (λ x. Ok (elaborated (single (core.Loop n u.0 x.statements (single u.1))) x.scope)))
 
 -- the second part of an `if`, after its first
-abbrev pub otherwise : Scope → ℕ → core.Term → core.Statements → surface.Statements → Checked Elaborated
-otherwise scope n test taken skipped =
-    then (block scope skipped) (λ x. Ok (elaborated (single (core.If n test taken x.statements)) x.scope))
+abbrev pub otherwise : Around → Scope → ℕ → core.Term → core.Statements → surface.Statements → Checked Elaborated
+otherwise around scope n test taken skipped =
+    then (block around scope skipped) (λ x. Ok (elaborated (single (core.If n test taken x.statements)) x.scope))

@@ -11,8 +11,10 @@ ghost use Rattle.core_code.specs.View.{site as site_of};
 ghost use Rattle.scopes.specs.Names.{scope_seen, one_seen};
 ghost use Rattle.scopes.specs.Answers.{Gives};
 ghost use Rattle.scopes.specs.Rooms.{HasRoom};
+ghost use Rattle.types.specs.Arounds.{around as around_of};
 
 use crate::assignments::elaborate_assignment;
+use crate::jumps::Around;
 use crate::typing::type_of;
 use core_code::tree::{Site, Statement};
 use scopes::conversions::bring;
@@ -60,7 +62,7 @@ pub fn elaborate_first<'a>(
 #[tactic(auto, unfolding(texts::specs::Elaboration::elaborate_statement))]
 pub fn declare_local<'a>(
     scope: &mut Scope<'a>,
-    top: bool,
+    around: Around,
     site: Site,
     name_site: Site,
     name: &'a str,
@@ -68,9 +70,9 @@ pub fn declare_local<'a>(
     length: u32,
 ) -> Result<(), TypeError>
     requires { HasRoom (scope_seen scope.old) 1 }
-    ensures { (n : ℕ) → Gives (λ _. elaboration.elaborated core.none (scope_seen scope.new)) result (elaboration.elaborate_statement top (scope_seen scope.old) (surface.DeclareArray n (site_of site) (kind_of kind) (site_of name_site) name.now length)) }
+    ensures { (n : ℕ) → Gives (λ _. elaboration.elaborated core.none (scope_seen scope.new)) result (elaboration.elaborate_statement (around_of around) (scope_seen scope.old) (surface.DeclareArray n (site_of site) (kind_of kind) (site_of name_site) name.now length)) }
 {
-    if !top {
+    if !around.is_in_kernel() {
         return Err(TypeError::At {
             fault: TypeFault::ArrayInBlock,
             site,

@@ -7,6 +7,7 @@ ghost use Rattle.syntax.specs.View.{kernel as tree_of};
 ghost use Rattle.core_code.specs.View.{kernel};
 ghost use Rattle.scopes.specs.Answers.{Gives};
 
+use crate::jumps::Around;
 use crate::statements::elaborate_all;
 use core_code::tree::Core;
 use scopes::error::TypeError;
@@ -42,7 +43,7 @@ pub fn elaborate(alloc: Global, tree: &Kernel) -> Result<Core, TypeError>
     let buffers = Vec::from_slice(alloc, &scope.buffers)?;
     let arguments = Vec::from_slice(alloc, &scope.slots)?;
     let mut body = Vec::new(alloc);
-    elaborate_all(alloc, true, &mut scope, &tree.body, &mut body)?;
+    elaborate_all(alloc, Around::InKernel, &mut scope, &tree.body, &mut body)?;
     let variables = Vec::from_slice(alloc, behind(&scope.slots, arguments.len()))?;
     Ok(Core {
         sizes: tree.sizes,

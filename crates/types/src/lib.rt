@@ -9,6 +9,7 @@ pub mod calls;
 pub mod check;
 pub mod declared;
 pub mod elaboration;
+pub mod jumps;
 pub mod loads;
 pub mod statements;
 pub mod typed;

@@ -1,6 +1,6 @@
 //! Statements.
 
-ghost use Rattle.std.specs.Prelude.{◌≡◌, ◌+◌, Bool, Ok};
+ghost use Rattle.std.specs.Prelude.{◌≡◌, ◌+◌, Ok};
 ghost use Rattle.semantics.specs.Core as core;
 ghost use Rattle.texts.specs.Declarations.{declared_first, declared_in, declared_by};
 ghost use Rattle.texts.specs.Elaboration as elaboration;
@@ -9,6 +9,7 @@ ghost use Rattle.texts.specs.Scope as scoping;
 ghost use Rattle.texts.specs.TypeFaults.{Checked};
 ghost use Rattle.syntax.specs.View.{expression, assignment, first as first_of, statement as stmt, statements as stmts};
 ghost use Rattle.core_code.specs.View.{term, statement, statements};
+ghost use Rattle.types.specs.Arounds.{around as around_of};
 ghost use Rattle.types.specs.Blocks.{behind, block, otherwise, repeated, turn};
 ghost use Rattle.scopes.specs.Names.{scope_seen, one_seen, all_seen};
 ghost use Rattle.scopes.specs.Answers.{Gives};
@@ -17,6 +18,7 @@ ghost use Rattle.scopes.specs.Rooms.{HasRoom};
 use crate::assignments::elaborate_assignment;
 use crate::barriers::barrier_of;
 use crate::declared::{declare_local, elaborate_declaration, elaborate_first};
+use crate::jumps::{Around, jump_to};
 use crate::typing::type_of;
 use core_code::tree::{Statement, Term};
 use scopes::error::TypeError;
@@ -24,38 +26,39 @@ use scopes::scope::Scope;
 use std::alloc::Global;
 use syntax::tree::{Assignment, Expr, First, Stmt};
 
-/// Statements in order, behind those that are there; `top` says that they stand directly in the kernel's body.
+/// Statements in order, behind those that are there.
 #[cycle(statements)]
 #[tactic(auto, using(crate::proofs::Blocks::in_order), unfolding(texts::specs::Elaboration::elaborate_all))]
 pub fn elaborate_all<'a>(
     alloc: Global,
-    top: bool,
+    around: Around,
     scope: &mut Scope<'a>,
     body: &'a [Stmt],
     out: &mut Vec<Statement>,
 ) -> Result<(), TypeError>
     requires { HasRoom (scope_seen scope.old) (declared_by (stmts body.now)) }
-    ensures { Gives (λ _. all_seen out.new.items scope.new) result (behind (statements out.old.items) (elaboration.elaborate_all top (scope_seen scope.old) (stmts body.now))) }
+    ensures { Gives (λ _. all_seen out.new.items scope.new) result (behind (statements out.old.items) (elaboration.elaborate_all (around_of around) (scope_seen scope.old) (stmts body.now))) }
 {
     for s in body {
-        elaborate_statement(alloc, top, scope, s, out)?;
+        elaborate_statement(alloc, around, scope, s, out)?;
     }
     Ok(())
 }
 
-// A block: its names go at its end.
+// A block that stands there: its names go at its end.
 #[cycle(statements)]
 fn elaborate_block<'a>(
     alloc: Global,
+    around: Around,
     scope: &mut Scope<'a>,
     body: &'a [Stmt],
     out: &mut Vec<Statement>,
 ) -> Result<(), TypeError>
     requires { HasRoom (scope_seen scope.old) (declared_by (stmts body.now)) }
-    ensures { Gives (λ _. all_seen out.new.items scope.new) result (behind (statements out.old.items) (block (scope_seen scope.old) (stmts body.now))) }
+    ensures { Gives (λ _. all_seen out.new.items scope.new) result (behind (statements out.old.items) (block (around_of around) (scope_seen scope.old) (stmts body.now))) }
 {
     let outside = scope.visible.len();
-    elaborate_all(alloc, false, scope, body, out)?;
+    elaborate_all(alloc, around.inside(), scope, body, out)?;
     scope.visible.truncate(outside);
     Ok(())
 }
@@ -64,6 +67,7 @@ fn elaborate_block<'a>(
 #[tactic(auto, using(crate::proofs::Blocks::alone))]
 fn elaborate_else<'a>(
     alloc: Global,
+    around: Around,
     scope: &mut Scope<'a>,
     skipped: &'a [Stmt],
     number: u32,
@@ -71,10 +75,10 @@ fn elaborate_else<'a>(
     taken: Vec<Statement>,
 ) -> Result<Statement, TypeError>
     requires { HasRoom (scope_seen scope.old) (declared_by (stmts skipped.now)) }
-    ensures { Gives (one_seen scope.new) result (otherwise (scope_seen scope.old) number (term test) (statements taken.items) (stmts skipped.now)) }
+    ensures { Gives (one_seen scope.new) result (otherwise (around_of around) (scope_seen scope.old) number (term test) (statements taken.items) (stmts skipped.now)) }
 {
     let mut inside = Vec::new(alloc);
-    elaborate_block(alloc, scope, skipped, &mut inside)?;
+    elaborate_block(alloc, around, scope, skipped, &mut inside)?;
     Ok(Statement::If {
         number,
         test,
@@ -93,11 +97,11 @@ fn elaborate_while<'a>(
     test: &Expr,
 ) -> Result<Statement, TypeError>
     requires { HasRoom (scope_seen scope.old) (declared_by (stmts body.now)) }
-    ensures { (top : Bool) (at : core.Site) → Gives (one_seen scope.new) result (elaboration.elaborate_statement top (scope_seen scope.old) (surface.While number at (expression test.now) (stmts body.now))) }
+    ensures { (around : elaboration.Around) (at : core.Site) → Gives (one_seen scope.new) result (elaboration.elaborate_statement around (scope_seen scope.old) (surface.While number at (expression test.now) (stmts body.now))) }
 {
     let test = type_of(alloc, &scope.visible, test)?;
     let mut inside = Vec::new(alloc);
-    elaborate_block(alloc, scope, body, &mut inside)?;
+    elaborate_block(alloc, Around::InLoop(number), scope, body, &mut inside)?;
     Ok(Statement::Loop {
         number,
         test: test.term,
@@ -155,7 +159,7 @@ fn elaborate_repeated<'a>(
 {
     let (test, update) = turn_of(alloc, scope, test, update)?;
     let mut inside = Vec::new(alloc);
-    elaborate_block(alloc, scope, body, &mut inside)?;
+    elaborate_block(alloc, Around::InLoop(number), scope, body, &mut inside)?;
     loop_with(alloc, number, test, inside, update)
 }
 
@@ -172,7 +176,7 @@ fn elaborate_for<'a>(
     update: &Assignment,
 ) -> Result<(), TypeError>
     requires { HasRoom (scope_seen scope.old) (declared_first (first_of first.now) + declared_by (stmts body.now)) }
-    ensures { (top : Bool) (at : core.Site) → Gives (λ _. all_seen out.new.items scope.new) result (behind (statements out.old.items) (elaboration.elaborate_statement top (scope_seen scope.old) (surface.For number at (first_of first.now) (expression test.now) (assignment update.now) (stmts body.now)))) }
+    ensures { (around : elaboration.Around) (at : core.Site) → Gives (λ _. all_seen out.new.items scope.new) result (behind (statements out.old.items) (elaboration.elaborate_statement around (scope_seen scope.old) (surface.For number at (first_of first.now) (expression test.now) (assignment update.now) (stmts body.now)))) }
 {
     let outside = scope.visible.len();
     out.push(elaborate_first(alloc, scope, first)?)?;
@@ -189,18 +193,18 @@ fn push_one(out: &mut Vec<Statement>, answer: Result<Statement, TypeError>) -> R
     Ok(())
 }
 
-// A statement's core statements, behind those that are there; `top` says that it stands directly in the kernel's body.
+// A statement's core statements, behind those that are there.
 #[cycle(statements)]
 #[tactic(auto, unfolding(texts::specs::Elaboration::elaborate_statement))]
 fn elaborate_statement<'a>(
     alloc: Global,
-    top: bool,
+    around: Around,
     scope: &mut Scope<'a>,
     s: &'a Stmt,
     out: &mut Vec<Statement>,
 ) -> Result<(), TypeError>
     requires { HasRoom (scope_seen scope.old) (declared_in (stmt s.now)) }
-    ensures { Gives (λ _. all_seen out.new.items scope.new) result (behind (statements out.old.items) (elaboration.elaborate_statement top (scope_seen scope.old) (stmt s.now))) }
+    ensures { Gives (λ _. all_seen out.new.items scope.new) result (behind (statements out.old.items) (elaboration.elaborate_statement (around_of around) (scope_seen scope.old) (stmt s.now))) }
 {
     match s {
         Stmt::Declare(declaration) => {
@@ -213,7 +217,7 @@ fn elaborate_statement<'a>(
             name,
             length,
             ..
-        } => declare_local(scope, top, *site, *name_site, name.as_str(), *kind, *length),
+        } => declare_local(scope, around, *site, *name_site, name.as_str(), *kind, *length),
         Stmt::Assign(assignment) => push_one(out, elaborate_assignment(alloc, scope, assignment)),
         Stmt::If {
             number,
@@ -224,10 +228,10 @@ fn elaborate_statement<'a>(
         } => {
             let test = type_of(alloc, &scope.visible, test)?;
             let mut inside = Vec::new(alloc);
-            elaborate_block(alloc, scope, taken, &mut inside)?;
+            elaborate_block(alloc, around, scope, taken, &mut inside)?;
             push_one(
                 out,
-                elaborate_else(alloc, scope, skipped, *number, test.term, inside),
+                elaborate_else(alloc, around, scope, skipped, *number, test.term, inside),
             )
         }
         Stmt::While {
@@ -245,6 +249,7 @@ fn elaborate_statement<'a>(
             ..
         } => elaborate_for(alloc, scope, body, out, *number, first, test, update),
         Stmt::Barrier { number, flags, .. } => push_one(out, barrier_of(*number, flags)),
-        Stmt::Block { body, .. } => elaborate_block(alloc, scope, body, out),
+        Stmt::Jump { number, site, jump } => push_one(out, jump_to(*number, *site, around, *jump)),
+        Stmt::Block { body, .. } => elaborate_block(alloc, around, scope, body, out),
     }
 }

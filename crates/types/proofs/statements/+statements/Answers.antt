@@ -1,16 +1,17 @@
-use Rattle.std.proofs.Common.{ap, sym, ◌∙◌, ◌≡◌, arith, rules, length, false, string_bytes, Ok, refl}
+use Rattle.std.proofs.Common.{ap, sym, ◌∙◌, ◌≡◌, arith, rules, length, string_bytes, Ok, refl}
 use Rattle.std.proofs.lemmas.Grind.{common_steps}
 use Rattle.semantics.specs.Core.{Loop, none}
 use Rattle.texts.specs.Declarations.{declared_in}
 use Rattle.texts.specs.Surface.{DeclareArray}
 use Rattle.words.specs.View.{kind}
-use Rattle.texts.specs.Elaboration.{elaborated, single, elaborate_statement, elaborate_assignment, barrier_of}
+use Rattle.texts.specs.Elaboration.{elaborated, single, elaborate_statement, elaborate_assignment, barrier_of, InLoop, inside, jump_to}
 use Rattle.syntax.proofs.Rows.{seen_if, seen_while, seen_for, seen_block}
-use Rattle.syntax.specs.View.{statement as stmt, statements as stmts, first as first_of, assignment, expression}
+use Rattle.syntax.specs.View.{jump_word, statement as stmt, statements as stmts, first as first_of, assignment, expression}
 use Rattle.core_code.specs.View.{site as site_of}
 use Rattle.scopes.specs.Names.{scope_seen, one_seen, all_seen}
 use Rattle.core_code.specs.View.{term, statement, statements}
 use Rattle.scopes.specs.Answers.{typed_term}
+use Rattle.types.specs.Arounds.{around as around_of}
 use Rattle.types.proofs.Blocks.{all-done, all-step, gives-behind, gives-alone, if-taken, if-refused, otherwise-done, while-done, repeated-done, for-done, for-first, for-repeated, behind-two, block-done}
 use Rattle.types.proofs.Rooms.{statement-grown, first-grown, block-grown, next-room, if-declares, while-declares, for-declares, block-declares}
 use Rattle.types.proofs.Names.{names-left, for-left, names-kept}
@@ -24,10 +25,10 @@ pub elaborate_all-loop-s-preserved : goal.elaborate_all-loop-s-preserved
 elaborate_all-loop-s-preserved t c =
     let sc = scope_seen c.loop-s.scope in
     let out = statements c.loop-s.out.items in
-    let k = all-step c.args.top out sc c.args.body.now c.loop-s.s-index c.s-item.result c.loop-s-test.true c.s-item.is in
+    let k = all-step (around_of c.args.around) out sc c.args.body.now c.loop-s.s-index c.s-item.result c.loop-s-test.true c.s-item.is in
     let k' = rw c.in_ok-elaborate_statement.ensures at k in
     let after = c.elaborate_statement.new in
-    let g = statement-grown c.args.top sc (stmt c.s-item.result) out (all_seen after.out.items after.scope) c.in_ok-elaborate_statement.ensures in
+    let g = statement-grown (around_of c.args.around) sc (stmt c.s-item.result) out (all_seen after.out.items after.scope) c.in_ok-elaborate_statement.ensures in
     record {
       room = omega (arith, c.loop-s.invariant.room, g, next-room c.args.body.now c.loop-s.s-index c.s-item.result c.loop-s-test.true c.s-item.is);
       same = sym k' ∙ c.loop-s.invariant.same;
@@ -35,13 +36,13 @@ elaborate_all-loop-s-preserved t c =
 
 pub elaborate_all-returns : goal.elaborate_all-returns
 elaborate_all-returns t c =
-    sym c.loop-s.invariant.same ∙ all-done c.args.top (statements c.loop-s.out.items) (scope_seen c.loop-s.scope) c.args.body.now c.loop-s.s-index c.loop-s-test.false
+    sym c.loop-s.invariant.same ∙ all-done (around_of c.args.around) (statements c.loop-s.out.items) (scope_seen c.loop-s.scope) c.args.body.now c.loop-s.s-index c.loop-s-test.false
 
 pub elaborate_statement-returns-in-DeclareArray : goal.elaborate_statement-returns-in-DeclareArray
 elaborate_statement-returns-in-DeclareArray t c =
     let e = ap stmt c.in-DeclareArray.is in
     let k = rw c.as_str.ensures.value at (c.declare_local.ensures c.in-DeclareArray.number) in
-    let x = elaborate_statement c.args.top (scope_seen c.args.scope.now) (DeclareArray c.in-DeclareArray.number (site_of c.in-DeclareArray.site) (kind c.in-DeclareArray.kind) (site_of c.in-DeclareArray.name_site) (string_bytes c.in-DeclareArray.name) c.in-DeclareArray.length) in
+    let x = elaborate_statement (around_of c.args.around) (scope_seen c.args.scope.now) (DeclareArray c.in-DeclareArray.number (site_of c.in-DeclareArray.site) (kind c.in-DeclareArray.kind) (site_of c.in-DeclareArray.name_site) (string_bytes c.in-DeclareArray.name) c.in-DeclareArray.length) in
     rw e (gives-behind c.declare_local.result x (statements c.args.out.now.items) (scope_seen c.declare_local.new.scope) k)
 
 pub elaborate_statement-returns-in-Assign : goal.elaborate_statement-returns-in-Assign
@@ -60,12 +61,20 @@ elaborate_statement-returns-in-Barrier t c =
     let k = gives-alone c.barrier_of.result (barrier_of c.in-Barrier.number (expression c.in-Barrier.flags)) sc c.barrier_of.ensures in
     rw e (c.push_one-in-Barrier.ensures _ sc k)
 
+pub elaborate_statement-returns-in-Jump : goal.elaborate_statement-returns-in-Jump
+unfolding elaborate_statement
+elaborate_statement-returns-in-Jump t c =
+    let e = ap stmt c.in-Jump.is in
+    let sc = scope_seen c.args.scope.now in
+    let k = gives-alone c.jump_to.result (jump_to c.in-Jump.number (site_of c.in-Jump.site) (around_of c.args.around) (jump_word c.in-Jump.jump)) sc c.jump_to.ensures in
+    rw e (c.push_one-in-Jump.ensures _ sc k)
+
 pub elaborate_statement-returns-in_err-elaborate_block-in-If : goal.elaborate_statement-returns-in_err-elaborate_block-in-If
 elaborate_statement-returns-in_err-elaborate_block-in-If t c =
     let e = ap stmt c.in-If.is ∙ seen_if c.in-If.number c.in-If.site c.in-If.test c.in-If.taken c.in-If.skipped in
     let p = rw c.deref.ensures.value at c.in_ok-test-in-If.ensures in
     let q = rw (c.new-inside.ensures.items, c.deref-in-If.ensures.value) at c.in_err-elaborate_block-in-If.ensures in
-    let k = if-refused c.args.top (scope_seen c.args.scope.now) c.in-If.number (site_of c.in-If.site) (expression c.in-If.test) (stmts c.in-If.taken.items) (stmts c.in-If.skipped.items) (typed_term c.in_ok-test-in-If.test) c.in_err-elaborate_block-in-If.field-0.0 (statements c.args.out.now.items) p q in
+    let k = if-refused (around_of c.args.around) (scope_seen c.args.scope.now) c.in-If.number (site_of c.in-If.site) (expression c.in-If.test) (stmts c.in-If.taken.items) (stmts c.in-If.skipped.items) (typed_term c.in_ok-test-in-If.test) c.in_err-elaborate_block-in-If.field-0.0 (statements c.args.out.now.items) p q in
     rw e (grind (arith, common_steps, k))
 
 pub elaborate_statement-returns-in_ok-elaborate_block-in-If : goal.elaborate_statement-returns-in_ok-elaborate_block-in-If
@@ -74,19 +83,19 @@ elaborate_statement-returns-in_ok-elaborate_block-in-If t c =
     let p = rw c.deref.ensures.value at c.in_ok-test-in-If.ensures in
     let q = rw (c.new-inside.ensures.items, c.deref-in-If.ensures.value) at c.in_ok-elaborate_block-in-If.ensures in
     let after = c.elaborate_block.new in
-    let k = if-taken c.args.top (scope_seen c.args.scope.now) c.in-If.number (site_of c.in-If.site) (expression c.in-If.test) (stmts c.in-If.taken.items) (stmts c.in-If.skipped.items) (typed_term c.in_ok-test-in-If.test) (all_seen after.out.items after.scope) p q in
+    let k = if-taken (around_of c.args.around) (scope_seen c.args.scope.now) c.in-If.number (site_of c.in-If.site) (expression c.in-If.test) (stmts c.in-If.taken.items) (stmts c.in-If.skipped.items) (typed_term c.in_ok-test-in-If.test) (all_seen after.out.items after.scope) p q in
     rw (e, k) (c.push_one-in-If.ensures _ (scope_seen c.elaborate_else.new.scope) (rw c.deref-in-If-2.ensures.value at c.elaborate_else.ensures))
 
 pub elaborate_statement-returns-in-While : goal.elaborate_statement-returns-in-While
 elaborate_statement-returns-in-While t c =
     let e = ap stmt c.in-While.is ∙ seen_while c.in-While.number c.in-While.site c.in-While.test c.in-While.body in
-    let k = rw c.deref-in-While.ensures.value at (c.elaborate_while.ensures c.args.top (site_of c.in-While.site)) in
+    let k = rw c.deref-in-While.ensures.value at (c.elaborate_while.ensures (around_of c.args.around) (site_of c.in-While.site)) in
     rw e (c.push_one-in-While.ensures _ (scope_seen c.elaborate_while.new.scope) k)
 
 pub elaborate_statement-returns-in-For : goal.elaborate_statement-returns-in-For
 elaborate_statement-returns-in-For t c =
     let e = ap stmt c.in-For.is ∙ seen_for c.in-For.number c.in-For.site c.in-For.first c.in-For.test c.in-For.update c.in-For.body in
-    rw e (rw c.deref-in-For.ensures.value at (c.elaborate_for.ensures c.args.top (site_of c.in-For.site)))
+    rw e (rw c.deref-in-For.ensures.value at (c.elaborate_for.ensures (around_of c.args.around) (site_of c.in-For.site)))
 
 pub elaborate_statement-returns-in-Block : goal.elaborate_statement-returns-in-Block
 unfolding elaborate_statement
@@ -95,22 +104,22 @@ elaborate_statement-returns-in-Block t c =
     rw e (rw c.deref-in-Block.ensures.value at c.elaborate_block-in-Block.ensures)
 
 pub elaborate_for-returns-in_err-elaborate_first : goal.elaborate_for-returns-in_err-elaborate_first
-elaborate_for-returns-in_err-elaborate_first t c = λ top at.
-    let k = for-first top (scope_seen c.args.scope.now) c.args.number at (first_of c.args.first.now) (expression c.args.test.now) (assignment c.args.update.now) (stmts c.args.body.now) c.in_err-elaborate_first.field-0.0 (statements c.args.out.now.items) c.in_err-elaborate_first.ensures in
+elaborate_for-returns-in_err-elaborate_first t c = λ around at.
+    let k = for-first around (scope_seen c.args.scope.now) c.args.number at (first_of c.args.first.now) (expression c.args.test.now) (assignment c.args.update.now) (stmts c.args.body.now) c.in_err-elaborate_first.field-0.0 (statements c.args.out.now.items) c.in_err-elaborate_first.ensures in
     grind (arith, common_steps, k)
 
 pub elaborate_for-returns-in_err-elaborate_repeated : goal.elaborate_for-returns-in_err-elaborate_repeated
-elaborate_for-returns-in_err-elaborate_repeated t c = λ top at.
+elaborate_for-returns-in_err-elaborate_repeated t c = λ around at.
     let f = one_seen c.elaborate_first.new.scope c.in_ok-elaborate_first.field-0 in
-    let k = for-repeated top (scope_seen c.args.scope.now) c.args.number at (first_of c.args.first.now) (expression c.args.test.now) (assignment c.args.update.now) (stmts c.args.body.now) f c.in_err-elaborate_repeated.field-0.0 (statements c.args.out.now.items) c.in_ok-elaborate_first.ensures c.in_err-elaborate_repeated.ensures in
+    let k = for-repeated around (scope_seen c.args.scope.now) c.args.number at (first_of c.args.first.now) (expression c.args.test.now) (assignment c.args.update.now) (stmts c.args.body.now) f c.in_err-elaborate_repeated.field-0.0 (statements c.args.out.now.items) c.in_ok-elaborate_first.ensures c.in_err-elaborate_repeated.ensures in
     grind (arith, common_steps, k)
 
 pub elaborate_for-returns : goal.elaborate_for-returns
-elaborate_for-returns t c = λ top at.
+elaborate_for-returns t c = λ around at.
     let sc = scope_seen c.args.scope.now in
     let f = one_seen c.elaborate_first.new.scope c.in_ok-elaborate_first.field-0 in
     let x = one_seen c.elaborate_repeated.new.scope c.in_ok-elaborate_repeated.field-0 in
-    let k = for-done top sc c.args.number at (first_of c.args.first.now) (expression c.args.test.now) (assignment c.args.update.now) (stmts c.args.body.now) f x c.in_ok-elaborate_first.ensures c.in_ok-elaborate_repeated.ensures in
+    let k = for-done around sc c.args.number at (first_of c.args.first.now) (expression c.args.test.now) (assignment c.args.update.now) (stmts c.args.body.now) f x c.in_ok-elaborate_first.ensures c.in_ok-elaborate_repeated.ensures in
     let l = for-left sc (first_of c.args.first.now) f c.args.number (expression c.args.test.now) (assignment c.args.update.now) (stmts c.args.body.now) x c.in_ok-elaborate_first.ensures c.in_ok-elaborate_repeated.ensures in
     let n : c.len-outside.result ≡ length c.args.scope.now.visible.items = search rules in
     let v = names-kept c.args.scope.now.visible.items c.elaborate_repeated.new.scope.visible.items c.truncate.new.self.items c.len-outside.result n c.truncate.ensures.items l in
@@ -121,25 +130,26 @@ elaborate_for-returns t c = λ top at.
 pub elaborate_block-returns : goal.elaborate_block-returns
 elaborate_block-returns t c =
     let sc = scope_seen c.args.scope.now in
-    let l = names-left false sc (stmts c.args.body.now) (statements c.args.out.now.items) (all_seen c.elaborate_all.new.out.items c.elaborate_all.new.scope) c.in_ok-elaborate_all.ensures in
+    let h = rw c.inside.ensures at c.in_ok-elaborate_all.ensures in
+    let l = names-left (inside (around_of c.args.around)) sc (stmts c.args.body.now) (statements c.args.out.now.items) (all_seen c.elaborate_all.new.out.items c.elaborate_all.new.scope) h in
     let n : c.len-outside.result ≡ length c.args.scope.now.visible.items = search rules in
     let v = names-kept c.args.scope.now.visible.items c.elaborate_all.new.scope.visible.items c.truncate.new.self.items c.len-outside.result n c.truncate.ensures.items l in
-    rw v (block-done sc (stmts c.args.body.now) (statements c.args.out.now.items) (all_seen c.elaborate_all.new.out.items c.elaborate_all.new.scope) c.in_ok-elaborate_all.ensures)
+    rw v (block-done (around_of c.args.around) sc (stmts c.args.body.now) (statements c.args.out.now.items) (all_seen c.elaborate_all.new.out.items c.elaborate_all.new.scope) h)
 
 pub elaborate_else-returns : goal.elaborate_else-returns
 elaborate_else-returns t c =
     let after = c.elaborate_block.new in
     let q = rw c.new-inside.ensures.items at c.in_ok-elaborate_block.ensures in
-    otherwise-done (scope_seen c.args.scope.now) c.args.number (term c.args.test) (statements c.args.taken.items) (stmts c.args.skipped.now) (all_seen after.out.items after.scope) q
+    otherwise-done (around_of c.args.around) (scope_seen c.args.scope.now) c.args.number (term c.args.test) (statements c.args.taken.items) (stmts c.args.skipped.now) (all_seen after.out.items after.scope) q
     ∙ ap (λ s. Ok (elaborated (single s) (scope_seen after.scope))) (sym (core_rows.seen_if c.args.number c.args.test c.args.taken after.out))
 
 pub elaborate_while-returns : goal.elaborate_while-returns
-elaborate_while-returns t c = λ top at.
+elaborate_while-returns t c = λ around at.
     let after = c.elaborate_block.new in
     let p = rw c.deref.ensures.value at c.in_ok-test.ensures in
     let q = rw c.new-inside.ensures.items at c.in_ok-elaborate_block.ensures in
     let r = seen_loop c.args.number c.in_ok-test.test.term after.out c.new.result ∙ ap (λ u. Loop c.args.number (term c.in_ok-test.test.term) (statements after.out.items) (statements u)) c.new.ensures.items in
-    while-done top (scope_seen c.args.scope.now) c.args.number at (expression c.args.test.now) (stmts c.args.body.now) (typed_term c.in_ok-test.test) (all_seen after.out.items after.scope) p q
+    while-done around (scope_seen c.args.scope.now) c.args.number at (expression c.args.test.now) (stmts c.args.body.now) (typed_term c.in_ok-test.test) (all_seen after.out.items after.scope) p q
     ∙ ap (λ s. Ok (elaborated (single s) (scope_seen after.scope))) (sym r)
 
 pub elaborate_repeated-returns : goal.elaborate_repeated-returns
@@ -168,7 +178,7 @@ elaborate_statement-elaborate_else-requires t c =
     let d = ap size-Stmt c.in-If.is ∙ sized-If c.in-If.number c.in-If.site c.in-If.test c.in-If.taken c.in-If.skipped in
     let q = rw (c.new-inside.ensures.items, c.deref-in-If.ensures.value) at c.in_ok-elaborate_block-in-If.ensures in
     let after = c.elaborate_block.new in
-    let g = block-grown (scope_seen c.args.scope.now) (stmts c.in-If.taken.items) none (all_seen after.out.items after.scope) q in
+    let g = block-grown (around_of c.args.around) (scope_seen c.args.scope.now) (stmts c.in-If.taken.items) none (all_seen after.out.items after.scope) q in
     rw c.deref-in-If-2.ensures.value (omega (arith, d, c.decreases), omega (arith, c.requires, e, g))
 
 pub elaborate_statement-elaborate_while-requires : goal.elaborate_statement-elaborate_while-requires

@@ -4,6 +4,7 @@ use Rattle.texts.specs.Elaboration as elaboration
 use Rattle.syntax.specs.View.{statements as stmts}
 use Rattle.core_code.specs.View.{statements}
 use Rattle.scopes.specs.Names.{scope_seen}
+use Rattle.types.specs.Arounds.{around}
 use Rattle.types.specs.Blocks.{behind}
 use Rattle.scopes.specs.Rooms.{HasRoom}
 use Rattle.types.proofs.statements.+statements.Given as goal
@@ -11,5 +12,5 @@ use Rattle.types.proofs.statements.+statements.Given as goal
 abbrev pub invariant-elaborate_all-loop-s : goal.invariant-elaborate_all-loop-s
 invariant-elaborate_all-loop-s l = record {
   room : HasRoom (scope_seen l.scope) (declared_by (stmts (drop l.s-index l.body)));
-  same : behind (statements l.out.items) (elaboration.elaborate_all l.top (scope_seen l.scope) (stmts (drop l.s-index l.body))) ≡ behind (statements l.initial.out.items) (elaboration.elaborate_all l.top (scope_seen l.initial.scope) (stmts l.body));
+  same : behind (statements l.out.items) (elaboration.elaborate_all (around l.around) (scope_seen l.scope) (stmts (drop l.s-index l.body))) ≡ behind (statements l.initial.out.items) (elaboration.elaborate_all (around l.around) (scope_seen l.initial.scope) (stmts l.body));
 }

@@ -37,10 +37,8 @@ fn declare<'a>(statement: &'a Stmt, variables: &mut Vec<&'a str>) -> Result<(), 
             variables.push(declaration.name.as_str())?;
             Ok(())
         }
-        Stmt::DeclareArray { .. }
-        | Stmt::Assign(_)
-        | Stmt::Barrier { .. }
-        | Stmt::Jump { .. } => Ok(()),
+        Stmt::DeclareArray { .. } | Stmt::Assign(_) | Stmt::Barrier { .. } | Stmt::Jump { .. } =>
+            Ok(()),
         Stmt::If { taken, skipped, .. } => {
             declare_all(taken.as_slice(), variables)?;
             declare_all(skipped.as_slice(), variables)

@@ -217,7 +217,15 @@ fn elaborate_statement<'a>(
             name,
             length,
             ..
-        } => declare_local(scope, around, *site, *name_site, name.as_str(), *kind, *length),
+        } => declare_local(
+            scope,
+            around,
+            *site,
+            *name_site,
+            name.as_str(),
+            *kind,
+            *length,
+        ),
         Stmt::Assign(assignment) => push_one(out, elaborate_assignment(alloc, scope, assignment)),
         Stmt::If {
             number,

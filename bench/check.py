@@ -46,6 +46,7 @@ class Answers:
         import tree
 
         config.stage("b")
+        config.R15 = True
         self.check, self.config, self.fuzz, self.prove, self.tree = check, config, fuzz, prove, tree
 
     def is_simple(self, typed):

@@ -29,6 +29,7 @@ class Maker:
         self.random = random.Random(seed)
         self.names = ["n", "m"]
         self.made = 0
+        self.loops = 0
 
     def one_of(self, *these):
         return self.random.choice(these)
@@ -79,15 +80,29 @@ class Maker:
         name = f"v{self.made}"
         return name, self.joined(self.one_of("int", "uint"), name, "=", self.expression(3))
 
+    def jump(self):
+        """An early exit; outside all loops seldom one of a loop, which is refused."""
+        words = ["return", "break", "continue"] if self.loops or self.random.random() < 0.02 else ["return"]
+        return f"{self.one_of(*words)}{self.gap()};"
+
     def part(self, depth):
-        if self.random.random() < 0.3:
+        chance = self.random.random()
+        if chance < 0.2:
+            return self.jump()
+        if chance < 0.4:
             return self.assignment() + ";"
         return "{" + self.statements(depth) + "}"
+
+    def body(self, depth):
+        self.loops += 1
+        text = self.part(depth)
+        self.loops -= 1
+        return text
 
     def statement(self, depth):
         kind = self.random.randrange(10) if depth else self.random.randrange(4)
         if kind < 2:
-            return self.assignment() + ";"
+            return self.jump() if self.random.random() < 0.1 else self.assignment() + ";"
         if kind == 2:
             name, text = self.declaration()
             self.names.append(name)
@@ -100,7 +115,7 @@ class Maker:
             self.names = list(outer)
             text += self.one_of("", " else " + self.part(depth - 1), f" else if ({self.expression(2)}) {self.part(depth - 1)}")
         elif kind == 6:
-            text = f"while ({self.expression(3)}) {self.part(depth - 1)}"
+            text = f"while ({self.expression(3)}) {self.body(depth - 1)}"
         elif kind == 7:
             text = "{" + self.statements(depth - 1) + "}"
         else:
@@ -108,7 +123,7 @@ class Maker:
             if self.random.random() < 0.5:
                 name, first = self.declaration()
                 self.names.append(name)
-            text = f"for ({first};{self.expression(3)};{self.assignment()}) {self.part(depth - 1)}"
+            text = f"for ({first};{self.expression(3)};{self.assignment()}) {self.body(depth - 1)}"
         self.names = outer
         return text
 

@@ -95,7 +95,8 @@ def compare(folder, count, seed):
     import fuzz
     import machine
 
-    config.stage("b")    # without `return`, `break` and `continue`, which kernel texts do not have
+    config.stage("b")
+    config.R15 = True
     found = dict.fromkeys(("kernels", "events", "done", "not possible", "faults", "races", "divergences", "over", "different"), 0)
     attempt = 0
     with tempfile.TemporaryDirectory() as place:

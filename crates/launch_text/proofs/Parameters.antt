@@ -11,7 +11,7 @@ use Rattle.texts.specs.Surface as surface
 use Rattle.texts.specs.Surface.{Parameter, Buffer, Value}
 use Rattle.texts.specs.TypeFaults as checks
 use Rattle.texts.specs.Scope.{Scope, empty_scope, may_declare}
-use Rattle.texts.specs.Elaboration.{declare_parameter, declare_parameters, elaborate, elaborate_all}
+use Rattle.texts.specs.Elaboration.{InKernel, declare_parameter, declare_parameters, elaborate, elaborate_all}
 use Rattle.texts.specs.LaunchFaults.{Cursor, Step, then}
 use Rattle.texts.specs.LaunchWords.{go_on, each}
 use Rattle.texts.specs.LaunchSums.{value_number}
@@ -66,7 +66,7 @@ pub kernel_back : (tree : surface.Kernel) (k : Kernel) → elaborate tree ≡ Ok
 unfolding elaborate
 kernel_back tree k e =
     let outer = checked_back (declare_parameters empty_scope tree.parameters) _ k e in
-    let body = checked_back (elaborate_all true outer.0 tree.body) _ k outer.2 in
+    let body = checked_back (elaborate_all InKernel outer.0 tree.body) _ k outer.2 in
     let all = declared_all tree.parameters empty_scope outer.0 outer.1 in
     let q = made _ k body.2 in
     (ap (λ m. m.arguments) (sym q) ∙ all.0, ap (λ m. m.buffers) (sym q) ∙ all.1)

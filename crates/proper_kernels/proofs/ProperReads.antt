@@ -6,7 +6,7 @@ use Rattle.semantics.specs.Launch.{Three, product}
 use Rattle.semantics.specs.Launch as launch
 use Rattle.texts.specs.Surface as surface
 use Rattle.texts.specs.Scope.{empty_scope}
-use Rattle.texts.specs.Elaboration.{elaborate, elaborate_all, declare_parameters}
+use Rattle.texts.specs.Elaboration.{InKernel, elaborate, elaborate_all, declare_parameters}
 use Rattle.texts.specs.KernelLimits.{IsLocalSize}
 use Rattle.reading.specs.Kernels.{Kernel, read}
 use Rattle.reading.proofs.Grammatical.{read-sound, read-tree}
@@ -29,7 +29,7 @@ core-sizes : (t : surface.Kernel) → Holds (λ (k : launch.Kernel). k.sizes ≡
 unfolding elaborate
 core-sizes t =
     then-any (λ (k : launch.Kernel). k.sizes ≡ t.sizes) (declare_parameters empty_scope t.parameters) _ (λ outer.
-    then-any (λ (k : launch.Kernel). k.sizes ≡ t.sizes) (elaborate_all true outer t.body) _ (λ b. refl))
+    then-any (λ (k : launch.Kernel). k.sizes ≡ t.sizes) (elaborate_all InKernel outer t.body) _ (λ b. refl))
 
 sizes-fit : (t : Three ℕ) → IsLocalSize t.x → IsLocalSize t.y → IsLocalSize t.z → t.x * t.y * t.z ≤ 1024 → are_sizes t ≡ true
 sizes-fit t x y z p =

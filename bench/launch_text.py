@@ -1,7 +1,8 @@
 #!/usr/bin/env python3
 """Measures how long a launch text of 4 MB with 1,048,576 words takes to read, and in how much memory.
 
-Build the program first: cd crates/launch_bench && rt run -- data/kernel.cl data/launch.txt
+Build the program first: ./kverify at the top. A launch is read whole before the conditions are looked at: this one has a buffer that is
+shorter than they ask, so nothing is run.
 """
 import os
 import resource
@@ -10,11 +11,15 @@ import tempfile
 import time
 
 ROOT = os.path.dirname(os.path.dirname(os.path.abspath(__file__)))
-CRATE = os.path.join(ROOT, "crates", "launch_bench")
+PROGRAM = os.path.join(ROOT, "crates", "kverify", "out", "kverify")
 WORDS = 1_048_576
 LIMIT = 4_194_304
 # What a word takes, kind and number.
 KEPT = 8
+KERNEL = "__kernel __attribute__((reqd_work_group_size(1, 1, 1))) void k(__global uint *a) {\n  a[0] = 1u;\n}\n"
+CONDITIONS = f"conditions 1\ngroups 1..1 1..1 1..1\nlength a >= {WORDS + 1}\nbudget 1\n"
+CERTIFICATE = "certificate 1\nend\n"
+ANSWER = "refused 40 3\n"
 
 
 def text():
@@ -26,16 +31,19 @@ def text():
 
 def main():
     with tempfile.TemporaryDirectory() as folder:
-        path = os.path.join(folder, "launch.txt")
-        with open(path, "w", encoding="ascii") as out:
-            out.write(text())
-        size = os.path.getsize(path)
+        paths = []
+        for name, content in (("kernel", KERNEL), ("conditions", CONDITIONS), ("certificate", CERTIFICATE), ("launch", text())):
+            paths.append(os.path.join(folder, name))
+            with open(paths[-1], "w", encoding="ascii") as out:
+                out.write(content)
+        size = os.path.getsize(paths[-1])
         start = time.perf_counter()
-        answer = subprocess.run([os.path.join(CRATE, "out", "launch_bench"), os.path.join(CRATE, "data", "kernel.cl"), path],
-                                check=True, capture_output=True, text=True).stdout
+        answer = subprocess.run([PROGRAM, "run", *paths], check=False, capture_output=True, text=True).stdout
         seconds = time.perf_counter() - start
+    if answer != ANSWER:
+        raise SystemExit(f"answered {answer!r}, not {ANSWER!r}")
     peak = resource.getrusage(resource.RUSAGE_CHILDREN).ru_maxrss * 1024
-    print(f"{size} bytes: {answer.strip()}")
+    print(f"{size} bytes read")
     print(f"{seconds:.3f} seconds, {peak} bytes at most, program and text included")
     print(f"{(peak - KEPT * WORDS) / WORDS:.1f} bytes a word beyond the {KEPT} that are kept")
 

@@ -2,7 +2,8 @@
 """Compares `check` with an independent program, and measures it.
 
     check.py compare FOLDER COUNT SEED      COUNT random kernels, half of them with loops or barriers; FOLDER has the modules of the
-                                            independent program; each kernel with a certificate that was made for it, and with changed ones
+                                            independent program; each kernel with a certificate that was made for it, and with changed ones;
+                                            what is accepted is run at a random launch with three workers, too
     check.py kernels FOLDER KERNELS         the kernels of a folder: NAME.cl with NAME.cond, and NAME.expect, which begins with safe or unsafe
     check.py reductions FOLDER              tree reductions of 2 to 1,024 items under other names, with the least budget and one step less
     check.py measure FOLDER                 seconds and memory of `check` with 256 paths and with 65,520 obligations
@@ -16,6 +17,9 @@ import subprocess
 import sys
 import tempfile
 import time
+
+sys.path.insert(0, os.path.dirname(os.path.abspath(__file__)))
+from replay import launch_text
 
 ROOT = os.path.dirname(os.path.dirname(os.path.abspath(__file__)))
 PROGRAM = os.environ.get("KVERIFY", os.path.join(ROOT, "crates", "kverify", "out", "kverify"))
@@ -34,6 +38,14 @@ def checked(folder, kernel, conditions, certificate):
     return (done.stdout + done.stderr).split("\n")[0]
 
 
+def ran(folder, launch):
+    """What is written of a run of what was checked last."""
+    names = [os.path.join(folder, name) for name in ("kernel.cl", "conditions.txt", "certificate.txt", "launch.txt")]
+    with open(names[-1], "w", encoding="ascii") as out:
+        out.write(launch)
+    return subprocess.run([PROGRAM, "run", *names, "--workers", "3"], capture_output=True, text=True, timeout=600).stdout
+
+
 class Answers:
     """The independent program's answers."""
 
@@ -42,12 +54,15 @@ class Answers:
         import check
         import config
         import fuzz
+        import launch
         import prove
+        import runner
         import tree
 
         config.stage("b")
         config.R15 = True
         self.check, self.config, self.fuzz, self.prove, self.tree = check, config, fuzz, prove, tree
+        self.launch, self.runner = launch, runner
 
     def is_simple(self, typed):
         others = (self.tree.Barrier, self.tree.Local)
@@ -63,6 +78,14 @@ class Answers:
             return "accepted"
         except self.config.Refused as error:
             return error.line()
+
+    def run_of(self, rng, typed, conditions):
+        """A random launch that meets the conditions, as a text, and the text of the buffers after it."""
+        launch = self.fuzz.random_launch(rng, typed, conditions)
+        if launch is None:
+            return None
+        buffers = self.launch.write_buffers(typed, self.runner.run(typed, launch))
+        return launch_text(typed, launch), buffers if isinstance(buffers, str) else buffers.decode()
 
     def made(self, kernel, conditions):
         try:
@@ -132,7 +155,7 @@ class Guarded:
 
 def compare(folder, count, seed):
     answers = Answers(folder)
-    found = dict.fromkeys(("kernels", "without loops and barriers", "certificates", "accepted", "refused", "changed ones accepted", "different"), 0)
+    found = dict.fromkeys(("kernels", "without loops and barriers", "certificates", "accepted", "refused", "changed ones accepted", "runs", "different"), 0)
     attempt = 0
     with tempfile.TemporaryDirectory() as place:
         while found["kernels"] < count:
@@ -141,7 +164,7 @@ def compare(folder, count, seed):
             source = rng.choice([lambda: answers.fuzz.Gen(rng).kernel(), lambda: Guarded(rng).kernel(), lambda: answers.changed_example(rng)])
             kernel, conditions = (text.encode() for text in source())
             try:
-                typed, _, _ = answers.check.front(kernel, conditions)
+                typed, read, _ = answers.check.front(kernel, conditions)
             except answers.config.Refused:
                 continue
             is_simple = answers.is_simple(typed)
@@ -160,6 +183,12 @@ def compare(folder, count, seed):
                 if got != wanted:
                     found["different"] += 1
                     print(f"kernel {seed}:{attempt - 1}: {got}, not {wanted}")
+                run = answers.run_of(rng, typed, read) if got == wanted == "accepted" and certificate == made else None
+                if run:
+                    found["runs"] += 1
+                    if ran(place, run[0]) != run[1]:
+                        found["different"] += 1
+                        print(f"kernel {seed}:{attempt - 1}: its run differs")
     for what, number in found.items():
         print(f"{number} {what}")
     return found["different"]

@@ -1,9 +1,11 @@
 #!/usr/bin/env python3
 """Compares `check` with an independent program, and measures it.
 
-    check.py compare FOLDER COUNT SEED      COUNT random kernels, half of them with loops or barriers; FOLDER has the modules of the
+    check.py compare FOLDER COUNT SEED [exits]
+                                            COUNT random kernels, half of them with loops or barriers; FOLDER has the modules of the
                                             independent program; each kernel with a certificate that was made for it, and with changed ones;
-                                            what is accepted is run at a random launch with three workers, too
+                                            what is accepted is run at a random launch with three workers, too; with `exits` each kernel
+                                            has a `return`, `break` or `continue`
     check.py kernels FOLDER KERNELS         the kernels of a folder: NAME.cl with NAME.cond, and NAME.expect, which begins with safe or unsafe
     check.py reductions FOLDER              tree reductions of 2 to 1,024 items under other names, with the least budget and one step less
     check.py measure FOLDER                 seconds and memory of `check` with 256 paths and with 65,520 obligations
@@ -13,19 +15,36 @@ Build the program first: cd crates/kverify && rt run
 import os
 import random
 import re
+import signal
 import subprocess
 import sys
 import tempfile
 import time
 
 sys.path.insert(0, os.path.dirname(os.path.abspath(__file__)))
-from replay import launch_text
+from replay import has_exit, launch_text
 
 ROOT = os.path.dirname(os.path.dirname(os.path.abspath(__file__)))
 PROGRAM = os.environ.get("KVERIFY", os.path.join(ROOT, "crates", "kverify", "out", "kverify"))
 EMPTY = b"certificate 1\nend\n"
 CHANGES = 3
 TIMES = 5
+# Seconds after which the independent program is given up: it makes a certificate for all but few kernels in less.
+PATIENCE = 60
+
+
+def within(seconds, function, *words):
+    """What a function answers in so many seconds; past them it is a TimeoutError."""
+
+    def late(_signal, _frame):
+        raise TimeoutError
+
+    signal.signal(signal.SIGALRM, late)
+    signal.alarm(seconds)
+    try:
+        return function(*words)
+    finally:
+        signal.alarm(0)
 
 
 def checked(folder, kernel, conditions, certificate):
@@ -153,9 +172,9 @@ class Guarded:
         return text, f"conditions 1\ngroups 1..{groups} 1..1 1..1\n" + lines
 
 
-def compare(folder, count, seed):
+def compare(folder, count, seed, exits):
     answers = Answers(folder)
-    found = dict.fromkeys(("kernels", "without loops and barriers", "certificates", "accepted", "refused", "changed ones accepted", "runs", "different"), 0)
+    found = dict.fromkeys(("kernels", "without loops and barriers", "certificates", "accepted", "refused", "changed ones accepted", "runs", "given up", "different"), 0)
     attempt = 0
     with tempfile.TemporaryDirectory() as place:
         while found["kernels"] < count:
@@ -163,6 +182,8 @@ def compare(folder, count, seed):
             attempt += 1
             source = rng.choice([lambda: answers.fuzz.Gen(rng).kernel(), lambda: Guarded(rng).kernel(), lambda: answers.changed_example(rng)])
             kernel, conditions = (text.encode() for text in source())
+            if exits and not has_exit(kernel.decode()):
+                continue
             try:
                 typed, read, _ = answers.check.front(kernel, conditions)
             except answers.config.Refused:
@@ -170,9 +191,13 @@ def compare(folder, count, seed):
             is_simple = answers.is_simple(typed)
             if is_simple and found["without loops and barriers"] > count // 2:
                 continue
+            try:
+                made = within(PATIENCE, answers.made, kernel, conditions)
+            except TimeoutError:
+                found["given up"] += 1
+                continue
             found["kernels"] += 1
             found["without loops and barriers"] += is_simple
-            made = answers.made(kernel, conditions)
             changed = [answers.fuzz.forge_text(rng, made) for _ in range(CHANGES)]
             for certificate in dict.fromkeys([made, EMPTY, *changed]):
                 wanted = answers.of(kernel, conditions, certificate)
@@ -285,8 +310,8 @@ def measure(folder):
 
 
 def main():
-    if sys.argv[1:2] == ["compare"] and len(sys.argv) == 5:
-        return 1 if compare(sys.argv[2], int(sys.argv[3]), int(sys.argv[4])) else 0
+    if sys.argv[1:2] == ["compare"] and sys.argv[5:] in ([], ["exits"]) and len(sys.argv) > 4:
+        return 1 if compare(sys.argv[2], int(sys.argv[3]), int(sys.argv[4]), bool(sys.argv[5:])) else 0
     if sys.argv[1:2] == ["kernels"] and len(sys.argv) == 4:
         return 1 if kernels(sys.argv[2], sys.argv[3]) else 0
     if sys.argv[1:2] == ["reductions"] and len(sys.argv) == 3:

@@ -1,7 +1,7 @@
 #!/usr/bin/env python3
 """Measures the search for derivations over lists of facts of real kernels, and prints how its times are spread.
 
-Build the program first: cd crates/search_bench && rt run -- data/facts.txt
+Build the program first: python3 tools/build.py cases
 With a file's name as a word it takes that file in place of data/facts.txt. `cut_search.py make DUMP..` writes such a file to standard
 output from dumps of obligations: lines `kernel NAME`, `list`, and a fact each as `C*NAME + .. + C`, two blanks before it.
 """
@@ -10,7 +10,7 @@ import subprocess
 import sys
 
 ROOT = os.path.dirname(os.path.dirname(os.path.abspath(__file__)))
-CRATE = os.path.join(ROOT, "crates", "search_bench")
+CRATE = os.path.join(ROOT, "crates", "cases")
 ROUNDS = "5"
 
 
@@ -72,8 +72,8 @@ def spread(what, nanoseconds):
 
 
 def measure(path):
-    program = os.path.join(CRATE, "out", "search_bench")
-    answer = subprocess.run([program, path, ROUNDS], check=True, capture_output=True, text=True).stdout.splitlines()
+    program = os.path.join(CRATE, "out", "cases")
+    answer = subprocess.run([program, "cuts", path, ROUNDS], check=True, capture_output=True, text=True).stdout.splitlines()
     rows = [[int(word) for word in line.split()] for line in answer[:-1]]
     print(answer[-1])
     spread("a search:", [row[2] for row in rows])

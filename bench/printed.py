@@ -2,9 +2,10 @@
 """Compares `kverify print` with another program that prints canonical texts.
 
 Each kernel (`*.cl`) below the folders is printed by both: standard output and status have to be the same. What is printed is printed
-again, and has to stay. With --make the folder is first filled with random kernels that use the whole language, spelt at random.
+again, and has to stay. With --make the folder is first filled with random kernels that use the whole language, spelt at random. With
+--exits only kernels with a `return`, `break` or `continue` are compared.
 
-    bench/printed.py [--make COUNT SEED] COMMAND FOLDER ..
+    bench/printed.py [--make COUNT SEED] [--exits] COMMAND FOLDER ..
 
 COMMAND is the other program with its words, to which the name of a file is added, as 'python3 other.py print'.
 """
@@ -16,6 +17,8 @@ import shlex
 import subprocess
 import sys
 import tempfile
+
+from replay import has_exit
 
 KVERIFY = pathlib.Path(__file__).resolve().parent.parent / "crates/kverify/out/kverify"
 INFIX = ["*", "/", "%", "+", "-", "<<", ">>", "<", ">", "<=", ">=", "==", "!=", "&", "^", "|", "&&", "||"]
@@ -170,12 +173,16 @@ def main():
     if words[:1] == ["--make"]:
         count, seed = int(words[1]), int(words[2])
         words = words[3:]
+    exits = words[:1] == ["--exits"]
+    words = words[exits:]
     if len(words) < 2:
         sys.exit(__doc__)
     other, folders = shlex.split(words[0]), [pathlib.Path(it) for it in words[1:]]
     for n in range(count):
         (folders[0] / f"random_{seed + n}.cl").write_text(Maker(seed + n).kernel())
     files = sorted(file for folder in folders for file in folder.rglob("*.cl"))
+    if exits:
+        files = [file for file in files if has_exit(file.read_text())]
     found, wrong = collections.Counter(), []
     with concurrent.futures.ThreadPoolExecutor(2) as pool:
         for how, file in pool.map(lambda file: compared(other, file), files):

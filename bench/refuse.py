@@ -1,7 +1,7 @@
 #!/usr/bin/env python3
 """Runs a program again and again, each time with another allocation refused, and counts how it ended.
 
-    refuse.py WORD..      a command line; without words the schedule of crates/replay_bench/data
+    refuse.py WORD..      a command line, as crates/kverify/out/kverify prove KERNEL CONDITIONS
 
 What it wrote has to be what it writes with all memory, or it has to end as out of memory. It needs a C compiler.
 """
@@ -10,11 +10,6 @@ import os
 import subprocess
 import sys
 import tempfile
-
-ROOT = os.path.dirname(os.path.dirname(os.path.abspath(__file__)))
-BENCH = os.path.join(ROOT, "crates", "replay_bench")
-DATA = [os.path.join(BENCH, "data", name) for name in ("kernel.cl", "launch.txt", "schedule.txt")]
-REPLAY = [os.path.join(BENCH, "out", "replay_bench"), *DATA]
 
 # malloc and realloc count their calls, refuse the one that REFUSED names, and say by a file that they did
 COUNTING = r"""
@@ -49,7 +44,9 @@ void *realloc(void *old, size_t size) {
 
 
 def main():
-    command = sys.argv[1:] or REPLAY
+    command = sys.argv[1:]
+    if not command:
+        sys.exit(__doc__)
     whole = subprocess.run(command, capture_output=True)
     ends = collections.Counter()
     with tempfile.TemporaryDirectory() as folder:

@@ -1,13 +1,16 @@
 #!/usr/bin/env python3
 """Compares the machine with an independent program, and measures it.
 
-    replay.py compare FOLDER COUNT SEED     COUNT random kernels under random schedules; FOLDER has the modules of the independent program
+    replay.py compare FOLDER COUNT SEED [exits]
+                                            COUNT random kernels under random schedules; FOLDER has the modules of the independent program;
+                                            with `exits` each kernel has a `return`, `break` or `continue`
     replay.py measure                       nanoseconds an event of a tree reduction, and events a second of a long history
 
-Build the program first: cd crates/replay_bench && rt run -- kernel.cl launch.txt schedule.txt
+Build the program first: python3 tools/build.py cases
 """
 import os
 import random
+import re
 import resource
 import subprocess
 import sys
@@ -15,7 +18,7 @@ import tempfile
 import time
 
 ROOT = os.path.dirname(os.path.dirname(os.path.abspath(__file__)))
-PROGRAM = os.path.join(ROOT, "crates", "replay_bench", "out", "replay_bench")
+PROGRAM = os.path.join(ROOT, "crates", "cases", "out", "cases")
 EVENTS = 400
 TIMES = 3
 
@@ -25,7 +28,7 @@ def replayed(folder, kernel, launch, schedule):
     for name, text in zip(names, (kernel, launch, schedule)):
         with open(name, "w") as out:
             out.write(text)
-    return subprocess.run([PROGRAM, *names], check=True, capture_output=True, text=True).stdout
+    return subprocess.run([PROGRAM, "replay", *names], check=True, capture_output=True, text=True).stdout
 
 
 # ---- the comparison
@@ -88,7 +91,12 @@ def end_text(machine, typed, world):
     return lines
 
 
-def compare(folder, count, seed):
+def has_exit(kernel):
+    """Whether a kernel's text has a `return`, `break` or `continue`."""
+    return re.search(r"\b(return|break|continue)\b", kernel) is not None
+
+
+def compare(folder, count, seed, exits):
     sys.path.insert(0, folder)
     import check
     import config
@@ -104,6 +112,8 @@ def compare(folder, count, seed):
             rng = random.Random("%d:%d" % (seed, attempt))
             attempt += 1
             kernel, conditions = fuzz.Gen(rng).kernel()
+            if exits and not has_exit(kernel):
+                continue
             try:
                 typed, read, _ = check.front(kernel.encode(), conditions.encode())
             except config.Refused:
@@ -191,8 +201,8 @@ def measure():
 
 
 def main():
-    if sys.argv[1:2] == ["compare"] and len(sys.argv) == 5:
-        sys.exit(1 if compare(sys.argv[2], int(sys.argv[3]), int(sys.argv[4])) else 0)
+    if sys.argv[1:2] == ["compare"] and sys.argv[5:] in ([], ["exits"]) and len(sys.argv) > 4:
+        sys.exit(1 if compare(sys.argv[2], int(sys.argv[3]), int(sys.argv[4]), bool(sys.argv[5:])) else 0)
     if sys.argv[1:] == ["measure"]:
         return measure()
     sys.exit(__doc__)

@@ -1,7 +1,7 @@
 #!/usr/bin/env python3
 """Measures how long a board of 512 candidates with 65,536 obligations takes to settle, and in how much memory.
 
-Build the program first: cd crates/houdini_bench && rt run -- fall 2
+Build the program first: python3 tools/build.py cases
 """
 import os
 import resource
@@ -9,7 +9,7 @@ import subprocess
 import time
 
 ROOT = os.path.dirname(os.path.dirname(os.path.abspath(__file__)))
-PROGRAM = os.path.join(ROOT, "crates", "houdini_bench", "out", "houdini_bench")
+PROGRAM = os.path.join(ROOT, "crates", "cases", "out", "cases")
 OBLIGATIONS = 65_536
 TIMES = 5
 
@@ -19,7 +19,7 @@ def seconds(kind, workers):
     taken = []
     for _ in range(TIMES):
         start = time.perf_counter()
-        subprocess.run([PROGRAM, kind, str(workers)], check=True, stdout=subprocess.DEVNULL)
+        subprocess.run([PROGRAM, "settle", kind, str(workers)], check=True, stdout=subprocess.DEVNULL)
         taken.append(time.perf_counter() - start)
     return min(taken)
 

@@ -1,7 +1,7 @@
 //! Section: Runs and program. Promises nothing; it holds tests of crates of other sections, and nothing stands on it.
 //!
-//! The tests of `words`, `launch`, `linear`, `cut_proof`, `interval`, `congruence`, `product` and `loop_bounds`, so that none of these is
-//! proved twice.
+//! The tests of `words`, `lines`, `launch`, `linear`, `cut_proof`, `interval`, `congruence`, `product` and `loop_bounds`, so that none of
+//! these is proved twice.
 #![tactic(auto)]
 
 #[cfg(test)]
@@ -14,6 +14,8 @@ mod interval_tests;
 mod launch_tests;
 #[cfg(test)]
 mod linear_tests;
+#[cfg(test)]
+mod lines_tests;
 #[cfg(test)]
 mod loop_bounds_tests;
 #[cfg(test)]

@@ -73,7 +73,7 @@ fn is_alike(item: &Item, other: &Item) -> bool
 }
 
 /// An overlay with more stores, in their order.
-fn keep_all(overlay: &mut Overlay, stores: &[Store]) -> Result<(), AllocError>
+pub fn keep_all(overlay: &mut Overlay, stores: &[Store]) -> Result<(), AllocError>
     ensures { OnOk result ((c : memories.Cell) → kept overlay.new c ≡ log_of (map store_seen stores.now) c (kept overlay.old c)) }
 {
     for store in stores {
@@ -84,7 +84,7 @@ fn keep_all(overlay: &mut Overlay, stores: &[Store]) -> Result<(), AllocError>
 
 impl<'b> Group<'b> {
     // The number of the k-th item.
-    fn member(&self, k: u64) -> Result<u64, AllocError>
+    pub fn member(&self, k: u64) -> Result<u64, AllocError>
         requires { is_proper (kernel_seen self.now.core.now) ≡ true }
         ensures { IfOk result (λ i. i ≡ member (setup self.now) self.now.number k) }
     {

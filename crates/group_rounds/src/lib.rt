@@ -4,8 +4,8 @@
 //! round began and its own stores. A kernel has to be proper.
 #![tactic(auto)]
 
-mod group;
-mod overlay;
-mod round;
+pub mod group;
+pub mod overlay;
+pub mod round;
 
 pub use group::run_group;

@@ -7,13 +7,7 @@
 //! what, nor that several of them ran.
 #![tactic(auto)]
 
-#[cfg(test)]
-mod board_tests;
 mod error;
-#[cfg(test)]
-mod gate_tests;
-#[cfg(test)]
-mod tables;
 mod threads;
 mod worker;
 

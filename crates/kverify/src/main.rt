@@ -7,31 +7,10 @@
 //! line that is none, 3 a file or an output that fails, 4 out of memory.
 #![tactic(auto)]
 
-#[cfg(test)]
-mod barriers;
-#[cfg(test)]
-mod check_tests;
-#[cfg(test)]
-mod choices;
 mod disk;
-#[cfg(test)]
-mod exits;
-#[cfg(test)]
-mod explained;
-mod patience;
-#[cfg(test)]
-mod patience_tests;
-#[cfg(test)]
-mod print_tests;
-#[cfg(test)]
-mod rows;
-#[cfg(test)]
-mod searches;
-#[cfg(test)]
-mod tests;
 
 use disk::Disk;
-use patience::End;
+use program::patience::End;
 use program::tool;
 use std::io::IsTerminal;
 use std::process::ExitCode;

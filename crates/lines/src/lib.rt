@@ -5,5 +5,3 @@
 
 pub mod number;
 pub mod pieces;
-#[cfg(test)]
-mod tests;

@@ -7,6 +7,7 @@ pub mod files;
 pub mod first;
 pub mod held;
 mod one_run;
+pub mod patience;
 mod writing;
 
 pub use one_run::tool;

@@ -16,17 +16,7 @@ use thiserror::Error;
 use types::check::check_types;
 use types::typed::Typed;
 
-#[cfg(test)]
-mod certificate_tests;
-#[cfg(test)]
-mod kernel_tests;
-#[cfg(test)]
-mod launch_tests;
 pub mod laws;
-#[cfg(test)]
-mod position_tests;
-#[cfg(test)]
-mod token_tests;
 
 /// Why a text is no kernel: the first fault of the first part that refuses it, or want of memory.
 #[derive(Debug, Drop, Error)]

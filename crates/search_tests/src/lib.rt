@@ -1,12 +1,20 @@
-//! Section: Search. Promises nothing: tests of `candidates`, `kernel_guesses`, `solo_runs`, `proof_memory`, `cut_search`; stands on them.
+//! Section: Search. Promises nothing: it holds tests, and nothing stands on it.
+//!
+//! The tests of `board`, `houdini`, `cut_search`, `candidates`, `kernel_guesses`, `solo_runs` and `proof_memory`.
 #![tactic(auto)]
 
 #[cfg(test)]
+mod board_tests;
+#[cfg(test)]
 mod derivations;
+#[cfg(test)]
+mod gate_tests;
 #[cfg(test)]
 mod remembering;
 #[cfg(test)]
 mod runs;
+#[cfg(test)]
+mod tables;
 #[cfg(test)]
 mod text_guesses;
 #[cfg(test)]

@@ -1,0 +1,193 @@
+// Two workers, each of which waits at its first group for the other.
+
+ghost use Rattle.std.specs.Prelude.{◌≡◌, ◌≤◌, true};
+ghost use Rattle.semantics.specs.Launch.{Fits};
+ghost use Rattle.core_code.specs.View.{kernel as core_seen};
+ghost use Rattle.launch.specs.View.{launch as launch_seen};
+ghost use Rattle.work_item.specs.Proper.{is_proper};
+
+use group_workers::{Task, run_groups};
+use launch::launches::{Buffers, Launch};
+use launch_text::read_launch;
+use proper_kernels::kernel::read_proper_kernel;
+use std::alloc::{AllocError, Global};
+use std::sync::Wait;
+use std::sync::atomic::{AtomicBool, AtomicU32, AtomicU64, Ordering};
+use std::thread::Threads;
+use types::typed::Typed;
+use words::{Gate, Moment, Word};
+
+/// Each group tells at its own element what it is, and all of them at element 64, which is the last group's.
+const KERNEL: &[u8] =
+    b"__kernel __attribute__((reqd_work_group_size(1, 1, 1))) void k(__global uint *a) {\n  \
+       uint group = get_group_id(0);\n  a[group] = 2u * group + 1u;\n  a[64] = group;\n}\n";
+
+/// 64 groups.
+const LAUNCH: &[u8] = b"launch 1\ngroups 64 1 1\nbuffer a fill 65 0\nfill 0\n";
+
+/// Notes numbers below 64, each of which may come once.
+#[derive(Drop)]
+struct Numbers {
+    seen: AtomicU64,
+    twice: AtomicBool,
+}
+
+impl Numbers {
+    fn new() -> Numbers {
+        Numbers {
+            seen: AtomicU64::new(0),
+            twice: AtomicBool::new(false),
+        }
+    }
+
+    fn note(&self, number: u64) {
+        let bit = 1u64 << (number % 64);
+        if self.seen.fetch_or(bit, Ordering::SeqCst) & bit != 0 {
+            self.twice.store(true, Ordering::SeqCst);
+        }
+    }
+
+    fn is_each_once(&self) -> bool {
+        self.seen.load(Ordering::SeqCst) == u64::MAX && !self.twice.load(Ordering::SeqCst)
+    }
+}
+
+/// Holds workers 1 and 2 at their first group until both have one, and notes what is told.
+#[derive(Drop)]
+struct Meeting {
+    first: AtomicBool,
+    second: AtomicBool,
+    missed: AtomicBool,
+    claimed: Numbers,
+    done: Numbers,
+    ended: AtomicU32,
+}
+
+impl Meeting {
+    fn new() -> Meeting {
+        Meeting {
+            first: AtomicBool::new(false),
+            second: AtomicBool::new(false),
+            missed: AtomicBool::new(false),
+            claimed: Numbers::new(),
+            done: Numbers::new(),
+            ended: AtomicU32::new(0),
+        }
+    }
+
+    fn await_other(&self, mine: &AtomicBool, other: &AtomicBool) {
+        mine.store(true, Ordering::SeqCst);
+        for _ in 0..1_000_000_000u32 {
+            if other.load(Ordering::SeqCst) {
+                return;
+            }
+        }
+        self.missed.store(true, Ordering::SeqCst);
+    }
+
+    fn meet(&self, worker: u32) {
+        match worker {
+            1 => self.await_other(&self.first, &self.second),
+            2 => self.await_other(&self.second, &self.first),
+            _ => {}
+        }
+    }
+
+    fn has_met(&self) -> bool {
+        !self.missed.load(Ordering::SeqCst)
+    }
+}
+
+impl Gate for Meeting {
+    fn at(&self, worker: u32, moment: Moment) {
+        match moment {
+            Moment::Claimed(group) => {
+                self.claimed.note(group);
+                self.meet(worker);
+            }
+            Moment::Done(group) => self.done.note(group),
+            Moment::Ended => {
+                let _before = self.ended.fetch_add(1, Ordering::SeqCst);
+            }
+            _ => {}
+        }
+    }
+}
+
+/// 65 words that nobody has written.
+fn zeros(alloc: Global) -> Result<Buffers, AllocError> {
+    let row = Vec::from_elem(alloc, Word::Uint(0), 65)?;
+    let mut words = Vec::new(alloc);
+    words.push(row)?;
+    Ok(Buffers { words })
+}
+
+fn push_words(out: &mut String, buffers: &Buffers) -> Result<(), AllocError> {
+    for row in &buffers.words {
+        out.push_str("buffer")?;
+        for word in row {
+            write!(out, " {}", word.value())?;
+        }
+        out.push_str("\n")?;
+    }
+    Ok(())
+}
+
+fn push_meeting(out: &mut String, gate: &Meeting) -> Result<(), AllocError> {
+    let ended = gate.ended.load(Ordering::SeqCst);
+    writeln!(
+        out,
+        "met {}, each group claimed once {}, done once {}, {ended} ended",
+        gate.has_met(),
+        gate.claimed.is_each_once(),
+        gate.done.is_each_once()
+    )
+}
+
+fn told(alloc: Global, gate: &Meeting, buffers: &Buffers) -> Result<String, AllocError> {
+    let mut out = String::new(alloc);
+    push_meeting(&mut out, gate)?;
+    push_words(&mut out, buffers)?;
+    Ok(out)
+}
+
+fn of_launch<R: Threads + Wait + Sync>(
+    rt: &R,
+    alloc: Global,
+    typed: &Typed,
+    launch: &Launch,
+) -> Result<String, AllocError>
+    requires proper { is_proper (core_seen typed.now.1) ≡ true }
+    requires fits { Fits (core_seen typed.now.1) (launch_seen launch.now) }
+{
+    let gate = Meeting::new();
+    let mut buffers = zeros(alloc)?;
+    let task = Task {
+        core: typed.core(),
+        launch,
+        budget: 100,
+    };
+    run_groups(rt, alloc, task, 2, &gate, &mut buffers)?;
+    told(alloc, &gate, &buffers)
+}
+
+fn of_typed<R: Threads + Wait + Sync>(
+    rt: &R,
+    alloc: Global,
+    typed: &Typed,
+) -> Result<String, AllocError>
+    requires { is_proper (core_seen typed.now.1) ≡ true }
+{
+    match read_launch(alloc, typed, LAUNCH) {
+        Ok(launch) => of_launch(rt, alloc, typed, &launch),
+        Err(_) => Err(AllocError),
+    }
+}
+
+/// Runs 64 groups by two workers that meet; says what they told, and what they wrote.
+pub fn meet<R: Threads + Wait + Sync>(rt: &R, alloc: Global) -> Result<String, AllocError> {
+    match read_proper_kernel(alloc, KERNEL) {
+        Ok(typed) => of_typed(rt, alloc, &typed),
+        Err(_) => Err(AllocError),
+    }
+}

@@ -1,0 +1,151 @@
+// Where the nodes of trees stand: of each statement its number and its site, then the sites of what it has, in the order of the source.
+
+use core_code::tree::Site;
+use lexer::lex;
+use parser::parse;
+use std::alloc::{AllocError, Global};
+use syntax::tree::{Assignment, Declaration, Expr, First, Stmt};
+
+/// The site of an expression, and then those of its operands.
+fn push_expression(text: &mut String, e: &Expr) -> Result<(), AllocError> {
+    push(text, e.site())?;
+    match e {
+        Expr::Number { .. } | Expr::Name { .. } => Ok(()),
+        Expr::Element { index, .. } => push_expression(text, index),
+        Expr::Prefix { of, .. } | Expr::Cast { of, .. } => push_expression(text, of),
+        Expr::Call { arguments, .. } => {
+            for argument in arguments {
+                push_expression(text, argument)?;
+            }
+            Ok(())
+        }
+        Expr::Infix { left, right, .. } => {
+            push_expression(text, left)?;
+            push_expression(text, right)
+        }
+        Expr::Conditional {
+            test,
+            taken,
+            skipped,
+            ..
+        } => {
+            push_expression(text, test)?;
+            push_expression(text, taken)?;
+            push_expression(text, skipped)
+        }
+    }
+}
+
+fn push(text: &mut String, site: Site) -> Result<(), AllocError> {
+    write!(text, " {}:{}", site.line, site.column)
+}
+
+/// Its kind's site, its name's, and its value.
+fn push_declaration(text: &mut String, d: &Declaration) -> Result<(), AllocError> {
+    write!(text, " {}", d.number)?;
+    push(text, d.site)?;
+    push(text, d.name_site)?;
+    push_expression(text, &d.value)
+}
+
+/// Its target's site, its index, its sign's site, and its value.
+fn push_assignment(text: &mut String, a: &Assignment) -> Result<(), AllocError> {
+    write!(text, " {}", a.number)?;
+    push(text, a.site)?;
+    if let Some(index) = &a.index {
+        push_expression(text, index)?;
+    }
+    push(text, a.sign_site)?;
+    push_expression(text, &a.value)
+}
+
+#[cycle(spots)]
+fn push_statements(text: &mut String, body: &[Stmt]) -> Result<(), AllocError> {
+    text.push_str(" {")?;
+    for s in body {
+        push_statement(text, s)?;
+    }
+    text.push_str(" }")
+}
+
+#[cycle(spots)]
+fn push_statement(text: &mut String, s: &Stmt) -> Result<(), AllocError> {
+    match s {
+        Stmt::Declare(d) => return push_declaration(text, d),
+        Stmt::Assign(a) => return push_assignment(text, a),
+        _ => {}
+    }
+    write!(text, " {}", s.number())?;
+    push(text, s.site())?;
+    match s {
+        Stmt::Declare(_) | Stmt::Assign(_) | Stmt::Jump { .. } => Ok(()),
+        Stmt::DeclareArray { name_site, .. } => push(text, *name_site),
+        Stmt::If {
+            test,
+            taken,
+            skipped,
+            ..
+        } => {
+            push_expression(text, test)?;
+            push_statements(text, taken)?;
+            push_statements(text, skipped)
+        }
+        Stmt::While { test, body, .. } => {
+            push_expression(text, test)?;
+            push_statements(text, body)
+        }
+        Stmt::For {
+            first,
+            test,
+            update,
+            body,
+            ..
+        } => {
+            push_first(text, first)?;
+            push_expression(text, test)?;
+            push_assignment(text, update)?;
+            push_statements(text, body)
+        }
+        Stmt::Barrier { flags, .. } => push_expression(text, flags),
+        Stmt::Block { body, .. } => push_statements(text, body),
+    }
+}
+
+fn push_first(text: &mut String, first: &First) -> Result<(), AllocError> {
+    match first {
+        First::Declares(d) => push_declaration(text, d),
+        First::Assigns(a) => push_assignment(text, a),
+    }
+}
+
+/// What stands where in the body of a kernel.
+fn spots_of(alloc: Global, body: &[Stmt]) -> Result<String, AllocError> {
+    let mut out = String::new(alloc);
+    push_statements(&mut out, body)?;
+    out.push_str("\n")?;
+    Ok(out)
+}
+
+/// What stands where in the body of a kernel's tree, or the refusal of its text.
+pub fn spots(alloc: Global, text: &[u8]) -> Result<String, AllocError> {
+    let tokens = match lex(alloc, text) {
+        Ok(tokens) => tokens,
+        Err(error) => return format!(in alloc; "refused {error}\n"),
+    };
+    match parse(alloc, tokens.as_slice()) {
+        Ok(kernel) => spots_of(alloc, kernel.body.as_slice()),
+        Err(error) => format!(in alloc; "refused {error}\n"),
+    }
+}
+
+/// How many statements stand in the body of a kernel's tree, or the refusal of its text.
+pub fn counted(alloc: Global, text: &[u8]) -> Result<String, AllocError> {
+    let tokens = match lex(alloc, text) {
+        Ok(tokens) => tokens,
+        Err(error) => return format!(in alloc; "refused {error}\n"),
+    };
+    match parse(alloc, tokens.as_slice()) {
+        Ok(kernel) => format!(in alloc; "{}\n", kernel.body.len()),
+        Err(error) => format!(in alloc; "refused {error}\n"),
+    }
+}

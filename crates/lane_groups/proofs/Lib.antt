@@ -1,0 +1,9 @@
+pub mod Rows
+pub mod Operated
+pub mod Order
+pub mod Shows
+pub mod Lowered
+pub mod Turned
+pub mod Being_on
+pub mod Items
+pub mod Doing

@@ -9,6 +9,7 @@ ghost use Rattle.work_item.specs.Proper.{is_proper};
 use group_workers::{Task, run_groups};
 use launch::launches::{Buffers, Launch};
 use launch_text::read_launch;
+use lower::lower;
 use proper_kernels::kernel::read_proper_kernel;
 use std::alloc::{AllocError, Global};
 use std::sync::Wait;
@@ -162,8 +163,10 @@ fn of_launch<R: Threads + Wait + Sync>(
 {
     let gate = Meeting::new();
     let mut buffers = zeros(alloc)?;
+    let code = lower(alloc, typed.core())?;
     let task = Task {
         core: typed.core(),
+        code: &code,
         launch,
         budget: 100,
     };

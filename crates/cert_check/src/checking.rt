@@ -36,6 +36,7 @@ use reading::laws::local_sizes_are_within_limits;
 use reading::read_kernel;
 use reduction::headline;
 use shown_kernels::laws::what_is_read_and_shown_is_pair_safe;
+use sound_kernels::laws::what_is_read_is_orderly;
 use statement_sites::site_at;
 use std::alloc::Global;
 use syntax::tree::Kernel;
@@ -128,6 +129,7 @@ pub fn check(
     }
     headline();
     what_is_read_is_proper();
+    what_is_read_is_orderly();
     what_is_read_and_shown_is_pair_safe::<Product<Interval, Congruence>>();
     Ok(Accepted::of(typed, conditions))
 }

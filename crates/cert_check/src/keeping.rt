@@ -4,6 +4,7 @@ ghost use Rattle.std.specs.Prelude.{◌≡◌, true};
 ghost use Rattle.core_code.specs.View.{kernel as core_seen};
 ghost use Rattle.launch.specs.View.{conditions as conditions_seen};
 ghost use Rattle.work_item.specs.Proper.{is_proper};
+ghost use Rattle.lanes.specs.Lowering.{IsOrderly};
 ghost use Rattle.cert_check.specs.Accepting.{IsAccepted, HasParameters};
 ghost use Rattle.cert_check.specs.View.{typed_of, kept};
 
@@ -17,6 +18,7 @@ impl Accepted {
         requires promise { IsAccepted (core_seen typed.1) (conditions_seen conditions) }
         requires parameters { HasParameters (core_seen typed.1) (conditions_seen conditions) }
         requires proper { is_proper (core_seen typed.1) ≡ true }
+        requires orderly { ∥ IsOrderly (core_seen typed.1) ∥₁ }
         ensures typed { typed_of result ≡ typed }
         ensures conditions { kept result ≡ conditions }
     {
@@ -29,6 +31,7 @@ impl Accepted {
         ensures accepted { IsAccepted (core_seen (typed_of self.now).1) (conditions_seen (kept self.now)) }
         ensures parameters { HasParameters (core_seen (typed_of self.now).1) (conditions_seen (kept self.now)) }
         ensures proper { is_proper (core_seen (typed_of self.now).1) ≡ true }
+        ensures orderly { ∥ IsOrderly (core_seen (typed_of self.now).1) ∥₁ }
     {
         &self.typed
     }

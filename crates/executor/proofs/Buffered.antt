@@ -1,5 +1,5 @@
 -- Buffers with the results of groups.
-use Rattle.std.proofs.Common.{◌≡◌, ℕ, zero, suc, List, ap, sym, ◌∙◌, subst, refl}
+use Rattle.std.proofs.Common.{◌≡◌, ◌<◌, ℕ, zero, suc, List, ap, sym, ◌∙◌, subst, refl, arith}
 use Rattle.std.specs.Prelude.{ℤ}
 use Rattle.semantics.specs.Setup.{Setup, group_count}
 use Rattle.semantics.specs.Memory.{opening_memory}
@@ -7,7 +7,7 @@ use Rattle.semantics.specs.Headline.{Headline}
 use Rattle.semantics.specs.Rounds.{logged, group_log, group_stores, result_of}
 use Rattle.semantics.proofs.Logs.{applied-log}
 use Rattle.write_log.specs.Written.{element}
-use Rattle.group_workers.specs.Writing.{in_order, HasLogs}
+use Rattle.group_workers.specs.Writing.{Log, in_order, HasLogs}
 use Rattle.executor.specs.Ends.{buffer_cell as cell}
 use Rattle.executor.specs.Ends.{HasBuffers, IsResultOf, EndsEvery}
 
@@ -17,6 +17,19 @@ in-order-result s bound buffer index zero z h = h
 in-order-result s bound buffer index (suc n) z h =
     ap (logged (group_log s bound n buffer index)) (in-order-result s bound buffer index n z h)
     ∙ sym (applied-log (group_stores s bound n) (result_of s bound n) (cell buffer index))
+
+-- logs that have the same of each element
+in-order-same : (f h : ℕ → Log) (buffer index n : ℕ) (z : ℤ) → ((g : ℕ) → g < n → f g buffer index ≡ h g buffer index) → in_order f buffer index n z ≡ in_order h buffer index n z
+in-order-same f h buffer index zero z e = refl
+in-order-same f h buffer index (suc n) z e =
+    ap (λ o. logged o (in_order f buffer index n z)) (e n (omega arith))
+    ∙ ap (logged (h n buffer index)) (in-order-same f h buffer index n z (λ g l. e g (omega (arith, l))))
+
+pub same-logs : (f h : ℕ → Log) (n : ℕ) (old new : List (List ℤ)) → ((g buffer index : ℕ) → g < n → f g buffer index ≡ h g buffer index) → HasLogs f n old new → HasLogs h n old new
+same-logs f h n old new e k = record {
+  lengths = k.lengths;
+  elements = λ buffer index l. k.elements buffer index l ∙ in-order-same f h buffer index n (element old buffer index) (λ g m. e g buffer index m);
+}
 
 -- the launch's buffers with the logs of all groups
 pub all-written : (s : Setup) (bound : ℕ) (old new : List (List ℤ)) → old ≡ s.launch.buffers → HasLogs (group_log s bound) (group_count s) old new → IsResultOf s bound new

@@ -12,7 +12,9 @@ ghost use Rattle.cert_check.specs.Accepting.{at_launch};
 ghost use Rattle.write_log.specs.Written.{written};
 
 use cert_check::Accepted;
+use lane_groups::laws::lane_logs_are_by_rounds;
 use launch::launches::Launch;
+use lower::lower;
 use std::alloc::{AllocError, Global};
 use write_log::WriteLog;
 
@@ -30,5 +32,7 @@ pub fn run_group(
 {
     let core = accepted.typed().core();
     let budget = accepted.conditions().budget;
-    group_rounds::run_group(alloc, core, launch, budget, group)
+    let code = lower(alloc, core)?;
+    lane_logs_are_by_rounds();
+    lane_groups::run_group(alloc, core, launch, &code, budget, group)
 }

@@ -1,7 +1,8 @@
 //! Section: Runs and program. Promises the result by rounds of an accepted kernel; stands on `cert_check` and `group_workers`.
 //!
-//! Accepted kernels, run: work-group by work-group, each by rounds, by workers on threads. What a run answers is the result by rounds, and
-//! so what every interleaving of all work-items leads to, whatever the number of workers and whichever of them runs which group.
+//! Accepted kernels, run: the kernel is lowered to lane code once, and work-group by work-group that is done by workers on threads, all
+//! items of a group together. What a run answers is the result by rounds, and so what every interleaving of all work-items leads to,
+//! whatever the number of workers and whichever of them runs which group.
 #![tactic(auto)]
 
 mod error;

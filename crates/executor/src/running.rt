@@ -17,8 +17,10 @@ use crate::error::RunError;
 use crate::kinds::of_parameters;
 use cert_check::Accepted;
 use group_workers::Task;
+use lane_groups::laws::lane_logs_are_by_rounds;
 use launch::launches::{Buffers, Launch};
 use launch::meets::meets;
+use lower::lower;
 use reduction::{headline, result_is_defined};
 use std::alloc::{AllocError, Global};
 use std::sync::Wait;
@@ -51,12 +53,16 @@ fn run_groups<R: Threads + Wait + Sync, G: Gate>(
     ensures { IfOk result (λ b. IsResultOf (at_launch (core_seen (typed_of accepted.now).1) (launch_seen launch.now)) (kept accepted.now).budget (words_of b)) }
 {
     let mut buffers = copy(alloc, &launch.buffers)?;
+    let core = accepted.typed().core();
+    let code = lower(alloc, core)?;
     let task = Task {
-        core: accepted.typed().core(),
+        core,
+        code: &code,
         launch,
         budget: accepted.conditions().budget,
     };
     group_workers::run_groups(rt, alloc, task, workers, gate, &mut buffers)?;
+    lane_logs_are_by_rounds();
     Ok(buffers)
 }
 

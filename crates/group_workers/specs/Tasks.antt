@@ -2,11 +2,13 @@
 use Rattle.std.specs.Prelude.{◌≡◌, ℕ, true}
 use Rattle.semantics.specs.Launch.{Fits}
 use Rattle.semantics.specs.Setup.{Setup, group_count}
-use Rattle.semantics.specs.Rounds.{group_log}
+use Rattle.lanes.specs.Lowering.{lowered}
 use Rattle.core_code.specs.View.{kernel}
+use Rattle.kernel_code.specs.View.{block}
 use Rattle.launch.specs.View.{launch}
 use Rattle.work_item.specs.Proper.{is_proper}
 use Rattle.work_item.specs.View.{setup_of}
+use Rattle.lane_groups.specs.Logs.{lane_log}
 use Rattle.group_workers.specs.Writing.{Log}
 use Rattle.group_workers.specs.declared.task.Task.{Task}
 
@@ -18,10 +20,11 @@ groups t = group_count (setup t)
 
 -- the logs of its groups
 abbrev pub logs_of : Task → ℕ → Log
-logs_of t = group_log (setup t) t.budget
+logs_of t = lane_log (setup t) t.budget
 
--- a proper kernel at a launch that fits it, with the logs of its groups
+-- a proper kernel with its lane code at a launch that fits it, and the logs of its groups
 pub record IsTask (logs : ℕ → Log) (t : Task) : Type 0 where
   pub proper : is_proper (kernel t.core.now) ≡ true
   pub fits : Fits (kernel t.core.now) (launch t.launch.now)
+  pub code : block t.code.now ≡ lowered (kernel t.core.now)
   pub own : logs ≡ logs_of t

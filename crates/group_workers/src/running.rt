@@ -3,7 +3,9 @@
 ghost use Rattle.std.specs.Prelude.{◌≡◌, ◌≤◌, true, OnOk};
 ghost use Rattle.std.specs.Thread.{IsSync, IsSend};
 ghost use Rattle.semantics.specs.Launch.{Fits};
+ghost use Rattle.lanes.specs.Lowering.{lowered};
 ghost use Rattle.core_code.specs.View.{kernel as kernel_seen};
+ghost use Rattle.kernel_code.specs.View.{block as block_seen};
 ghost use Rattle.launch.specs.View.{launch as launch_seen};
 ghost use Rattle.work_item.specs.Proper.{is_proper};
 ghost use Rattle.write_log.specs.Written.{words_of};
@@ -95,8 +97,8 @@ fn run_as<J: Logged + Send + Sync, D: Shares + Send + Sync, R: Threads + Wait + 
     collect(alloc, task, &logs, places.as_slice(), buffers)
 }
 
-/// Runs all groups of a proper kernel at a launch that fits it, by so many workers, and writes their logs to the buffers in the order of
-/// the groups. The calling thread is worker 1. `gate` is told what each worker does, and changes nothing that is written. A worker stops
+/// Runs all groups of a proper kernel's lane code at a launch that fits it, by so many workers, and writes their logs to the buffers in the
+/// order of the groups. The calling thread is worker 1. `gate` is told what each worker does, and changes nothing that is written. A worker stops
 /// where memory is refused; there is want of memory where it is refused to the calling thread. Then buffers may have the logs of the first
 /// groups.
 pub fn run_groups<R: Threads + Wait + Sync, G: Gate>(
@@ -109,6 +111,7 @@ pub fn run_groups<R: Threads + Wait + Sync, G: Gate>(
 ) -> Result<(), AllocError>
     requires proper { is_proper (kernel_seen task.core.now) ≡ true }
     requires fits { Fits (kernel_seen task.core.now) (launch_seen task.launch.now) }
+    requires code { block_seen task.code.now ≡ lowered (kernel_seen task.core.now) }
     requires workers { (1 ≤ workers) × (workers ≤ 64) }
     ensures { OnOk result (HasLogs (logs_of task.entry) (groups task.entry) (words_of buffers.old) (words_of buffers.new)) }
 {

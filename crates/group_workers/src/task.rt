@@ -5,17 +5,19 @@ ghost use Rattle.write_log.specs.Written.{written};
 ghost use Rattle.group_workers.specs.Writing.{Log};
 
 use core_code::tree::Core;
-use group_rounds::run_group;
+use kernel_code::code::Block;
+use lane_groups::run_group;
 use launch::launches::Launch;
 use std::alloc::{AllocError, Global};
 use std::marker::{Brand, PhantomData};
 use work_item::identity::product_of;
 use write_log::WriteLog;
 
-/// A kernel, its launch, and the steps that are its budget.
+/// A kernel, its lane code, its launch, and the steps that are its budget.
 #[derive(Clone, Copy)]
 pub struct Task<'b> {
     pub core: &'b Core,
+    pub code: &'b Block,
     pub launch: &'b Launch,
     pub budget: u64,
 }
@@ -63,7 +65,7 @@ impl<J: Logged> GroupLog<J> {
         requires group { group < groups task }
         ensures { IfOk result (λ l. l.group ≡ group) }
     {
-        let log = run_group(alloc, task.core, task.launch, task.budget, group)?;
+        let log = run_group(alloc, task.core, task.launch, task.code, task.budget, group)?;
         Ok(GroupLog {
             group,
             log,

@@ -7,3 +7,8 @@ pub mod Turned
 pub mod Being_on
 pub mod Items
 pub mod Doing
+pub mod Stored
+pub mod Later
+pub mod Arms
+pub mod Whole
+pub mod Overlays

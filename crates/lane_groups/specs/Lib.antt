@@ -3,3 +3,9 @@ pub mod Operations
 pub mod Members
 pub mod Masks
 pub mod Shows
+pub mod Logs
+pub mod Earlier
+pub mod Outcomes
+pub mod Overlays
+pub mod Groups
+pub mod Stores

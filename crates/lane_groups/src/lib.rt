@@ -1,15 +1,24 @@
-//! Section: Runs and program. Promises instructions of lane code, each done by all lanes, exactly; stands on `lane_words`, `group_rounds`.
+//! Section: Runs and program. Promises what a work-group's lane code stores, exactly as defined, and that of a pair-safe kernel its rounds
+//! store the same; stands on `lane_words` and `write_log`.
 //!
-//! The work-items of a group as lanes: registers, masks, memory and stores. Each instruction but branches and loops is done for all items
-//! at once, as the machine of the definitions does it (`lanes`), and so is the test of a branch. Nothing runs a block of them yet.
+//! The work-items of a group as lanes: registers, masks, memory and stores. Each instruction is done for all items at once, as the machine
+//! of the definitions does it (`lanes`).
 #![tactic(auto)]
 
+mod earlier;
 mod flows;
+mod group;
+pub mod laws;
 mod masks;
 mod members;
 mod opening;
 mod operations;
+mod overlay;
+mod own;
 mod registers;
 mod run;
 mod steps;
 mod stores;
+mod work_group;
+
+pub use group::run_group;

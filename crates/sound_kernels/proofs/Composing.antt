@@ -4,7 +4,7 @@ use Rattle.std.specs.Prelude.{Some}
 use Rattle.semantics.specs.Core.{Term, Statement, Set, Store, If, Loop, Barrier, Return, Break, Continue, Statements, none}
 use Rattle.texts.specs.Elaboration.{single, join}
 use Rattle.arrivals.specs.Points.{Has}
-use Rattle.sound_kernels.specs.Order.{Numbered}
+use Rattle.lanes.specs.Order.{Numbered}
 use Rattle.sound_kernels.specs.Told.{numbers_of, numbers_in, NoneTwice, Assigns, AllAssign}
 use Rattle.sound_kernels.proofs.Lists.{Apart, once-join, both-have}
 use Rattle.sound_kernels.proofs.Forming.{assigns-placed}

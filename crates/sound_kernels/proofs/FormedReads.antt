@@ -10,7 +10,7 @@ use Rattle.texts.specs.KernelLimits.{statements_of}
 use Rattle.reading.specs.Kernels.{Kernel, read}
 use Rattle.reading.proofs.Grammatical.{read-sound, read-tree}
 use Rattle.sound_kernels.specs.Declared.{declared_by, AllWithin}
-use Rattle.sound_kernels.specs.Order.{AllNumbered}
+use Rattle.lanes.specs.Order.{AllNumbered}
 use Rattle.sound_kernels.specs.Told.{AreTold}
 use Rattle.sound_kernels.proofs.Forming.{told-formed}
 use Rattle.sound_kernels.proofs.Pointing.{points-numbered}

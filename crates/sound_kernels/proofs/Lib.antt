@@ -12,3 +12,4 @@ pub mod TypedTerms
 pub mod Assigning
 pub mod Declaring
 pub mod FormedReads
+pub mod Slots

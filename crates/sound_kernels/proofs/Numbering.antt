@@ -1,5 +1,5 @@
 -- What is elaborated of statements that are numbered in the order of the source is ordered.
-use Rattle.std.proofs.Common.{◌≡◌, ℕ, ◌+◌, ◌≤◌, ◌<◌, List, [], ◌∷◌, Bool, true, false, ◌&&◌, ◌||◌, not, refl, ap, sym, ◌∙◌, subst, length, arith}
+use Rattle.std.proofs.Common.{◌≡◌, ℕ, ◌+◌, ◌≤◌, ◌<◌, List, [], ◌∷◌, Bool, true, ◌&&◌, ◌||◌, not, refl, ap, sym, ◌∙◌, subst, length, arith}
 use Rattle.std.specs.Prelude.{Option, Some, None, Ok}
 use Rattle.semantics.specs.Word.{Add, Subtract, Multiply, Divide, Remainder, BitAnd, BitOr, BitXor}
 use Rattle.semantics.specs.Core as core
@@ -12,7 +12,7 @@ use Rattle.texts.specs.Scope.{Meaning, Scope, empty_scope, meaning_of, leave_blo
 use Rattle.texts.specs.Spelling.{IsNumbered, AreNumbered, first_number}
 use Rattle.texts.specs.Typing.{typed, bring, type_of}
 use Rattle.texts.specs.Elaboration.{Elaborated, elaborated, single, join, assigned, first_load, without_load, site_or, target_array, target_slot, assign_to, elaborate_assignment, elaborate_declaration, elaborate_first, one_flag, barrier_of, Around, InKernel, InBlock, InLoop, is_in_kernel, inside, innermost_loop, jump_to, elaborate_statement, elaborate_all, declare_parameters, elaborate}
-use Rattle.sound_kernels.specs.Order.{AllNumbered}
+use Rattle.lanes.specs.Order.{AllNumbered}
 use Rattle.sound_kernels.specs.Told.{AreTold}
 use Rattle.proper_kernels.proofs.Holding.{Holds, then-holds, then-any, when-holds, held}
 use Rattle.sound_kernels.proofs.Mapping.{mapped}

@@ -4,7 +4,7 @@ use Rattle.std.specs.Prelude.{Option, Some, None}
 use Rattle.semantics.specs.Core.{Statement, Set, Store, If, Loop, Barrier, Return, Break, Continue, Statements, none, one}
 use Rattle.texts.specs.Elaboration.{join}
 use Rattle.arrivals.specs.Points.{Has}
-use Rattle.sound_kernels.specs.Order.{Numbered, AllNumbered}
+use Rattle.lanes.specs.Order.{Numbered, AllNumbered}
 use Rattle.sound_kernels.specs.Told.{numbers_of, numbers_in, NoneTwice, ArePlaced}
 use Rattle.sound_kernels.proofs.Lists.{Apart, once-join, both-have}
 

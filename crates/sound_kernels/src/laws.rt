@@ -13,7 +13,8 @@ ghost use Rattle.texts.specs.Spelling.{AreNumbered};
 ghost use Rattle.texts.specs.Elaboration.{elaborate};
 ghost use Rattle.reading.specs.Kernels.{Kernel, read};
 ghost use Rattle.sound_kernels.specs.Declared.{declared_by, AllWithin};
-ghost use Rattle.sound_kernels.specs.Order.{AllNumbered};
+ghost use Rattle.lanes.specs.Lowering.{IsOrderly};
+ghost use Rattle.lanes.specs.Order.{AllNumbered};
 ghost use Rattle.sound_kernels.specs.Told.{AreTold};
 
 /// Statements that are told apart are formed, and their numbers tell their points apart.
@@ -53,4 +54,9 @@ pub fn what_is_elaborated_is_within()
 /// So do those of each kernel that is read of bytes.
 pub fn what_is_read_is_within()
     ensures { (bytes : List ℕ) (k : Kernel) → read bytes ≡ Ok k → AllWithin (declared_by k.core) k.core.body }
+{}
+
+/// So each kernel that is read of bytes is orderly: it has lane code that stores what its work-groups do.
+pub fn what_is_read_is_orderly()
+    ensures { (bytes : List ℕ) (k : Kernel) → read bytes ≡ Ok k → IsOrderly k.core }
 {}

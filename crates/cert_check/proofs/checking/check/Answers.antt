@@ -75,3 +75,6 @@ returns-in-Err-accept-clause-plain c =
     (c.in-Ok.ensures, c.in-Ok-read_conditions.ensures.value)
     e
     s
+
+pub of-requires-clause-orderly : goal.of-requires-clause-orderly
+of-requires-clause-orderly c = ∣ c.what_is_read_is_orderly.ensures c.args.kernel.now (kernel_seen c.in-Ok.typed) c.in-Ok.ensures ∣₁

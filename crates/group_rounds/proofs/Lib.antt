@@ -1,3 +1,0 @@
-pub mod Overlays
-pub mod Turns
-pub mod Groups

@@ -1,0 +1,133 @@
+//! What a work-group stored in earlier rounds.
+
+ghost use Rattle.std.specs.Prelude.{◌≡◌, ◌<◌, ◌&&◌, ◌+◌, ℕ, Some, None, cond, nat_eq, length, map, OnOk, IfOk};
+ghost use Rattle.std.specs.Option.{option_map};
+ghost use Rattle.semantics.specs.Memory as memories;
+ghost use Rattle.semantics.specs.Rounds.{log_of};
+ghost use Rattle.words.specs.View.{value_of};
+ghost use Rattle.work_item.specs.Asks.{cell as cell_seen, owner as owner_seen};
+ghost use Rattle.lane_groups.specs.Stores.{store as store_seen};
+ghost use Rattle.lane_groups.specs.Earlier.{kept, is_in_rows, in_rows, row_at, stored_in};
+
+use crate::overlay::Overlay;
+use crate::own::Store;
+use core_code::tree::LocalArray;
+use std::alloc::{AllocError, Global};
+use words::Word;
+use work_item::ask::{Cell, Owner};
+
+/// The elements that were stored, each with the word that it got last: those of the group's own local arrays in rows as long as the
+/// arrays, and all others.
+#[derive(Drop)]
+pub struct Earlier {
+    pub group: u64,
+    pub rows: Vec<Vec<Option<Word>>>,
+    pub others: Overlay,
+}
+
+/// A row for each array; nothing is stored.
+fn empty_rows(alloc: Global, arrays: &[LocalArray]) -> Result<Vec<Vec<Option<Word>>>, AllocError>
+    ensures { IfOk result (λ v. (array index : ℕ) → stored_in v.items array index ≡ None) }
+{
+    let mut rows = Vec::new(alloc);
+    for array in arrays {
+        rows.push(Vec::from_elem(alloc, None, array.length as usize)?)?;
+    }
+    Ok(rows)
+}
+
+/// An element of a row gets a word.
+fn put(rows: &mut Vec<Vec<Option<Word>>>, array: u32, index: u32, word: Word)
+    requires { index < length (row_at rows.old.items array) }
+    ensures { (a k : ℕ) → stored_in rows.new.items a k ≡ cond (nat_eq a array && nat_eq k index) (Some (value_of word)) (stored_in rows.old.items a k) }
+{
+    if let Some(row) = rows.get_mut(array as usize) {
+        if let Some(place) = row.get_mut(index as usize) {
+            *place = Some(word);
+        }
+    }
+}
+
+/// Whether an owner is a group.
+fn is_group(owner: Owner, group: u64) -> bool
+    ensures { result ≡ nat_eq (owner_seen owner) (1 + group) }
+{
+    match owner {
+        Owner::Launch => false,
+        Owner::Group(number) => number == group,
+    }
+}
+
+impl Earlier {
+    /// Nothing is stored.
+    pub fn new(alloc: Global, group: u64, arrays: &[LocalArray]) -> Result<Earlier, AllocError>
+        ensures { IfOk result (λ e. (c : memories.Cell) → kept e c ≡ None) }
+    {
+        let rows = empty_rows(alloc, arrays)?;
+        Ok(Earlier {
+            group,
+            rows,
+            others: Overlay::new(alloc),
+        })
+    }
+
+    // Whether an element stands in the rows.
+    fn has(&self, at: Cell) -> bool
+        ensures { result ≡ is_in_rows self.now (cell_seen at) }
+    {
+        if !is_group(at.owner, self.group) {
+            return false;
+        }
+        match self.rows.get(at.array as usize) {
+            Some(row) => (at.index as usize) < row.len(),
+            None => false,
+        }
+    }
+
+    // The word that was stored to an element of the rows.
+    fn in_rows(&self, at: Cell) -> Option<Word>
+        ensures { option_map value_of result ≡ in_rows self.now (cell_seen at) }
+    {
+        if !is_group(at.owner, self.group) {
+            return None;
+        }
+        let Some(row) = self.rows.get(at.array as usize) else {
+            return None;
+        };
+        match row.get(at.index as usize) {
+            Some(word) => *word,
+            None => None,
+        }
+    }
+
+    /// The word that was stored to an element.
+    pub fn word(&self, at: Cell) -> Option<Word>
+        ensures { option_map value_of result ≡ kept self.now (cell_seen at) }
+    {
+        match self.in_rows(at) {
+            Some(word) => Some(word),
+            None => self.others.word(at),
+        }
+    }
+
+    /// An element gets a word, in the place of what it had.
+    pub fn note(&mut self, at: Cell, word: Word) -> Result<(), AllocError>
+        ensures { OnOk result ((c : memories.Cell) → kept self.new c ≡ cond (memories.same_cell c (cell_seen at)) (Some (value_of word)) (kept self.old c)) }
+    {
+        if self.has(at) {
+            put(&mut self.rows, at.array, at.index, word);
+            return Ok(());
+        }
+        self.others.note(at, word)
+    }
+
+    /// Elements get words, in the order of the stores.
+    pub fn note_all(&mut self, stores: &[Store]) -> Result<(), AllocError>
+        ensures { OnOk result ((c : memories.Cell) → kept self.new c ≡ log_of (map store_seen stores.now) c (kept self.old c)) }
+    {
+        for store in stores {
+            self.note(store.at, store.word)?;
+        }
+        Ok(())
+    }
+}

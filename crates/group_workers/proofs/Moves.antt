@@ -1,6 +1,6 @@
 -- Each move keeps the rule of a deque.
 use Rattle.std.proofs.Common.{◌≡◌, ◌≢◌, ℕ, zero, suc, ◌+◌, ◌<◌, ◌≤◌, ◌%◌, ◌==◌, true, false, List, [], ◌∷◌, ◌++◌, cond, length, set, get_or, sym, refl, ap, ◌∙◌, subst, ⊎_elim, inl, inr, ◌⊎◌, arith}
-use Rattle.std.specs.Prelude.{Result, Ok, Err, MatchResult}
+use Rattle.std.specs.Prelude.{Result, Ok, Err, MatchResult, slice_index}
 use Rattle.std.specs.List.{sum_by}
 use Rattle.std.proofs.lemmas.List.Sums.{sum_by-append, sum_by-set}
 use Rattle.std.proofs.lemmas.Bool.{cases_eq, eq-eqb, ne_eqb, false≢true, cases_lt}
@@ -10,7 +10,7 @@ use lib.ListN.{get_elem?}
 use Rattle.crossbeam_deque.specs.Tasks.{Pushes, Takes, Admits}
 use Rattle.crossbeam_deque.proofs.Lists.{at_set, at_snoc}
 use Rattle.group_workers.specs.declared.Hand.{Hand}
-use Rattle.group_workers.specs.Dealing.{hand, times, met, IsOwned, Deals}
+use Rattle.group_workers.specs.Dealing.{hand, times, met, IsOwned, Deals, IsOfShare, Took}
 
 there : (views : List Hand) (id : ℕ) (v : Hand) → get_elem? views id ≡ some v → id < length views
 there [] id v e = absurd (some-ne-none v (sym e))
@@ -45,11 +45,12 @@ owned_same owner next views port v w owned at same_owns same_next j u e o = ⊎_
     (λ other. owned j u other.1 o)
     (at_set views port j w u e)
 
--- the owner may push this number next
+-- the owner, who has taken nothing yet, may push this number next
 pub record MayPush (workers : ℕ) (v : Hand) (x : ℕ) : Type 0 where
   pub owns : v.owns ≡ true
   pub later : v.next ≤ x
   pub share : (v.next ≡ 0) ⊎ (v.next % workers ≡ x % workers)
+  pub none : v.taken ≡ []
 
 -- a push of the owner's next number or a later one of its share
 pub pushes : (workers port : ℕ) (v : Hand) (x : ℕ) → 0 < workers → MayPush workers v x → Pushes (Deals workers) port v (x ∷ []) (λ w. w ≡ hand true (x + workers) v.taken)
@@ -96,11 +97,13 @@ went_on workers x old new P Q R (Ok u) may rule = subst (λ v. MayPush workers v
   owns = refl;
   later = omega arith;
   share = inr refl;
+  none = may.none;
 })
 went_on workers x old new P Q R (Err y) may rule = subst (λ v. MayPush workers v (x + workers)) (sym rule.1) (record {
   owns = may.owns;
   later = let l = may.later in omega (arith, l);
   share = ⊎_elim (λ z. inl z) (λ s. inr (s ∙ sym (add-mod_right x workers))) may.share;
+  none = may.none;
 })
 
 pub goes_on : (workers n x next : ℕ) (old new : Hand) (P Q R : Type 0) (r : Result (Unit {0}) ℕ) → n ≡ workers → next ≡ x + n → MayPush n old x
@@ -108,13 +111,40 @@ pub goes_on : (workers n x next : ℕ) (old new : Hand) (P Q R : Type 0) (r : Re
     → MayPush n new next
 goes_on workers n x next old new P Q R r same is may rule = rw (is, same) (went_on workers x old new P Q R r (subst (λ m. MayPush m old x) same may) rule)
 
+-- an owner that has pushed numbers of its share, as far as they were not refused, and taken none
+pub filled : (workers share x : ℕ) (v w : Hand) → w ≡ v → x % workers ≡ share % workers → MayPush workers v x → (w.taken ≡ []) × IsOfShare workers share w
+filled workers share x v w is same may =
+    subst (λ u. (u.taken ≡ []) × IsOfShare workers share u) (sym is) (may.none, ⊎_elim (λ z. inl z) (λ s. inr (s ∙ same)) may.share)
+
+-- what stands at the front of a deque, as its taker learns it
+learns : (workers port x : ℕ) (items : List ℕ) (views : List Hand) (v : Hand) → Deals workers (x ∷ items) views → get_elem? views port ≡ some v
+    → Took workers v x (hand v.owns v.next (v.taken ++ x ∷ []))
+learns workers port x items views v h at = record {
+  last = refl;
+  first_time = let one = h.3 x in omega (arith, one, here, whole x);
+  alike = λ k some_. (h.4 k (let t = whole k in omega (arith, t, some_))).1 ∙ sym mine.1;
+  own = λ owns. let is = (h.2 port v at owns).1 in (subst (λ n. x < n) (sym is) mine.0, mine.1 ∙ ap (λ n. n % workers) (sym is));
+}
+  where
+    here : times x (x ∷ items) ≡ 1 + times x items
+    here = let a = sum_by-append (λ y. cond {A = ℕ} (y == x) 1 0) (x ∷ []) items in let e = one_here x x refl in omega (arith, a, e)
+
+    -- what this taker took is met
+    whole : (k : ℕ) → times k v.taken ≤ sum_by (λ u. times k u.taken) views
+    whole k = let s = sum_set (λ u. times k u.taken) views port v (hand v.owns v.next []) at in omega (arith, s)
+
+    mine : (x < h.1) × (x % workers ≡ h.1 % workers)
+    mine = h.4 x (omega (arith, here))
+
 -- one number is taken at the front
-pub takes : (workers port : ℕ) (v : Hand) → Takes (Deals workers) port v 1 (λ xs w. w ≡ hand v.owns v.next (v.taken ++ xs))
-takes workers port v xs items views _ _ h at =
-    let w : Hand = hand v.owns v.next (v.taken ++ xs) in
-    let after : (k : ℕ) → met k items (set views port w) ≡ met k (xs ++ items) views = λ k.
-    let a = sum_by-append (λ y. cond {A = ℕ} (y == k) 1 0) xs items in
-    let b = sum_by-append (λ y. cond {A = ℕ} (y == k) 1 0) v.taken xs in
+pub takes : (workers port : ℕ) (v : Hand) → Takes (Deals workers) port v 1 (λ xs w. Took workers v (slice_index xs 0) w)
+takes workers port v [] items views some_ few h at = absurd (omega (arith, some_))
+takes workers port v (x ∷ y ∷ ys) items views some_ few h at = absurd (omega (arith, few))
+takes workers port v (x ∷ []) items views some_ few h at =
+    let w : Hand = hand v.owns v.next (v.taken ++ x ∷ []) in
+    let after : (k : ℕ) → met k items (set views port w) ≡ met k (x ∷ items) views = λ k.
+    let a = sum_by-append (λ y. cond {A = ℕ} (y == k) 1 0) (x ∷ []) items in
+    let b = sum_by-append (λ y. cond {A = ℕ} (y == k) 1 0) v.taken (x ∷ []) in
     let s = sum_set (λ u. times k u.taken) views port v w at in
     omega (arith, a, b, s) in (
       w,
@@ -125,7 +155,7 @@ takes workers port v xs items views _ _ h at =
         (λ k. omega (arith, after k, h.3 k)),
         (λ k some_. h.4 k (omega (arith, after k))),
       ),
-      refl,
+      learns workers port x items views v h at,
     )
 
 -- a new pass has taken nothing

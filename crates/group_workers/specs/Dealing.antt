@@ -1,5 +1,5 @@
 -- What a deque and the numbers taken from it keep.
-use Rattle.std.specs.Prelude.{◌≡◌, ℕ, ◌+◌, ◌<◌, ◌≤◌, ◌%◌, ◌==◌, Bool, true, List, cond}
+use Rattle.std.specs.Prelude.{◌≡◌, ℕ, ◌+◌, ◌<◌, ◌≤◌, ◌%◌, ◌==◌, ◌⊎◌, Bool, true, List, [], ◌∷◌, ◌++◌, cond}
 use Rattle.std.specs.List.{sum_by}
 use mathlib.Core.Option.{some}
 use lib.ListN.{get_elem?}
@@ -26,3 +26,15 @@ Deals workers items views =
     (owner : ℕ) × (next : ℕ) × IsOwned owner next views
     × ((k : ℕ) → met k items views ≤ 1)
     × ((k : ℕ) → 0 < met k items views → (k < next) × (k % workers ≡ next % workers))
+
+-- nothing was pushed yet, or the owner's next number is of this share
+abbrev pub IsOfShare : ℕ → ℕ → Hand → Type 0
+IsOfShare workers share owner = (owner.next ≡ 0) ⊎ (owner.next % workers ≡ share % workers)
+
+-- a taker has taken x: now the last one of its list, where it did not stand before, and of one share with all that stood there.
+-- An owner knows that share, and that x is below its next number
+pub record Took (workers : ℕ) (old : Hand) (x : ℕ) (new : Hand) : Type 0 where
+  pub last : new ≡ hand old.owns old.next (old.taken ++ x ∷ [])
+  pub first_time : times x old.taken ≡ 0
+  pub alike : (k : ℕ) → 0 < times k old.taken → k % workers ≡ x % workers
+  pub own : old.owns ≡ true → (x < old.next) × (x % workers ≡ old.next % workers)

@@ -7,6 +7,7 @@ ghost use Rattle.group_workers.specs.Tasks.{IsTask, groups, logs_of};
 
 use crate::task::{GroupLog, Logged, Task};
 use crate::worker::Logs;
+use lane_groups::Room;
 use launch::launches::Buffers;
 use std::alloc::{AllocError, Global};
 use write_log::apply;
@@ -34,6 +35,7 @@ fn write<J: Logged>(
     logs: &Logs<J>,
     place: Option<usize>,
     group: u64,
+    room: &mut Room,
     buffers: &mut Buffers,
 ) -> Result<(), AllocError>
     requires task { IsTask J.logs task }
@@ -44,7 +46,7 @@ fn write<J: Logged>(
         apply(buffers, &log.log);
         return Ok(());
     }
-    let log = GroupLog::<J>::of(alloc, task, group)?;
+    let log = GroupLog::<J>::of(alloc, task, group, room)?;
     apply(buffers, &log.log);
     Ok(())
 }
@@ -82,8 +84,10 @@ pub fn collect<J: Logged>(
 {
     let count = task.groups();
     let found = places_by_group(alloc, logs, places, count)?;
+    let mut room = Room::new(alloc);
     for group in 0..count {
-        write(alloc, task, logs, found[group as usize], group, buffers)?;
+        let place = found[group as usize];
+        write(alloc, task, logs, place, group, &mut room, buffers)?;
     }
     Ok(())
 }

@@ -1,11 +1,13 @@
 //! A worker's deque of groups.
 
-ghost use Rattle.std.specs.Prelude.{◌≡◌, ◌<◌, ℕ};
-ghost use Rattle.crossbeam_deque.specs.Handles.{worker_flavor};
+ghost use Rattle.std.specs.Prelude.{◌≡◌, ◌<◌, ◌%◌, ℕ, true, [], IfOk, IfSome, MatchOption};
+ghost use Rattle.crossbeam_deque.specs.Handles.{view, IsPassOf, stealer_deque, worker_deque, worker_flavor, worker_view};
+ghost use Rattle.crossbeam_deque.specs.Steals.{MatchSteal};
+ghost use Rattle.group_workers.specs.Dealing.{IsOfShare, Took};
 
 use crate::Hand;
 use crossbeam_deque::protocol::{Outcome, Protocol};
-use crossbeam_deque::{Steal, Stealer, Worker};
+use crossbeam_deque::{Pass, Steal, Stealer, Worker};
 use std::alloc::{AllocError, Global};
 use std::marker::{Brand, PhantomData};
 
@@ -47,23 +49,26 @@ impl<D: Shares> Outcome<u64, Hand> for Puts<D> {
 }
 
 /// A pop or a steal.
-pub struct Takes;
-
-impl Outcome<u64, Hand> for Takes {
-    ghost use Rattle.std.specs.Prelude.{◌≡◌, ◌++◌};
-    ghost use Rattle.group_workers.specs.Dealing.{hand};
-
-    ghost then = { λ v xs w. w ≡ hand v.owns v.next (v.taken ++ xs) };
+pub struct Takes<D: Shares> {
+    of: PhantomData<D>,
 }
 
-/// What takes from a deque in any thread.
-pub type Thief<D> = Stealer<u64, Global, Hand, Dealt<D>>;
+impl<D: Shares> Outcome<u64, Hand> for Takes<D> {
+    ghost use Rattle.std.specs.Prelude.{slice_index};
+    ghost use Rattle.group_workers.specs.Dealing.{Took};
+
+    ghost then = { λ v xs w. Took D.workers v (slice_index xs 0) w };
+}
+
+/// What thieves take from, in any thread.
+pub type Source<D> = Stealer<u64, Global, Hand, Dealt<D>>;
 
 /// A deque whose owner takes at the front.
 #[derive(Drop)]
 pub struct Deque<D: Shares> {
     worker: Worker<u64, Global, Hand, Dealt<D>>,
     ghost fifo: { worker_flavor worker ≡ 0 },
+    ghost owner: { (worker_view worker).owns ≡ true },
 }
 
 impl<D: Shares> Deque<D> {
@@ -75,6 +80,8 @@ impl<D: Shares> Deque<D> {
         count: u64,
     ) -> Result<Deque<D>, AllocError>
         requires { (workers ≡ D.workers) × (0 < workers) × (share < workers) }
+        ensures none { IfOk result (λ d. (worker_view d.worker).taken ≡ []) }
+        ensures share { IfOk result (λ d. IsOfShare workers share (worker_view d.worker)) }
     {
         let mut worker = Worker::fifo_as(alloc, 1)?;
         let mut group = share;
@@ -88,19 +95,48 @@ impl<D: Shares> Deque<D> {
         Ok(Deque { worker })
     }
 
-    /// What takes from it in any thread.
-    pub fn thief(&self) -> Result<Thief<D>, AllocError> {
+    /// What thieves take from.
+    pub fn source(&self) -> Result<Source<D>, AllocError>
+        ensures { IfOk result (λ s. stealer_deque s ≡ worker_deque self.now.worker) }
+    {
         self.worker.stealer()
     }
 
-    /// The first group that is left.
-    pub fn take(&mut self) -> Option<u64> {
-        self.worker.pop_as::<Takes>()
+    /// The first group that is left. The owner had not taken it before.
+    pub fn take(&mut self) -> Option<u64>
+        ensures same { worker_deque self.new.worker ≡ worker_deque self.old.worker }
+        ensures took { MatchOption result (worker_view self.new.worker ≡ worker_view self.old.worker) (λ x. Took D.workers (worker_view self.old.worker) x (worker_view self.new.worker)) }
+        ensures own { IfSome result (λ x. (x < (worker_view self.old.worker).next) × (x % D.workers ≡ (worker_view self.old.worker).next % D.workers)) }
+    {
+        self.worker.pop_as::<Takes<D>>()
     }
 }
 
-/// Takes the first group that is left, if it can.
-pub fn steal<D: Shares>(thief: &Thief<D>) -> Steal<u64> {
-    let mut pass = thief.pass();
-    thief.steal_as::<Takes>(&mut pass)
+/// What takes from a deque in any thread. It keeps what it has taken from one steal to the next.
+#[derive(Drop)]
+pub struct Thief<'d, D: Shares> {
+    source: &'d Source<D>,
+    pass: Pass<u64, Hand>,
+    ghost entered: { IsPassOf (stealer_deque source.now) pass },
+}
+
+impl<'d, D: Shares> Thief<'d, D> {
+    /// A thief that has taken nothing.
+    pub fn of(source: &'d Source<D>) -> Thief<'d, D>
+        ensures same { stealer_deque result.source.now ≡ stealer_deque source.now }
+        ensures none { (view result.pass).taken ≡ [] }
+    {
+        Thief {
+            source,
+            pass: source.pass(),
+        }
+    }
+
+    /// Takes the first group that is left, if it can. This thief had not taken it before.
+    pub fn steal(&mut self) -> Steal<u64>
+        ensures same { stealer_deque self.new.source.now ≡ stealer_deque self.old.source.now }
+        ensures took { MatchSteal result (view self.new.pass ≡ view self.old.pass) (view self.new.pass ≡ view self.old.pass) (λ x. Took D.workers (view self.old.pass) x (view self.new.pass)) }
+    {
+        self.source.steal_as::<Takes<D>>(&mut self.pass)
+    }
 }

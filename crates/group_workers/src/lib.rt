@@ -5,7 +5,8 @@
 //! Before the workers start, group k goes to the deque of worker 1 + (k modulo the number of workers). Each worker empties its own deque,
 //! then steals from each once round, until a round gave nothing. The calling thread is worker 1. A deque changes by a push, a pop and a
 //! steal, and all three keep one rule: the deque, and what its owner and all passes have taken, hold only numbers of that worker's share
-//! below the owner's next one, none twice. What is written rests on none of that: the type of a log says which group's it is, and the
+//! below the owner's next one, none twice. So who takes a number learns that it had not taken it before (`Took`); a thief of a worker keeps
+//! what it has taken from one steal to the next. What is written rests on none of that: the type of a log says which group's it is, and the
 //! collector runs each group of which no log came.
 #![tactic(auto)]
 

@@ -13,7 +13,7 @@ ghost use Rattle.group_workers.specs.Writing.{HasLogs};
 ghost use Rattle.group_workers.specs.Tasks.{IsTask, groups, logs_of};
 
 use crate::collector::collect;
-use crate::deque::{Deque, Shares, Thief};
+use crate::deque::{Deque, Shares, Source};
 use crate::task::{Logged, Task};
 use crate::worker::{Logs, Shared};
 use launch::launches::Buffers;
@@ -53,22 +53,22 @@ fn run_workers<J: Logged + Send + Sync, D: Shares + Send + Sync, R: Threads + Wa
     ours
 }
 
-/// The deques of all workers, each with its share of the groups, and what takes from them.
+/// The deques of all workers, each with its share of the groups, and what thieves take from.
 fn deal<D: Shares>(
     alloc: Global,
     workers: u32,
     count: u64,
-) -> Result<(Vec<Deque<D>>, Vec<Thief<D>>), AllocError>
+) -> Result<(Vec<Deque<D>>, Vec<Source<D>>), AllocError>
     requires { (workers ≡ D.workers) × (1 ≤ workers) }
 {
     let mut deques = Vec::new(alloc);
-    let mut thieves = Vec::new(alloc);
+    let mut sources = Vec::new(alloc);
     for share in 0..workers {
         let deque = Deque::dealt(alloc, share as u64, workers as u64, count)?;
-        thieves.push(deque.thief()?)?;
+        sources.push(deque.source()?)?;
         deques.push(deque)?;
     }
-    Ok((deques, thieves))
+    Ok((deques, sources))
 }
 
 fn run_as<J: Logged + Send + Sync, D: Shares + Send + Sync, R: Threads + Wait + Sync, G: Gate>(
@@ -84,12 +84,12 @@ fn run_as<J: Logged + Send + Sync, D: Shares + Send + Sync, R: Threads + Wait + 
     ensures { OnOk result (HasLogs (logs_of task.entry) (groups task.entry) (words_of buffers.old) (words_of buffers.new)) }
 {
     let logs: Logs<J> = boxcar::Vec::new(alloc)?;
-    let (deques, thieves) = deal::<D>(alloc, workers, task.groups())?;
+    let (deques, sources) = deal::<D>(alloc, workers, task.groups())?;
     let shared = Shared {
         rt,
         alloc,
         task,
-        thieves: thieves.as_slice(),
+        sources: sources.as_slice(),
         logs: &logs,
         gate,
     };

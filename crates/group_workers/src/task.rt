@@ -6,7 +6,7 @@ ghost use Rattle.group_workers.specs.Writing.{Log};
 
 use core_code::tree::Core;
 use kernel_code::code::Block;
-use lane_groups::run_group;
+use lane_groups::{Room, run_group_in};
 use launch::launches::Launch;
 use std::alloc::{AllocError, Global};
 use std::marker::{Brand, PhantomData};
@@ -60,12 +60,23 @@ impl<J: Logged> GroupLog<J> {
     ghost use Rattle.group_workers.specs.Tasks.{IsTask, groups};
 
     /// Runs a group.
-    pub fn of(alloc: Global, task: Task, group: u64) -> Result<GroupLog<J>, AllocError>
+    pub fn of(
+        alloc: Global,
+        task: Task,
+        group: u64,
+        room: &mut Room,
+    ) -> Result<GroupLog<J>, AllocError>
         requires task { IsTask J.logs task }
         requires group { group < groups task }
         ensures { IfOk result (λ l. l.group ≡ group) }
     {
-        let log = run_group(alloc, task.core, task.launch, task.code, task.budget, group)?;
+        let Task {
+            core,
+            code,
+            launch,
+            budget,
+        } = task;
+        let log = run_group_in(alloc, core, launch, code, budget, group, room)?;
         Ok(GroupLog {
             group,
             log,

@@ -2,9 +2,10 @@
 
 ghost use Rattle.group_workers.specs.Tasks.{IsTask};
 
-use crate::deque::{Deque, Shares, Thief, steal};
+use crate::deque::{Deque, Shares, Source, Thief};
 use crate::task::{GroupLog, Logged, Task};
 use crossbeam_deque::Steal;
+use lane_groups::Room;
 use std::alloc::{AllocError, Global};
 use std::sync::Wait;
 use words::{Gate, Moment};
@@ -18,22 +19,28 @@ pub struct Shared<'w, J: Logged, D: Shares, R, G> {
     pub rt: &'w R,
     pub alloc: Global,
     pub task: Task<'w>,
-    pub thieves: &'w [Thief<D>],
+    pub sources: &'w [Source<D>],
     pub logs: &'w Logs<J>,
     pub gate: &'w G,
 }
 
 impl<J: Logged, D: Shares, R: Wait, G: Gate> Shared<'_, J, D, R, G> {
     // Runs a group that was taken, and hands its log over.
-    fn hand_over(&self, group: u64, places: &mut Vec<usize>, worker: u32) -> Result<(), AllocError>
+    fn hand_over(
+        &self,
+        group: u64,
+        room: &mut Room,
+        places: &mut Vec<usize>,
+        worker: u32,
+    ) -> Result<(), AllocError>
         requires { IsTask J.logs self.now.task }
     {
-        // No rule that a deque keeps tells a taker that this is a group of the launch.
+        // What a taker learns of a number does not say that this is a group of the launch.
         if group >= self.task.groups() {
             return Ok(());
         }
         self.gate.at(worker, Moment::Claimed(group));
-        let log = GroupLog::of(self.alloc, self.task, group)?;
+        let log = GroupLog::of(self.alloc, self.task, group, room)?;
         let Ok(place) = self.logs.push(self.rt, log) else {
             return Err(AllocError);
         };
@@ -46,6 +53,7 @@ impl<J: Logged, D: Shares, R: Wait, G: Gate> Shared<'_, J, D, R, G> {
     fn run_own(
         &self,
         mut deque: Deque<D>,
+        room: &mut Room,
         places: &mut Vec<usize>,
         worker: u32,
     ) -> Result<(), AllocError>
@@ -55,20 +63,35 @@ impl<J: Logged, D: Shares, R: Wait, G: Gate> Shared<'_, J, D, R, G> {
             let Some(group) = deque.take() else {
                 break;
             };
-            self.hand_over(group, places, worker)?;
+            self.hand_over(group, room, places, worker)?;
         }
         Ok(())
     }
 
-    // Steals from each once, and answers whether a further round may give something.
-    fn run_stolen(&self, places: &mut Vec<usize>, worker: u32) -> Result<bool, AllocError>
+    // The worker's thieves, one for each deque. They keep what they have taken until the worker ends.
+    fn thieves(&self) -> Result<Vec<Thief<'_, D>>, AllocError> {
+        let mut thieves = Vec::new(self.alloc);
+        for source in self.sources {
+            thieves.push(Thief::of(source))?;
+        }
+        Ok(thieves)
+    }
+
+    // Steals by each once, and answers whether a further round may give something.
+    fn run_stolen(
+        &self,
+        thieves: &mut Vec<Thief<'_, D>>,
+        room: &mut Room,
+        places: &mut Vec<usize>,
+        worker: u32,
+    ) -> Result<bool, AllocError>
         requires { IsTask J.logs self.now.task }
     {
         let mut gave = false;
-        for thief in self.thieves {
-            match steal(thief) {
+        for thief in thieves.iter_mut() {
+            match thief.steal() {
                 Steal::Success(group) => {
-                    self.hand_over(group, places, worker)?;
+                    self.hand_over(group, room, places, worker)?;
                     gave = true;
                 }
                 Steal::Retry => gave = true,
@@ -87,9 +110,11 @@ impl<J: Logged, D: Shares, R: Wait, G: Gate> Shared<'_, J, D, R, G> {
     ) -> Result<(), AllocError>
         requires { IsTask J.logs self.now.task }
     {
-        self.run_own(deque, places, worker)?;
+        let mut room = Room::new(self.alloc);
+        self.run_own(deque, &mut room, places, worker)?;
+        let mut thieves = self.thieves()?;
         for _ in self.rt.forever() {
-            if !self.run_stolen(places, worker)? {
+            if !self.run_stolen(&mut thieves, &mut room, places, worker)? {
                 break;
             }
         }

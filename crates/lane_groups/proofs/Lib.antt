@@ -12,3 +12,8 @@ pub mod Later
 pub mod Arms
 pub mod Whole
 pub mod Overlays
+pub mod Alike
+pub mod Going_on
+pub mod Filling
+pub mod Storing
+pub mod Based

@@ -9,3 +9,6 @@ pub mod Outcomes
 pub mod Overlays
 pub mod Groups
 pub mod Stores
+pub mod Sources
+pub mod Owns
+pub mod Flows

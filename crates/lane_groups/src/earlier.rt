@@ -1,6 +1,6 @@
 //! What a work-group stored in earlier rounds.
 
-ghost use Rattle.std.specs.Prelude.{◌≡◌, ◌<◌, ◌&&◌, ◌+◌, ℕ, Some, None, cond, nat_eq, length, map, OnOk, IfOk};
+ghost use Rattle.std.specs.Prelude.{◌≡◌, ◌<◌, ◌&&◌, ◌+◌, ℕ, true, Some, None, cond, nat_eq, length, map, OnOk, IfOk};
 ghost use Rattle.std.specs.Option.{option_map};
 ghost use Rattle.semantics.specs.Memory as memories;
 ghost use Rattle.semantics.specs.Rounds.{log_of};
@@ -85,6 +85,7 @@ impl Earlier {
     }
 
     // The word that was stored to an element of the rows.
+    #[inline(always)]
     fn in_rows(&self, at: Cell) -> Option<Word>
         ensures { option_map value_of result ≡ in_rows self.now (cell_seen at) }
     {
@@ -101,6 +102,7 @@ impl Earlier {
     }
 
     /// The word that was stored to an element.
+    #[inline(always)]
     pub fn word(&self, at: Cell) -> Option<Word>
         ensures { option_map value_of result ≡ kept self.now (cell_seen at) }
     {
@@ -108,6 +110,13 @@ impl Earlier {
             Some(word) => Some(word),
             None => self.others.word(at),
         }
+    }
+
+    /// Whether it is known that nothing was stored to a buffer.
+    pub fn has_no_buffers(&self) -> bool
+        ensures { result ≡ true → (array index : ℕ) → kept self.now (record { owner = 0; array = array; index = index }) ≡ None }
+    {
+        self.others.buffers.is_empty()
     }
 
     /// An element gets a word, in the place of what it had.

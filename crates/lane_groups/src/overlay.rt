@@ -45,6 +45,7 @@ impl Overlay {
     }
 
     /// The word that was stored to an element.
+    #[inline(always)]
     pub fn word(&self, at: Cell) -> Option<Word>
         ensures { option_map value_of result ≡ kept self.now (cell_seen at) }
     {
@@ -81,6 +82,7 @@ impl Overlay {
 }
 
 /// An element of a buffer as the launch has it.
+#[inline(always)]
 fn buffer_word(launch: &Launch, buffer: u32, index: u32) -> Word
     ensures { (k : launches.Kernel) → value_of result ≡ meaning.opening_at (record { kernel = k; launch = launch_seen launch.now }) 0 buffer index }
 {
@@ -94,6 +96,7 @@ fn buffer_word(launch: &Launch, buffer: u32, index: u32) -> Word
 }
 
 /// An element as a launch begins.
+#[inline(always)]
 pub fn opening_word(launch: &Launch, at: Cell) -> Word
     ensures { (k : launches.Kernel) → value_of result ≡ meaning.opening_memory (record { kernel = k; launch = launch_seen launch.now }) (cell_seen at) }
 {

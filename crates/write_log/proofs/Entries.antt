@@ -114,7 +114,7 @@ all-elsewhere (e ∷ es) bs c j h = by (is_at (by_element (c, j)) e.0) refl h (a
         apart : (nat_eq e.0.0 c && nat_eq e.0.1 j) ≡ false → (nat_eq c e.0.0 && nat_eq j e.0.1) ≡ false
         apart a = rw (turned c e.0.0, turned j e.0.1) a
 
-order : IsTotalOrder by_element
+pub order : IsTotalOrder by_element
 order = then_total (on_total (λ p. p.0) nat_cmp_total) (on_total (λ p. p.1) nat_cmp_total)
 
 pub row-length : (bs : List (List ℤ)) (b : ℕ) → length (slice_index_or bs b []) ≡ slice_index_or (map length bs) b 0

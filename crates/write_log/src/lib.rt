@@ -4,5 +4,8 @@
 #![tactic(auto)]
 
 mod log;
+mod rising;
+#[cfg(test)]
+mod tests;
 
 pub use log::{WriteLog, apply};

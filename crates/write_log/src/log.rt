@@ -1,23 +1,39 @@
 //! The log, and writing it.
 
-ghost use Rattle.std.specs.Prelude.{◌≡◌, ◌<◌, ◌&&◌, ℕ, Some, None, OnOk, cond, length, map, nat_eq, slice_index_or, []};
+ghost use Rattle.std.specs.Prelude.{◌≡◌, ◌<◌, ◌&&◌, ℕ, true, Some, None, IfOk, OnOk, cond, length, map, nat_eq, slice_index_or, []};
 ghost use Rattle.std.specs.Option.{option_map};
 ghost use Rattle.std.specs.List.Sorted.{IsStrictlySortedBy};
 ghost use Rattle.std.specs.Map.{keys_of};
 ghost use Rattle.semantics.specs.Rounds.{logged};
 ghost use Rattle.words.specs.View.{value_of};
-ghost use Rattle.write_log.specs.Written.{written, by_element, put_all, put_word, words_of, element};
+ghost use Rattle.write_log.specs.Written.{written, entries, found, by_element, put_all, put_word, words_of, element};
 
+use crate::rising::RisingList;
 use launch::launches::Buffers;
 use std::alloc::{AllocError, Global};
 use std::collections::BTreeMap;
-use std::collections::btree_map::Iter;
 use words::Word;
 
 /// The elements of buffers that a work-group wrote, by buffer and then by index, each with the word that it wrote last.
 #[derive(Drop)]
 pub struct WriteLog {
-    words: BTreeMap<(u32, u32), Word>,
+    // Whether each element that was noted was above the one before: then the list has the words, and otherwise the map.
+    rises: bool,
+    list: RisingList,
+    map: BTreeMap<(u32, u32), Word>,
+}
+
+/// A map of a list's entries, with a word at an element.
+fn map_with(
+    list: &RisingList,
+    at: (u32, u32),
+    word: Word,
+) -> Result<BTreeMap<(u32, u32), Word>, AllocError>
+    ensures { IfOk result (λ map. (b i : ℕ) → found map.entries b i ≡ cond (nat_eq b at.0 && nat_eq i at.1) (Some (value_of word)) (found list.now.entries.items b i)) }
+{
+    let mut map = list.as_map()?;
+    map.insert(at, word)?;
+    Ok(map)
 }
 
 impl WriteLog {
@@ -26,7 +42,9 @@ impl WriteLog {
         ensures { (buffer index : ℕ) → written result buffer index ≡ None }
     {
         WriteLog {
-            words: BTreeMap::new(alloc),
+            rises: true,
+            list: RisingList::new(alloc),
+            map: BTreeMap::new(alloc),
         }
     }
 
@@ -34,7 +52,16 @@ impl WriteLog {
     pub fn note(&mut self, buffer: u32, index: u32, word: Word) -> Result<(), AllocError>
         ensures { OnOk result ((b i : ℕ) → written self.new b i ≡ cond (nat_eq b buffer && nat_eq i index) (Some (value_of word)) (written self.old b i)) }
     {
-        self.words.insert((buffer, index), word)?;
+        let at = (buffer, index);
+        if !self.rises {
+            self.map.insert(at, word)?;
+            return Ok(());
+        }
+        if self.list.ends_below(at) {
+            return self.list.push(at, word);
+        }
+        self.map = map_with(&self.list, at, word)?;
+        self.rises = false;
         Ok(())
     }
 
@@ -42,19 +69,44 @@ impl WriteLog {
     pub fn word(&self, buffer: u32, index: u32) -> Option<Word>
         ensures { option_map value_of result ≡ written self.now buffer index }
     {
-        match self.words.get(&(buffer, index)) {
-            Some(word) => Some(*word),
-            None => None,
+        if self.rises {
+            return self.list.word((buffer, index));
         }
+        self.map.get(&(buffer, index)).copied()
+    }
+
+    /// Whether the log is known to have nothing.
+    pub fn is_empty(&self) -> bool
+        ensures { result ≡ true → (buffer index : ℕ) → written self.now buffer index ≡ None }
+    {
+        self.rises && self.list.entries.is_empty()
     }
 
     /// Each element that was written, as its buffer and index, with its word: in rising order.
-    pub fn records(&self) -> Iter<'_, (u32, u32), Word>
-        ensures entries { result ≡ self.now.words.entries }
-        ensures rising { IsStrictlySortedBy by_element (keys_of result) }
+    pub fn records(&self, alloc: Global) -> Result<Vec<((u32, u32), Word)>, AllocError>
+        ensures entries { IfOk result (λ records. records.items ≡ entries self.now) }
+        ensures rising { IsStrictlySortedBy by_element (keys_of (entries self.now)) }
     {
-        self.words.iter()
+        if self.rises {
+            return self.list.entries.iter().copied().collect(alloc);
+        }
+        list_of(alloc, &self.map)
     }
+}
+
+/// The entries of a map as a list.
+fn list_of(
+    alloc: Global,
+    map: &BTreeMap<(u32, u32), Word>,
+) -> Result<Vec<((u32, u32), Word)>, AllocError>
+    ensures entries { IfOk result (λ list. list.items ≡ map.now.entries) }
+    ensures rising { IsStrictlySortedBy by_element (keys_of map.now.entries) }
+{
+    let mut list = Vec::new(alloc);
+    for (at, word) in map {
+        list.push((*at, *word))?;
+    }
+    Ok(list)
 }
 
 /// Puts a word at an element; past the end of the buffers nothing changes.
@@ -68,13 +120,34 @@ fn put(buffers: &mut Buffers, buffer: u32, index: u32, word: Word)
     }
 }
 
+/// Writes the entries of a list one after another.
+fn write_list(buffers: &mut Buffers, list: &[((u32, u32), Word)])
+    ensures { words_of buffers.new ≡ put_all list.now (words_of buffers.old) }
+{
+    for (at, word) in list {
+        put(buffers, at.0, at.1, *word);
+    }
+}
+
+/// Writes the entries of a map one after another.
+fn write_map(buffers: &mut Buffers, map: &BTreeMap<(u32, u32), Word>)
+    ensures written { words_of buffers.new ≡ put_all map.now.entries (words_of buffers.old) }
+    ensures rising { IsStrictlySortedBy by_element (keys_of map.now.entries) }
+{
+    for (at, word) in map {
+        put(buffers, at.0, at.1, *word);
+    }
+}
+
 /// Writes one entry after another.
 fn write(buffers: &mut Buffers, log: &WriteLog)
-    ensures written { words_of buffers.new ≡ put_all log.now.words.entries (words_of buffers.old) }
-    ensures rising { IsStrictlySortedBy by_element (keys_of log.now.words.entries) }
+    ensures written { words_of buffers.new ≡ put_all (entries log.now) (words_of buffers.old) }
+    ensures rising { IsStrictlySortedBy by_element (keys_of (entries log.now)) }
 {
-    for (at, word) in log.records() {
-        put(buffers, at.0, at.1, *word);
+    if log.rises {
+        write_list(buffers, log.list.entries.as_slice());
+    } else {
+        write_map(buffers, &log.map);
     }
 }
 

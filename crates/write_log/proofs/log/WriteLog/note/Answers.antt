@@ -1,13 +1,16 @@
-use Rattle.std.proofs.Common.{ap, ◌∙◌, cond}
-use Rattle.std.specs.Prelude.{Some}
-use Rattle.std.specs.Option.{option_map}
-use Rattle.words.specs.View.{value_of}
-use Rattle.write_log.specs.Written.{written}
-use Rattle.write_log.proofs.Entries.{same-element, value-cond}
+use Rattle.std.proofs.Common.{◌≡◌, true, false, rules}
+use Rattle.std.proofs.lemmas.Result.{on_ok_weaker}
+use Rattle.write_log.proofs.RisingEntries.{found-updated, found-pushed}
 use Rattle.write_log.proofs.log.WriteLog.note.Goals as goal
 
-pub returns : goal.returns
-returns c = λ b i.
-    ap (option_map value_of) (c.in_ok-insert.ensures.updates.0 (b, i))
-    ∙ value-cond _ c.args.word _
-    ∙ ap (λ t. cond t (Some (value_of c.args.word)) (written c.args.self.now b i)) (same-element c.args.buffer c.args.index b i)
+pub returns-then-not-self : goal.returns-then-not-self
+returns-then-not-self c =
+    let log = c.args.self.now in
+    let falls : log.rises ≡ false = search rules in
+    rw falls (found-updated log.map.entries c.insert.new.self.entries (c.args.buffer, c.args.index) c.args.word c.in_ok-insert.ensures.updates.0)
+
+pub returns-then-ends_below : goal.returns-then-ends_below
+returns-then-ends_below c =
+    let log = c.args.self.now in
+    let rises : log.rises ≡ true = search rules in
+    rw rises (on_ok_weaker c.push.result (found-pushed log.list.entries.items c.push.new.self.entries.items (c.args.buffer, c.args.index) c.args.word log.list.rising (c.ends_below.ensures c.if-ends_below.true)) c.push.ensures)

@@ -1,6 +1,6 @@
 //! What a work-group stored in earlier rounds.
 
-ghost use Rattle.std.specs.Prelude.{◌≡◌, ◌<◌, ◌&&◌, ◌+◌, ℕ, true, Some, None, cond, nat_eq, length, map, OnOk, IfOk};
+ghost use Rattle.std.specs.Prelude.{◌≡◌, ◌<◌, ◌&&◌, ◌+◌, ℕ, true, Some, None, cond, nat_eq, length, map, slice_index_or, OnOk, IfOk, IfSome};
 ghost use Rattle.std.specs.Option.{option_map};
 ghost use Rattle.semantics.specs.Memory as memories;
 ghost use Rattle.semantics.specs.Rounds.{log_of};
@@ -110,6 +110,23 @@ impl Earlier {
             Some(word) => Some(word),
             None => self.others.word(at),
         }
+    }
+
+    /// The row of an array of this owner, where it is known that nothing was stored to its elements but what the row has.
+    pub fn row(&self, owner: Owner, array: u32) -> Option<&[Option<Word>]>
+        ensures words { IfSome result (λ row. (index : ℕ) → kept self.now (record { owner = owner_seen owner; array = array; index = index }) ≡ option_map value_of (slice_index_or row.now index None)) }
+        ensures group { IfSome result (λ _. owner_seen owner ≡ 1 + self.now.group) }
+    {
+        if !is_group(owner, self.group) {
+            return None;
+        }
+        if !self.others.locals.is_empty() {
+            return None;
+        }
+        let Some(row) = self.rows.get(array as usize) else {
+            return None;
+        };
+        Some(row.as_slice())
     }
 
     /// Whether it is known that nothing was stored to a buffer.

@@ -1,5 +1,7 @@
 #!/usr/bin/env python3
-"""Measures runs of four kernels (bench/speed), beside a compiler for processors (pocl) and a simulator (oclgrind) where they are installed.
+"""Measures runs of four kernels, those of bench/speed and the tree reduction of the examples, beside other programs.
+
+These are a compiler for processors (pocl) and a simulator (oclgrind), where they are installed.
 
     speed.py [KERNEL ..]    fill, reduction, matmul, transpose; all of them, or these
 
@@ -47,6 +49,17 @@ KERNELS = {
 }
 
 
+def kernel_file(folder, name):
+    """The file of a kernel; the reduction is the example's, with 256 items in place of 64."""
+    if name != "reduction":
+        return f"{PLACE}/{name}.cl"
+    with open(f"{ROOT}/examples/tree_reduction.cl", encoding="utf-8") as it:
+        text = it.read().replace("64", "256").replace("32u", "128u").replace("tree_reduction", name)
+    with open(f"{folder}/{name}.cl", "w", encoding="utf-8") as it:
+        it.write(text)
+    return it.name
+
+
 def launch_text(name, kernel, groups):
     """The launch of a kernel with so many groups."""
     with open(f"{PLACE}/{name}.launch", encoding="utf-8") as it:
@@ -77,7 +90,7 @@ def sums(text):
 
 def own(folder, name, kernel, workers):
     """The sums of the buffers after a run, and the milliseconds that its groups took."""
-    words = [PROGRAM, "run", f"{PLACE}/{name}.cl", f"{PLACE}/{name}.cond", f"{folder}/{name}.certificate"]
+    words = [PROGRAM, "run", kernel_file(folder, name), f"{PLACE}/{name}.cond", f"{folder}/{name}.certificate"]
     files = []
     for groups in (kernel.groups, (1, 1, 1)):
         files.append(f"{folder}/{name}.{groups[0]}.launch")
@@ -91,7 +104,7 @@ def own(folder, name, kernel, workers):
 def other(folder, name, kernel, before, runs, share=1):
     """The same by OpenCL: of all runs but the first, or of the only one. A share of the groups is told as a whole."""
     groups = (kernel.groups[0], kernel.groups[1] // share, kernel.groups[2])
-    words = [*before, f"{folder}/host", str(runs), f"{PLACE}/{name}.cl", name, *map(str, (*groups, *kernel.size)), *kernel.arguments]
+    words = [*before, f"{folder}/host", str(runs), kernel_file(folder, name), name, *map(str, (*groups, *kernel.size)), *kernel.arguments]
     done = subprocess.run(words, capture_output=True, text=True, check=True)
     lines = done.stdout.split("\n")
     told = [int(it.split()[1]) for it in lines if it.startswith("sum ")]
@@ -109,7 +122,7 @@ def row(folder, name, with_host):
     """The line of a kernel."""
     kernel = KERNELS[name]
     subprocess.run(
-        [PROGRAM, "prove", f"{PLACE}/{name}.cl", f"{PLACE}/{name}.cond", "--out", f"{folder}/{name}.certificate"], check=True, capture_output=True
+        [PROGRAM, "prove", kernel_file(folder, name), f"{PLACE}/{name}.cond", "--out", f"{folder}/{name}.certificate"], check=True, capture_output=True
     )
     steps = kernel.steps
     for count in (*kernel.groups, *kernel.size):

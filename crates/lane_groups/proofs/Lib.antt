@@ -5,9 +5,8 @@ pub mod Shows
 pub mod Lowered
 pub mod Turned
 pub mod Being_on
-pub mod Items
 pub mod Doing
-pub mod Stored
+pub mod Kept
 pub mod Later
 pub mod Arms
 pub mod Whole
@@ -17,3 +16,4 @@ pub mod Going_on
 pub mod Filling
 pub mod Storing
 pub mod Based
+pub mod Standings

@@ -12,3 +12,6 @@ pub mod Stores
 pub mod Sources
 pub mod Owns
 pub mod Flows
+pub mod Strips
+pub mod Rounds
+pub mod Places

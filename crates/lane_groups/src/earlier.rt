@@ -7,6 +7,7 @@ ghost use Rattle.semantics.specs.Rounds.{log_of};
 ghost use Rattle.words.specs.View.{value_of};
 ghost use Rattle.work_item.specs.Asks.{cell as cell_seen, owner as owner_seen};
 ghost use Rattle.lane_groups.specs.Stores.{store as store_seen};
+ghost use Rattle.lane_groups.specs.Strips.{one_of};
 ghost use Rattle.lane_groups.specs.Earlier.{kept, is_in_rows, in_rows, row_at, stored_in};
 
 use crate::overlay::Overlay;
@@ -72,6 +73,7 @@ impl Earlier {
     }
 
     // Whether an element stands in the rows.
+    #[inline(always)]
     fn has(&self, at: Cell) -> bool
         ensures { result ≡ is_in_rows self.now (cell_seen at) }
     {
@@ -136,7 +138,18 @@ impl Earlier {
         self.others.buffers.is_empty()
     }
 
+    /// Makes room for so many elements more of an owner's arrays.
+    pub fn reserve(&mut self, owner: Owner, more: usize) -> Result<(), AllocError>
+        ensures { (c : memories.Cell) → kept self.new c ≡ kept self.old c }
+    {
+        if !is_group(owner, self.group) {
+            self.others.buffers.reserve(more)?;
+        }
+        Ok(())
+    }
+
     /// An element gets a word, in the place of what it had.
+    #[inline(always)]
     pub fn note(&mut self, at: Cell, word: Word) -> Result<(), AllocError>
         ensures { OnOk result ((c : memories.Cell) → kept self.new c ≡ cond (memories.same_cell c (cell_seen at)) (Some (value_of word)) (kept self.old c)) }
     {
@@ -145,6 +158,17 @@ impl Earlier {
             return Ok(());
         }
         self.others.note(at, word)
+    }
+
+    /// An element gets a word, where there is a store.
+    #[inline(always)]
+    pub fn note_some(&mut self, store: Option<Store>) -> Result<(), AllocError>
+        ensures { OnOk result ((c : memories.Cell) → kept self.new c ≡ log_of (one_of store) c (kept self.old c)) }
+    {
+        match store {
+            Some(store) => self.note(store.at, store.word),
+            None => Ok(()),
+        }
     }
 
     /// Elements get words, in the order of the stores.

@@ -16,13 +16,18 @@ mod opening;
 mod operations;
 mod overlay;
 mod own;
+mod places;
 mod reads;
 mod registers;
+mod round;
 mod row;
 mod run;
 mod sources;
+mod standing;
 mod steps;
+mod stored;
 mod stores;
+mod strip;
 mod work_group;
 
 pub use group::{Room, run_group, run_group_in};

@@ -71,6 +71,7 @@ impl Overlay {
     }
 
     /// An element gets a word, in the place of what it had.
+    #[inline(always)]
     pub fn note(&mut self, at: Cell, word: Word) -> Result<(), AllocError>
         ensures { OnOk result ((c : meaning.Cell) → kept self.new c ≡ cond (meaning.same_cell c (cell_seen at)) (Some (value_of word)) (kept self.old c)) }
     {

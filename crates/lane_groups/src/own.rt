@@ -31,7 +31,7 @@ pub struct Own {
 }
 
 /// One owner.
-fn same_owner(a: Owner, b: Owner) -> bool
+pub fn same_owner(a: Owner, b: Owner) -> bool
     ensures { result ≡ nat_eq (owner_seen a) (owner_seen b) }
 {
     match (a, b) {
@@ -42,7 +42,7 @@ fn same_owner(a: Owner, b: Owner) -> bool
 }
 
 /// One element.
-fn same_cell(a: Cell, b: Cell) -> bool
+pub fn same_cell(a: Cell, b: Cell) -> bool
     ensures { result ≡ memories.same_cell (cell_seen a) (cell_seen b) }
 {
     same_owner(a.owner, b.owner) && a.array == b.array && a.index == b.index

@@ -6,3 +6,4 @@ pub mod Lines
 pub mod Each
 pub mod Arrivals
 pub mod Rankings
+pub mod Large

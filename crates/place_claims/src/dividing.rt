@@ -1,6 +1,6 @@
 //! Congruences that are said of a place hold where a path comes there.
 
-ghost use Rattle.std.specs.Prelude.{◌≡◌, ◌+◌, ◌++◌, [], ◌∷◌, pos, map, MatchResult};
+ghost use Rattle.std.specs.Prelude.{◌≡◌, ◌≤◌, ◌+◌, ◌++◌, [], ◌∷◌, pos, true, false, map, MatchResult};
 ghost use Rattle.linear.specs.Exact.{multiple};
 ghost use Rattle.linear.specs.Forms.{form as form_seen, forms};
 ghost use Rattle.linear.specs.Terms.{terms as terms_seen};
@@ -134,15 +134,46 @@ fn claim_divided<D: Domain>(
     claim_under(alloc, path, modulus, &form, product)
 }
 
-/// A form so many times; there is no memory for a number of 2^63 or more.
+/// Whether a form has neither terms nor a constant.
+fn is_nothing(form: &Form) -> bool
+    ensures nothing { result ≡ true → ((form_seen form.now).terms ≡ []) × ((form_seen form.now).constant ≡ pos 0) }
+    ensures other { result ≡ false → (form_seen form.now).terms ≡ [] → (form_seen form.now).constant ≡ pos 0 → ⊥ }
+{
+    form.terms().is_empty() && form.constant_part() == 0
+}
+
+/// A form so many times.
+fn product_of(alloc: Global, number: i64, form: &Form) -> Result<Form, WalkError>
+    ensures { MatchResult result (λ f. form_seen f ≡ multiple number (form_seen form.now)) (λ e. IsUnfit e (multiple number (form_seen form.now))) }
+{
+    let product = form.times(alloc, number)?;
+    Ok(product)
+}
+
+/// The same, of a number of 2^63 or more: its half twice. A greater number fits only nothing.
+fn times_many(alloc: Global, number: u64, form: &Form) -> Result<Form, WalkError>
+    requires { 9223372036854775808 ≤ number }
+    ensures { MatchResult result (λ f. form_seen f ≡ multiple (pos number) (form_seen form.now)) (λ e. IsUnfit e (multiple (pos number) (form_seen form.now))) }
+{
+    if is_nothing(form) {
+        return Ok(Form::constant(alloc, 0));
+    }
+    if number > 1 << 63 {
+        return Err(WalkError::TooLarge);
+    }
+    let half = product_of(alloc, 1 << 62, form)?;
+    let product = product_of(alloc, 2, &half)?;
+    Ok(product)
+}
+
+/// The same, of any number.
 pub fn times(alloc: Global, number: u64, form: &Form) -> Result<Form, WalkError>
     ensures { MatchResult result (λ f. form_seen f ≡ multiple (pos number) (form_seen form.now)) (λ e. IsUnfit e (multiple (pos number) (form_seen form.now))) }
 {
     if number >= 1 << 63 {
-        return Err(WalkError::Memory);
+        return times_many(alloc, number, form);
     }
-    let product = form.times(alloc, number as i64)?;
-    Ok(product)
+    product_of(alloc, number as i64, form)
 }
 
 #[tactic(auto, unfolding(path_walk::specs::View::followed, crate::specs::View::placed))]

@@ -1,6 +1,7 @@
 //! A loop's ranking is as it was said.
 
-ghost use Rattle.std.specs.Prelude.{◌≡◌, ◌++◌, [], ◌∷◌, pos, MatchResult};
+ghost use Rattle.std.specs.Prelude.{◌≡◌, ◌<◌, ◌≤◌, ◌++◌, [], ◌∷◌, pos, negsuc, MatchResult};
+ghost use Rattle.linear.specs.Exact.{sum};
 ghost use Rattle.linear.specs.Forms.{form as form_seen, forms};
 ghost use Rattle.facts.specs.Refusals.{IsMemory, IsUnfit};
 ghost use Rattle.facts.specs.Symbols.{minus, constant};
@@ -108,14 +109,42 @@ fn claim_opened<D: Domain>(
     claim_told(placing.setting, path, Sort::OfRanking, told.made, form)
 }
 
-/// A form less a number; there is no memory for one of 2^63 or more.
+/// A form less a number below 2^63.
+fn less_small(alloc: Global, of: &Form, number: u64) -> Result<Form, WalkError>
+    requires { number < 9223372036854775808 }
+    ensures { MatchResult result (λ f. form_seen f ≡ minus (form_seen of.now) (constant (pos number))) (λ e. IsUnfit e (minus (form_seen of.now) (constant (pos number)))) }
+{
+    less_number(alloc, of, number as i64)
+}
+
+/// A form less 2^63.
+fn less_most(alloc: Global, of: &Form) -> Result<Form, WalkError>
+    ensures { MatchResult result (λ f. form_seen f ≡ sum (form_seen of.now) (constant (negsuc 9223372036854775807))) (λ e. IsUnfit e (sum (form_seen of.now) (constant (negsuc 9223372036854775807)))) }
+{
+    let most = Form::constant(alloc, i64::MIN);
+    let form = of.add(alloc, &most)?;
+    Ok(form)
+}
+
+/// A form less a number of 2^63 or more: less what is above 2^63, then less that.
+fn less_large(alloc: Global, of: &Form, number: u64) -> Result<Form, WalkError>
+    requires { 9223372036854775808 ≤ number }
+    ensures { MatchResult result (λ f. form_seen f ≡ minus (form_seen of.now) (constant (pos number))) (λ e. IsUnfit e (minus (form_seen of.now) (constant (pos number)))) }
+{
+    let above = number - (1 << 63);
+    let less = less_small(alloc, of, above)?;
+    let form = less_most(alloc, &less)?;
+    Ok(form)
+}
+
+/// A form less a number.
 fn less_natural(alloc: Global, of: &Form, number: u64) -> Result<Form, WalkError>
     ensures { MatchResult result (λ f. form_seen f ≡ minus (form_seen of.now) (constant (pos number))) (λ e. IsUnfit e (minus (form_seen of.now) (constant (pos number)))) }
 {
     if number >= 1 << 63 {
-        return Err(WalkError::Memory);
+        return less_large(alloc, of, number);
     }
-    less_number(alloc, of, number as i64)
+    less_small(alloc, of, number)
 }
 
 /// The form on the way.

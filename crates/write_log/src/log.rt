@@ -48,6 +48,16 @@ impl WriteLog {
         }
     }
 
+    /// Makes room for so many elements more, where each is above the one before.
+    pub fn reserve(&mut self, more: usize) -> Result<(), AllocError>
+        ensures { (b i : ℕ) → written self.new b i ≡ written self.old b i }
+    {
+        if self.rises {
+            self.list.reserve(more)?;
+        }
+        Ok(())
+    }
+
     /// Notes a word at an element, in the place of what was noted there.
     pub fn note(&mut self, buffer: u32, index: u32, word: Word) -> Result<(), AllocError>
         ensures { OnOk result ((b i : ℕ) → written self.new b i ≡ cond (nat_eq b buffer && nat_eq i index) (Some (value_of word)) (written self.old b i)) }

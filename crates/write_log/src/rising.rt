@@ -39,6 +39,14 @@ impl RisingList {
         }
     }
 
+    /// Makes room for so many entries more.
+    pub fn reserve(&mut self, more: usize) -> Result<(), AllocError>
+        ensures { self.new.entries.items ≡ self.old.entries.items }
+    {
+        self.entries.reserve(more)?;
+        Ok(())
+    }
+
     /// Adds an entry at the end.
     pub fn push(&mut self, at: (u32, u32), word: Word) -> Result<(), AllocError>
         requires { IsStrictlySortedBy by_element (keys_of self.old.entries.items ++ at ∷ []) }

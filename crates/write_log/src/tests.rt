@@ -8,6 +8,7 @@ use words::Word;
 fn records_rise(rt: HostRuntime) -> Result<(), AllocError> {
     let alloc = rt.alloc();
     let mut log = WriteLog::new(alloc);
+    log.reserve(2)?;
     log.note(0, 3, Word::Int(7))?;
     log.note(1, 2, Word::Uint(8))?;
     let listed = [((0, 3), Word::Int(7)), ((1, 2), Word::Uint(8))];

@@ -1,5 +1,5 @@
 use Rattle.std.proofs.Common.{rules, ◌<◌, length}
-use Rattle.lane_groups.proofs.Stored.{put_in}
+use Rattle.lane_groups.proofs.Kept.{put_in}
 use Rattle.lane_groups.proofs.earlier.put.Goals as goal
 
 pub returns-in-Some-get_mut : goal.returns-in-Some-get_mut

@@ -1,0 +1,11 @@
+use Rattle.std.proofs.Common.{◌++◌, ◌∙◌, cond, nat_eq, sym, ap}
+use Rattle.lane_groups.specs.Owns.{own_in}
+use Rattle.lane_groups.specs.Strips.{one_of}
+use Rattle.lane_groups.proofs.Storing.{nothing_more}
+use Rattle.lane_groups.proofs.round.add_some.Goals as goal
+
+pub returns-in_default-clause-own : goal.returns-in_default-clause-own
+returns-in_default-clause-own c = λ k.
+    let f = own_in c.args.own.now.items in
+    let n = c.args.lane in
+    nothing_more f k n ∙ ap (λ o. cond (nat_eq k n) (f n ++ one_of o) (f k)) (sym c.in_default.is)

@@ -1,5 +1,5 @@
 -- What is not known at a root, since one of its facts was not made.
-use Rattle.std.proofs.Common.{◌≡◌, ℕ, suc, pos, ◌<◌, Bool, true, false, ◌&&◌, List, [], ◌∷◌, ◌++◌, map, length, drop, get_or, refl, sym, ap, subst, ◌∙◌}
+use Rattle.std.proofs.Common.{◌≡◌, ℕ, suc, pos, ◌+◌, ◌<◌, arith, Bool, true, false, ◌&&◌, List, [], ◌∷◌, ◌++◌, map, length, drop, get_or, refl, sym, ap, subst, ◌∙◌}
 use Rattle.std.proofs.lemmas.List.{append_assoc}
 use Rattle.std.proofs.Math.Seq.{drop-cons}
 use Rattle.linear.specs.Exact.{multiple, fits}
@@ -55,3 +55,19 @@ unrooted_one e a all cs i n c d lt q h =
     let front : c ∷ drop (suc i) cs ≡ drop i cs = sym (drop-cons cs i c lt ∙ ap (λ y. y ∷ drop (suc i) cs) (sym q)) in
     subst (λ fs. IsUnrooted fs e) (append_assoc a two rest ∙ ap (λ x. a ++ congruence_facts n (map congruence x)) front ∙ d)
     (unrooted_more e (a ++ two) rest h)
+
+after : (n : ℕ) → suc n ≡ n + 1
+after n = omega arith
+
+-- what is said with one congruence more
+pub said_more : (a b all : List Fact) (cs : List Congruence) (i n : ℕ) (c : Congruence) →
+    a ++ congruence_facts n (map congruence (drop i cs)) ≡ all → i < length cs → c ≡ get_or cs i c →
+    b ≡ a ++ equals (form c.form) (multiple (pos c.modulus) (once (New First n))) →
+    b ++ congruence_facts (n + 1) (map congruence (drop (i + 1) cs)) ≡ all
+said_more a b all cs i n c d lt q h =
+    let two = equals (form c.form) (multiple (pos c.modulus) (once (New First n))) in
+    let rest = congruence_facts (suc n) (map congruence (drop (suc i) cs)) in
+    let front : c ∷ drop (suc i) cs ≡ drop i cs = sym (drop-cons cs i c lt ∙ ap (λ y. y ∷ drop (suc i) cs) (sym q)) in
+    subst (λ k. b ++ congruence_facts (n + 1) (map congruence (drop k cs)) ≡ all) (after i)
+    (subst (λ k. b ++ congruence_facts k (map congruence (drop (suc i) cs)) ≡ all) (after n)
+    (ap (λ x. x ++ rest) h ∙ append_assoc a two rest ∙ ap (λ x. a ++ congruence_facts n (map congruence x)) front ∙ d))

@@ -1,2 +1,3 @@
 pub mod Rooted
 pub mod Families
+pub mod Slots

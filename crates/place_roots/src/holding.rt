@@ -1,6 +1,6 @@
 //! What the domain holds where a path begins.
 
-ghost use Rattle.std.specs.Prelude.{◌≡◌, ◌++◌, ◌<◌, map, MatchResult};
+ghost use Rattle.std.specs.Prelude.{◌≡◌, ◌++◌, ◌<◌, length, map, MatchResult};
 ghost use Rattle.core_code.specs.View.{kernel as core_seen};
 ghost use Rattle.facts.specs.Refusals.{IsMemory};
 ghost use Rattle.facts.specs.Symbols.{number};
@@ -9,14 +9,16 @@ ghost use Rattle.path_walk.specs.View.{narrowed_seen};
 ghost use Rattle.place_notes.specs.View.{congruence as congruence_seen};
 ghost use Rattle.place_obligations.specs.Roots as roots;
 ghost use Rattle.place_roots.specs.Families.{slot_symbol};
+ghost use Rattle.place_roots.specs.Slots.{HasSlots};
 
 use crate::family::Family;
-use crate::slots::{kind_at, slot_count, slot_number};
+use crate::slots::{kind_at, slot_number};
+use crate::variables::count_of;
 use core_code::tree::Core;
 use domain::Domain;
 use facts::WalkError;
 use linear::Symbol;
-use path_walk::{Narrowed, any_of};
+use path_walk::{Narrowed, Value, any_of};
 use place_notes::Congruence;
 use std::alloc::Global;
 
@@ -48,12 +50,13 @@ fn slot_narrowed<D: Domain>(core: &Core, family: Family, slot: usize) -> Narrowe
 fn push_narrowed<D: Domain>(
     narrowed: &mut Vec<Narrowed<D>>,
     core: &Core,
+    variables: &[Value],
     family: Family,
 ) -> Result<(), WalkError>
+    requires { length variables.now ≡ length (roots.kinds (core_seen core.now)) }
     ensures { MatchResult result (λ _. map narrowed_seen narrowed.new.items ≡ map narrowed_seen narrowed.old.items ++ roots.narrowed_from D.Domain (slot_symbol family) 0 (roots.kinds (core_seen core.now))) IsMemory }
 {
-    let count = slot_count(core)?;
-    for slot in 0..count {
+    for slot in 0..count_of(variables) {
         narrowed.push(slot_narrowed(core, family, slot))?;
     }
     Ok(())
@@ -63,17 +66,19 @@ fn push_narrowed<D: Domain>(
 pub fn root_narrowed<D: Domain>(
     alloc: Global,
     core: &Core,
+    variables: &[Value],
     anchor: Option<u32>,
     head: Option<u32>,
 ) -> Result<Vec<Narrowed<D>>, WalkError>
+    requires { HasSlots (core_seen core.now) anchor head (length variables.now) }
     ensures { MatchResult result (λ v. map narrowed_seen v.items ≡ roots.root_narrowed D.Domain (core_seen core.now) anchor head) IsMemory }
 {
     let mut narrowed = Vec::new(alloc);
     if anchor.is_some() || head.is_some() {
-        push_narrowed(&mut narrowed, core, Family::Here)?;
+        push_narrowed(&mut narrowed, core, variables, Family::Here)?;
     }
     if head.is_some() {
-        push_narrowed(&mut narrowed, core, Family::AtAnchor)?;
+        push_narrowed(&mut narrowed, core, variables, Family::AtAnchor)?;
     }
     Ok(narrowed)
 }

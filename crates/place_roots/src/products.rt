@@ -1,6 +1,6 @@
 //! Congruences as facts: each has a quotient, a new symbol.
 
-ghost use Rattle.std.specs.Prelude.{◌≡◌, ◌++◌, pos, map, MatchResult};
+ghost use Rattle.std.specs.Prelude.{◌≡◌, ◌<◌, ◌++◌, pos, length, map, MatchResult};
 ghost use Rattle.linear.specs.Exact.{multiple};
 ghost use Rattle.linear.specs.Forms.{form as form_seen, forms};
 ghost use Rattle.facts.specs.Refusals.{IsMemory};
@@ -16,11 +16,20 @@ use place_claims::difference;
 use place_notes::Congruence;
 use std::alloc::Global;
 
-/// A quotient so many times. There is no memory for a number of 2^63 or more, or for 2^59 quotients.
+/// How many quotients there are. A congruence takes more than 16 bytes.
+fn quotients(congruences: &[Congruence]) -> usize
+    ensures exact { result ≡ length congruences.now }
+    ensures small { result < 576460752303423488 }
+{
+    congruences.len()
+}
+
+/// A quotient so many times. There is no memory for a number of 2^63 or more.
 fn product(alloc: Global, modulus: u64, index: usize) -> Result<Form, WalkError>
+    requires { index < 576460752303423488 }
     ensures { MatchResult result (λ f. form_seen f ≡ multiple (pos modulus) (once (New First index))) IsMemory }
 {
-    if modulus >= 1 << 63 || index >= 1 << 59 {
+    if modulus >= 1 << 63 {
         return Err(WalkError::Memory);
     }
     let quotient = once_new(alloc, Side::First, index)?;
@@ -49,6 +58,7 @@ fn push_congruence(
     congruence: &Congruence,
     index: usize,
 ) -> Result<(), WalkError>
+    requires { index < 576460752303423488 }
     ensures { MatchResult result (λ _. forms into.new.items ≡ forms into.old.items ++ equals (form_seen congruence.now.form) (multiple (pos congruence.now.modulus) (once (New First index)))) (λ e. IsUnrooted (forms into.old.items ++ equals (form_seen congruence.now.form) (multiple (pos congruence.now.modulus) (once (New First index)))) e) }
 {
     let product = product(alloc, congruence.modulus, index)?;
@@ -63,10 +73,8 @@ pub fn push_congruences(
 ) -> Result<(), WalkError>
     ensures { MatchResult result (λ _. forms into.new.items ≡ forms into.old.items ++ roots.congruence_facts 0 (map congruence_seen congruences.now)) (λ e. IsUnrooted (forms into.old.items ++ roots.congruence_facts 0 (map congruence_seen congruences.now)) e) }
 {
-    let mut index = 0usize;
-    for congruence in congruences {
-        push_congruence(alloc, into, congruence, index)?;
-        index += 1;
+    for index in 0..quotients(congruences) {
+        push_congruence(alloc, into, &congruences[index], index)?;
     }
     Ok(())
 }

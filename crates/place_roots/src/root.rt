@@ -71,7 +71,7 @@ pub fn root_of<D: Domain>(
     let known = root_facts(alloc, core, notes, anchor, head)?;
     let variables = root_values(alloc, core, anchor, head)?;
     let news = tops(alloc, congruences_at(notes, anchor, head))?;
-    let narrowed = root_narrowed(alloc, core, anchor, head)?;
+    let narrowed = root_narrowed(alloc, core, variables.as_slice(), anchor, head)?;
     let root = Root {
         known,
         variables,

@@ -1,6 +1,6 @@
 //! The variables of a kernel, their kinds and their symbols.
 
-ghost use Rattle.std.specs.Prelude.{◌≡◌, ◌<◌, length, IfOk, MatchResult};
+ghost use Rattle.std.specs.Prelude.{◌≡◌, ◌<◌, length, MatchResult};
 ghost use Rattle.linear.specs.Forms.{form as form_seen};
 ghost use Rattle.words.specs.View.{kind as kind_seen};
 ghost use Rattle.core_code.specs.View.{kernel as core_seen};
@@ -31,16 +31,11 @@ pub fn kind_at(core: &Core, slot: usize) -> Kind
     }
 }
 
-/// How many variables there are. There is no memory for 2^59 of them.
-pub fn slot_count(core: &Core) -> Result<usize, WalkError>
-    ensures exact { MatchResult result (λ n. n ≡ length (roots.kinds (core_seen core.now))) IsMemory }
-    ensures small { IfOk result (λ n. n < 576460752303423488) }
+/// How many variables there are.
+pub fn slot_count(core: &Core) -> usize
+    ensures { result ≡ length (roots.kinds (core_seen core.now)) }
 {
-    let count = core.arguments.len() + core.variables.len();
-    if count >= 1 << 59 {
-        return Err(WalkError::Memory);
-    }
-    Ok(count)
+    core.arguments.len() + core.variables.len()
 }
 
 /// The number of a variable's symbol.

@@ -1,6 +1,6 @@
 //! What the variables are where a path begins.
 
-ghost use Rattle.std.specs.Prelude.{◌≡◌, ◌<◌, ◌++◌, map, MatchResult};
+ghost use Rattle.std.specs.Prelude.{◌≡◌, ◌<◌, ◌++◌, length, map, IfOk, MatchResult};
 ghost use Rattle.words.specs.View.{kind as kind_seen};
 ghost use Rattle.core_code.specs.View.{kernel as core_seen};
 ghost use Rattle.facts.specs.Refusals.{IsMemory};
@@ -9,6 +9,7 @@ ghost use Rattle.obligations.specs.Values.{value};
 ghost use Rattle.obligations.specs.Statements as statements;
 ghost use Rattle.path_walk.specs.View.{value as value_seen};
 ghost use Rattle.place_obligations.specs.Roots as roots;
+ghost use Rattle.place_roots.specs.Slots.{HasSlots};
 
 use crate::slots::{kind_at, root_form, slot_count};
 use core_code::tree::Core;
@@ -18,13 +19,19 @@ use path_walk::Value;
 use std::alloc::Global;
 use words::Kind;
 
-/// A value parameter is its argument. There is no memory for 2^59 of them.
+/// How many values there are. A value takes more than 16 bytes.
+pub fn count_of(values: &[Value]) -> usize
+    ensures exact { result ≡ length values.now }
+    ensures small { result < 576460752303423488 }
+{
+    values.len()
+}
+
+/// A value parameter is its argument.
 fn argument(alloc: Global, kind: Kind, parameter: usize) -> Result<Value, WalkError>
+    requires { parameter < 576460752303423488 }
     ensures { MatchResult result (λ v. value_seen v ≡ value (kind_seen kind) (once (ArgumentOf parameter))) IsMemory }
 {
-    if parameter >= 1 << 59 {
-        return Err(WalkError::Memory);
-    }
     let form = once_given(alloc, parameter)?;
     Ok(Value { kind, form })
 }
@@ -35,7 +42,7 @@ fn argument_values(alloc: Global, kinds: &[Kind]) -> Result<Vec<Value>, WalkErro
 {
     let mut values = Vec::new(alloc);
     for kind in kinds {
-        let value = argument(alloc, *kind, values.len())?;
+        let value = argument(alloc, *kind, count_of(values.as_slice()))?;
         values.push(value)?;
     }
     Ok(values)
@@ -82,12 +89,12 @@ fn slot_value(alloc: Global, core: &Core, slot: usize) -> Result<Value, WalkErro
 
 /// The variables elsewhere.
 fn slot_values(alloc: Global, core: &Core) -> Result<Vec<Value>, WalkError>
-    ensures { MatchResult result (λ vs. map value_seen vs.items ≡ roots.values_from (core_seen core.now) 0 (roots.kinds (core_seen core.now))) IsMemory }
+    ensures count { IfOk result (λ vs. length vs.items ≡ length (roots.kinds (core_seen core.now))) }
+    ensures values { MatchResult result (λ vs. map value_seen vs.items ≡ roots.values_from (core_seen core.now) 0 (roots.kinds (core_seen core.now))) IsMemory }
 {
-    let count = slot_count(core)?;
     let mut values = Vec::new(alloc);
-    for slot in 0..count {
-        let value = slot_value(alloc, core, slot)?;
+    for _slot in 0..slot_count(core) {
+        let value = slot_value(alloc, core, count_of(values.as_slice()))?;
         values.push(value)?;
     }
     Ok(values)
@@ -100,7 +107,8 @@ pub fn root_values(
     anchor: Option<u32>,
     head: Option<u32>,
 ) -> Result<Vec<Value>, WalkError>
-    ensures { MatchResult result (λ vs. map value_seen vs.items ≡ roots.root_values (core_seen core.now) anchor head) IsMemory }
+    ensures values { MatchResult result (λ vs. map value_seen vs.items ≡ roots.root_values (core_seen core.now) anchor head) IsMemory }
+    ensures slots { IfOk result (λ vs. HasSlots (core_seen core.now) anchor head (length vs.items)) }
 {
     match (anchor, head) {
         (None, None) => opening_values(alloc, core),

@@ -97,36 +97,62 @@ fn refused(conditions: &Conditions, launch: &Launch) -> u32 {
     }
 }
 
+// The line that a launch is refused at, or 0.
+fn line_of(
+    alloc: Global,
+    low: u32,
+    factor: u32,
+    groups: u32,
+    argument: u32,
+) -> Result<u32, AllocError> {
+    let conditions = conditions(alloc, low, factor)?;
+    let launch = launch(alloc, groups, argument)?;
+    Ok(refused(&conditions, &launch))
+}
+
 #[test]
 fn first_unmet_conditions_are_named(rt: HostRuntime) -> Result<(), Fail> {
     let alloc = rt.alloc();
-    let all = conditions(alloc, 0, 1)?;
-    assert_eq!(rt; refused(&all, &launch(alloc, 2, 2)?), 0);
-    assert_eq!(rt; refused(&all, &launch(alloc, 3, 3)?), 2);
-    assert_eq!(rt; refused(&all, &launch(alloc, 1, 3)?), 4);
-    assert_eq!(rt; refused(&all, &launch(alloc, 1, 0)?), 5);
-    assert_eq!(rt;
-        refused(&conditions(alloc, 2, 1)?, &launch(alloc, 1, 1)?),
-        3
-    );
-    // 4294967295 * 4294967295 is no small number.
-    let large = conditions(alloc, 0, 4_294_967_295)?;
-    assert_eq!(rt; refused(&large, &launch(alloc, 1, 4_294_967_295)?), 4);
+    for (low, factor, groups, argument, wanted) in [
+        (0, 1, 2, 2, 0),
+        (0, 1, 3, 3, 2),
+        (0, 1, 1, 3, 4),
+        (0, 1, 1, 0, 5),
+        (2, 1, 1, 1, 3),
+        // 4294967295 * 4294967295 is no small number.
+        (0, 4_294_967_295, 1, 4_294_967_295, 4),
+    ] {
+        let line = line_of(alloc, low, factor, groups, argument)?;
+        assert_eq!(rt; line, wanted);
+    }
     Ok(())
+}
+
+// The least launch, if there is one.
+fn least(alloc: Global, low: u32, factor: u32) -> Result<Option<Launch>, AllocError> {
+    let conditions = conditions(alloc, low, factor)?;
+    probe(alloc, &conditions)
+}
+
+// One group, one argument that is 1, and one buffer as long as the conditions want.
+fn is_least(launch: &Launch) -> bool {
+    let words = launch.buffers.words.as_slice();
+    launch.groups.x == 1
+        && launch.arguments.as_slice() == [Word::Uint(1)].as_slice()
+        && words.len() == 1
+        && words[0].len() == 1_048_576
 }
 
 #[test]
 fn least_launches_are_found(rt: HostRuntime) -> Result<(), Fail> {
     let alloc = rt.alloc();
-    assert!(rt; probe(alloc, &conditions(alloc, 0, 1)?)?.is_none());
-    assert!(rt; probe(alloc, &conditions(alloc, 1, 1_048_577)?)?.is_none());
-    let Some(found) = probe(alloc, &conditions(alloc, 1, 1_048_576)?)? else {
+    for (low, factor) in [(0, 1), (1, 1_048_577)] {
+        let none = least(alloc, low, factor)?.is_none();
+        assert!(rt; none);
+    }
+    let Some(found) = least(alloc, 1, 1_048_576)? else {
         return Err(Fail::from("the least launch meets its conditions"));
     };
-    assert_eq!(rt; found.groups.x, 1);
-    assert_eq!(rt; found.arguments.len(), 1);
-    assert_eq!(rt; found.arguments[0], Word::Uint(1));
-    assert_eq!(rt; found.buffers.words.len(), 1);
-    assert_eq!(rt; found.buffers.words[0].len(), 1_048_576);
+    assert!(rt; is_least(&found));
     Ok(())
 }

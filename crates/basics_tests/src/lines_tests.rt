@@ -4,27 +4,25 @@ use lines::pieces::Pieces;
 use std::test::Fail;
 
 #[test]
-fn numbers(rt: HostRuntime) -> Result<(), Fail> {
-    assert_eq!(rt; natural(b"0"), Ok(0));
-    assert_eq!(rt;
-        natural(b"9223372036854775807"),
-        Ok(9_223_372_036_854_775_807)
-    );
-    assert_eq!(rt; natural(b"9223372036854775808"), Err(NumberFault::TooLarge));
-    assert_eq!(rt;
-        natural(b"99999999999999999999x"),
-        Err(NumberFault::NoDecimal)
-    );
-    assert_eq!(rt; natural(b"00"), Err(NumberFault::NoDecimal));
-    assert_eq!(rt; natural(b""), Err(NumberFault::NoDecimal));
-    assert_eq!(rt; integer(b"-9223372036854775808"), Ok(i64::MIN));
-    assert_eq!(rt;
-        integer(b"-9223372036854775809"),
-        Err(NumberFault::TooLarge)
-    );
-    assert_eq!(rt; integer(b"-0"), Err(NumberFault::NoDecimal));
-    assert_eq!(rt; integer(b"--1"), Err(NumberFault::NoDecimal));
-    Ok(())
+fn numbers(rt: HostRuntime) {
+    for (text, wanted) in [
+        ("0", Ok(0)),
+        ("9223372036854775807", Ok(9_223_372_036_854_775_807)),
+        ("9223372036854775808", Err(NumberFault::TooLarge)),
+        ("99999999999999999999x", Err(NumberFault::NoDecimal)),
+        ("00", Err(NumberFault::NoDecimal)),
+        ("", Err(NumberFault::NoDecimal)),
+    ] {
+        assert_eq!(rt; natural(text.as_bytes()), wanted);
+    }
+    for (text, wanted) in [
+        ("-9223372036854775808", Ok(i64::MIN)),
+        ("-9223372036854775809", Err(NumberFault::TooLarge)),
+        ("-0", Err(NumberFault::NoDecimal)),
+        ("--1", Err(NumberFault::NoDecimal)),
+    ] {
+        assert_eq!(rt; integer(text.as_bytes()), wanted);
+    }
 }
 
 #[test]

@@ -15,5 +15,6 @@ pub mod Alike
 pub mod Going_on
 pub mod Filling
 pub mod Storing
+pub mod Lying
 pub mod Based
 pub mod Standings

@@ -13,5 +13,6 @@ pub mod Sources
 pub mod Owns
 pub mod Flows
 pub mod Strips
+pub mod Runs
 pub mod Rounds
 pub mod Places

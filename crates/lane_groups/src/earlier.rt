@@ -1,6 +1,6 @@
 //! What a work-group stored in earlier rounds.
 
-ghost use Rattle.std.specs.Prelude.{◌≡◌, ◌<◌, ◌&&◌, ◌+◌, ℕ, true, Some, None, cond, nat_eq, length, map, slice_index_or, OnOk, IfOk, IfSome};
+ghost use Rattle.std.specs.Prelude.{◌≡◌, ◌<◌, ◌≤◌, ◌&&◌, ◌+◌, ℕ, true, Some, None, cond, nat_eq, length, map, slice_index_or, OnOk, IfOk, IfSome};
 ghost use Rattle.std.specs.Option.{option_map};
 ghost use Rattle.semantics.specs.Memory as memories;
 ghost use Rattle.semantics.specs.Rounds.{log_of};
@@ -9,6 +9,7 @@ ghost use Rattle.work_item.specs.Asks.{cell as cell_seen, owner as owner_seen};
 ghost use Rattle.lane_groups.specs.Stores.{store as store_seen};
 ghost use Rattle.lane_groups.specs.Strips.{one_of};
 ghost use Rattle.lane_groups.specs.Earlier.{kept, is_in_rows, in_rows, row_at, stored_in};
+ghost use Rattle.lane_groups.specs.Runs.{laid};
 
 use crate::overlay::Overlay;
 use crate::own::Store;
@@ -158,6 +159,14 @@ impl Earlier {
             return Ok(());
         }
         self.others.note(at, word)
+    }
+
+    /// Elements of a buffer get words, one after another from an index on; the last index has 32 bits.
+    pub fn note_run(&mut self, buffer: u32, first: u32, words: &[Word]) -> Result<(), AllocError>
+        requires { first + length words.now ≤ 4294967296 }
+        ensures { OnOk result ((c : memories.Cell) → kept self.new c ≡ laid buffer first words.now (length words.now) c (kept self.old c)) }
+    {
+        self.others.note_run(buffer, first, words)
     }
 
     /// An element gets a word, where there is a store.

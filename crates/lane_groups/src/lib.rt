@@ -16,6 +16,7 @@ mod opening;
 mod operations;
 mod overlay;
 mod own;
+mod place;
 mod places;
 mod reads;
 mod registers;
@@ -27,6 +28,7 @@ mod standing;
 mod steps;
 mod stored;
 mod stores;
+mod stretches;
 mod strip;
 mod work_group;
 

@@ -1,6 +1,6 @@
 //! What is stored over a launch's memory.
 
-ghost use Rattle.std.specs.Prelude.{◌≡◌, ℕ, Some, None, OnOk, cond};
+ghost use Rattle.std.specs.Prelude.{◌≡◌, ◌≤◌, ◌+◌, ℕ, Some, None, OnOk, cond, length};
 ghost use Rattle.std.specs.Option.{option_map};
 ghost use Rattle.semantics.specs.Launch as launches;
 ghost use Rattle.semantics.specs.Memory as meaning;
@@ -8,6 +8,7 @@ ghost use Rattle.words.specs.View.{value_of};
 ghost use Rattle.launch.specs.View.{launch as launch_seen};
 ghost use Rattle.work_item.specs.Asks.{cell as cell_seen};
 ghost use Rattle.lane_groups.specs.Overlays.{kept, local_at};
+ghost use Rattle.lane_groups.specs.Runs.{laid};
 
 use launch::launches::Launch;
 use std::alloc::{AllocError, Global};
@@ -79,6 +80,14 @@ impl Overlay {
             Owner::Launch => self.buffers.note(at.array, at.index, word),
             Owner::Group(group) => self.note_local(group, at.array, at.index, word),
         }
+    }
+
+    /// Elements of a buffer get words, one after another from an index on; the last index has 32 bits.
+    pub fn note_run(&mut self, buffer: u32, first: u32, words: &[Word]) -> Result<(), AllocError>
+        requires { first + length words.now ≤ 4294967296 }
+        ensures { OnOk result ((c : meaning.Cell) → kept self.new c ≡ laid buffer first words.now (length words.now) c (kept self.old c)) }
+    {
+        self.buffers.note_run(buffer, first, words)
     }
 }
 

@@ -3,17 +3,9 @@
 ghost use Rattle.launch.specs.View.{counts as counts_seen};
 ghost use Rattle.lane_groups.specs.Places.{ArePlaces};
 
+use crate::place::Place;
 use launch::launches::Counts;
-use work_item::dimension::Dimension;
 use work_item::evaluation::Identity;
-
-/// Where an item stands, along each dimension. Of its group nothing is meant.
-#[derive(Clone, Copy)]
-pub struct Place {
-    pub x: Dimension,
-    pub y: Dimension,
-    pub z: Dimension,
-}
 
 /// The places of so many items of groups of a size, in their order.
 #[derive(Drop)]

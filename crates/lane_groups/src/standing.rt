@@ -1,6 +1,6 @@
 //! Places of items, kept and used.
 
-ghost use Rattle.std.specs.Prelude.{◌≡◌, ◌<◌, ℕ, true, length, IfOk};
+ghost use Rattle.std.specs.Prelude.{◌≡◌, ◌<◌, ◌≤◌, ℕ, true, length, IfOk};
 ghost use Rattle.semantics.specs.Setup.{Setup, group_size, member, place as place_at};
 ghost use Rattle.core_code.specs.View.{kernel as kernel_seen};
 ghost use Rattle.launch.specs.View.{counts as counts_seen};
@@ -9,7 +9,8 @@ ghost use Rattle.lane_groups.specs.Groups.{setup, IsSound};
 ghost use Rattle.lane_groups.specs.Members.{IsWho};
 ghost use Rattle.lane_groups.specs.Places.{ArePlaces, local_of};
 
-use crate::places::{Crew, Place, Places};
+use crate::place::Place;
+use crate::places::{Crew, Places};
 use crate::work_group::Group;
 use core_code::tree::Core;
 use launch::launches::Counts;
@@ -41,9 +42,9 @@ fn place_of(who: &Identity<'_>) -> Place
     ensures { (s : Setup) (g k : ℕ) → k < group_size s → IsWho s (member s g k) who.now → local_of result ≡ place_at s.kernel.sizes k }
 {
     Place {
-        x: who.x,
-        y: who.y,
-        z: who.z,
+        x: who.x.local,
+        y: who.y.local,
+        z: who.z.local,
     }
 }
 
@@ -72,13 +73,14 @@ fn places_of(alloc: Global, group: &Group<'_>) -> Result<Vec<Place>, AllocError>
     Ok(places)
 }
 
-/// One item's place along a dimension, with the group of another.
+/// A place along a dimension, with the group of an item.
 #[inline(always)]
-fn at_place(first: Dimension, place: Dimension) -> Dimension
-    ensures { ids result ≡ record { local = place.local; group = first.group; size = first.size; count = first.count } }
+fn at_place(first: Dimension, local: u32) -> Dimension
+    requires { local ≤ 1024 }
+    ensures { ids result ≡ record { local = local; group = first.group; size = first.size; count = first.count } }
 {
     Dimension {
-        local: place.local,
+        local,
         group: first.group,
         size: first.size,
         count: first.count,

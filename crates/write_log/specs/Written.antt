@@ -4,7 +4,7 @@ use Rattle.words.specs.View.{value_of}
 use Rattle.launch.specs.View.{buffer}
 use Rattle.launch.specs.declared.launches.Buffers.{Buffers}
 use Rattle.write_log.specs.declared.log.WriteLog.{WriteLog}
-pub use Rattle.write_log.specs.Elements.{Entry, by_element, found}
+pub use Rattle.write_log.specs.Elements.{Entry, by_element, found, noted}
 
 -- the entries of a log: those of its list as long as they rise, and then those of its map
 abbrev pub entries : WriteLog → List Entry

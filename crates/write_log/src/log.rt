@@ -1,12 +1,12 @@
 //! The log, and writing it.
 
-ghost use Rattle.std.specs.Prelude.{◌≡◌, ◌<◌, ◌&&◌, ℕ, true, Some, None, IfOk, OnOk, cond, length, map, nat_eq, slice_index_or, []};
+ghost use Rattle.std.specs.Prelude.{◌≡◌, ◌<◌, ◌≤◌, ◌+◌, ◌&&◌, ℕ, true, Some, None, IfOk, OnOk, cond, length, map, nat_eq, slice_index_or, []};
 ghost use Rattle.std.specs.Option.{option_map};
 ghost use Rattle.std.specs.List.Sorted.{IsStrictlySortedBy};
 ghost use Rattle.std.specs.Map.{keys_of};
 ghost use Rattle.semantics.specs.Rounds.{logged};
 ghost use Rattle.words.specs.View.{value_of};
-ghost use Rattle.write_log.specs.Written.{written, entries, found, by_element, put_all, put_word, words_of, element};
+ghost use Rattle.write_log.specs.Written.{written, entries, found, by_element, noted, put_all, put_word, words_of, element};
 
 use crate::rising::RisingList;
 use launch::launches::Buffers;
@@ -73,6 +73,29 @@ impl WriteLog {
         self.map = map_with(&self.list, at, word)?;
         self.rises = false;
         Ok(())
+    }
+
+    // Notes words one by one.
+    fn note_each(&mut self, buffer: u32, first: u32, words: &[Word]) -> Result<(), AllocError>
+        requires { first + length words.now ≤ 4294967296 }
+        ensures { OnOk result ((b i : ℕ) → written self.new b i ≡ noted buffer first words.now (length words.now) b i (written self.old b i)) }
+    {
+        for place in 0..words.len() {
+            self.note(buffer, first + place as u32, words[place])?;
+        }
+        Ok(())
+    }
+
+    /// Notes words at elements that stand side by side, from an index on; the last index has 32 bits.
+    pub fn note_run(&mut self, buffer: u32, first: u32, words: &[Word]) -> Result<(), AllocError>
+        requires { first + length words.now ≤ 4294967296 }
+        ensures { OnOk result ((b i : ℕ) → written self.new b i ≡ noted buffer first words.now (length words.now) b i (written self.old b i)) }
+    {
+        let at = (buffer, first);
+        if self.rises && self.list.ends_below(at) {
+            return self.list.push_run(at, words);
+        }
+        self.note_each(buffer, first, words)
     }
 
     /// The word that the log has of an element.

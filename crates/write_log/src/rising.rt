@@ -1,12 +1,12 @@
 //! Entries whose elements rise, as a list: to add one at the end costs no search.
 
-ghost use Rattle.std.specs.Prelude.{◌≡◌, ◌∷◌, ◌++◌, [], ℕ, OnOk, IfOk, IsTrue};
+ghost use Rattle.std.specs.Prelude.{◌≡◌, ◌≤◌, ◌+◌, ◌∷◌, ◌++◌, [], ℕ, OnOk, IfOk, IsTrue, length};
 ghost use Rattle.std.specs.BTreeMap.{is_at, IsFromIterResult};
 ghost use Rattle.std.specs.List.Sorted.{IsStrictlySortedBy};
 ghost use Rattle.std.specs.Map.{keys_of, lookup};
 ghost use Rattle.std.specs.Ordering.{is_lt};
 ghost use Rattle.std.proofs.lemmas.Map.Keys.{IsStrictlySortedBy-prop};
-ghost use Rattle.write_log.specs.Elements.{by_element};
+ghost use Rattle.write_log.specs.Elements.{by_element, run};
 
 use std::alloc::{AllocError, Global};
 use std::collections::BTreeMap;
@@ -53,6 +53,20 @@ impl RisingList {
         ensures { OnOk result (self.new.entries.items ≡ self.old.entries.items ++ (at, word) ∷ []) }
     {
         self.entries.push((at, word))?;
+        Ok(())
+    }
+
+    /// Adds the words of elements that stand side by side at the end; the last index has 32 bits.
+    pub fn push_run(&mut self, at: (u32, u32), words: &[Word]) -> Result<(), AllocError>
+        requires fits { at.1 + length words.now ≤ 4294967296 }
+        requires above { IsStrictlySortedBy by_element (keys_of self.old.entries.items ++ at ∷ []) }
+        ensures { OnOk result (self.new.entries.items ≡ self.old.entries.items ++ run at.0 at.1 words.now (length words.now)) }
+    {
+        self.entries.reserve(words.len())?;
+        for place in 0..words.len() {
+            let next = (at.0, at.1 + place as u32);
+            self.entries.push((next, words[place]))?;
+        }
         Ok(())
     }
 

@@ -8,6 +8,15 @@ use words::Word;
 fn records_rise(rt: HostRuntime) -> Result<(), AllocError> {
     let alloc = rt.alloc();
     let mut log = WriteLog::new(alloc);
+    log.note_run(0, 3, &[Word::Uint(4); 2])?;
+    log.note(1, 2, Word::Uint(8))?;
+    let run = [
+        ((0, 3), Word::Uint(4)),
+        ((0, 4), Word::Uint(4)),
+        ((1, 2), Word::Uint(8)),
+    ];
+    assert!(rt; log.records(alloc)?.as_slice() == run.as_slice());
+    let mut log = WriteLog::new(alloc);
     log.reserve(2)?;
     log.note(0, 3, Word::Int(7))?;
     log.note(1, 2, Word::Uint(8))?;

@@ -1,13 +1,17 @@
 //! Section: Runs and program. Promises nothing; it holds tests of crates of other sections, and nothing stands on it.
 //!
-//! The tests of `words`, `lines`, `launch`, `linear`, `cut_proof`, `interval`, `congruence`, `product` and `loop_bounds`, so that none of
-//! these is proved twice.
+//! The tests of `words`, `lines`, `launch`, `linear`, `cut_proof`, `interval`, `congruence`, `product`, `loop_bounds`, `board` and
+//! `houdini`, so that none of these is proved twice.
 #![tactic(auto)]
 
+#[cfg(test)]
+mod board_tests;
 #[cfg(test)]
 mod congruence_tests;
 #[cfg(test)]
 mod cut_proof_tests;
+#[cfg(test)]
+mod gate_tests;
 #[cfg(test)]
 mod interval_tests;
 #[cfg(test)]
@@ -20,5 +24,7 @@ mod lines_tests;
 mod loop_bounds_tests;
 #[cfg(test)]
 mod product_tests;
+#[cfg(test)]
+mod tables;
 #[cfg(test)]
 mod words_tests;

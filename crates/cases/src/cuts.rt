@@ -1,4 +1,4 @@
-// Lists of facts, each searched for a derivation. With a second word, a number, each list is searched so often, and of each are told the
+// Lists of facts, for each of which a derivation is looked for, among those that were found before too. With a second word, a number, each list is searched so often, and of each are told the
 // lines of its derivation, its largest weight, the least nanoseconds, and those with all facts but the last prepared.
 // `bench/cut_search.py` measures it.
 //
@@ -6,8 +6,9 @@
 // `FIRST LAST`. Facts are counted from 1 in each kernel.
 
 use cut_proof::Line;
-use cut_search::{Answer, Start, search};
+use cut_search::{Answer, Start};
 use linear::{Fact, Form, LinearError, Symbol};
+use proof_memory::Memory;
 use std::alloc::{AllocError, Global};
 use std::time::Instant;
 use std::{env, fs, io};
@@ -120,9 +121,10 @@ fn search_list(
     rt: &HostRuntime,
     list: &[Fact],
     rounds: i64,
+    memory: &mut Memory,
     counts: &mut Counts,
 ) -> io::Result<()> {
-    let answer = search(rt.alloc(), list)?;
+    let answer = memory.ask(rt.alloc(), list)?;
     count(counts, &answer);
     if rounds > 0 {
         print_measures(rt, list, &answer, rounds)?;
@@ -136,6 +138,7 @@ fn take(
     line: &str,
     facts: &mut Vec<Fact>,
     rounds: i64,
+    memory: &mut Memory,
     counts: &mut Counts,
 ) -> io::Result<()> {
     if line.starts_with("kernel") {
@@ -146,7 +149,7 @@ fn take(
         }
     } else {
         let list = read_list(rt.alloc(), facts, line)?;
-        search_list(rt, list.as_slice(), rounds, counts)?;
+        search_list(rt, list.as_slice(), rounds, memory, counts)?;
     }
     Ok(())
 }
@@ -158,16 +161,20 @@ fn search_all(rt: &HostRuntime, text: &str, rounds: i64) -> io::Result<()> {
         undecided: 0,
     };
     let mut facts: Vec<Fact> = Vec::new(rt.alloc());
+    let mut memory = Memory::new(rt.alloc());
     for line in text.lines() {
-        take(rt, line, &mut facts, rounds, &mut counts)?;
+        take(rt, line, &mut facts, rounds, &mut memory, &mut counts)?;
     }
     println!(rt;
-        "{} proofs, {} models, {} undecided",
-        counts.proofs, counts.models, counts.undecided
+        "{} proofs, {} models, {} undecided, {} searches",
+        counts.proofs,
+        counts.models,
+        counts.undecided,
+        memory.searches()
     )
 }
 
-/// How many lists of a file have which answer.
+/// How many lists of a file have which answer, and how many searches that took.
 pub fn run(rt: &HostRuntime, words: &mut env::Args) -> io::Result<bool> {
     let Some(file) = words.next() else {
         return Ok(false);

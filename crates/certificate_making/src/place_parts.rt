@@ -95,6 +95,9 @@ fn say_multiple(
     spot: Spot,
     places: &mut Vec<Place>,
 ) -> Result<(), AllocError> {
+    if modulus > i64::MAX as u64 {
+        return Ok(());
+    }
     let Some(form) = names.form(alloc, form)? else {
         return Ok(());
     };

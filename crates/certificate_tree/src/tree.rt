@@ -1,5 +1,7 @@
 //! Certificates.
 
+ghost use Rattle.std.specs.Prelude.{◌<◌, ◌^◌};
+
 /// One of the three dimensions of a launch.
 #[derive(Clone, Copy, Drop)]
 pub enum Dimension {
@@ -50,11 +52,12 @@ pub struct Spot {
     pub head: Option<u64>,
 }
 
-/// A form that the modulus divides.
+/// A form that the modulus divides. The modulus is a natural number of a certificate's text.
 #[derive(Drop)]
 pub struct Congruence {
     pub modulus: u64,
     pub form: Form,
+    pub ghost small: { modulus < 2 ^ 63 },
 }
 
 /// What is said of a spot: names on which the items of a group agree, forms that are at least 0, and congruences.

@@ -1,6 +1,6 @@
 //! What single words say, where nothing is kept of them.
 
-ghost use Rattle.std.specs.Prelude.{◌≡◌, List, ℕ, nat_le};
+ghost use Rattle.std.specs.Prelude.{◌≡◌, ◌<◌, ◌^◌, List, ℕ, nat_le, IfSome};
 ghost use Rattle.std.specs.Option.{option_map};
 ghost use Rattle.std.specs.Str.{bytes_eq};
 ghost use Rattle.texts.specs.Tokens.{is_letter, is_word_byte};
@@ -30,7 +30,8 @@ pub fn begins(word: &[u8], front: &str) -> bool
 }
 
 pub fn natural(word: &[u8]) -> Option<u64>
-    ensures { result ≡ forms.number (natural_of word.now) }
+    ensures exact { result ≡ forms.number (natural_of word.now) }
+    ensures small { IfSome result (λ n. n < 2 ^ 63) }
 {
     match number::natural(word) {
         Ok(number) => Some(number),
@@ -39,7 +40,8 @@ pub fn natural(word: &[u8]) -> Option<u64>
 }
 
 pub fn natural_from(least: u64, word: &[u8]) -> Option<u64>
-    ensures { result ≡ meaning.at_least least (natural_of word.now) }
+    ensures exact { result ≡ meaning.at_least least (natural_of word.now) }
+    ensures small { IfSome result (λ n. n < 2 ^ 63) }
 {
     let Some(number) = natural(word) else {
         return None;

@@ -21,7 +21,7 @@ pub enum Side {
 /// A symbol of a family, once.
 fn of_family(alloc: Global, family: u64, index: usize) -> Result<Form, WalkError>
     requires family { family < 16 }
-    requires index { index < 2 ^ 59 }
+    requires index { index < 2 ^ 60 }
     ensures { MatchResult result (λ f. form f ≡ record { terms = record { coefficient = pos 1; symbol = family + 16 * index } ∷ []; constant = pos 0 }) IsMemory }
 {
     let number = family + 16 * index as u64;
@@ -74,7 +74,7 @@ pub fn once_group(alloc: Global, item: Side, dimension: u32) -> Result<Form, Wal
 
 /// An item's new symbol.
 pub fn once_new(alloc: Global, item: Side, index: usize) -> Result<Form, WalkError>
-    requires { index < 2 ^ 59 }
+    requires { index < 2 ^ 60 }
     ensures { MatchResult result (λ f. form f ≡ symbols.once (symbols.New (side item) index)) IsMemory }
 {
     match item {

@@ -17,9 +17,10 @@ use Rattle.obligations.specs.Walks.{is_none}
 use Rattle.path_walk.specs.Before.{HasFacts, HasAll}
 use Rattle.path_walk.specs.Paths as paths
 use Rattle.path_walk.specs.Paths.{noted, is_goal_fit, front, behind}
-use Rattle.path_walk.specs.View.{sort, spot, target, goal_seen, claim_seen, access_seen, held_seen, narrowed_seen, choice}
+use Rattle.path_walk.specs.View.{sort, spot, target, goal_seen, claim_seen, access_seen, held_seen, invented_seen, narrowed_seen, choice}
 use Rattle.path_walk.specs.declared.path.Claim.{Claim}
 use Rattle.path_walk.specs.declared.path.Access.{Access}
+use Rattle.path_walk.specs.declared.path.Invented.{Invented}
 use Rattle.path_walk.specs.declared.path.Narrowed.{Narrowed}
 use Rattle.path_walk.specs.declared.path.Choice.{Choice}
 use Rattle.path_walk.specs.declared.path.Goal.{Goal}
@@ -87,7 +88,7 @@ claims_more fs cs ds c e n =
     ap (map (claim_seen (forms fs))) e ∙ map-append (claim_seen (forms fs)) cs (c ∷ [])
     ∙ ap (λ l. map (claim_seen (forms fs)) cs ++ record { demand = record { sort = sort c.sort; spot = spot c.spot }; needed = c.needed; settled = c.settled; goal = goal_seen c.goal; facts = l } ∷ []) (whole fs c.facts n)
 
-pub accesses_more : {E : Type 0} (fs : List Form) (es : List E) (ns : List (Narrowed E)) (cs ds : List Access) (c : Access) → ds ≡ cs ++ c ∷ [] → c.facts ≡ length fs → c.news ≡ length es → c.narrowed ≡ length ns → map (access_seen (forms fs) es ns) ds ≡ map (access_seen (forms fs) es ns) cs ++ record { target = target c.target; index = form c.index; held = held_seen es ns; facts = forms fs } ∷ []
+pub accesses_more : {E : Type 0} (fs : List Form) (es : List (Invented E)) (ns : List (Narrowed E)) (cs ds : List Access) (c : Access) → ds ≡ cs ++ c ∷ [] → c.facts ≡ length fs → c.news ≡ length es → c.narrowed ≡ length ns → map (access_seen (forms fs) es ns) ds ≡ map (access_seen (forms fs) es ns) cs ++ record { target = target c.target; index = form c.index; held = held_seen es ns; facts = forms fs } ∷ []
 accesses_more fs es ns cs ds c e n m k =
     ap (map (access_seen (forms fs) es ns)) e ∙ map-append (access_seen (forms fs) es ns) cs (c ∷ [])
     ∙ (λ i. map (access_seen (forms fs) es ns) cs ++ record { target = target c.target; index = form c.index; held = held_seen (all_of es c.news m i) (all_of ns c.narrowed k i); facts = whole fs c.facts n i } ∷ [])
@@ -99,21 +100,24 @@ same_claims F G n (c ∷ cs) e h = λ i. record { demand = record { sort = sort 
 pub claims_kept : (fs gs : List Form) (f : Form) (cs : List Claim) → gs ≡ fs ++ f ∷ [] → All (HasFacts (length fs)) cs → map (claim_seen (forms gs)) cs ≡ map (claim_seen (forms fs)) cs
 claims_kept fs gs f cs e h = ap (λ F. map (claim_seen F) cs) (forms_more fs gs f e) ∙ same_claims (forms fs) (form f ∷ []) (length fs) cs (sym (length-forms fs)) h
 
-same_accesses : {E : Type 0} (F G : List Fact) (A B : List E) (M N : List (Narrowed E)) (n m k : ℕ) (cs : List Access) → n ≡ length F → m ≡ length A → k ≡ length M → All (HasAll n m k) cs → map (access_seen (F ++ G) (A ++ B) (M ++ N)) cs ≡ map (access_seen F A M) cs
+same_accesses : {E : Type 0} (F G : List Fact) (A B : List (Invented E)) (M N : List (Narrowed E)) (n m k : ℕ) (cs : List Access) → n ≡ length F → m ≡ length A → k ≡ length M → All (HasAll n m k) cs → map (access_seen (F ++ G) (A ++ B) (M ++ N)) cs ≡ map (access_seen F A M) cs
 same_accesses F G A B M N n m k [] e d u h = refl
 same_accesses F G A B M N n m k (c ∷ cs) e d u h = λ i. record { target = target c.target; index = form c.index; held = held_seen (take-append-le c.news A B (subst (λ x. c.news ≤ x) d (All-head (HasAll n m k) c cs h).1.0) i) (take-append-le c.narrowed M N (subst (λ x. c.narrowed ≤ x) u (All-head (HasAll n m k) c cs h).1.1) i); facts = take-append-le c.facts F G (subst (λ x. c.facts ≤ x) e (All-head (HasAll n m k) c cs h).0) i } ∷ same_accesses F G A B M N n m k cs e d u (All-tail (HasAll n m k) c cs h) i
 
-pub accesses_kept : {E : Type 0} (fs gs : List Form) (f : Form) (es : List E) (ns : List (Narrowed E)) (cs : List Access) → gs ≡ fs ++ f ∷ [] → All (HasAll (length fs) (length es) (length ns)) cs → map (access_seen (forms gs) es ns) cs ≡ map (access_seen (forms fs) es ns) cs
+pub accesses_kept : {E : Type 0} (fs gs : List Form) (f : Form) (es : List (Invented E)) (ns : List (Narrowed E)) (cs : List Access) → gs ≡ fs ++ f ∷ [] → All (HasAll (length fs) (length es) (length ns)) cs → map (access_seen (forms gs) es ns) cs ≡ map (access_seen (forms fs) es ns) cs
 accesses_kept fs gs f es ns cs e h =
     (λ i. map (access_seen (forms_more fs gs f e i) (sym (append-nil es) i) (sym (append-nil ns) i)) cs) ∙ same_accesses (forms fs) (form f ∷ []) es [] ns [] (length fs) (length es) (length ns) cs (sym (length-forms fs)) refl refl h
 
-pub accesses_known : {E : Type 0} (fs : List Form) (es ds : List E) (x : E) (ns : List (Narrowed E)) (cs : List Access) → ds ≡ es ++ x ∷ [] → All (HasAll (length fs) (length es) (length ns)) cs → map (access_seen (forms fs) ds ns) cs ≡ map (access_seen (forms fs) es ns) cs
+pub accesses_known : {E : Type 0} (fs : List Form) (es ds : List (Invented E)) (x : Invented E) (ns : List (Narrowed E)) (cs : List Access) → ds ≡ es ++ x ∷ [] → All (HasAll (length fs) (length es) (length ns)) cs → map (access_seen (forms fs) ds ns) cs ≡ map (access_seen (forms fs) es ns) cs
 accesses_known fs es ds x ns cs e h =
     (λ i. map (access_seen (sym (append-nil (forms fs)) i) (e i) (sym (append-nil ns) i)) cs) ∙ same_accesses (forms fs) [] es (x ∷ []) ns [] (length fs) (length es) (length ns) cs (sym (length-forms fs)) refl refl h
 
-pub accesses_narrowed : {E : Type 0} (fs : List Form) (es : List E) (ns ms : List (Narrowed E)) (x : Narrowed E) (cs : List Access) → ms ≡ ns ++ x ∷ [] → All (HasAll (length fs) (length es) (length ns)) cs → map (access_seen (forms fs) es ms) cs ≡ map (access_seen (forms fs) es ns) cs
+pub accesses_narrowed : {E : Type 0} (fs : List Form) (es : List (Invented E)) (ns ms : List (Narrowed E)) (x : Narrowed E) (cs : List Access) → ms ≡ ns ++ x ∷ [] → All (HasAll (length fs) (length es) (length ns)) cs → map (access_seen (forms fs) es ms) cs ≡ map (access_seen (forms fs) es ns) cs
 accesses_narrowed fs es ns ms x cs e h =
     (λ i. map (access_seen (sym (append-nil (forms fs)) i) (sym (append-nil es) i) (e i)) cs) ∙ same_accesses (forms fs) [] es [] ns (x ∷ []) (length fs) (length es) (length ns) cs (sym (length-forms fs)) refl refl h
+
+pub news_more : {E : Type 0} (es ds : List (Invented E)) (x : Invented E) → ds ≡ es ++ x ∷ [] → map invented_seen ds ≡ map invented_seen es ++ x.element ∷ []
+news_more es ds x e = ap (map invented_seen) e ∙ map-append invented_seen es (x ∷ [])
 
 pub narrowed_more : {E : Type 0} (ns ms : List (Narrowed E)) (x : Narrowed E) → ms ≡ ns ++ x ∷ [] → map narrowed_seen ms ≡ map narrowed_seen ns ++ narrowed_seen x ∷ []
 narrowed_more ns ms x e = ap (map narrowed_seen) e ∙ map-append narrowed_seen ns (x ∷ [])

@@ -22,6 +22,7 @@ use Rattle.path_walk.specs.declared.path.Goal.{Goal}
 use Rattle.path_walk.specs.declared.path.Goal.TheVariants as goals
 use Rattle.path_walk.specs.declared.path.Claim.{Claim}
 use Rattle.path_walk.specs.declared.path.Access.{Access}
+use Rattle.path_walk.specs.declared.path.Invented.{Invented}
 use Rattle.path_walk.specs.declared.path.Narrowed.{Narrowed}
 use Rattle.path_walk.specs.declared.path.Choice.{Choice}
 use Rattle.path_walk.specs.declared.path.Choice.TheVariants as choices
@@ -63,10 +64,13 @@ claim_seen facts c = record { demand = record { sort = sort c.sort; spot = spot 
 abbrev pub narrowed_seen : {E : Type 0} → Narrowed E → held.Narrowed E
 narrowed_seen n = record { symbol = n.symbol.number; element = n.element }
 
-abbrev pub held_seen : {E : Type 0} → List E → List (Narrowed E) → held.Held E
-held_seen news narrowed = record { news = news; narrowed = map narrowed_seen narrowed }
+abbrev pub invented_seen : {E : Type 0} → Invented E → E
+invented_seen i = i.element
 
-abbrev pub access_seen : {E : Type 0} → List Fact → List E → List (Narrowed E) → Access → trees.Access E
+abbrev pub held_seen : {E : Type 0} → List (Invented E) → List (Narrowed E) → held.Held E
+held_seen news narrowed = record { news = map invented_seen news; narrowed = map narrowed_seen narrowed }
+
+abbrev pub access_seen : {E : Type 0} → List Fact → List (Invented E) → List (Narrowed E) → Access → trees.Access E
 access_seen facts news narrowed a = record { target = target a.target; index = form a.index; held = held_seen (take a.news news) (take a.narrowed narrowed); facts = take a.facts facts }
 
 abbrev pub choice : Choice → paths.Choice
@@ -86,7 +90,7 @@ abbrev pub turns : Option (Vec ℕ Global) → arrivals.Turns
 turns None = None
 turns (Some v) = Some (reverse v.items)
 
-abbrev pub ended_seen : {E : Type 0} → List Fact → List E → List (Narrowed E) → Arrived → trees.Ended E
+abbrev pub ended_seen : {E : Type 0} → List Fact → List (Invented E) → List (Narrowed E) → Arrived → trees.Ended E
 ended_seen facts news narrowed a = record { arrived = record { stop = stop a.stop; turns = turns a.turns; variables = map value a.variables.items; held = held_seen (take a.news news) (take a.narrowed narrowed) }; facts = take a.facts facts }
 
 -- the code has the oldest first

@@ -11,9 +11,9 @@ ghost use Rattle.facts.specs.View.{known_seen, elements_seen};
 ghost use Rattle.obligations.specs.Held as held;
 ghost use Rattle.path_walk.specs.Paths.{with_held};
 ghost use Rattle.path_walk.specs.Without.{element_without};
-ghost use Rattle.path_walk.specs.View.{followed, held_seen, narrowed_seen};
+ghost use Rattle.path_walk.specs.View.{followed, held_seen, invented_seen, narrowed_seen};
 
-use crate::path::{Narrowed, Path};
+use crate::path::{Invented, Narrowed, Path};
 use crate::setting::Setting;
 use domain::Domain;
 use facts::{Known, WalkError};
@@ -29,10 +29,20 @@ fn nth<D: Domain>(of: &[D], index: u64) -> D
     }
 }
 
+/// The same of the elements of new symbols.
+fn nth_new<D: Domain>(of: &[Invented<D>], index: u64) -> D
+    ensures { result ≡ elements.nth D.Domain (map invented_seen of.now) index }
+{
+    match of.get(index as usize) {
+        Some(new) => new.element,
+        None => D::top(),
+    }
+}
+
 #[tactic(auto, unfolding(facts::specs::Symbols::symbol_of), using(facts::proofs::Families::families))]
 /// A symbol's element beforehand, with those of the new symbols.
-fn known_element<D: Domain>(known: &Known<D>, news: &[D], symbol: Symbol) -> D
-    ensures { result ≡ elements.element D.Domain (elements_seen known.now news.now []) (symbol_of symbol.number) }
+fn known_element<D: Domain>(known: &Known<D>, news: &[Invented<D>], symbol: Symbol) -> D
+    ensures { result ≡ elements.element D.Domain (elements_seen known.now (map invented_seen news.now) []) (symbol_of symbol.number) }
 {
     let index = symbol.number / 16;
     match symbol.number % 16 {
@@ -41,7 +51,7 @@ fn known_element<D: Domain>(known: &Known<D>, news: &[D], symbol: Symbol) -> D
         2 => nth(known.lengths.as_slice(), index),
         3 | 9 => nth(known.locals.as_slice(), index),
         4 | 10 => nth(known.groups.as_slice(), index),
-        5 => nth(news, index),
+        5 => nth_new(news, index),
         _ => D::top(),
     }
 }
@@ -119,7 +129,7 @@ pub fn settles<D: Domain>(setting: &Setting<D>, path: &Path<D>, form: &Form) -> 
 /// A symbol's element, by the elements of new symbols and by what was narrowed.
 pub fn element_from<D: Domain>(
     known: &Known<D>,
-    news: &[D],
+    news: &[Invented<D>],
     narrowed: &[Narrowed<D>],
     symbol: Symbol,
 ) -> D

@@ -32,7 +32,8 @@ pub use halt::Halt;
 pub use held::{element_at, element_from, settles};
 pub use ids::id_form;
 pub use path::{
-    Access, Arrived, Choice, Claim, Goal, Narrowed, Path, Ranked, Sort, Spot, Stop, Target, Value,
+    Access, Arrived, Choice, Claim, Goal, Invented, Narrowed, Path, Ranked, Sort, Spot, Stop,
+    Target, Value,
 };
 pub use ranges::{any_of, both_brought, brought, invent, unknown};
 pub use setting::Setting;

@@ -72,6 +72,13 @@ pub struct Access {
     pub narrowed: usize,
 }
 
+/// The element of a new symbol, and where it was made. With that it takes memory also where an element takes none, so no list holds 2^60.
+#[derive(Clone, Copy)]
+pub struct Invented<D> {
+    pub spot: Spot,
+    pub element: D,
+}
+
 /// A symbol has this element from here on.
 #[derive(Clone, Copy)]
 pub struct Narrowed<D> {
@@ -131,7 +138,7 @@ pub struct Path<D> {
     pub count: u32,
     pub taken: Vec<Choice>,
     pub given: Vec<Choice>,
-    pub news: Vec<D>,
+    pub news: Vec<Invented<D>>,
     pub narrowed: Vec<Narrowed<D>>,
     pub variables: Vec<Value>,
     pub ranks: Vec<Ranked>,

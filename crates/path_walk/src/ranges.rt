@@ -1,6 +1,6 @@
 //! Claims, new symbols, and the ranges of kinds.
 
-ghost use Rattle.std.specs.Prelude.{◌≡◌, ◌⊎◌, List, IfOk, IfErr, MatchResult};
+ghost use Rattle.std.specs.Prelude.{◌≡◌, ◌<◌, ◌^◌, ◌⊎◌, List, length, IfOk, IfErr, MatchResult};
 ghost use Rattle.linear.specs.Forms.{form as form_seen};
 ghost use Rattle.linear.specs.Sizes.{size};
 ghost use Rattle.words.specs.View.{kind as kind_seen};
@@ -38,7 +38,16 @@ pub fn claim_form<D: Domain>(
     Ok(())
 }
 
-/// A new symbol, with its bounds as facts. There is no memory for 2^59 of them.
+#[tactic(auto, unfolding(crate::specs::View::followed))]
+/// How many new symbols there are.
+fn count_of_news<D: Copy>(path: &Path<D>) -> usize
+    ensures exact { result ≡ length (followed path.now).state.held.news }
+    ensures small { result < 2 ^ 60 }
+{
+    path.news.as_slice().len()
+}
+
+/// A new symbol, with its bounds as facts.
 pub fn invent<D: Domain>(
     alloc: Global,
     setting: &Setting<D>,
@@ -48,10 +57,7 @@ pub fn invent<D: Domain>(
     ensures leads { MatchResult result (λ f. Leads (followed path.old) (followed path.new) (walks.invent (seen D.Domain setting.now) element) (form_seen f)) (λ e. Stops ⊥ (followed path.old) e (walks.invent (seen D.Domain setting.now) element)) }
     ensures small { IfOk result (λ f. size (form_seen f) ≡ 1) }
 {
-    let index = path.news.len();
-    if index >= 1 << 59 {
-        return Err(WalkError::Memory);
-    }
+    let index = count_of_news(path);
     let newest = once_new(alloc, Side::First, index)?;
     let bounds = element.bounds();
     know_low(alloc, path, &newest, bounds.low)?;

@@ -10,7 +10,9 @@ ghost use Rattle.path_walk.specs.Refusals.{Refused};
 ghost use Rattle.path_walk.specs.Leads.{Leads};
 ghost use Rattle.path_walk.specs.View.{followed, sort as sort_seen, spot as spot_seen, target as target_seen, goal_seen, choice as choice_seen, value as value_seen};
 
-use crate::path::{Access, Choice, Claim, Goal, Narrowed, Path, Sort, Spot, Target, Value};
+use crate::path::{
+    Access, Choice, Claim, Goal, Invented, Narrowed, Path, Sort, Spot, Target, Value,
+};
 use core_code::tree::Site;
 use facts::WalkError;
 use linear::{Form, Symbol};
@@ -114,7 +116,10 @@ impl<D: Copy> Path<D> {
     pub fn invent(&mut self, element: D) -> Result<(), WalkError>
         ensures { MatchResult result (λ _. followed self.new ≡ with_element (followed self.old) element) IsMemory }
     {
-        self.news.push(element)?;
+        self.news.push(Invented {
+            spot: self.at,
+            element,
+        })?;
         Ok(())
     }
 

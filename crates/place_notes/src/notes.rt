@@ -1,13 +1,16 @@
 //! What is said of a kernel's places and loops.
 
+ghost use Rattle.std.specs.Prelude.{◌<◌, ◌^◌};
+
 use linear::Form;
 use loop_bounds::LoopBound;
 
-/// A number divides a form.
+/// A number divides a form. A coefficient can be that number.
 #[derive(Drop)]
 pub struct Congruence {
     pub modulus: u64,
     pub form: Form,
+    pub ghost small: { modulus < 2 ^ 63 },
 }
 
 /// What is said of a place, by the numbers of its barrier and of its loop: the slots that two items of a group have alike there, facts

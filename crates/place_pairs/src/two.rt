@@ -14,12 +14,12 @@ ghost use Rattle.path_walk.specs.View.{held_seen};
 use domain::{Domain, Residue};
 use facts::Known;
 use linear::{Form, Symbol, Term};
-use path_walk::{Narrowed, element_from};
+use path_walk::{Invented, Narrowed, element_from};
 
 /// What an item's path holds somewhere.
 #[derive(Clone, Copy)]
 pub struct Here<'a, D> {
-    pub news: &'a [D],
+    pub news: &'a [Invented<D>],
     pub narrowed: &'a [Narrowed<D>],
 }
 

@@ -5,7 +5,7 @@ ghost use Rattle.core_code.specs.View.{kernel as core_seen};
 ghost use Rattle.facts.specs.Refusals.{IsMemory};
 ghost use Rattle.facts.specs.Symbols.{number};
 ghost use Rattle.obligations.specs.Walks.{any_of};
-ghost use Rattle.path_walk.specs.View.{narrowed_seen};
+ghost use Rattle.path_walk.specs.View.{invented_seen, narrowed_seen};
 ghost use Rattle.place_notes.specs.View.{congruence as congruence_seen};
 ghost use Rattle.place_obligations.specs.Roots as roots;
 ghost use Rattle.place_roots.specs.Families.{slot_symbol};
@@ -14,21 +14,37 @@ ghost use Rattle.place_roots.specs.Slots.{HasSlots};
 use crate::family::Family;
 use crate::slots::{kind_at, slot_number};
 use crate::variables::count_of;
-use core_code::tree::Core;
+use core_code::tree::{Core, Site};
 use domain::Domain;
 use facts::WalkError;
 use linear::Symbol;
-use path_walk::{Narrowed, Value, any_of};
+use path_walk::{Invented, Narrowed, Spot, Value, any_of};
 use place_notes::Congruence;
 use std::alloc::Global;
 
+/// A new symbol's element, from before the first statement.
+fn invented_at_root<D: Domain>(element: D) -> Invented<D>
+    ensures { invented_seen result ≡ element }
+{
+    Invented {
+        spot: Spot {
+            statement: 0,
+            site: Site { line: 0, column: 0 },
+        },
+        element,
+    }
+}
+
 /// Of a quotient nothing is known.
-pub fn tops<D: Domain>(alloc: Global, congruences: &[Congruence]) -> Result<Vec<D>, WalkError>
-    ensures { MatchResult result (λ v. v.items ≡ roots.tops D.Domain (map congruence_seen congruences.now)) IsMemory }
+pub fn tops<D: Domain>(
+    alloc: Global,
+    congruences: &[Congruence],
+) -> Result<Vec<Invented<D>>, WalkError>
+    ensures { MatchResult result (λ v. map invented_seen v.items ≡ roots.tops D.Domain (map congruence_seen congruences.now)) IsMemory }
 {
     let mut elements = Vec::new(alloc);
     for _ in congruences {
-        elements.push(D::top())?;
+        elements.push(invented_at_root(D::top()))?;
     }
     Ok(elements)
 }

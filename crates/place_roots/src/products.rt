@@ -1,6 +1,6 @@
 //! Congruences as facts: each has a quotient, a new symbol.
 
-ghost use Rattle.std.specs.Prelude.{◌≡◌, ◌<◌, ◌++◌, pos, length, map, MatchResult};
+ghost use Rattle.std.specs.Prelude.{◌≡◌, ◌<◌, ◌^◌, ◌++◌, pos, length, map, MatchResult};
 ghost use Rattle.linear.specs.Exact.{multiple};
 ghost use Rattle.linear.specs.Forms.{form as form_seen, forms};
 ghost use Rattle.facts.specs.Refusals.{IsMemory};
@@ -24,14 +24,12 @@ fn quotients(congruences: &[Congruence]) -> usize
     congruences.len()
 }
 
-/// A quotient so many times. There is no memory for a number of 2^63 or more.
+/// A quotient so many times.
 fn product(alloc: Global, modulus: u64, index: usize) -> Result<Form, WalkError>
-    requires { index < 576460752303423488 }
+    requires modulus { modulus < 2 ^ 63 }
+    requires index { index < 576460752303423488 }
     ensures { MatchResult result (λ f. form_seen f ≡ multiple (pos modulus) (once (New First index))) IsMemory }
 {
-    if modulus >= 1 << 63 {
-        return Err(WalkError::Memory);
-    }
     let quotient = once_new(alloc, Side::First, index)?;
     let product = quotient.times(alloc, modulus as i64)?;
     Ok(product)

@@ -18,7 +18,7 @@ use core_code::tree::{Core, Site};
 use domain::Domain;
 use facts::WalkError;
 use linear::Form;
-use path_walk::{Choice, Narrowed, Path, Spot, Value};
+use path_walk::{Choice, Invented, Narrowed, Path, Spot, Value};
 use place_notes::Notes;
 use std::alloc::Global;
 
@@ -27,7 +27,7 @@ use std::alloc::Global;
 pub struct Root<D> {
     pub known: Vec<Form>,
     pub variables: Vec<Value>,
-    pub news: Vec<D>,
+    pub news: Vec<Invented<D>>,
     pub narrowed: Vec<Narrowed<D>>,
 }
 

@@ -1,5 +1,5 @@
 use Rattle.path_walk.specs.View.{followed}
-use Rattle.path_walk.proofs.Moves.{accesses_known}
+use Rattle.path_walk.proofs.Moves.{accesses_known, news_more}
 use Rattle.path_walk.proofs.Endings.{ends_known}
 use Rattle.path_walk.proofs.path.Path.invent.Goals as goal
 
@@ -13,13 +13,13 @@ returns g c =
       found = record {
         facts = p.found.facts;
         claims = p.found.claims;
-        accesses = accesses_known s.facts.items s.news.items c.push.new.self.items c.args.element s.narrowed.items s.accesses.items e s.accesses_in i;
-        ends = ends_known s.facts.items s.news.items c.push.new.self.items c.args.element s.narrowed.items s.ends.items e s.ends_in i;
+        accesses = accesses_known s.facts.items s.news.items c.push.new.self.items _ s.narrowed.items s.accesses.items e s.accesses_in i;
+        ends = ends_known s.facts.items s.news.items c.push.new.self.items _ s.narrowed.items s.ends.items e s.ends_in i;
         count = p.found.count;
         taken = p.found.taken;
         left = p.found.left;
         is_fit = p.found.is_fit;
         is_few = p.found.is_few;
       };
-      state = record { claims = p.state.claims; variables = p.state.variables; ranks = p.state.ranks; held = record { news = e i; narrowed = p.state.held.narrowed }; at = p.state.at };
+      state = record { claims = p.state.claims; variables = p.state.variables; ranks = p.state.ranks; held = record { news = news_more s.news.items c.push.new.self.items _ e i; narrowed = p.state.held.narrowed }; at = p.state.at };
     }

@@ -62,8 +62,7 @@ fn errors_are_printed_as_their_numbers(rt: HostRuntime) -> Result<(), Fail> {
         SettleError::Memory.number(),
     ];
     let printed = format!(in rt.alloc(); "{} {}", SettleError::Workers, SettleError::Memory)?;
-    assert_eq!(rt; numbers, [90; 3]);
-    assert_eq!(rt; printed.as_str(), "70 90");
+    assert_eq!(rt; (numbers, printed.as_str()), ([90; 3], "70 90"));
     Ok(())
 }
 
@@ -108,8 +107,8 @@ fn two_workers_meet(rt: HostRuntime) -> Result<(), Fail> {
         missed: AtomicBool::new(false),
     };
     let set = settled(&rt, rt.alloc(), ONE_STANDS, 2, &gate)?;
-    assert_eq!(rt; set, [true, false, false, false, false]);
-    assert!(rt; !gate.missed.load(Ordering::SeqCst));
+    let missed = gate.missed.load(Ordering::SeqCst);
+    assert_eq!(rt; (set, missed), ([true, false, false, false, false], false));
     Ok(())
 }
 
@@ -197,9 +196,12 @@ fn each_worker_ends_last(rt: HostRuntime) -> Result<(), Fail> {
     let all = settled(&rt, rt.alloc(), CHAIN, 64, &gate)?;
     let alone = Watching::new();
     let one = settled(&rt, rt.alloc(), CHAIN, 1, &alone)?;
-    assert_eq!(rt; [all, one], [[false; 5]; 2]);
-    assert_eq!(rt; gate.ended.load(Ordering::SeqCst), u64::MAX);
-    assert!(rt; !gate.late.load(Ordering::SeqCst));
-    assert_eq!(rt; alone.moments.load(Ordering::SeqCst), 49);
+    let ended = gate.ended.load(Ordering::SeqCst);
+    let late = gate.late.load(Ordering::SeqCst);
+    let moments = alone.moments.load(Ordering::SeqCst);
+    assert_eq!(rt;
+        ([all, one], ended, late, moments),
+        ([[false; 5]; 2], u64::MAX, false, 49)
+    );
     Ok(())
 }

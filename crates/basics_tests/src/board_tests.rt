@@ -57,12 +57,12 @@ fn two_seats_share_refutations(rt: HostRuntime) -> Result<(), Fail> {
     let refuted = examined(&board, &mut first, 2);
     let left = members(&board.alive(&mut second));
     let last = members(&board.close(first));
+    let examined = [kept, refuted] == [Some(Examined::Kept), Some(Examined::Refuted)];
+    let three = [true, true, false, true, false];
     assert_eq!(rt;
-        [kept, refuted],
-        [Some(Examined::Kept), Some(Examined::Refuted)]
+        (examined, [all, left, last]),
+        (true, [[true, true, true, true, false], three, three])
     );
-    assert_eq!(rt; all, [true, true, true, true, false]);
-    assert_eq!(rt; [left, last], [[true, true, false, true, false]; 2]);
     Ok(())
 }
 

@@ -1,6 +1,6 @@
 // Congruences, small ones and at the edges of `i64`.
 
-use congruence::Congruence;
+use domain::congruence::Congruence;
 use domain::{Domain, Residue, linear};
 
 const MIN: i64 = i64::MIN;

@@ -1,7 +1,7 @@
 // Intervals, small ones and at the edges of `i64`.
 
+use domain::interval::Interval;
 use domain::{Bounds, Domain, Residue, linear};
-use interval::Interval;
 
 const MIN: i64 = i64::MIN;
 

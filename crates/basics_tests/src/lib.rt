@@ -1,7 +1,7 @@
 //! Section: Runs and program. Promises nothing; it holds tests of crates of other sections, and nothing stands on it.
 //!
-//! The tests of `words`, `lines`, `launch`, `linear`, `cut_proof`, `interval`, `congruence`, `product`, `loop_bounds`, `board` and
-//! `houdini`, so that none of these is proved twice.
+//! The tests of `words`, `lines`, `linear`, `cut_proof`, `domain`, `loop_bounds`, `board`, `houdini` and `write_log`, so that none of
+//! these is proved twice.
 #![tactic(auto)]
 
 #[cfg(test)]
@@ -15,11 +15,11 @@ mod gate_tests;
 #[cfg(test)]
 mod interval_tests;
 #[cfg(test)]
-mod launch_tests;
-#[cfg(test)]
 mod linear_tests;
 #[cfg(test)]
 mod lines_tests;
+#[cfg(test)]
+mod log_tests;
 #[cfg(test)]
 mod loop_bounds_tests;
 #[cfg(test)]

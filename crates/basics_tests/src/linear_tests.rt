@@ -1,4 +1,4 @@
-// Sums, multiples and substitutions at the ends of i64.
+//! Sums, multiples and substitutions, also at the ends of `i64`.
 
 use linear::{Form, LinearError, Symbol, Term};
 use std::alloc::Global;
@@ -39,19 +39,19 @@ fn gives(found: Result<Form, LinearError>, terms: &[(u64, i64)], constant: i64) 
     }
 }
 
-#[test]
-fn too_large(rt: HostRuntime) -> Result<(), Fail> {
-    let alloc = rt.alloc();
-    let most = Form::constant(alloc, i64::MAX);
-    match most.times(alloc, 2) {
-        Ok(_) => assert!(rt; false),
-        Err(error) => assert_eq!(rt; error.number(), 54),
+/// The number under which a form is refused, and 0 where it is not.
+fn refusal(found: Result<Form, LinearError>) -> u32 {
+    match found {
+        Ok(_) => 0,
+        Err(error) => error.number(),
     }
-    match most.add(alloc, &Form::constant(alloc, 1)) {
-        Ok(_) => assert!(rt; false),
-        Err(error) => assert_eq!(rt; error.number(), 54),
+}
+
+fn constant_of(found: Result<Form, LinearError>) -> Option<i64> {
+    match found {
+        Ok(form) => Some(form.constant_part()),
+        Err(_) => None,
     }
-    Ok(())
 }
 
 const X: Symbol = Symbol { number: 4 };
@@ -59,7 +59,7 @@ const X: Symbol = Symbol { number: 4 };
 const Y: Symbol = Symbol { number: 2 };
 
 #[test]
-fn terms(rt: HostRuntime) {
+fn terms_are_in_order(rt: HostRuntime) {
     let sum = weighted(rt.alloc(), &[(X, 6), (Y, 1)], 0);
     assert!(rt; gives(sum, &[(2, 1), (4, 6)], 0));
 }
@@ -72,16 +72,19 @@ fn half(alloc: Global, parts: &[(Symbol, i64)]) -> Result<Option<Form>, LinearEr
     Ok(weighted(alloc, parts, 0)?.divided(alloc, 2)?)
 }
 
+/// Whether a quotient is one term; none where there is no quotient.
+fn is_term_alone(found: Result<Option<Form>, LinearError>, told: (u64, i64)) -> Option<bool> {
+    match found {
+        Ok(Some(quotient)) => Some(is_sum(&quotient, &[told], 0)),
+        Ok(None) | Err(_) => None,
+    }
+}
+
 #[test]
-fn quotients(rt: HostRuntime) {
-    match third(rt.alloc(), &[(X, 6)]) {
-        Ok(Some(third)) => assert!(rt; is_sum(&third, &[(4, 2)], 0)),
-        Ok(None) | Err(_) => assert!(rt; false),
-    }
-    match half(rt.alloc(), &[(X, 6), (Y, 1)]) {
-        Ok(None) => {}
-        Ok(Some(_)) | Err(_) => assert!(rt; false),
-    }
+fn quotients_are_whole(rt: HostRuntime) {
+    let third = is_term_alone(third(rt.alloc(), &[(X, 6)]), (4, 2));
+    let half = is_term_alone(half(rt.alloc(), &[(X, 6), (Y, 1)]), (4, 3));
+    assert_eq!(rt; (third, half), (Some(true), None));
 }
 
 fn nothing(alloc: Global) -> Result<Form, LinearError> {
@@ -89,48 +92,50 @@ fn nothing(alloc: Global) -> Result<Form, LinearError> {
     Ok(x.sub(alloc, &x)?.copy(alloc)?)
 }
 
-#[test]
-fn a_form_less_itself(rt: HostRuntime) {
-    assert!(rt; gives(nothing(rt.alloc()), &[], 0));
-}
-
-// `3*x + 2*y + 1` with `2*y - 5` in place of `x`.
+/// `3*x + 2*y + 1` with `2*y - 5` in place of `x`.
 fn replaced(alloc: Global) -> Result<Form, LinearError> {
     let form = weighted(alloc, &[(X, 3), (Y, 2)], 1)?;
     form.substitute(alloc, X, &weighted(alloc, &[(Y, 2)], -5)?)
 }
 
-#[test]
-fn substituted(rt: HostRuntime) {
-    match replaced(rt.alloc()) {
-        Ok(form) => {
-            assert!(rt; is_sum(&form, &[(2, 8)], -14));
-            assert_eq!(rt; form.coefficient(X), 0);
-        }
-        Err(_) => assert!(rt; false),
+/// Whether `x` is gone, and the rest is as told.
+fn is_without_x(found: Result<Form, LinearError>) -> bool {
+    match found {
+        Ok(form) => is_sum(&form, &[(2, 8)], -14) && form.coefficient(X) == 0,
+        Err(_) => false,
     }
 }
 
-// Numbers on the way may leave i64: `2*x - MAX` with MAX in place of `x`, and -1 - MIN.
 #[test]
-fn large_on_the_way(rt: HostRuntime) -> Result<(), Fail> {
+fn forms_are_subtracted_and_substituted(rt: HostRuntime) {
+    let is_nothing = gives(nothing(rt.alloc()), &[], 0);
+    let is_replaced = is_without_x(replaced(rt.alloc()));
+    assert!(rt; is_nothing && is_replaced);
+}
+
+/// `2*x - 9223372036854775807` with a number in place of `x`.
+fn at(alloc: Global, number: i64) -> Result<Form, LinearError> {
+    let form = weighted(alloc, &[(X, 2)], -i64::MAX)?;
+    form.substitute(alloc, X, &Form::constant(alloc, number))
+}
+
+fn less(alloc: Global, number: i64, other: i64) -> Result<Form, LinearError> {
+    Form::constant(alloc, number).sub(alloc, &Form::constant(alloc, other))
+}
+
+/// Numbers on the way may leave `i64`, and those at the end may not.
+#[test]
+fn numbers_at_the_end_are_of_64_bits(rt: HostRuntime) {
     let alloc = rt.alloc();
-    let x = Symbol { number: 0 };
-    let Ok(form) = weighted(alloc, &[(x, 2)], -i64::MAX) else {
-        assert!(rt; false);
-        return Ok(());
-    };
-    match form.substitute(alloc, x, &Form::constant(alloc, i64::MAX)) {
-        Ok(result) => assert_eq!(rt; result.constant_part(), i64::MAX),
-        Err(_) => assert!(rt; false),
-    }
-    match form.substitute(alloc, x, &Form::constant(alloc, i64::MIN)) {
-        Ok(_) => assert!(rt; false),
-        Err(error) => assert_eq!(rt; error.number(), 54),
-    }
-    match Form::constant(alloc, -1).sub(alloc, &Form::constant(alloc, i64::MIN)) {
-        Ok(result) => assert_eq!(rt; result.constant_part(), i64::MAX),
-        Err(_) => assert!(rt; false),
-    }
-    Ok(())
+    let most = Form::constant(alloc, i64::MAX);
+    let kept = [
+        constant_of(at(alloc, i64::MAX)),
+        constant_of(less(alloc, -1, i64::MIN)),
+    ];
+    let refused = [
+        refusal(most.times(alloc, 2)),
+        refusal(most.add(alloc, &Form::constant(alloc, 1))),
+        refusal(at(alloc, i64::MIN)),
+    ];
+    assert_eq!(rt; (kept, refused), ([Some(i64::MAX); 2], [54; 3]));
 }

@@ -1,9 +1,9 @@
 // The product of intervals and congruences.
 
-use congruence::Congruence;
+use domain::congruence::Congruence;
+use domain::interval::Interval;
+use domain::product::Product;
 use domain::{Domain, Residue};
-use interval::Interval;
-use product::Product;
 
 // Three times the members that leave 1 by 4, plus 1.
 fn image(first: Interval) -> Product<Interval, Congruence> {

@@ -1,8 +1,8 @@
 //! Facts of places, carried on along the paths from there.
 
 use crate::gathering::Gathering;
+use crate::naming::Naming;
 use candidate_lines::{Leaf, Sight};
-use form_names::Naming;
 use std::alloc::AllocError;
 
 /// How often all paths are gone along.

@@ -2,9 +2,9 @@
 
 use crate::courses::{Courses, steps_of};
 use crate::gathering::Gathering;
+use crate::naming::Naming;
 use crate::single_values::{Given, has_slot};
 use candidate_lines::{Leaf, Line, Sight, one_of, turns, variable};
-use form_names::Naming;
 use linear::{Form, Symbol};
 use std::alloc::AllocError;
 

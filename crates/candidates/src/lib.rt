@@ -1,17 +1,26 @@
-//! Section: Search. Promises nothing: what the walks of a kernel's places tell a search; stands on `form_names`.
+//! Section: Search. Promises nothing: what the walks of a kernel's places tell a search; stands on `candidate_lines`.
 //!
 //! The paths of a walk that takes each claim as shown tell what may hold at the places that they reach: values of variables there, what
 //! their tests say, what held where they begin, and how variables step from turn to turn.
+//!
+//! What is known at a path's end speaks of what stood where the path began. Where the variables' values at its end tell such a symbol, the
+//! same can be said of the place reached (`Naming`).
 #![tactic(auto)]
 
+mod aliases;
 mod carrying;
 mod courses;
 mod fact_lines;
 mod gathering;
 mod leaf_lines;
+mod names;
+mod naming;
+mod pairs;
+mod projection;
 mod shelf;
 mod single_values;
 mod stride_lines;
+mod sums;
 mod told;
 
 pub use fact_lines::fact_at;

@@ -4,10 +4,10 @@ use crate::carrying::carry;
 use crate::courses::Courses;
 use crate::gathering::Gathering;
 use crate::leaf_lines::tell_leaf;
+use crate::naming::Naming;
 use crate::single_values::{Given, given_values};
 use crate::stride_lines::{all_strides, tell_strides};
 use candidate_lines::{Candidate, Leaf, Sight};
-use form_names::Naming;
 use linear::Form;
 use std::alloc::{AllocError, Global};
 

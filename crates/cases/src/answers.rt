@@ -1,8 +1,7 @@
 // What a command line answers.
 
 use crate::faulty::{Sealed, Torn};
-use crate::meeting::meet;
-use crate::parts::{Part, answer_of_part, part_of};
+use crate::parts::{Part, part_of, push_part_of_files};
 use program::files::Files;
 use program::held::Held;
 use program::patience::End;
@@ -57,15 +56,17 @@ fn with_room<R: Threads + Wait + Clock + Sync>(
 }
 
 /// What a part of the program answers.
-fn of_part(
+fn of_part<R: Threads + Wait + Sync>(
+    rt: &R,
     alloc: Global,
     part: Part,
     names: &[String],
     held: &mut Held,
 ) -> Result<Answer, AllocError> {
-    let text = answer_of_part(alloc, part, names, held)?;
+    let mut text = String::new(alloc);
+    push_part_of_files(rt, alloc, &mut text, part, names, held)?;
     let mut answer = Answer::new(alloc);
-    answer.out.extend_from_slice(text.as_bytes())?;
+    answer.out = text.into_bytes();
     Ok(answer)
 }
 
@@ -75,14 +76,6 @@ fn behind(words: &[String]) -> &[String] {
         Some((_, others)) => others,
         None => words,
     }
-}
-
-/// What two workers answer that wait for each other.
-fn of_meeting<R: Threads + Wait + Sync>(rt: &R, alloc: Global) -> Result<Answer, AllocError> {
-    let mut answer = Answer::new(alloc);
-    let text = meet(rt, alloc)?;
-    answer.out.extend_from_slice(text.as_bytes())?;
-    Ok(answer)
 }
 
 /// Whether an end is heard of before it comes, from another thread, and behind it.
@@ -98,15 +91,15 @@ fn of_patience<R: Threads + Wait + Clock + Sync>(
         || end.comes_within(rt, Duration::from_secs(60)),
     );
     let late = end.comes_within(rt, Duration::from_secs(0));
-    let mut answer = Answer::new(alloc);
     let text = format!(in alloc; "early {early}, in time {came}, late {late}\n")?;
-    answer.out.extend_from_slice(text.as_bytes())?;
+    let mut answer = Answer::new(alloc);
+    answer.out = text.into_bytes();
     Ok(answer)
 }
 
 /// What a command line answers: the program's own; behind `torn NAME`, where the file of that name takes too much memory; behind `sealed`,
-/// where no file can be written; behind `narrow`, where no more than four bytes can be; `meeting`, of two workers; `patience`, of
-/// the wait for an end; or that of a part.
+/// where no file can be written; behind `narrow`, where no more than four bytes can be; `patience`, of the wait for an end; or that of a
+/// part.
 pub fn answer_of<R: Threads + Wait + Clock + Sync>(
     rt: &R,
     alloc: Global,
@@ -119,7 +112,7 @@ pub fn answer_of<R: Threads + Wait + Clock + Sync>(
     };
     let others = behind(words);
     if let Some(part) = part_of(verb) {
-        return of_part(alloc, part, others, held);
+        return of_part(rt, alloc, part, others, held);
     }
     match verb {
         "torn" => {
@@ -131,7 +124,6 @@ pub fn answer_of<R: Threads + Wait + Clock + Sync>(
         }
         "sealed" => Ok(of_program(rt, alloc, others, &mut Sealed { held })),
         "narrow" => Ok(with_room(rt, alloc, others, held)),
-        "meeting" => of_meeting(rt, alloc),
         "patience" => of_patience(rt, alloc),
         "kverify" => Ok(of_program(rt, alloc, others, held)),
         _ => Ok(of_program(rt, alloc, words, held)),

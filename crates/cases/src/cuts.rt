@@ -6,9 +6,8 @@
 // `FIRST LAST`. Facts are counted from 1 in each kernel.
 
 use cut_proof::Line;
-use cut_search::{Answer, Start};
+use cut_search::{Answer, Memory, Start};
 use linear::{Fact, Form, LinearError, Symbol};
-use proof_memory::Memory;
 use std::alloc::{AllocError, Global};
 use std::time::Instant;
 use std::{env, fs, io};

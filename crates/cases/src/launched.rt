@@ -2,8 +2,7 @@
 
 use launch::conditions::{Conditions, CountRange};
 use launch::launches::Launch;
-use launch_text::{read_conditions, read_launch, write_buffers};
-use reading::read_kernel;
+use launch_text::{read_conditions, write_buffers};
 use std::alloc::{AllocError, Global};
 use types::typed::Typed;
 use words::Word;
@@ -53,61 +52,54 @@ fn push_sums(out: &mut String, conditions: &Conditions) -> Result<(), AllocError
 }
 
 /// Each line's number, ranges, and how many summands a sum has.
-fn said(alloc: Global, conditions: &Conditions) -> Result<String, AllocError> {
-    let mut out = String::new(alloc);
+fn push_lines(out: &mut String, conditions: &Conditions) -> Result<(), AllocError> {
     write!(out, "{}: groups", conditions.groups_line)?;
-    push_range(&mut out, conditions.groups.x)?;
-    push_range(&mut out, conditions.groups.y)?;
-    push_range(&mut out, conditions.groups.z)?;
+    push_range(out, conditions.groups.x)?;
+    push_range(out, conditions.groups.y)?;
+    push_range(out, conditions.groups.z)?;
     out.push_str("\n")?;
-    push_arguments(&mut out, conditions)?;
-    push_sums(&mut out, conditions)?;
-    writeln!(out, "budget {}", conditions.budget)?;
-    Ok(out)
+    push_arguments(out, conditions)?;
+    push_sums(out, conditions)?;
+    writeln!(out, "budget {}", conditions.budget)
 }
 
-fn of_conditions(alloc: Global, typed: &Typed, text: &[u8]) -> Result<String, AllocError> {
+/// What conditions say of a kernel, or their refusal.
+pub fn push_conditions(
+    alloc: Global,
+    out: &mut String,
+    typed: &Typed,
+    text: &[u8],
+) -> Result<(), AllocError> {
     match read_conditions(alloc, typed, text) {
-        Ok(conditions) => said(alloc, &conditions),
-        Err(error) => format!(in alloc; "refused {error}\n"),
+        Ok(conditions) => push_lines(out, &conditions),
+        Err(error) => writeln!(out, "refused {error}"),
     }
 }
 
-/// What conditions say of a kernel, or the refusal of one of the texts.
-pub fn conditions(alloc: Global, kernel: &[u8], text: &[u8]) -> Result<String, AllocError> {
-    match read_kernel(alloc, kernel) {
-        Ok(typed) => of_conditions(alloc, &typed, text),
-        Err(error) => format!(in alloc; "refused {error}\n"),
-    }
+fn push_buffers(
+    alloc: Global,
+    out: &mut String,
+    typed: &Typed,
+    launch: &Launch,
+) -> Result<(), AllocError> {
+    let buffers = write_buffers(alloc, typed, &launch.buffers)?;
+    let buffers = String::from_utf8_lossy(alloc, &buffers)?;
+    out.push_str(&buffers)
 }
 
-/// Groups, arguments and the fill, then the buffers as they are written.
-fn told(alloc: Global, typed: &Typed, launch: &Launch) -> Result<String, AllocError> {
-    let mut out = String::new(alloc);
+/// Groups, arguments and the fill of a launch, then the buffers as they are written.
+pub fn push_launch(
+    alloc: Global,
+    out: &mut String,
+    typed: &Typed,
+    launch: &Launch,
+) -> Result<(), AllocError> {
     let groups = launch.groups;
     write!(out, "groups {} {} {}\nargs", groups.x, groups.y, groups.z)?;
     for argument in &launch.arguments {
         out.push_str(" ")?;
-        push_word(&mut out, *argument)?;
+        push_word(out, *argument)?;
     }
     write!(out, "\nfill {}\n", launch.fill)?;
-    let buffers = write_buffers(alloc, typed, &launch.buffers)?;
-    let buffers = String::from_utf8_lossy(alloc, &buffers)?;
-    out.push_str(&buffers)?;
-    Ok(out)
-}
-
-fn of_launch(alloc: Global, typed: &Typed, text: &[u8]) -> Result<String, AllocError> {
-    match read_launch(alloc, typed, text) {
-        Ok(launch) => told(alloc, typed, &launch),
-        Err(error) => format!(in alloc; "refused {error}\n"),
-    }
-}
-
-/// What a launch says of a kernel, or the refusal of one of the texts.
-pub fn launched(alloc: Global, kernel: &[u8], text: &[u8]) -> Result<String, AllocError> {
-    match read_kernel(alloc, kernel) {
-        Ok(typed) => of_launch(alloc, &typed, text),
-        Err(error) => format!(in alloc; "refused {error}\n"),
-    }
+    push_buffers(alloc, out, typed, launch)
 }

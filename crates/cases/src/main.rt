@@ -30,6 +30,7 @@ mod play;
 mod sheet;
 mod spots;
 
+use parts::{Asked, Part, push_part};
 use std::process::ExitCode;
 use std::sync::Wait;
 use std::thread::Threads;
@@ -72,16 +73,23 @@ fn run_files<R: Threads + Wait + Clock + Sync>(
 }
 
 /// Replays a schedule.
-fn replay(rt: &HostRuntime, names: &mut env::Args) -> io::Result<bool> {
+fn replay<R: Threads + Wait + Sync>(
+    handle: &R,
+    rt: &HostRuntime,
+    names: &mut env::Args,
+) -> io::Result<bool> {
     let kernel = text_of(rt, names.next())?;
     let launch = text_of(rt, names.next())?;
     let schedule = text_of(rt, names.next())?;
-    let text = play::play(
-        rt.alloc(),
-        kernel.as_bytes(),
-        launch.as_bytes(),
-        schedule.as_str(),
-    )?;
+    let mut text = String::new(rt.alloc());
+    let asked = Asked {
+        part: Part::Replay,
+        first: kernel.as_bytes(),
+        second: launch.as_bytes(),
+        third: schedule.as_bytes(),
+        number: None,
+    };
+    push_part(handle, rt.alloc(), &mut text, asked)?;
     print!(rt; "{text}")?;
     Ok(true)
 }
@@ -95,7 +103,7 @@ fn run_verb<R: Threads + Wait + Clock + Sync>(
 ) -> io::Result<bool> {
     match verb {
         "cases" => run_files(handle, rt, words),
-        "replay" => replay(rt, words),
+        "replay" => replay(handle, rt, words),
         "settle" => boards::run(handle, rt, words),
         "cuts" => cuts::run(rt, words),
         _ => Ok(verb == "then"),

@@ -7,24 +7,14 @@ ghost use Rattle.launch.specs.View.{launch as launch_seen};
 ghost use Rattle.work_item.specs.Proper.{is_proper};
 
 use group_workers::{Task, run_groups};
+use kernel_code::lower;
 use launch::launches::{Buffers, Launch};
-use launch_text::read_launch;
-use lower::lower;
-use proper_kernels::kernel::read_proper_kernel;
 use std::alloc::{AllocError, Global};
 use std::sync::Wait;
 use std::sync::atomic::{AtomicBool, AtomicU32, AtomicU64, Ordering};
 use std::thread::Threads;
 use types::typed::Typed;
 use words::{Gate, Moment, Word};
-
-/// Each group tells at its own element what it is, and all of them at element 64, which is the last group's.
-const KERNEL: &[u8] =
-    b"__kernel __attribute__((reqd_work_group_size(1, 1, 1))) void k(__global uint *a) {\n  \
-       uint group = get_group_id(0);\n  a[group] = 2u * group + 1u;\n  a[64] = group;\n}\n";
-
-/// 64 groups.
-const LAUNCH: &[u8] = b"launch 1\ngroups 64 1 1\nbuffer a fill 65 0\nfill 0\n";
 
 /// Notes numbers below 64, each of which may come once.
 #[derive(Drop)]
@@ -134,7 +124,7 @@ fn push_words(out: &mut String, buffers: &Buffers) -> Result<(), AllocError> {
     Ok(())
 }
 
-fn push_meeting(out: &mut String, gate: &Meeting) -> Result<(), AllocError> {
+fn push_told(out: &mut String, gate: &Meeting) -> Result<(), AllocError> {
     let ended = gate.ended.load(Ordering::SeqCst);
     writeln!(
         out,
@@ -145,19 +135,14 @@ fn push_meeting(out: &mut String, gate: &Meeting) -> Result<(), AllocError> {
     )
 }
 
-fn told(alloc: Global, gate: &Meeting, buffers: &Buffers) -> Result<String, AllocError> {
-    let mut out = String::new(alloc);
-    push_meeting(&mut out, gate)?;
-    push_words(&mut out, buffers)?;
-    Ok(out)
-}
-
-fn of_launch<R: Threads + Wait + Sync>(
+/// Runs the groups of a launch by two workers that meet; says what they told, and what they wrote to one buffer of 65 words.
+pub fn push_meeting<R: Threads + Wait + Sync>(
     rt: &R,
     alloc: Global,
+    out: &mut String,
     typed: &Typed,
     launch: &Launch,
-) -> Result<String, AllocError>
+) -> Result<(), AllocError>
     requires proper { is_proper (core_seen typed.now.1) ≡ true }
     requires fits { Fits (core_seen typed.now.1) (launch_seen launch.now) }
 {
@@ -171,26 +156,6 @@ fn of_launch<R: Threads + Wait + Sync>(
         budget: 100,
     };
     run_groups(rt, alloc, task, 2, &gate, &mut buffers)?;
-    told(alloc, &gate, &buffers)
-}
-
-fn of_typed<R: Threads + Wait + Sync>(
-    rt: &R,
-    alloc: Global,
-    typed: &Typed,
-) -> Result<String, AllocError>
-    requires { is_proper (core_seen typed.now.1) ≡ true }
-{
-    match read_launch(alloc, typed, LAUNCH) {
-        Ok(launch) => of_launch(rt, alloc, typed, &launch),
-        Err(_) => Err(AllocError),
-    }
-}
-
-/// Runs 64 groups by two workers that meet; says what they told, and what they wrote.
-pub fn meet<R: Threads + Wait + Sync>(rt: &R, alloc: Global) -> Result<String, AllocError> {
-    match read_proper_kernel(alloc, KERNEL) {
-        Ok(typed) => of_typed(rt, alloc, &typed),
-        Err(_) => Err(AllocError),
-    }
+    push_told(out, &gate)?;
+    push_words(out, &buffers)
 }

@@ -4,11 +4,10 @@ use certificate::Certificate;
 use core_code::tree::Statement;
 use loop_bounds::Bound;
 use place_names::notes_of;
-use place_notes::{Lines, Notes};
+use place_obligations::{Lines, Notes};
 use places::{Place, Point, places};
-use reading::read_kernel;
-use statement_sites::site_at;
 use std::alloc::{AllocError, Global};
+use syntax::site_at;
 use types::typed::Typed;
 
 fn number_of(statement: &Statement) -> u32 {
@@ -54,27 +53,11 @@ fn push_place(out: &mut String, place: &Place<'_>) -> Result<(), AllocError> {
     push_turns(out, &place.turns)
 }
 
-fn of_places(alloc: Global, places: &[Place<'_>]) -> Result<String, AllocError> {
-    let mut out = String::new(alloc);
+fn push_places(out: &mut String, places: &[Place<'_>]) -> Result<(), AllocError> {
     for place in places {
-        push_place(&mut out, place)?;
+        push_place(out, place)?;
     }
-    Ok(out)
-}
-
-fn of_typed(alloc: Global, typed: &Typed) -> Result<String, AllocError> {
-    match places(alloc, typed.core()) {
-        Ok(places) => of_places(alloc, places.as_slice()),
-        Err(error) => format!(in alloc; "refused {}\n", error.number()),
-    }
-}
-
-/// The places of a kernel, by the numbers of their barriers and loops, or its refusal.
-pub fn placed(alloc: Global, kernel: &[u8]) -> Result<String, AllocError> {
-    match read_kernel(alloc, kernel) {
-        Ok(typed) => of_typed(alloc, &typed),
-        Err(error) => format!(in alloc; "refused {error}\n"),
-    }
+    Ok(())
 }
 
 /// Its barrier and its loop, the slots that are alike, and the constant of each fact.
@@ -102,67 +85,61 @@ fn push_bound(out: &mut String, number: u32, bound: &Bound) -> Result<(), AllocE
     }
 }
 
-fn of_notes(alloc: Global, notes: &Notes) -> Result<String, AllocError> {
-    let mut out = String::new(alloc);
+fn push_notes(out: &mut String, notes: &Notes) -> Result<(), AllocError> {
     for lines in &notes.places {
-        push_lines(&mut out, lines)?;
+        push_lines(out, lines)?;
     }
     for ranking in &notes.rankings {
-        push_bound(&mut out, ranking.number, &ranking.bound)?;
+        push_bound(out, ranking.number, &ranking.bound)?;
     }
-    Ok(out)
+    Ok(())
 }
 
-fn with_places(
+fn push_named(
     alloc: Global,
+    out: &mut String,
     typed: &Typed,
     places: &[Place<'_>],
     certificate: &Certificate,
-) -> Result<String, AllocError> {
+) -> Result<(), AllocError> {
     match notes_of(alloc, typed, places, certificate) {
-        Ok(Some(notes)) => of_notes(alloc, &notes),
-        Ok(None) => format!(in alloc; "names what the kernel lacks\n"),
-        Err(error) => format!(in alloc; "refused {}\n", error.number()),
+        Ok(Some(notes)) => push_notes(out, &notes),
+        Ok(None) => out.push_str("names what the kernel lacks\n"),
+        Err(error) => writeln!(out, "refused {}", error.number()),
     }
 }
 
-fn with_certificate(
+fn push_said(
     alloc: Global,
+    out: &mut String,
     typed: &Typed,
-    certificate: &Certificate,
-) -> Result<String, AllocError> {
+    places: &[Place<'_>],
+    text: &[u8],
+) -> Result<(), AllocError> {
+    match certificate::read(alloc, text) {
+        Ok(certificate) => push_named(alloc, out, typed, places, &certificate),
+        Err(error) => writeln!(out, "refused {}", error.number()),
+    }
+}
+
+/// The places of a kernel, by the numbers of their barriers and loops, or what a certificate says of its places and loops.
+pub fn push_placed(
+    alloc: Global,
+    out: &mut String,
+    typed: &Typed,
+    certificate: Option<&[u8]>,
+) -> Result<(), AllocError> {
     match places(alloc, typed.core()) {
-        Ok(places) => with_places(alloc, typed, places.as_slice(), certificate),
-        Err(error) => format!(in alloc; "refused {}\n", error.number()),
-    }
-}
-
-fn with_text(alloc: Global, typed: &Typed, certificate: &[u8]) -> Result<String, AllocError> {
-    match certificate::read(alloc, certificate) {
-        Ok(certificate) => with_certificate(alloc, typed, &certificate),
-        Err(error) => format!(in alloc; "refused {}\n", error.number()),
-    }
-}
-
-/// What a certificate says of a kernel's places and loops, or the refusal of one of the texts.
-pub fn noted(alloc: Global, kernel: &[u8], certificate: &[u8]) -> Result<String, AllocError> {
-    match read_kernel(alloc, kernel) {
-        Ok(typed) => with_text(alloc, &typed, certificate),
-        Err(error) => format!(in alloc; "refused {error}\n"),
+        Ok(places) => match certificate {
+            Some(text) => push_said(alloc, out, typed, places.as_slice(), text),
+            None => push_places(out, places.as_slice()),
+        },
+        Err(error) => writeln!(out, "refused {}", error.number()),
     }
 }
 
 /// Where the statement of a number begins; the kernel, where there is no such statement.
-pub fn sited(alloc: Global, kernel: &[u8], number: Option<&String>) -> Result<String, AllocError> {
-    let number = match number {
-        Some(number) => number.as_str().parse::<u32>().ok(),
-        None => None,
-    };
-    match read_kernel(alloc, kernel) {
-        Ok(typed) => {
-            let site = site_at(typed.kernel(), number);
-            format!(in alloc; "{}:{}\n", site.line, site.column)
-        }
-        Err(error) => format!(in alloc; "refused {error}\n"),
-    }
+pub fn push_site(out: &mut String, typed: &Typed, number: Option<u32>) -> Result<(), AllocError> {
+    let site = site_at(typed.kernel(), number);
+    writeln!(out, "{}:{}", site.line, site.column)
 }

@@ -1,16 +1,29 @@
 // Parts of the program, each asked by a word.
 
-use crate::launched::{conditions, launched};
-use crate::noted::{noted, placed, sited};
-use crate::play::{play, replayed};
-use crate::spots::{counted, spots};
+ghost use Rattle.std.specs.Prelude.{◌≡◌, true};
+ghost use Rattle.semantics.specs.Launch.{Fits};
+ghost use Rattle.core_code.specs.View.{kernel as core_seen};
+ghost use Rattle.launch.specs.View.{launch as launch_seen};
+ghost use Rattle.work_item.specs.Proper.{is_proper};
+
+use crate::launched::{push_conditions, push_launch};
+use crate::meeting::push_meeting;
+use crate::noted::{push_placed, push_site};
+use crate::play::{push_found, push_played};
+use crate::spots::push_parsed;
 use certificate::error::CertError;
-use certificate::{read, write};
-use lexer::lex;
+use certificate::{Certificate, read, write};
+use launch::launches::Launch;
+use launch_text::read_launch;
+use lexer::{Token, lex};
 use program::files::Files;
 use program::held::Held;
+use shown_kernels::kernel::read_proper_kernel;
 use std::alloc::{AllocError, Global};
 use std::str::from_utf8;
+use std::sync::Wait;
+use std::thread::Threads;
+use types::typed::Typed;
 
 /// What is asked of texts.
 #[derive(Clone, Copy)]
@@ -37,6 +50,8 @@ pub enum Part {
     Confirm,
     /// `replay KERNEL LAUNCH SCHEDULE`: what a schedule does.
     Replay,
+    /// `meeting KERNEL LAUNCH`: what two workers do that wait for each other.
+    Meeting,
 }
 
 pub fn part_of(word: &str) -> Option<Part> {
@@ -52,8 +67,19 @@ pub fn part_of(word: &str) -> Option<Part> {
         "site" => Some(Part::Site),
         "confirm" => Some(Part::Confirm),
         "replay" => Some(Part::Replay),
+        "meeting" => Some(Part::Meeting),
         _ => None,
     }
+}
+
+/// A part, and the texts and the number that it is asked of.
+#[derive(Clone, Copy)]
+pub struct Asked<'a> {
+    pub part: Part,
+    pub first: &'a [u8],
+    pub second: &'a [u8],
+    pub third: &'a [u8],
+    pub number: Option<u32>,
 }
 
 /// The bytes of the n-th file; nothing where there is none.
@@ -72,89 +98,160 @@ fn bytes_of(
     }
 }
 
-/// `LINE:COLUMN KIND` of each token, or the fault.
-fn tokens(alloc: Global, text: &[u8]) -> Result<String, AllocError> {
-    let tokens = match lex(alloc, text) {
-        Ok(tokens) => tokens,
-        Err(error) => return format!(in alloc; "refused {error}\n"),
-    };
-    let mut out = String::new(alloc);
-    for token in tokens.as_slice() {
-        writeln!(out, "{}:{} {:?}", token.line, token.column, token.kind)?;
-    }
-    Ok(out)
+/// The number that the second word is, if it is one.
+fn number_of(names: &[String]) -> Option<u32> {
+    names.get(1)?.as_str().parse::<u32>().ok()
 }
 
-fn refused(alloc: Global, error: &CertError) -> Result<String, AllocError> {
-    match error.place() {
-        Some(line) => format!(in alloc; "refused {} {line}\n", error.number()),
-        None => format!(in alloc; "refused {}\n", error.number()),
+/// `LINE:COLUMN KIND` of each token.
+fn push_tokens(out: &mut String, tokens: &[Token<'_>]) -> Result<(), AllocError> {
+    for token in tokens {
+        writeln!(out, "{}:{} {:?}", token.line, token.column, token.kind)?;
     }
+    Ok(())
+}
+
+/// What the tokens of a text are, or its tree, or the fault.
+fn push_lexed(alloc: Global, out: &mut String, asked: Asked<'_>) -> Result<(), AllocError> {
+    match lex(alloc, asked.first) {
+        Ok(tokens) => match asked.part {
+            Part::Tokens => push_tokens(out, tokens.as_slice()),
+            Part::Tree => push_parsed(alloc, out, tokens.as_slice(), true),
+            _ => push_parsed(alloc, out, tokens.as_slice(), false),
+        },
+        Err(error) => writeln!(out, "refused {error}"),
+    }
+}
+
+fn push_refused(out: &mut String, error: &CertError) -> Result<(), AllocError> {
+    match error.place() {
+        Some(line) => writeln!(out, "refused {} {line}", error.number()),
+        None => writeln!(out, "refused {}", error.number()),
+    }
+}
+
+fn push_written(
+    alloc: Global,
+    out: &mut String,
+    certificate: &Certificate,
+) -> Result<(), AllocError> {
+    let bytes = write(alloc, certificate)?;
+    let text = String::from_utf8_lossy(alloc, &bytes)?;
+    out.push_str(&text)
 }
 
 /// A certificate, read and written back.
-fn written_back(alloc: Global, text: &[u8]) -> Result<String, AllocError> {
-    let certificate = match read(alloc, text) {
-        Ok(certificate) => certificate,
-        Err(error) => return refused(alloc, &error),
-    };
-    let text = write(alloc, &certificate)?;
-    String::from_utf8_lossy(alloc, &text)
-}
-
-/// What one text answers.
-fn of_one(alloc: Global, part: Part, text: &[u8]) -> Result<String, AllocError> {
-    match part {
-        Part::Tokens => tokens(alloc, text),
-        Part::Tree => counted(alloc, text),
-        Part::Spots => spots(alloc, text),
-        Part::Places => placed(alloc, text),
-        _ => written_back(alloc, text),
+fn push_certificate(alloc: Global, out: &mut String, text: &[u8]) -> Result<(), AllocError> {
+    match read(alloc, text) {
+        Ok(certificate) => push_written(alloc, out, &certificate),
+        Err(error) => push_refused(out, &error),
     }
 }
 
-/// What two texts answer.
-fn of_two(alloc: Global, part: Part, kernel: &[u8], text: &[u8]) -> Result<String, AllocError> {
-    match part {
-        Part::Conditions => conditions(alloc, kernel, text),
-        Part::Launch => launched(alloc, kernel, text),
-        Part::Notes => noted(alloc, kernel, text),
-        _ => replayed(alloc, kernel, text),
-    }
-}
-
-/// What three texts answer.
-fn of_three(
+/// What is asked of a launch.
+fn push_of_launch<R: Threads + Wait + Sync>(
+    rt: &R,
     alloc: Global,
-    kernel: &[u8],
-    launch: &[u8],
-    schedule: &[u8],
-) -> Result<String, AllocError> {
-    let schedule = from_utf8(schedule).unwrap_or("");
-    play(alloc, kernel, launch, schedule)
+    out: &mut String,
+    typed: &Typed,
+    launch: &Launch,
+    asked: Asked<'_>,
+) -> Result<(), AllocError>
+    requires proper { is_proper (core_seen typed.now.1) ≡ true }
+    requires fits { Fits (core_seen typed.now.1) (launch_seen launch.now) }
+{
+    match asked.part {
+        Part::Confirm => push_found(alloc, out, typed, launch),
+        Part::Replay => push_played(
+            alloc,
+            out,
+            typed,
+            launch,
+            from_utf8(asked.third).unwrap_or(""),
+        ),
+        Part::Meeting => push_meeting(rt, alloc, out, typed, launch),
+        _ => push_launch(alloc, out, typed, launch),
+    }
+}
+
+fn push_with_launch<R: Threads + Wait + Sync>(
+    rt: &R,
+    alloc: Global,
+    out: &mut String,
+    typed: &Typed,
+    asked: Asked<'_>,
+) -> Result<(), AllocError>
+    requires { is_proper (core_seen typed.now.1) ≡ true }
+{
+    match read_launch(alloc, typed, asked.second) {
+        Ok(launch) => push_of_launch(rt, alloc, out, typed, &launch, asked),
+        Err(error) => writeln!(out, "refused {error}"),
+    }
+}
+
+/// What is asked of a kernel.
+fn push_of_kernel<R: Threads + Wait + Sync>(
+    rt: &R,
+    alloc: Global,
+    out: &mut String,
+    typed: &Typed,
+    asked: Asked<'_>,
+) -> Result<(), AllocError>
+    requires { is_proper (core_seen typed.now.1) ≡ true }
+{
+    match asked.part {
+        Part::Conditions => push_conditions(alloc, out, typed, asked.second),
+        Part::Places => push_placed(alloc, out, typed, None),
+        Part::Notes => push_placed(alloc, out, typed, Some(asked.second)),
+        Part::Site => push_site(out, typed, asked.number),
+        _ => push_with_launch(rt, alloc, out, typed, asked),
+    }
+}
+
+fn push_with_kernel<R: Threads + Wait + Sync>(
+    rt: &R,
+    alloc: Global,
+    out: &mut String,
+    asked: Asked<'_>,
+) -> Result<(), AllocError> {
+    match read_proper_kernel(alloc, asked.first) {
+        Ok(typed) => push_of_kernel(rt, alloc, out, &typed, asked),
+        Err(error) => writeln!(out, "refused {error}"),
+    }
+}
+
+/// What a part answers, or the refusal of the first text that has a fault.
+pub fn push_part<R: Threads + Wait + Sync>(
+    rt: &R,
+    alloc: Global,
+    out: &mut String,
+    asked: Asked<'_>,
+) -> Result<(), AllocError> {
+    match asked.part {
+        Part::Tokens | Part::Tree | Part::Spots => push_lexed(alloc, out, asked),
+        Part::Certificate => push_certificate(alloc, out, asked.first),
+        _ => push_with_kernel(rt, alloc, out, asked),
+    }
 }
 
 /// What a part answers of the files of these names.
-pub fn answer_of_part(
+pub fn push_part_of_files<R: Threads + Wait + Sync>(
+    rt: &R,
     alloc: Global,
+    out: &mut String,
     part: Part,
     names: &[String],
     held: &mut Held,
-) -> Result<String, AllocError> {
+) -> Result<(), AllocError> {
     let first = bytes_of(alloc, names, 0, held)?;
-    match part {
-        Part::Tokens | Part::Tree | Part::Spots | Part::Certificate | Part::Places => {
-            of_one(alloc, part, &first)
-        }
-        Part::Site => sited(alloc, &first, names.get(1)),
-        Part::Replay => {
-            let second = bytes_of(alloc, names, 1, held)?;
-            let third = bytes_of(alloc, names, 2, held)?;
-            of_three(alloc, &first, &second, &third)
-        }
-        Part::Conditions | Part::Launch | Part::Notes | Part::Confirm => {
-            let second = bytes_of(alloc, names, 1, held)?;
-            of_two(alloc, part, &first, &second)
-        }
-    }
+    let second = bytes_of(alloc, names, 1, held)?;
+    let third = bytes_of(alloc, names, 2, held)?;
+    let asked = Asked {
+        part,
+        first: &first,
+        second: &second,
+        third: &third,
+        number: number_of(names),
+    };
+    push_part(rt, alloc, out, asked)
 }

@@ -10,9 +10,7 @@ ghost use Rattle.machine.specs.Worlds.{IsSound};
 use clashes::access::Access;
 use diagnostics::{confirm, line};
 use launch::launches::Launch;
-use launch_text::read_launch;
 use machine::world::{Applied, Event, World};
-use proper_kernels::kernel::read_proper_kernel;
 use std::alloc::{AllocError, Global};
 use types::typed::Typed;
 use words::Word;
@@ -211,72 +209,35 @@ fn push_end(out: &mut String, world: &World) -> Result<(), AllocError>
     push_divergence(out, world.divergence())
 }
 
-fn play_launch(
+/// What the events of a schedule did, and how it ended.
+pub fn push_played(
     alloc: Global,
+    out: &mut String,
     typed: &Typed,
     launch: &Launch,
     schedule: &str,
-) -> Result<String, AllocError>
+) -> Result<(), AllocError>
     requires proper { is_proper (core_seen typed.now.1) ≡ true }
     requires fits { Fits (core_seen typed.now.1) (launch_seen launch.now) }
 {
-    let mut out = String::new(alloc);
     let mut world = World::open(alloc, typed.core(), launch)?;
-    play_lines(&mut out, &mut world, schedule)?;
-    push_end(&mut out, &world)?;
-    Ok(out)
+    play_lines(out, &mut world, schedule)?;
+    push_end(out, &world)
 }
 
-fn play_typed(
+/// The line of what the replay of a launch finds, `none` where that is nothing.
+pub fn push_found(
     alloc: Global,
+    out: &mut String,
     typed: &Typed,
-    launch: &[u8],
-    schedule: &str,
-) -> Result<String, AllocError>
-    requires { is_proper (core_seen typed.now.1) ≡ true }
-{
-    match read_launch(alloc, typed, launch) {
-        Ok(launch) => play_launch(alloc, typed, &launch, schedule),
-        Err(error) => format!(in alloc; "refused {error}\n"),
-    }
-}
-
-/// What the events of a schedule did, and how it ended; or the refusal of the kernel's text or the launch's.
-pub fn play(
-    alloc: Global,
-    kernel: &[u8],
-    launch: &[u8],
-    schedule: &str,
-) -> Result<String, AllocError> {
-    match read_proper_kernel(alloc, kernel) {
-        Ok(typed) => play_typed(alloc, &typed, launch, schedule),
-        Err(error) => format!(in alloc; "refused {error}\n"),
-    }
-}
-
-fn found(alloc: Global, typed: &Typed, launch: &Launch) -> Result<String, AllocError>
+    launch: &Launch,
+) -> Result<(), AllocError>
     requires proper { is_proper (core_seen typed.now.1) ≡ true }
     requires fits { Fits (core_seen typed.now.1) (launch_seen launch.now) }
 {
-    match confirm(alloc, typed, launch)? {
-        Some(finding) => line(alloc, &finding),
-        None => format!(in alloc; "none\n"),
-    }
-}
-
-fn of_launch(alloc: Global, typed: &Typed, launch: &[u8]) -> Result<String, AllocError>
-    requires { is_proper (core_seen typed.now.1) ≡ true }
-{
-    match read_launch(alloc, typed, launch) {
-        Ok(launch) => found(alloc, typed, &launch),
-        Err(error) => format!(in alloc; "refused {error}\n"),
-    }
-}
-
-/// The line of what the replay of a launch finds, `none` where that is nothing, or the refusal of a text.
-pub fn replayed(alloc: Global, kernel: &[u8], launch: &[u8]) -> Result<String, AllocError> {
-    match read_proper_kernel(alloc, kernel) {
-        Ok(typed) => of_launch(alloc, &typed, launch),
-        Err(error) => format!(in alloc; "refused {error}\n"),
-    }
+    let Some(finding) = confirm(alloc, typed, launch)? else {
+        return out.push_str("none\n");
+    };
+    let line = line(alloc, &finding)?;
+    out.push_str(&line)
 }

@@ -1,7 +1,7 @@
 // Where the nodes of trees stand: of each statement its number and its site, then the sites of what it has, in the order of the source.
 
 use core_code::tree::Site;
-use lexer::lex;
+use lexer::Token;
 use parser::parse;
 use std::alloc::{AllocError, Global};
 use syntax::tree::{Assignment, Declaration, Expr, First, Stmt};
@@ -118,34 +118,19 @@ fn push_first(text: &mut String, first: &First) -> Result<(), AllocError> {
     }
 }
 
-/// What stands where in the body of a kernel.
-fn spots_of(alloc: Global, body: &[Stmt]) -> Result<String, AllocError> {
-    let mut out = String::new(alloc);
-    push_statements(&mut out, body)?;
-    out.push_str("\n")?;
-    Ok(out)
-}
-
-/// What stands where in the body of a kernel's tree, or the refusal of its text.
-pub fn spots(alloc: Global, text: &[u8]) -> Result<String, AllocError> {
-    let tokens = match lex(alloc, text) {
-        Ok(tokens) => tokens,
-        Err(error) => return format!(in alloc; "refused {error}\n"),
-    };
-    match parse(alloc, tokens.as_slice()) {
-        Ok(kernel) => spots_of(alloc, kernel.body.as_slice()),
-        Err(error) => format!(in alloc; "refused {error}\n"),
-    }
-}
-
-/// How many statements stand in the body of a kernel's tree, or the refusal of its text.
-pub fn counted(alloc: Global, text: &[u8]) -> Result<String, AllocError> {
-    let tokens = match lex(alloc, text) {
-        Ok(tokens) => tokens,
-        Err(error) => return format!(in alloc; "refused {error}\n"),
-    };
-    match parse(alloc, tokens.as_slice()) {
-        Ok(kernel) => format!(in alloc; "{}\n", kernel.body.len()),
-        Err(error) => format!(in alloc; "refused {error}\n"),
+/// What stands where in the body of the tree that tokens are, or how many statements stand there, or the refusal.
+pub fn push_parsed(
+    alloc: Global,
+    out: &mut String,
+    tokens: &[Token<'_>],
+    is_counted: bool,
+) -> Result<(), AllocError> {
+    match parse(alloc, tokens) {
+        Ok(kernel) if is_counted => writeln!(out, "{}", kernel.body.len()),
+        Ok(kernel) => {
+            push_statements(out, kernel.body.as_slice())?;
+            out.push_str("\n")
+        }
+        Err(error) => writeln!(out, "refused {error}"),
     }
 }

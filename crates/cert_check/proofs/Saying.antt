@@ -7,8 +7,8 @@ use Rattle.texts.specs.Certificate.{Certificate}
 use Rattle.texts.specs.Surface as surface
 use Rattle.arrivals.specs.Places.{Place, places}
 use Rattle.place_obligations.specs.Notes as notes
-use Rattle.place_notes.specs.View.{seen}
-use Rattle.place_notes.specs.declared.notes.Notes.{Notes}
+use Rattle.place_obligations.specs.View.{seen}
+use Rattle.place_obligations.specs.declared.notes.Notes.{Notes}
 use Rattle.place_names.specs.Noted.{noted}
 use Rattle.place_names.specs.Noting.{notes_by, Agrees}
 use Rattle.place_names.specs.NotesView as views

@@ -9,7 +9,7 @@ use Rattle.syntax.specs.View.{kernel as tree_seen}
 use Rattle.syntax.specs.declared.tree.Kernel.{Kernel}
 use Rattle.core_code.specs.View.{kernel as core_seen}
 use Rattle.core_code.specs.declared.tree.Core.{Core}
-use Rattle.launch_words.specs.Answers as answers
+use Rattle.launch_text.specs.Answers as answers
 use Rattle.entry_check.specs.declared.error.ShowError.{ShowError}
 use Rattle.entry_check.specs.declared.error.ShowError.TheVariants as shows
 use Rattle.cert_check.specs.Refusing.{AreRead, AreMet, Refuses, Shows}

@@ -11,7 +11,7 @@ use Rattle.syntax.specs.declared.tree.Kernel.{Kernel}
 use Rattle.core_code.specs.View.{kernel as core_seen, site as site_seen}
 use Rattle.core_code.specs.declared.tree.Core.{Core}
 use Rattle.certificate.specs.Certificates.{Says}
-use Rattle.launch_words.specs.declared.error.LaunchTextError.TheVariants as launches
+use Rattle.launch_text.specs.declared.error.LaunchTextError.TheVariants as launches
 use Rattle.arrivals.specs.Loops.{unmet}
 use Rattle.obligations.specs.Shown.{IsShown}
 use Rattle.place_obligations.specs.Notes.{Notes}
@@ -20,7 +20,7 @@ use Rattle.place_obligations.specs.Limits.{AreLimits}
 use Rattle.place_obligations.specs.Listing.{all_trees}
 use Rattle.place_obligations.specs.Shown.{obligations}
 use Rattle.place_paths.specs.Unfound.{IsFirstOfMany}
-use Rattle.statement_sites.specs.Sites.{site_at}
+use Rattle.syntax.specs.Sites.{site_at}
 use Rattle.plain_kernels.specs.Domains.{domain}
 use Rattle.entry_check.specs.Lacking.{PassesOf, steps_of, with_entries}
 use Rattle.entry_check.specs.declared.error.ShowError.{ShowError}

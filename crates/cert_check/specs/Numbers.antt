@@ -3,7 +3,7 @@ use Rattle.std.specs.Prelude.{ℕ, Option, Some, None}
 use Rattle.semantics.specs.Core.{Site}
 use Rattle.core_code.specs.View.{site as site_seen}
 use Rattle.reading.specs.Answers as reading
-use Rattle.launch_words.specs.Answers as conditions
+use Rattle.launch_text.specs.Answers as conditions
 use Rattle.certificate.specs.Answers as certificates
 use Rattle.entry_check.specs.declared.error.Place.{Place}
 use Rattle.entry_check.specs.declared.error.Place.TheVariants.{At, Number}

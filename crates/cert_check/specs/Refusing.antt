@@ -13,7 +13,7 @@ use Rattle.core_code.specs.declared.tree.Core.{Core}
 use Rattle.core_code.specs.declared.tree.Site.{Site}
 use Rattle.reading.specs.Kernels.{read}
 use Rattle.reading.specs.Answers as reading
-use Rattle.launch_words.specs.Answers as launches
+use Rattle.launch_text.specs.Answers as launches
 use Rattle.certificate.specs.Certificates.{Says}
 use Rattle.plain_kernels.specs.Domains.{domain}
 use Rattle.arrivals.specs.Loops.{unmet}
@@ -24,7 +24,7 @@ use Rattle.place_obligations.specs.Listing.{all_trees}
 use Rattle.place_names.specs.Noted.{Noted, noted}
 use Rattle.place_names.specs.Noting.{lacks, notes_by}
 use Rattle.place_paths.specs.Unfound.{IsFirstOfMany}
-use Rattle.statement_sites.specs.Sites.{site_at}
+use Rattle.syntax.specs.Sites.{site_at}
 use Rattle.entry_check.specs.Lacking.{PassesOf, TellsOf, with_entries}
 use Rattle.cert_check.specs.declared.accepted.Accepted.{Accepted}
 use Rattle.cert_check.specs.declared.error.CheckError.{CheckError}

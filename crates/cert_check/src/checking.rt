@@ -3,7 +3,7 @@
 ghost use Rattle.std.specs.Prelude.{◌≡◌, ℕ, List, true, Ok, IfOk, IfErr};
 ghost use Rattle.semantics.specs.Conditions as meaning;
 ghost use Rattle.launch.specs.View.{conditions as conditions_seen};
-ghost use Rattle.launch_words.specs.View.{lined};
+ghost use Rattle.launch_text.specs.View.{lined};
 ghost use Rattle.texts.specs.ConditionsReading.{conditions_of};
 ghost use Rattle.syntax.specs.View.{kernel as tree_seen};
 ghost use Rattle.core_code.specs.View.{kernel as core_seen};
@@ -20,9 +20,10 @@ ghost use Rattle.cert_check.specs.View.{typed_of, kept};
 use crate::accepted::Accepted;
 use crate::error::CheckError;
 use crate::showing::show;
-use congruence::Congruence;
+use domain::congruence::Congruence;
+use domain::interval::Interval;
+use domain::product::Product;
 use entry_check::ShowError;
-use interval::Interval;
 use launch::conditions::Conditions;
 use launch_text::error::LaunchTextError;
 use launch_text::read_conditions;
@@ -30,15 +31,14 @@ use places::{PlaceError, places};
 use plain_kernels::laws::{
     forms_of_plain_kernels_fit, plain_kernels_have_one_place, ranges_of_plain_kernels_are_settled,
 };
-use product::Product;
-use proper_kernels::laws::what_is_read_is_proper;
 use reading::laws::local_sizes_are_within_limits;
 use reading::read_kernel;
 use reduction::headline;
 use shown_kernels::laws::what_is_read_and_shown_is_pair_safe;
-use sound_kernels::laws::what_is_read_is_orderly;
-use statement_sites::site_at;
+use shown_kernels::proper::what_is_read_is_proper;
+use shown_kernels::sound::what_is_read_is_orderly;
 use std::alloc::Global;
+use syntax::site_at;
 use syntax::tree::Kernel;
 use types::typed::Typed;
 

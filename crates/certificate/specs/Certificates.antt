@@ -8,7 +8,7 @@ use Rattle.certificate.specs.declared.certificate.Certificate.{Certificate}
 use Rattle.certificate.specs.declared.error.CertError.{CertError}
 use Rattle.certificate.specs.declared.error.CertError.TheVariants as errors
 use Rattle.certificate.specs.Answers.{fault}
-use Rattle.certificate_parts.specs.Drafts as drafts
+use Rattle.certificate.specs.Drafts as drafts
 
 abbrev pub certificate : Certificate → certificates.Certificate
 certificate c = drafts.parts c.parts

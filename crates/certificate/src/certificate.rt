@@ -2,11 +2,11 @@
 
 ghost use Rattle.std.specs.Prelude.{◌≡◌, true};
 ghost use Rattle.texts.specs.CertificateRules.{is_certificate};
-ghost use Rattle.certificate_parts.specs.Drafts.{parts as parts_of};
+ghost use Rattle.certificate.specs.Drafts.{parts as parts_of};
 
-use certificate_parts::draft::Parts;
-use certificate_parts::rules::is_certificate as is_proper;
-use certificate_tree::tree::{Bound, Entry, Place};
+use crate::draft::Parts;
+use crate::rules::is_certificate as is_proper;
+use crate::tree::{Bound, Entry, Place};
 use std::alloc::{AllocError, Global};
 
 /// What is said of places, how loops end, and what shows each obligation: names and numbers that can be written, and
@@ -22,9 +22,9 @@ impl Certificate {
     ghost use Rattle.std.specs.Option.{option_map};
     ghost use Rattle.texts.specs.CertificateDrafts.{certificate as of_parts};
     ghost use Rattle.texts.specs.CertificateRules.{is_certificate};
-    ghost use Rattle.certificate_tree.specs.View as view;
+    ghost use Rattle.certificate.specs.View as view;
     ghost use Rattle.certificate.specs.Certificates.{certificate, proper};
-    ghost use Rattle.certificate_parts.specs.Drafts as drafts;
+    ghost use Rattle.certificate.specs.Drafts as drafts;
 
     pub(crate) fn of(parts: Parts) -> Certificate
         requires { is_certificate (drafts.parts parts) ≡ true }

@@ -8,19 +8,19 @@ ghost use Rattle.texts.specs.CertificateDrafts as drafting;
 ghost use Rattle.texts.specs.CertificateReading as reading;
 ghost use Rattle.texts.specs.CertificateRules.{is_certificate};
 ghost use Rattle.lines.specs.Left.{left};
-ghost use Rattle.certificate_words.specs.Answers.{Means};
+ghost use Rattle.certificate.specs.WordAnswers.{Means};
 ghost use Rattle.certificate.specs.Answers.{fault};
-ghost use Rattle.certificate_parts.specs.Drafts as drafts;
+ghost use Rattle.certificate.specs.Drafts as drafts;
 ghost use Rattle.certificate.specs.Certificates.{Says};
 ghost use Rattle.certificate.specs.declared.error.CertError.TheVariants.{Refused};
 ghost use Rattle.certificate.specs.declared.error.CertFault.TheVariants.{BadLine};
 
 use crate::certificate::Certificate;
+use crate::draft::{Draft, Open, Parts, add};
 use crate::error::{CertError, CertFault};
-use certificate_parts::draft::{Draft, Open, Parts, add};
-use certificate_parts::item::read_item;
-use certificate_words::error::LineError;
-use certificate_words::word::{integer, is};
+use crate::item::read_item;
+use crate::line_error::LineError;
+use crate::word::{integer, is};
 use lines::pieces::Pieces;
 use std::alloc::Global;
 

@@ -5,11 +5,11 @@ ghost use Rattle.texts.specs.CertificateText as text;
 ghost use Rattle.certificate.specs.Certificates.{certificate};
 
 use crate::certificate::Certificate;
-use certificate_parts::writer::{push_bounds, push_entries, push_places};
+use crate::part_writer::{push_bounds, push_entries, push_places};
 use std::alloc::{AllocError, Global};
 
 /// The text of a certificate.
-#[tactic(auto, using(certificate_parts::proofs::Texts::whole))]
+#[tactic(auto, using(crate::proofs::Texts::whole))]
 pub fn write(alloc: Global, from: &Certificate) -> Result<Vec<u8>, AllocError>
     ensures { IfOk result (λ v. v.items ≡ text.text_of (certificate from.now)) }
 {

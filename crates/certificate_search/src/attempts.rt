@@ -2,16 +2,18 @@
 
 use crate::error::SearchError;
 use crate::hoping::{Hoped, hope, unlimited};
+use crate::joining::{Assembled, Plan, assemble};
+use crate::limits::least_limits;
+use crate::missing::Missing;
+use crate::needed::needed_only;
 use crate::picking::{picked, unrefuted};
-use assembling::{Assembled, Missing, Plan, assemble, least_limits, needed_only};
 use candidate_lines::{Candidate, Ranking};
 use candidates::guess_told;
 use certificate::Certificate;
-use certificate_making::Names;
-use guess_walk::{Subject, certificate_of};
+use cut_search::Memory;
+use guess_walk::{Names, Subject, certificate_of};
 use kernel_guesses::guess_plainly;
 use place_paths::FindError;
-use proof_memory::Memory;
 use solo_runs::{Observed, observe, told_by_runs};
 use std::alloc::{AllocError, Global};
 use std::thread::Threads;
@@ -152,7 +154,7 @@ fn settled<R: Threads + Sync>(
 ) -> Result<Attempt, SearchError> {
     let most = unlimited(alloc, rankings)?;
     let sights = hoped.sights.as_slice();
-    let stands = settling::settle(
+    let stands = crate::rounds::settle(
         rt,
         alloc,
         matter.subject,

@@ -1,8 +1,8 @@
 //! Why there is no certificate.
 
-use assembling::Missing;
+use crate::missing::Missing;
+use crate::rounds::SettlingError;
 use place_paths::FindError;
-use settling::SettlingError;
 use std::alloc::AllocError;
 
 /// Something stays unshown in the best attempt, or guesses have no text, or the walk of a kernel's places comes to no end that can be

@@ -1,16 +1,15 @@
 //! A hopeful walk, and what it tells.
 
-use assembling::UNLIMITED;
+use crate::limits::UNLIMITED;
 use candidate_lines::{Leaf, Ranking, Sight, copied};
-use certificate_making::Names;
+use cut_search::Memory;
 use facts::copy_all;
 use guess_walk::{
-    Begun, Resolved, Subject, Trust, Walked, begun_of, certificate_of, leaves_of, resolve,
+    Begun, Names, Resolved, Subject, Trust, Walked, begun_of, certificate_of, leaves_of, resolve,
     sights_of,
 };
 use linear::Form;
 use place_paths::FindError;
-use proof_memory::Memory;
 use std::alloc::{AllocError, Global};
 use words::Kind;
 

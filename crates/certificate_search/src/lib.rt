@@ -1,16 +1,28 @@
-//! Section: Search. Promises nothing: a certificate for a kernel under conditions, searched; stands on `candidates`, `solo_runs`, `settling`
-//! and `assembling`.
+//! Section: Search. Promises nothing: a certificate for a kernel under conditions, searched; stands on `candidates`, `kernel_guesses`,
+//! `solo_runs`, `guess_walk` and `houdini`.
 //!
-//! Guesses that the walks of the kernel tell are filtered by short runs, settled, and put together to a certificate. Where something stays
-//! unshown, another ranking of its loop is tried, then more guesses. Whether it is a certificate is the check's to say.
+//! Guesses that the walks of the kernel tell are filtered by short runs, settled, and put together to a certificate. To settle them, each
+//! round walks the kernel with the guesses that are left, asks the search once for each obligation of each of them, and settles the board
+//! of what rests on what, until nothing falls. Where something stays unshown, another ranking of its loop is tried, then more guesses.
+//! Whether it is a certificate is the check's to say.
 #![tactic(auto)]
 
 mod attempts;
+mod demands;
+mod entries;
 mod error;
 mod hoping;
+mod joining;
+mod limits;
+mod missing;
+mod needed;
 mod picking;
 mod ranked;
+mod rounds;
 mod searching;
+mod table;
+mod used;
 
 pub use error::SearchError;
+pub use missing::{Mark, Missing};
 pub use searching::search;

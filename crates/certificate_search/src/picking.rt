@@ -1,7 +1,7 @@
 //! Which guesses are settled: at most 512.
 
 use candidate_lines::{Candidate, Line};
-use certificate_making::may_be_said;
+use guess_walk::may_be_said;
 use linear::Form;
 use solo_runs::Observed;
 use std::alloc::{AllocError, Global};

@@ -3,14 +3,13 @@
 use crate::attempts::{Attempt, Matter, try_guesses};
 use crate::error::SearchError;
 use crate::hoping::hope;
+use crate::missing::Missing;
 use crate::ranked::{advance, all_unrefuted, chosen, is_hopeless};
-use assembling::Missing;
 use candidates::guess_told;
 use certificate::Certificate;
-use certificate_making::{Names, names_of};
-use guess_walk::Subject;
+use cut_search::Memory;
+use guess_walk::{Names, Subject, names_of};
 use kernel_guesses::{Options, guess_rankings};
-use proof_memory::Memory;
 use solo_runs::observe;
 use std::alloc::Global;
 use std::thread::Threads;

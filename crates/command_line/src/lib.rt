@@ -67,52 +67,63 @@ fn decimal(text: &str) -> Option<u32> {
     text.parse::<u32>().ok()
 }
 
+/// The words of a command: its name, its files, of which the first ones have to be there, and its options.
+#[derive(Clone, Copy)]
+struct Form<'a> {
+    name: &'a str,
+    files: &'a [&'a str],
+    needed: usize,
+    options: &'a [&'a str],
+}
+
+/// The form of a command.
+fn form_of(command: Option<&str>) -> Option<Form<'static>> {
+    let (name, files, needed, options): (_, &[&str], _, &[&str]) = match command? {
+        "check" => ("check", &["KERNEL", "CONDITIONS", "CERTIFICATE"], 3, &[]),
+        "run" => (
+            "run",
+            &["KERNEL", "CONDITIONS", "CERTIFICATE", "LAUNCH"],
+            4,
+            &["workers"],
+        ),
+        "prove" => ("prove", &["KERNEL", "CONDITIONS"], 2, &["workers", "out"]),
+        "explain" => ("explain", &["KERNEL", "CONDITIONS", "CERTIFICATE"], 2, &[]),
+        "print" => ("print", &["KERNEL"], 1, &[]),
+        _ => return None,
+    };
+    Some(Form {
+        name,
+        files,
+        needed,
+        options,
+    })
+}
+
 /// An option is written as two words, and there are just these.
 fn is_spelled(words: &[String], options: &[&str]) -> bool {
-    words.iter().all(|word| !word.as_str().starts_with("--") || is_among(word.as_str(), options))
+    words.iter().all(|word| is_known(word.as_str(), options))
 }
 
-fn is_among(word: &str, options: &[&str]) -> bool {
-    options.iter().any(|option| *option == word)
+/// Whether a word is no option or one of these.
+fn is_known(word: &str, options: &[&str]) -> bool {
+    match word.strip_prefix("--") {
+        Some(name) => options.iter().any(|option| *option == name),
+        None => true,
+    }
 }
 
-/// A command with the files of a kernel and its conditions.
-fn with_texts<'a>(alloc: Global, name: &'a str) -> Result<Command<'a>, AllocError> {
-    let command = Command::new(alloc, name).arg(file(alloc, "KERNEL"))?;
-    command.arg(file(alloc, "CONDITIONS"))
-}
-
-/// So with the file of a certificate.
-fn with_names<'a>(alloc: Global, name: &'a str) -> Result<Command<'a>, AllocError> {
-    with_texts(alloc, name)?.arg(file(alloc, "CERTIFICATE"))
-}
-
-/// A file's name, which has to be there.
-fn file<'a>(alloc: Global, name: &'a str) -> Arg<'a> {
-    Arg::new(alloc, name).required(true).action(ArgAction::Set)
-}
-
-/// An option, a word behind it.
-fn option<'a>(alloc: Global, name: &'a str) -> Arg<'a> {
-    Arg::new(alloc, name).long(name).action(ArgAction::Set)
-}
-
-/// `run`, with a launch and a number of workers.
-fn run_command<'a>(alloc: Global) -> Result<Command<'a>, AllocError> {
-    let command = with_names(alloc, "run")?.arg(file(alloc, "LAUNCH"))?;
-    command.arg(option(alloc, "workers"))
-}
-
-/// `prove`, with a number of workers and a file for what is found.
-fn prove_command<'a>(alloc: Global) -> Result<Command<'a>, AllocError> {
-    let command = with_texts(alloc, "prove")?.arg(option(alloc, "workers"))?;
-    command.arg(option(alloc, "out"))
-}
-
-/// `explain`, with the file of a certificate or without.
-fn explain_command<'a>(alloc: Global) -> Result<Command<'a>, AllocError> {
-    let certificate = Arg::new(alloc, "CERTIFICATE").action(ArgAction::Set);
-    with_texts(alloc, "explain")?.arg(certificate)
+/// The command of this form.
+fn command_of<'a>(alloc: Global, form: Form<'a>) -> Result<Command<'a>, AllocError> {
+    let mut command = Command::new(alloc, form.name);
+    for (at, name) in form.files.iter().enumerate() {
+        let file = Arg::new(alloc, name).required(at < form.needed);
+        command = command.arg(file.action(ArgAction::Set))?;
+    }
+    for name in form.options {
+        let option = Arg::new(alloc, name).long(name);
+        command = command.arg(option.action(ArgAction::Set))?;
+    }
+    Ok(command)
 }
 
 /// The n-th word that is neither an option nor the word behind one, from 0.
@@ -161,25 +172,28 @@ fn names_of<'a>(words: &'a [String]) -> Option<Names<'a>>
 }
 
 /// Want of memory is told apart from words that are no command line.
-fn unread<'a>(error: &Error) -> Result<Line<'a>, AllocError>
-    ensures { (ws : List (List ℕ)) → IfOk result (λ line. Asks ws line) }
-{
+fn unread(error: &Error) -> Result<Option<u32>, AllocError> {
     if error.kind() == ErrorKind::OutOfMemory {
         return Err(AllocError);
     }
-    Ok(Line::Usage)
+    Ok(None)
 }
 
-/// `check`, where the words are such a line.
-fn check_line<'a>(alloc: Global, words: &'a [String]) -> Result<Line<'a>, AllocError>
-    requires { HasWord (texts words.now) 0 (codes "check") }
-    ensures { IfOk result (λ line. Asks (texts words.now) line) }
-{
-    if !is_spelled(words, &[]) {
-        return Ok(Line::Usage);
+/// The number of workers, 1 where there is no option; none where it is no number.
+fn workers_of(matches: &ArgMatches<'_>) -> Option<u32> {
+    match matches.get_str("workers") {
+        Some(text) => decimal(text),
+        None => Some(1),
     }
-    match with_names(alloc, "check")?.try_get_matches_from(words) {
-        Ok(_) => Ok(check_of(words)),
+}
+
+/// The number of workers where the words are of this form, and none where they are not.
+fn workers_in(alloc: Global, form: Form<'_>, words: &[String]) -> Result<Option<u32>, AllocError> {
+    if !is_spelled(words, form.options) {
+        return Ok(None);
+    }
+    match command_of(alloc, form)?.try_get_matches_from(words) {
+        Ok(matches) => Ok(workers_of(&matches)),
         Err(error) => unread(&error),
     }
 }
@@ -195,21 +209,12 @@ fn check_of<'a>(words: &'a [String]) -> Line<'a>
     }
 }
 
-/// The number of workers, 1 where there is no option; none where it is no number.
-fn workers_of(matches: &ArgMatches<'_>) -> Option<u32> {
-    match matches.get_str("workers") {
-        Some(text) => decimal(text),
-        None => Some(1),
-    }
-}
-
 /// What `run` is asked for.
-fn run_of<'a>(words: &'a [String], workers: Option<u32>) -> Line<'a>
+fn run_of<'a>(words: &'a [String], workers: u32) -> Line<'a>
     requires { HasWord (texts words.now) 0 (codes "run") }
     ensures { Asks (texts words.now) result }
 {
-    let (Some(names), Some(launch), Some(workers)) = (names_of(words), operand(words, 4), workers)
-    else {
+    let (Some(names), Some(launch)) = (names_of(words), operand(words, 4)) else {
         return Line::Usage;
     };
     Line::Run {
@@ -219,30 +224,12 @@ fn run_of<'a>(words: &'a [String], workers: Option<u32>) -> Line<'a>
     }
 }
 
-/// `run`, where the words are such a line.
-fn run_line<'a>(alloc: Global, words: &'a [String]) -> Result<Line<'a>, AllocError>
-    requires { HasWord (texts words.now) 0 (codes "run") }
-    ensures { IfOk result (λ line. Asks (texts words.now) line) }
-{
-    if !is_spelled(words, &["--workers"]) {
-        return Ok(Line::Usage);
-    }
-    match run_command(alloc)?.try_get_matches_from(words) {
-        Ok(matches) => Ok(run_of(words, workers_of(&matches))),
-        Err(error) => unread(&error),
-    }
-}
-
 /// What `prove` is asked for.
-fn prove_of<'a>(words: &'a [String], workers: Option<u32>) -> Line<'a>
+fn prove_of<'a>(words: &'a [String], workers: u32) -> Line<'a>
     requires { HasWord (texts words.now) 0 (codes "prove") }
     ensures { Asks (texts words.now) result }
 {
-    let (Some(kernel), Some(conditions), Some(workers)) = (
-        operand(words, 1),
-        operand(words, 2),
-        workers,
-    ) else {
+    let (Some(kernel), Some(conditions)) = (operand(words, 1), operand(words, 2)) else {
         return Line::Usage;
     };
     Line::Prove(Search {
@@ -251,20 +238,6 @@ fn prove_of<'a>(words: &'a [String], workers: Option<u32>) -> Line<'a>
         out: out_of(words),
         workers,
     })
-}
-
-/// `prove`, where the words are such a line.
-fn prove_line<'a>(alloc: Global, words: &'a [String]) -> Result<Line<'a>, AllocError>
-    requires { HasWord (texts words.now) 0 (codes "prove") }
-    ensures { IfOk result (λ line. Asks (texts words.now) line) }
-{
-    if !is_spelled(words, &["--workers", "--out"]) {
-        return Ok(Line::Usage);
-    }
-    match prove_command(alloc)?.try_get_matches_from(words) {
-        Ok(matches) => Ok(prove_of(words, workers_of(&matches))),
-        Err(error) => unread(&error),
-    }
 }
 
 /// The kernel, the conditions and the certificate that the words name, if they name one.
@@ -289,20 +262,6 @@ fn explain_of<'a>(words: &'a [String]) -> Line<'a>
     }
 }
 
-/// `explain`, where the words are such a line.
-fn explain_line<'a>(alloc: Global, words: &'a [String]) -> Result<Line<'a>, AllocError>
-    requires { HasWord (texts words.now) 0 (codes "explain") }
-    ensures { IfOk result (λ line. Asks (texts words.now) line) }
-{
-    if !is_spelled(words, &[]) {
-        return Ok(Line::Usage);
-    }
-    match explain_command(alloc)?.try_get_matches_from(words) {
-        Ok(_) => Ok(explain_of(words)),
-        Err(error) => unread(&error),
-    }
-}
-
 /// What `print` is asked for.
 fn print_of<'a>(words: &'a [String]) -> Line<'a>
     requires { HasWord (texts words.now) 0 (codes "print") }
@@ -314,18 +273,17 @@ fn print_of<'a>(words: &'a [String]) -> Line<'a>
     }
 }
 
-/// `print`, where the words are such a line.
-fn print_line<'a>(alloc: Global, words: &'a [String]) -> Result<Line<'a>, AllocError>
-    requires { HasWord (texts words.now) 0 (codes "print") }
-    ensures { IfOk result (λ line. Asks (texts words.now) line) }
+/// What the words ask for, by their command.
+fn asked<'a>(words: &'a [String], workers: u32) -> Line<'a>
+    ensures { Asks (texts words.now) result }
 {
-    if !is_spelled(words, &[]) {
-        return Ok(Line::Usage);
-    }
-    let command = Command::new(alloc, "print").arg(file(alloc, "KERNEL"))?;
-    match command.try_get_matches_from(words) {
-        Ok(_) => Ok(print_of(words)),
-        Err(error) => unread(&error),
+    match operand(words, 0) {
+        Some(command) if command == "check" => check_of(words),
+        Some(command) if command == "run" => run_of(words, workers),
+        Some(command) if command == "prove" => prove_of(words, workers),
+        Some(command) if command == "explain" => explain_of(words),
+        Some(command) if command == "print" => print_of(words),
+        _ => Line::Usage,
     }
 }
 
@@ -336,12 +294,11 @@ pub fn read_line<'a>(alloc: Global, words: &'a [String]) -> Result<Line<'a>, All
     if words.is_empty() {
         return Ok(Line::First);
     }
-    match operand(words, 0) {
-        Some(command) if command == "check" => check_line(alloc, words),
-        Some(command) if command == "run" => run_line(alloc, words),
-        Some(command) if command == "prove" => prove_line(alloc, words),
-        Some(command) if command == "explain" => explain_line(alloc, words),
-        Some(command) if command == "print" => print_line(alloc, words),
-        _ => Ok(Line::Usage),
+    let Some(form) = form_of(operand(words, 0)) else {
+        return Ok(Line::Usage);
+    };
+    match workers_in(alloc, form, words)? {
+        Some(workers) => Ok(asked(words, workers)),
+        None => Ok(Line::Usage),
     }
 }

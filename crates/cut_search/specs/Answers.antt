@@ -5,8 +5,8 @@ use Rattle.semantics.specs.Linear.{Form, IsMet, IsImpossible}
 use Rattle.linear.specs.declared.term.Symbol.{Symbol}
 use Rattle.cut_proof.specs.Derivations.{refutes_of}
 use Rattle.cut_proof.specs.View.{line}
-use Rattle.cutting_planes.specs.declared.answer.Answer.{Answer}
-use Rattle.cutting_planes.specs.declared.answer.Answer.TheVariants.{Proof, Model, Undecided}
+use Rattle.cut_search.specs.declared.answer.Answer.{Answer}
+use Rattle.cut_search.specs.declared.answer.Answer.TheVariants.{Proof, Model, Undecided}
 
 -- the value of a symbol at a point, 0 where it has none
 abbrev pub value_at : List (Symbol × ℤ) → ℕ → ℤ

@@ -1,11 +1,34 @@
-//! Section: Search. Promises derivations that refute, and points that meet the facts; stands on `cut_proof`, `cutting_planes`.
+//! Section: Search. Promises derivations that refute, and points that meet the facts; stands on `cut_proof`.
 //!
-//! Searches for a derivation that refutes linear facts, or for whole numbers that meet them all. Nothing believes what
-//! `cutting_planes` finds: a derivation is asked of `refutes`, and a point tried on each fact.
+//! Searches for a derivation that refutes linear facts, or for whole numbers that meet them all. Nothing believes what is found: a
+//! derivation is asked of `refutes`, and a point tried on each fact.
+//!
+//! The exact simplex method finds a sum of facts that is below 0, or a point of fractions that meets them; cuts (Gomory 1958) then part
+//! that point from the whole ones, and bounds on single symbols seek a whole one near it. It ends by counts of its steps, so one list has
+//! one answer. A tableau has rows of whole numbers over one denominator, with entries where they are not 0, and keeps what each slack, a
+//! fact or a cut that is at least 0, and each symbol is over the variables that have no row. A step lets one of those in for a slack that
+//! is below 0. A number that leaves `i64` ends the search.
 #![tactic(auto)]
 
+mod answer;
+mod cuts;
+mod deciding;
+mod dive;
+mod divisions;
+mod equalities;
+mod found;
+mod hashes;
+mod memory;
+mod numbers;
 mod point;
+mod row;
 mod searching;
+mod stop;
+mod tableau;
+mod whole;
+mod writing;
 
-pub use cutting_planes::{Answer, Point};
+pub use answer::{Answer, Point};
+pub use divisions::quotients;
+pub use memory::Memory;
 pub use searching::{Start, find, search};

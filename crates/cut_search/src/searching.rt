@@ -7,10 +7,11 @@ ghost use Rattle.cut_proof.specs.Derivations.{refutes_of};
 ghost use Rattle.cut_search.specs.Answers.{IsAnswer};
 
 use super::point::meets;
+use crate::answer::{Answer, Point};
+use crate::deciding::{Prepared, decide_orderly};
+use crate::stop::Stop;
 use cut_proof::{Derivation, refutes};
-use cutting_planes::{Answer, Point, Prepared, decide_orderly};
 use linear::Fact;
-use simplex::Stop;
 use std::alloc::{AllocError, Global};
 
 /// Facts that several lists begin with, taken in and solved. It is as large as those facts.

@@ -10,13 +10,13 @@ use Rattle.machine.specs.Worlds.{setup, world, event, IsSound, Answers}
 use Rattle.machine.specs.declared.world.World.{World}
 use Rattle.machine.specs.declared.world.Event.{Event}
 use Rattle.machine.specs.declared.world.Applied.{Applied}
-use Rattle.replay.specs.Possible.{was_possible}
-use Rattle.replay.proofs.Runs.{run_more, happened, not_possible}
+use Rattle.diagnostics.specs.Possible.{was_possible}
+use Rattle.diagnostics.proofs.ReplayRuns.{run_more, happened, not_possible}
 use Rattle.diagnostics.specs.Confirming.{IsConfirmed}
 use Rattle.diagnostics.specs.Replays.{IsAfter, finding_of}
-use Rattle.sightings.specs.Visits.{IsSighting}
-use Rattle.sightings.specs.declared.sighting.Sighting.{Sighting}
-use Rattle.sightings.specs.declared.sighting.Sighting.TheVariants as variants
+use Rattle.findings.specs.Visits.{IsSighting}
+use Rattle.findings.specs.declared.sighting.Sighting.{Sighting}
+use Rattle.findings.specs.declared.sighting.Sighting.TheVariants as variants
 
 pub one_more : (w u : World) (events : List Event) (e : Event) (a : Applied) → IsAfter w events → IsSound u → setup u ≡ setup w → was_possible a ≡ true → Answers (setup w) (event e) (world w) (world u) a → IsAfter u (events ++ e ∷ [])
 one_more w u events e a h sound same p answer =

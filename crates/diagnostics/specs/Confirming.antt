@@ -5,7 +5,7 @@ use Rattle.semantics.specs.Setup.{Setup}
 use Rattle.semantics.specs.World.{World, Event, opening_world, run}
 use Rattle.texts.specs.Surface.{Kernel}
 use Rattle.findings.specs.Findings.{Finding}
-use Rattle.sightings.specs.Showing.{Shows}
+use Rattle.findings.specs.Showing.{Shows}
 
 abbrev pub IsShownBy : Setup → Kernel → Finding → Option (List Event) → Type 0
 IsShownBy s k f None = ⊥

@@ -1,2 +1,3 @@
 pub mod Confirming
+pub mod Possible
 pub mod Replays

@@ -7,9 +7,9 @@ use Rattle.machine.specs.declared.world.World.{World}
 use Rattle.machine.specs.declared.world.Event.{Event}
 use Rattle.findings.specs.Findings as findings
 use Rattle.findings.specs.View.{spot, work_item}
-use Rattle.sightings.specs.Visits.{spots_of, items_of}
-use Rattle.sightings.specs.declared.sighting.Sighting.{Sighting}
-use Rattle.sightings.specs.declared.sighting.Sighting.TheVariants as variants
+use Rattle.findings.specs.Visits.{spots_of, items_of}
+use Rattle.findings.specs.declared.sighting.Sighting.{Sighting}
+use Rattle.findings.specs.declared.sighting.Sighting.TheVariants as variants
 
 -- the finding that says it, with this schedule
 abbrev pub finding_of : Sighting → List Event → findings.Finding

@@ -1,1 +1,12 @@
+pub mod Both
+pub mod Ends
+pub mod IntervalMembers
+pub mod Laws
 pub mod Members
+pub mod Multiples
+pub mod Products
+pub mod Quotients
+pub mod Remainders
+pub mod ResidueQuotients
+pub mod Residues
+pub mod Sums

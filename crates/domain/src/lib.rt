@@ -1,4 +1,4 @@
-//! Section: Facts and domains. Promises the laws of an abstract domain, as a trait; stands on nothing.
+//! Section: Facts and domains. Promises the laws of an abstract domain, as a trait, and lawful domains; stands on `semantics`.
 //!
 //! Abstract domains: an element stands for a set of whole numbers, and an operation on elements holds
 //! every value that the operation on numbers gives at members (Cousot and Cousot 1977).
@@ -11,6 +11,10 @@ ghost use Rattle.std.specs.Int.RustNames.{int_div, int_rem, bit_and};
 ghost use Rattle.domain.specs.declared.Bounds.{Bounds};
 ghost use Rattle.domain.specs.declared.Residue.{Residue};
 ghost use Rattle.domain.specs.Members.{is_within, leaves};
+
+pub mod congruence;
+pub mod interval;
+pub mod product;
 
 /// The ends of a set; `None` is open.
 #[derive(Clone, Copy, Debug, PartialEq, Eq)]

@@ -8,8 +8,8 @@ use Rattle.domain.specs.declared.Domain.{Ghosts}
 use Rattle.texts.specs.Certificate.{Entry}
 use Rattle.facts.specs.declared.error.WalkError.{WalkError}
 use Rattle.facts.specs.declared.error.WalkError.TheVariants as walks
-use Rattle.place_notes.specs.View.{seen}
-use Rattle.place_notes.specs.declared.notes.Notes as code
+use Rattle.place_obligations.specs.View.{seen}
+use Rattle.place_obligations.specs.declared.notes.Notes as code
 use Rattle.place_obligations.specs.Notes.{Notes}
 use Rattle.place_obligations.specs.Listing.{all_trees}
 use Rattle.place_obligations.specs.Fitting.{forms_fit}

@@ -3,13 +3,13 @@
 ghost use Rattle.std.specs.Prelude.{◌≡◌, IfOk, IsTrue, map};
 ghost use Rattle.semantics.specs.Linear.{IsImpossible};
 ghost use Rattle.linear.specs.Forms.{forms};
-ghost use Rattle.certificate_tree.specs.View.{scaled as scaled_seen, step as step_seen, entry as entry_seen, sort as sort_seen};
+ghost use Rattle.certificate.specs.View.{scaled as scaled_seen, step as step_seen, entry as entry_seen, sort as sort_seen};
 ghost use Rattle.cut_proof.specs.View.{line as line_seen};
 ghost use Rattle.cut_proof.specs.Derivations.{refutes_of};
 ghost use Rattle.place_pairs.specs.Goals.{manner as manner_seen};
 ghost use Rattle.entry_check.specs.Entries as entries;
 
-use certificate_tree::tree::{Entry, EntrySort, Scaled, Step};
+use certificate::tree::{Entry, EntrySort, Scaled, Step};
 use cut_proof::{Derivation, Line, refutes};
 use linear::Form;
 use place_pairs::Manner;

@@ -2,8 +2,8 @@
 
 ghost use Rattle.std.specs.Prelude.{◌≡◌, ◌≤◌, ◌<◌, ◌&&◌, IfOk, IsTrue, MatchResult, length};
 ghost use Rattle.obligations.specs.Shown.{IsShown};
-ghost use Rattle.certificate_tree.specs.View.{entry as entry_seen};
-ghost use Rattle.place_notes.specs.View.{quotient_of as quotient_specs};
+ghost use Rattle.certificate.specs.View.{entry as entry_seen};
+ghost use Rattle.place_obligations.specs.View.{quotient_of as quotient_specs};
 ghost use Rattle.place_pairs.specs.Goals.{maybe_forms};
 ghost use Rattle.place_pairs.specs.Listed.{listed, nth_obligation, made_fit};
 ghost use Rattle.place_pairs.specs.Refusals.{DoNotFit};
@@ -11,11 +11,11 @@ ghost use Rattle.entry_check.specs.Entries as entries;
 
 use crate::derivations::{is_refuted, manner_of};
 use crate::quotients::names_one;
-use certificate_tree::tree::Entry;
+use certificate::tree::Entry;
 use domain::Domain;
 use facts::WalkError;
 use linear::Form;
-use place_notes::Notes;
+use place_obligations::Notes;
 use place_pairs::Obligations;
 use std::alloc::Global;
 

@@ -1,10 +1,10 @@
 //! The entries of a certificate by the numbers of their obligations.
 
 ghost use Rattle.std.specs.Prelude.{◌≡◌, ℕ, IfOk, MatchOption, None, Some, map, replicate, slice_index_or, slice_set, false};
-ghost use Rattle.certificate_tree.specs.View.{entry as entry_seen};
+ghost use Rattle.certificate.specs.View.{entry as entry_seen};
 ghost use Rattle.entry_check.specs.Entries.{IsTable, entry_of, has_entry};
 
-use certificate_tree::tree::Entry;
+use certificate::tree::Entry;
 use std::alloc::{AllocError, Global};
 
 /// As many places as numbers, from 0 on.

@@ -12,9 +12,9 @@ ghost use Rattle.cert_check.specs.Accepting.{at_launch};
 ghost use Rattle.write_log.specs.Written.{written};
 
 use cert_check::Accepted;
+use kernel_code::lower;
 use lane_groups::laws::lane_logs_are_by_rounds;
 use launch::launches::Launch;
-use lower::lower;
 use std::alloc::{AllocError, Global};
 use write_log::WriteLog;
 

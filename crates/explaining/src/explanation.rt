@@ -5,7 +5,7 @@ ghost use Rattle.std.specs.String.{string_bytes};
 ghost use Rattle.core_code.specs.View.{kernel as core_seen};
 ghost use Rattle.work_item.specs.Proper.{is_proper};
 ghost use Rattle.launch_text.specs.Fits.{IsOf};
-ghost use Rattle.launch_words.specs.View.{lined};
+ghost use Rattle.launch_text.specs.View.{lined};
 
 use crate::meaning::{POSSIBLE, meaning};
 use crate::paragraph::push_paragraph;
@@ -16,10 +16,10 @@ use core_code::tree::Site;
 use findings::{Finding, Grade, Spot};
 use launch::conditions::Conditions;
 use launch::probe::probe;
-use launch_grammar::laws::a_least_launch_fits;
+use launch_text::laws::a_least_launch_fits;
 use launch_text::read_conditions;
 use machine::world::Event;
-use proper_kernels::kernel::read_proper_kernel;
+use shown_kernels::kernel::read_proper_kernel;
 use std::alloc::{AllocError, Global};
 use types::typed::Typed;
 

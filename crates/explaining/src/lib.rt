@@ -1,7 +1,7 @@
 //! Section: Runs and program. Promises no more than that a text stays in front of its explanation; stands on `machine` and `findings`.
 //!
-//! What a refusal means, in plain words: of findings where they are in the source, and of a confirmed one who comes there, with which values
-//! and by which schedule. Nothing is proved of what is said here, and nothing believes it.
+//! What a refusal means, in plain words: of findings where they are in the source, and of a confirmed one who comes there, with which
+//! values and by which schedule. Nothing is proved of what is said here, and nothing believes it.
 #![tactic(auto)]
 
 mod explanation;

@@ -1,4 +1,6 @@
 pub mod Findings
-pub mod View
 pub mod Likeness
+pub mod Showing
+pub mod View
+pub mod Visits
 pub mod Wording

@@ -7,10 +7,10 @@ use candidate_lines::{Leaf, Sight, at_anchor, copied, one_of, turns};
 use facts::{WalkError, copy_all};
 use linear::Form;
 use path_walk::{Arrived, Choice, Path, Ranked, Stop, Value};
-use place_notes::Notes;
+use place_obligations::Notes;
 use place_pairs::Tagged;
 use place_paths::FindError;
-use place_roots::root_of;
+use place_walk::root_of;
 use std::alloc::{AllocError, Global};
 
 /// What is known where the paths of a place begin: how many facts, and the values of the variables.

@@ -1,22 +1,33 @@
 //! Section: Search. Promises nothing: a kernel's places, walked with guesses in the place of what a certificate says; stands on
-//! `place_paths`, `place_names` and `proof_memory`.
+//! `place_paths`, `place_names` and `cut_search`.
 //!
 //! The walks are those of the check. A range of an unsigned value is taken as shown as long as the search shows it, or, of a hopeful walk,
-//! as long as its numbers are small.
+//! as long as its numbers are small. What a search found is written down here: symbols get the names that a certificate has for them, and
+//! derivations become steps.
 #![tactic(auto)]
 
+mod kernel_names;
 mod leaves;
 mod line_table;
+mod loop_part;
+mod place_parts;
+mod quotient_names;
 mod quotients;
 mod resolving;
+mod said;
 mod sights;
+mod steps;
 mod subject;
+mod symbol_names;
 mod walking;
 
+pub use kernel_names::{Names, names_of};
 pub use leaves::{Begun, begun_of, leaves_of, places_of_paths, reached};
 pub use line_table::{LineTable, PlaceLines};
 pub use quotients::{Shown, both_sides};
 pub use resolving::{Resolved, Trust, resolve};
+pub use said::may_be_said;
 pub use sights::{is_place, sights_of};
+pub use steps::steps_of;
 pub use subject::Subject;
-pub use walking::{Elements, Walked, certificate_of, walk};
+pub use walking::{Elements, Walked, certificate_of};

@@ -2,10 +2,9 @@
 
 use candidate_lines::{plus, try_difference, try_multiple};
 use cut_proof::Derivation;
-use cut_search::{Answer, Point};
+use cut_search::{Answer, Memory, Point, quotients};
 use facts::copy_all;
 use linear::Form;
-use proof_memory::{Memory, quotients};
 use std::alloc::{AllocError, Global};
 
 /// A quotient with what shows that the form is as often the modulus at least, and at most.

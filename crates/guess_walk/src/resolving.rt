@@ -7,12 +7,11 @@ ghost use Rattle.plain_kernels.specs.Domains.{domain};
 use crate::subject::Subject;
 use crate::walking::{Elements, Walked, walk};
 use certificate::Certificate;
-use cut_search::Answer;
+use cut_search::{Answer, Memory};
 use linear::Form;
 use path_walk::Sort;
 use place_pairs::{Manner, Obligations, Part};
 use place_paths::FindError;
-use proof_memory::Memory;
 use std::alloc::Global;
 use words::Kind;
 

@@ -3,7 +3,7 @@
 use crate::subject::Subject;
 use candidate_lines::Sight;
 use core_code::tree::Statement;
-use place_notes::{Notes, Visible};
+use place_obligations::{Notes, Visible};
 use place_walk::number_of;
 use places::{Place, Point};
 use std::alloc::{AllocError, Global};

@@ -1,18 +1,20 @@
 //! A kernel's places, walked as the check walks them.
 
+use crate::kernel_names::Names;
+use crate::loop_part::bound_of;
+use crate::place_parts::places_of;
 use crate::subject::Subject;
 use candidate_lines::{Candidate, Ranking};
 use certificate::Certificate;
 use certificate::tree::{Bound, Entry};
-use certificate_making::{Names, bound_of, places_of};
-use congruence::Congruence;
-use interval::Interval;
+use domain::congruence::Congruence;
+use domain::interval::Interval;
+use domain::product::Product;
 use place_names::{NamesError, notes_of};
-use place_notes::Notes;
+use place_obligations::Notes;
 use place_pairs::Obligations;
 use place_paths::{FindError, find};
 use places::{PlaceError, places};
-use product::Product;
 use std::alloc::{AllocError, Global};
 
 /// What the check knows of numbers.

@@ -18,7 +18,7 @@ use Rattle.launch.specs.declared.conditions.ArgumentRange.{ArgumentRange}
 use Rattle.launch.specs.declared.conditions.Length.{Length}
 use Rattle.launch.specs.declared.conditions.Conditions.{Conditions}
 use Rattle.launch.specs.declared.launches.Launch.{Launch as CodeLaunch}
-use Rattle.launch_words.specs.View as view
+use Rattle.launch_text.specs.View as view
 use Rattle.launch_text.specs.Fits.{IsRange, IsLength, IsOf}
 
 map-map : {A B C : Type 0} (f : B → C) (g : A → B) (h : A → C) (one : (a : A) → f (g a) ≡ h a) (xs : List A) → map f (map g xs) ≡ map h xs

@@ -1,2 +1,5 @@
+pub mod Answers
 pub mod Fits
+pub mod Forms
 pub mod Parameters
+pub mod View

@@ -8,15 +8,15 @@ ghost use Rattle.texts.specs.LaunchReading as launches;
 ghost use Rattle.syntax.specs.View.{kernel as tree_of};
 ghost use Rattle.core_code.specs.View.{kernel as core_of};
 ghost use Rattle.launch.specs.View.{conditions as conditions_seen, launch as launch_seen};
-ghost use Rattle.launch_words.specs.Answers.{Gives};
+ghost use Rattle.launch_text.specs.Answers.{Gives};
 ghost use Rattle.launch_text.specs.Fits.{IsOf};
-ghost use Rattle.launch_words.specs.View as view;
+ghost use Rattle.launch_text.specs.View as view;
 
 use crate::conditions::conditions_of;
+use crate::error::LaunchTextError;
 use crate::launches::launch_of;
 use launch::conditions::Conditions;
 use launch::launches::Launch;
-use launch_words::error::LaunchTextError;
 use std::alloc::Global;
 use types::typed::Typed;
 

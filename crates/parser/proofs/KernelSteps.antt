@@ -5,11 +5,11 @@ use Rattle.semantics.specs.Launch.{Three}
 use Rattle.texts.specs.Lexemes.{Lexeme}
 use Rattle.texts.specs.Tokens.{TokenKind}
 use Rattle.texts.specs.Surface.{Statements, Parameter, Kernel}
-use Rattle.readers.specs.Reader.{Reader, Attempt, Took, Refused, Gives, Then, carry, run}
-use Rattle.readers.specs.Expressions.{expects, is_left_parenthesis, is_right_parenthesis}
-use Rattle.readers.specs.Statements.{is_left_brace, name_at, takes, block_reader}
-use Rattle.readers.specs.Kernels.{is_kernel, is_attribute, is_void, is_required_size, parameters_reader, sizes_reader, attribute_reader, ended, kernel_reader}
-use Rattle.readers.proofs.Steps.{stops-carry}
+use Rattle.parser.specs.Reader.{Reader, Attempt, Took, Refused, Gives, Then, carry, run}
+use Rattle.parser.specs.Expressions.{expects, is_left_parenthesis, is_right_parenthesis}
+use Rattle.parser.specs.Statements.{is_left_brace, name_at, takes, block_reader}
+use Rattle.parser.specs.Kernels.{is_kernel, is_attribute, is_void, is_required_size, parameters_reader, sizes_reader, attribute_reader, ended, kernel_reader}
+use Rattle.parser.proofs.Steps.{stops-carry}
 use Rattle.parser.specs.Pieces.{attribute_opening, attribute_name, attribute_end, head_reader, body_reader}
 
 two : {A B C : Type 0} → (o : Attempt A) (f : A → List Lexeme → Attempt B) (g : B → List Lexeme → Attempt C) → carry o (λ a rest. carry (f a rest) g) ≡ carry (carry o f) g

@@ -3,10 +3,10 @@ use Rattle.std.proofs.Common.{◌≡◌, ℕ, suc, ◌+◌, ◌-◌, ◌<◌, �
 use Rattle.texts.specs.Lexemes.{Lexeme}
 use Rattle.texts.specs.ParseFaults.{Expected, TooMany}
 use Rattle.texts.specs.Surface.{Parameter}
-use Rattle.readers.specs.Reader.{Reader, Attempt, Took, Refused, Gives, Fails, Passes, Then, carry, front, behind, run}
-use Rattle.readers.specs.Expressions.{is_comma, is_right_parenthesis, expects}
-use Rattle.readers.proofs.Steps.{stops-carry}
-use Rattle.readers.specs.Kernels.{parameter_reader, one_parameter, more_parameters, parameters_reader}
+use Rattle.parser.specs.Reader.{Reader, Attempt, Took, Refused, Gives, Fails, Passes, Then, carry, front, behind, run}
+use Rattle.parser.specs.Expressions.{is_comma, is_right_parenthesis, expects}
+use Rattle.parser.proofs.Steps.{stops-carry}
+use Rattle.parser.specs.Kernels.{parameter_reader, one_parameter, more_parameters, parameters_reader}
 
 abbrev pub in_list : List Parameter → Attempt (List Parameter) → Attempt (List Parameter)
 in_list front outcome = carry outcome (λ ps rest. Took (front ++ ps) rest)

@@ -1,2 +1,10 @@
-pub mod Pieces
+pub mod Counted
+pub mod Expressions
+pub mod Fronts
+pub mod Heads
+pub mod Kernels
 pub mod Parsed
+pub mod Pieces
+pub mod Reader
+pub mod Statements
+pub mod View

@@ -14,12 +14,12 @@ use Rattle.syntax.specs.View.{kernel}
 use Rattle.core_code.specs.View.{site}
 use Rattle.core_code.specs.declared.tree.Site.{Site}
 use Rattle.syntax.specs.declared.tree.Kernel.{Kernel}
-use Rattle.readers.specs.Reader.{Attempt, Took, Refused, front, run}
-use Rattle.readers.specs.Kernels.{kernel_reader}
-use Rattle.readers.specs.View.{fault}
-use Rattle.tree_limits.specs.Counted.{counts}
-use Rattle.tree_limits.specs.declared.counts.Counts as code
-use Rattle.readers.specs.declared.error.ParseFault.{ParseFault}
+use Rattle.parser.specs.Reader.{Attempt, Took, Refused, front, run}
+use Rattle.parser.specs.Kernels.{kernel_reader}
+use Rattle.parser.specs.View.{fault}
+use Rattle.parser.specs.Counted.{counts}
+use Rattle.parser.specs.declared.counts.Counts as code
+use Rattle.parser.specs.declared.stops.ParseFault.{ParseFault}
 use Rattle.parser.specs.declared.error.ParseError.{ParseError}
 use Rattle.parser.specs.declared.error.ParseError.TheVariants as errors
 

@@ -5,10 +5,10 @@ use Rattle.semantics.specs.Core.{Site}
 use Rattle.texts.specs.Surface.{Statements}
 use Rattle.syntax.specs.View.{statements}
 use Rattle.syntax.specs.declared.tree.Stmt.{Stmt}
-use Rattle.readers.specs.Reader.{Reader, Gives, Then}
-use Rattle.readers.specs.Expressions.{is_left_parenthesis, is_right_parenthesis, expects}
-use Rattle.readers.specs.Statements.{is_left_brace, name_at, takes, block_reader}
-use Rattle.readers.specs.Kernels.{is_kernel, is_attribute, is_void, is_required_size, ended}
+use Rattle.parser.specs.Reader.{Reader, Gives, Then}
+use Rattle.parser.specs.Expressions.{is_left_parenthesis, is_right_parenthesis, expects}
+use Rattle.parser.specs.Statements.{is_left_brace, name_at, takes, block_reader}
+use Rattle.parser.specs.Kernels.{is_kernel, is_attribute, is_void, is_required_size, ended}
 
 unfoldable pub attribute_opening : Reader Site
 attribute_opening = Then (expects is_kernel) (λ a. Then (expects is_attribute) (λ b. expects is_left_parenthesis))

@@ -2,8 +2,8 @@
 
 ghost use Rattle.std.specs.Prelude.{◌≡◌};
 
+use crate::stops::ParseFault;
 use core_code::tree::Site;
-use readers::error::ParseFault;
 use thiserror::Error;
 
 /// A fault and its place, or want of memory.

@@ -2,29 +2,29 @@
 
 ghost use Rattle.std.specs.Prelude.{◌≡◌, ◌≤◌, ◌*◌, ◌&&◌, nat_le, IfOk};
 ghost use Rattle.syntax.specs.View.{parameter as parameter_seen, kernel as kernel_seen};
-ghost use Rattle.readers.specs.Reader.{run};
+ghost use Rattle.parser.specs.Reader.{run};
 ghost use Rattle.core_code.specs.View.{site as site_of};
-ghost use Rattle.readers.specs.View.{lexemes, Reads, parameters_seen, sizes_seen, text_seen};
+ghost use Rattle.parser.specs.View.{lexemes, Reads, parameters_seen, sizes_seen, text_seen};
 ghost use Rattle.parser.specs.Pieces as pieces;
 ghost use Rattle.parser.specs.Pieces.{body_seen};
-ghost use Rattle.readers.specs.Kernels as reads;
+ghost use Rattle.parser.specs.Kernels as reads;
 
-use core_code::tree::Site;
-use lexer::Token;
-use readers::error::{ParseFault, Stop};
-use readers::front::{
+use crate::front::{
     behind, is_attribute, is_comma, is_const, is_end, is_global, is_kernel, is_left_brace,
     is_left_parenthesis, is_required_size, is_right_parenthesis, is_star, is_void, kind_at,
     kind_named, name_of, number_of, pass, site_at,
 };
-use statement_parser::statements::block;
+use crate::statements::block;
+use crate::stops::{ParseFault, Stop};
+use core_code::tree::Site;
+use lexer::Token;
 use std::alloc::Global;
 use syntax::tree::{Kernel, Parameter, Stmt};
 
 /// How many parameters are read after the first: a kernel has fewer.
 const MOST_PARAMETERS: u32 = 80;
 
-#[tactic(auto, using(readers::proofs::Steps::part_steps), unfolding(readers::specs::Kernels::buffer_reader))]
+#[tactic(auto, using(crate::proofs::Steps::part_steps), unfolding(crate::specs::Kernels::buffer_reader))]
 fn buffer<'a>(
     alloc: Global,
     constant: bool,
@@ -49,7 +49,7 @@ fn buffer<'a>(
     Ok((buffer, behind(rest)))
 }
 
-#[tactic(auto, using(readers::proofs::Steps::part_steps), unfolding(readers::specs::Kernels::value_reader))]
+#[tactic(auto, using(crate::proofs::Steps::part_steps), unfolding(crate::specs::Kernels::value_reader))]
 fn value<'a>(
     alloc: Global,
     tokens: &'a [Token<'a>],
@@ -71,7 +71,7 @@ fn value<'a>(
     Ok((value, behind(rest)))
 }
 
-#[tactic(auto, using(readers::proofs::Steps::part_steps), unfolding(readers::specs::Kernels::parameter_reader))]
+#[tactic(auto, using(crate::proofs::Steps::part_steps), unfolding(crate::specs::Kernels::parameter_reader))]
 fn parameter<'a>(
     alloc: Global,
     tokens: &'a [Token<'a>],
@@ -135,7 +135,7 @@ fn size<'a>(product: u32, tokens: &'a [Token<'a>]) -> Result<(u32, &'a [Token<'a
     }
 }
 
-#[tactic(auto, using(readers::proofs::Steps::part_steps), unfolding(readers::specs::Kernels::sizes_reader))]
+#[tactic(auto, using(crate::proofs::Steps::part_steps), unfolding(crate::specs::Kernels::sizes_reader))]
 fn sizes<'a>(tokens: &'a [Token<'a>]) -> Result<([u32; 3], &'a [Token<'a>]), Stop<'a>>
     ensures { Reads sizes_seen result (run reads.sizes_reader (lexemes tokens.now)) }
 {
@@ -147,7 +147,7 @@ fn sizes<'a>(tokens: &'a [Token<'a>]) -> Result<([u32; 3], &'a [Token<'a>]), Sto
     Ok(([x, y, z], rest))
 }
 
-#[tactic(auto, using(readers::proofs::Steps::part_steps), unfolding(crate::specs::Pieces::attribute_opening))]
+#[tactic(auto, using(crate::proofs::Steps::part_steps), unfolding(crate::specs::Pieces::attribute_opening))]
 fn attribute_opening<'a>(tokens: &'a [Token<'a>]) -> Result<(Site, &'a [Token<'a>]), Stop<'a>>
     ensures { Reads site_of result (run pieces.attribute_opening (lexemes tokens.now)) }
 {
@@ -156,7 +156,7 @@ fn attribute_opening<'a>(tokens: &'a [Token<'a>]) -> Result<(Site, &'a [Token<'a
     pass(is_left_parenthesis(kind_at(rest)), rest)
 }
 
-#[tactic(auto, using(readers::proofs::Steps::part_steps), unfolding(crate::specs::Pieces::attribute_name))]
+#[tactic(auto, using(crate::proofs::Steps::part_steps), unfolding(crate::specs::Pieces::attribute_name))]
 fn attribute_name<'a>(tokens: &'a [Token<'a>]) -> Result<(Site, &'a [Token<'a>]), Stop<'a>>
     ensures { Reads site_of result (run pieces.attribute_name (lexemes tokens.now)) }
 {
@@ -165,7 +165,7 @@ fn attribute_name<'a>(tokens: &'a [Token<'a>]) -> Result<(Site, &'a [Token<'a>])
     pass(is_left_parenthesis(kind_at(rest)), rest)
 }
 
-#[tactic(auto, using(readers::proofs::Steps::part_steps), unfolding(crate::specs::Pieces::attribute_end))]
+#[tactic(auto, using(crate::proofs::Steps::part_steps), unfolding(crate::specs::Pieces::attribute_end))]
 fn attribute_end<'a>(tokens: &'a [Token<'a>]) -> Result<(Site, &'a [Token<'a>]), Stop<'a>>
     ensures { Reads site_of result (run pieces.attribute_end (lexemes tokens.now)) }
 {
@@ -187,7 +187,7 @@ fn attribute<'a>(tokens: &'a [Token<'a>]) -> Result<([u32; 3], &'a [Token<'a>]),
 }
 
 // The name, between `void` and the parenthesis that opens the parameters.
-#[tactic(auto, using(readers::proofs::Steps::part_steps), unfolding(crate::specs::Pieces::head_reader))]
+#[tactic(auto, using(crate::proofs::Steps::part_steps), unfolding(crate::specs::Pieces::head_reader))]
 fn head<'a>(tokens: &'a [Token<'a>]) -> Result<(&'a str, &'a [Token<'a>]), Stop<'a>>
     ensures { Reads text_seen result (run pieces.head_reader (lexemes tokens.now)) }
 {
@@ -201,7 +201,7 @@ fn head<'a>(tokens: &'a [Token<'a>]) -> Result<(&'a str, &'a [Token<'a>]), Stop<
 }
 
 // The body in braces, and then the end.
-#[tactic(auto, using(readers::proofs::Steps::part_steps), unfolding(crate::specs::Pieces::body_reader))]
+#[tactic(auto, using(crate::proofs::Steps::part_steps), unfolding(crate::specs::Pieces::body_reader))]
 fn whole_body<'a>(
     alloc: Global,
     tokens: &'a [Token<'a>],

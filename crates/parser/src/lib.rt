@@ -1,30 +1,40 @@
-//! Section: Kernel text. Promises exactly the kernel that the readers have of tokens, within the limits, or its first fault; stands on
-//! `statement_parser` and `tree_limits`.
+//! Section: Kernel text. Promises exactly the kernel that the readers have of tokens, within the limits, or its first fault, and that what
+//! is read is what the grammar says, both ways; stands on `lexer` and `syntax`.
 //!
-//! Tokens to trees. `parse` reads the whole language, without recursion deeper than the limits of brackets and levels allow; its answer is
-//! the tree that the definition in `specs/` reads, or the fault that it names at its place.
+//! Tokens to trees. `specs/` has the readers of kernels, small programs of one meaning: what stands at the front of tokens, expressions,
+//! statements, whole kernels. `parse` reads the whole language, without recursion deeper than the limits of brackets and levels allow; its
+//! answer is the tree that the readers have, or the fault that they name at its place. `laws`: what the readers take is in the grammar and
+//! within the limits, each kernel within the limits is taken, lexemes have one kernel at most, and a refusal is true where it stands.
 #![tactic(auto)]
 
 ghost use Rattle.std.specs.Prelude.{IfOk};
 ghost use Rattle.syntax.specs.View.{kernel as kernel_seen};
-ghost use Rattle.readers.specs.View.{lexemes};
+ghost use Rattle.parser.specs.View.{lexemes};
 ghost use Rattle.parser.specs.Parsed.{parsed, Gives, Measures};
 ghost use Rattle.texts.specs.Declarations.{HasFewNames};
 ghost use Rattle.texts.specs.Limits.{within_limits};
 
+pub mod counts;
+pub mod depth;
 pub mod error;
+pub(crate) mod expressions;
+pub mod front;
 pub(crate) mod kernels;
+pub mod laws;
+pub(crate) mod parts;
+pub mod statements;
+pub mod stops;
 
+use crate::counts::{Counts, count_parameters, count_statements};
+use crate::depth::deep_statements;
+use crate::front::site_at;
+use crate::stops::{ParseFault, Stop};
 use core_code::tree::Site;
 use error::ParseError;
 use kernels::whole_kernel;
 use lexer::Token;
-use readers::error::{ParseFault, Stop};
-use readers::front::site_at;
 use std::alloc::Global;
 use syntax::tree::Kernel;
-use tree_limits::counts::{Counts, count_parameters, count_statements};
-use tree_limits::depth::deep_statements;
 
 #[tactic(auto, unfolding(texts::specs::Limits::within_limits))]
 fn measure(kernel: &Kernel) -> Result<Counts, (ParseFault, Site)>

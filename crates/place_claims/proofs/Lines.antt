@@ -19,8 +19,8 @@ use Rattle.path_walk.specs.Paths.{Followed, collect}
 use Rattle.path_walk.specs.Leads.{Steps}
 use Rattle.path_walk.specs.Refusals.{StopsAtStep, IsGoalUnfit}
 use Rattle.path_walk.proofs.Refusing.{refused_from, unfit_goal}
-use Rattle.place_notes.specs.View.{congruence}
-use Rattle.place_notes.specs.declared.notes.Congruence.{Congruence}
+use Rattle.place_obligations.specs.View.{congruence}
+use Rattle.place_obligations.specs.declared.notes.Congruence.{Congruence}
 use Rattle.place_claims.specs.Unfit.{AreUnfit}
 use Rattle.place_claims.specs.Claims.{claim_told, claim_fact, claim_under, claim_divided, claim_congruence}
 use Rattle.place_claims.proofs.Making.{unfit_among}

@@ -2,7 +2,7 @@
 use Rattle.domain.specs.declared.Domain.{Ghosts}
 use Rattle.core_code.specs.View.{kernel}
 use Rattle.path_walk.specs.View.{setting}
-use Rattle.place_notes.specs.View.{seen}
+use Rattle.place_obligations.specs.View.{seen}
 use Rattle.place_obligations.specs.Walking.{Placed}
 use Rattle.place_claims.specs.declared.placing.Placing.{Placing}
 

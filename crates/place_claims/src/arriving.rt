@@ -7,7 +7,7 @@ ghost use Rattle.place_obligations.specs.Walking as walking;
 ghost use Rattle.path_walk.specs.Leads.{Steps};
 ghost use Rattle.path_walk.specs.Refusals.{StopsAtStep};
 ghost use Rattle.path_walk.specs.View.{followed, stop as stop_seen, turns as turns_seen};
-ghost use Rattle.place_notes.specs.View.{congruence as congruence_seen};
+ghost use Rattle.place_obligations.specs.View.{congruence as congruence_seen};
 ghost use Rattle.place_claims.specs.Claims as claims;
 ghost use Rattle.place_claims.specs.Claims.{Comes, IsRefusedAt};
 ghost use Rattle.place_claims.specs.View.{placed};
@@ -21,7 +21,7 @@ use domain::Domain;
 use facts::WalkError;
 use linear::Form;
 use path_walk::{Goal, Path, Sort, Stop};
-use place_notes::Congruence;
+use place_obligations::Congruence;
 use std::alloc::Global;
 
 #[tactic(auto, unfolding(path_walk::specs::Paths::collect))]

@@ -10,7 +10,7 @@ ghost use Rattle.place_obligations.specs.Walking as walking;
 ghost use Rattle.path_walk.specs.Leads.{Steps};
 ghost use Rattle.path_walk.specs.Refusals.{StopsAtStep};
 ghost use Rattle.path_walk.specs.View.{followed};
-ghost use Rattle.place_notes.specs.View.{congruence as congruence_seen};
+ghost use Rattle.place_obligations.specs.View.{congruence as congruence_seen};
 ghost use Rattle.place_claims.specs.Claims as claims;
 ghost use Rattle.place_claims.specs.View.{placed};
 
@@ -22,7 +22,7 @@ use domain::Domain;
 use facts::WalkError;
 use linear::{Form, Term};
 use path_walk::{Goal, Path, Sort};
-use place_notes::Congruence;
+use place_obligations::Congruence;
 use std::alloc::Global;
 
 /// A number divides another; 0 divides 0 alone.

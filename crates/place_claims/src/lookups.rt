@@ -3,11 +3,11 @@
 ghost use Rattle.std.specs.Prelude.{◌≡◌, pos, map, MatchOption};
 ghost use Rattle.linear.specs.Forms.{form as form_seen, forms};
 ghost use Rattle.facts.specs.Symbols.{constant};
-ghost use Rattle.place_notes.specs.View as view;
+ghost use Rattle.place_obligations.specs.View as view;
 
 use linear::Form;
 use loop_bounds::{Bound, LoopBound};
-use place_notes::{Congruence, Lines, Quotient, Visible};
+use place_obligations::{Congruence, Lines, Quotient, Visible};
 
 /// The numbers are the same, or there are none.
 fn same_number(left: Option<u32>, right: Option<u32>) -> bool

@@ -2,7 +2,7 @@
 
 use core_code::tree::Core;
 use path_walk::Setting;
-use place_notes::Notes;
+use place_obligations::Notes;
 
 /// The setting of the terms' walk, the kernel, what is said of its places, and the numbers of the place's barrier and loop.
 #[derive(Drop)]

@@ -10,11 +10,11 @@ use Rattle.place_obligations.specs.Listing.{is_some}
 use Rattle.place_obligations.specs.Telling.{tells, all_tell, congruences_tell, TellsOfItems}
 use Rattle.place_names.specs.declared.error.NamesError.{NamesError}
 use Rattle.place_names.specs.Noted.{Noted}
-use Rattle.place_notes.specs.declared.notes.Lines.{Lines}
-use Rattle.place_notes.specs.declared.notes.Visible.{Visible}
-use Rattle.place_notes.specs.declared.notes.Quotient.{Quotient}
-use Rattle.place_notes.specs.declared.notes.Notes.{Notes}
-use Rattle.place_notes.specs.View as seen
+use Rattle.place_obligations.specs.declared.notes.Lines.{Lines}
+use Rattle.place_obligations.specs.declared.notes.Visible.{Visible}
+use Rattle.place_obligations.specs.declared.notes.Quotient.{Quotient}
+use Rattle.place_obligations.specs.declared.notes.Notes.{Notes}
+use Rattle.place_obligations.specs.View as seen
 use Rattle.place_names.specs.NotesView as views
 use Rattle.place_names.specs.NotesView.{lines, ranked, visible, quoted}
 use Rattle.place_names.specs.Noting as noting

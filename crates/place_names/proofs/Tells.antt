@@ -7,7 +7,7 @@ use Rattle.arrivals.specs.Places as places
 use Rattle.place_obligations.specs.Notes as notes
 use Rattle.place_obligations.specs.Listing.{is_some}
 use Rattle.place_obligations.specs.Telling.{tells, all_tell, congruences_tell, TellsOfItems}
-use Rattle.place_notes.specs.View.{same_number}
+use Rattle.place_obligations.specs.View.{same_number}
 use Rattle.texts.specs.CertificateRules.{all}
 use Rattle.texts.specs.Surface as surface
 use Rattle.texts.specs.Certificate as certificate

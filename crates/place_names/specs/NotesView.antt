@@ -2,11 +2,11 @@
 use Rattle.std.specs.Prelude.{map}
 use Rattle.linear.specs.Forms.{form}
 use Rattle.loop_bounds.specs.declared.bound.LoopBound.{LoopBound}
-use Rattle.place_notes.specs.declared.notes.Lines.{Lines}
-use Rattle.place_notes.specs.declared.notes.Visible.{Visible}
-use Rattle.place_notes.specs.declared.notes.Quotient.{Quotient}
-use Rattle.place_notes.specs.declared.notes.Notes.{Notes}
-use Rattle.place_notes.specs.View.{congruence, ranking}
+use Rattle.place_obligations.specs.declared.notes.Lines.{Lines}
+use Rattle.place_obligations.specs.declared.notes.Visible.{Visible}
+use Rattle.place_obligations.specs.declared.notes.Quotient.{Quotient}
+use Rattle.place_obligations.specs.declared.notes.Notes.{Notes}
+use Rattle.place_obligations.specs.View.{congruence, ranking}
 use Rattle.place_names.specs.Noted as noted
 use Rattle.place_names.specs.Stations as stations
 use Rattle.place_names.specs.View.{named, sight}

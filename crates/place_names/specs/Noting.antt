@@ -4,7 +4,7 @@ use Rattle.semantics.specs.Launch as launch
 use Rattle.facts.specs.Symbols.{Fact, constant}
 use Rattle.arrivals.specs.Places as places
 use Rattle.place_obligations.specs.Notes as notes
-use Rattle.place_notes.specs.View.{same_number, no_ranking}
+use Rattle.place_obligations.specs.View.{same_number, no_ranking}
 use Rattle.texts.specs.Surface as surface
 use Rattle.texts.specs.Certificate.{Certificate}
 use Rattle.place_names.specs.Noted.{Lines, Ranked, Quoted, Visible, Noted, noted}

@@ -3,7 +3,7 @@ use Rattle.std.specs.Prelude.{ℕ, Bool, false, cond, ◌&&◌, ◌||◌, nat_eq
 use Rattle.std.specs.Option.{option_map}
 use Rattle.arrivals.specs.Places as places
 use Rattle.place_obligations.specs.Notes.{number_at}
-use Rattle.place_notes.specs.View.{same_number}
+use Rattle.place_obligations.specs.View.{same_number}
 use Rattle.texts.specs.Certificate.{Anchor, KernelEntry, Barrier}
 use Rattle.place_names.specs.Scenes.{Named, Scene}
 use Rattle.place_names.specs.Sights.{Chart, Sight}

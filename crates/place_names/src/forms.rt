@@ -4,14 +4,14 @@ ghost use Rattle.std.specs.Prelude.{◌≡◌, IfOk, map, [], ◌∷◌};
 ghost use Rattle.std.specs.Option.{option_map};
 ghost use Rattle.linear.specs.Forms.{form as form_seen};
 ghost use Rattle.linear.specs.Exact as exact;
-ghost use Rattle.certificate_tree.specs.View as view;
+ghost use Rattle.certificate.specs.View as view;
 ghost use Rattle.place_names.specs.Sights as sights;
 ghost use Rattle.place_names.specs.View.{chart as chart_seen, sight as sight_seen};
 
 use crate::chart::Chart;
 use crate::error::NamesError;
 use crate::sight::{Sight, symbol};
-use certificate_tree::tree;
+use certificate::tree;
 use linear::{Form, LinearError, Symbol};
 use std::alloc::Global;
 

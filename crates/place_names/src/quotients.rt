@@ -4,7 +4,7 @@ ghost use Rattle.std.specs.Prelude.{◌≡◌, IfOk, Option, List, map, cond, No
 ghost use Rattle.std.specs.Option.{option_map};
 ghost use Rattle.linear.specs.Forms.{form as form_seen};
 ghost use Rattle.texts.specs.Certificate as meant;
-ghost use Rattle.certificate_tree.specs.View as view;
+ghost use Rattle.certificate.specs.View as view;
 ghost use Rattle.place_names.specs.Noted as noted;
 ghost use Rattle.place_names.specs.View.{chart as chart_seen, scene as scene_seen, sight as sight_seen, named};
 ghost use Rattle.place_names.specs.NotesView.{quoted as quoted_seen};
@@ -15,9 +15,9 @@ use crate::error::NamesError;
 use crate::forms::fact;
 use crate::gone::Scene;
 use crate::sight::Sight;
-use certificate_tree::tree;
-use certificate_tree::tree::{Entry, EntrySort};
-use place_notes::Quotient;
+use certificate::tree;
+use certificate::tree::{Entry, EntrySort};
+use place_obligations::Quotient;
 use std::alloc::Global;
 
 /// The numbers of the loops.

@@ -4,8 +4,8 @@ ghost use Rattle.std.specs.Prelude.{◌≡◌, IfOk, map, Some};
 ghost use Rattle.std.specs.Option.{option_map};
 ghost use Rattle.linear.specs.Forms.{form as form_seen};
 ghost use Rattle.texts.specs.CertificateRules.{all};
-ghost use Rattle.certificate_tree.specs.View as view;
-ghost use Rattle.place_notes.specs.View.{ranking};
+ghost use Rattle.certificate.specs.View as view;
+ghost use Rattle.place_obligations.specs.View.{ranking};
 ghost use Rattle.place_names.specs.Noted as noted;
 ghost use Rattle.place_names.specs.View.{chart as chart_seen, scene as scene_seen};
 ghost use Rattle.place_names.specs.NotesView.{ranked as ranked_seen};
@@ -15,8 +15,8 @@ use crate::error::NamesError;
 use crate::forms::fact;
 use crate::gone::Scene;
 use crate::station::{in_test, loop_at};
-use certificate_tree::tree;
-use certificate_tree::tree::Descent;
+use certificate::tree;
+use certificate::tree::Descent;
 use linear::Form;
 use loop_bounds::{Bound, LoopBound, Step};
 use std::alloc::Global;
@@ -98,7 +98,7 @@ fn has_line(bounds: &[tree::Bound], scene: &Scene<'_>) -> bool
     !scene.is_loop || is_bounded(bounds, scene.number)
 }
 
-#[tactic(auto, using(certificate_parts::proofs::Rows::all_rows))]
+#[tactic(auto, using(certificate::proofs::Rows::all_rows))]
 /// Each loop has a line.
 pub fn have_lines(bounds: &[tree::Bound], scenes: &[Scene<'_>]) -> bool
     ensures { result ≡ all (noted.has_line (map view.bound bounds.now)) (map scene_seen scenes.now) }

@@ -2,13 +2,13 @@
 
 ghost use Rattle.std.specs.Prelude.{◌≡◌, ◌+◌, ◌*◌, ◌<◌, Option, map};
 ghost use Rattle.std.specs.Option.{option_map};
-ghost use Rattle.certificate_tree.specs.View.{name as name_seen, dimension as dimension_seen};
+ghost use Rattle.certificate.specs.View.{name as name_seen, dimension as dimension_seen};
 ghost use Rattle.place_names.specs.Sights as sights;
 ghost use Rattle.place_names.specs.View.{chart as chart_seen, sight as sight_seen, named};
 
 use crate::chart::Chart;
 use crate::gone::Named;
-use certificate_tree::tree::{Dimension, Name};
+use certificate::tree::{Dimension, Name};
 use linear::Symbol;
 
 /// The variables that stand for what they are now, and for what they were at the anchor; the loops around; whether new symbols are among

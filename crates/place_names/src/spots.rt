@@ -5,11 +5,11 @@ ghost use Rattle.semantics.specs.Core as core;
 ghost use Rattle.core_code.specs.View.{statement as statement_seen};
 ghost use Rattle.place_obligations.specs.Notes.{number_at};
 ghost use Rattle.places.specs.View.{place as place_seen, maybe_point};
-ghost use Rattle.place_notes.specs.View.{same_number as is_same};
-ghost use Rattle.certificate_tree.specs.View as view;
+ghost use Rattle.place_obligations.specs.View.{same_number as is_same};
+ghost use Rattle.certificate.specs.View as view;
 ghost use Rattle.place_names.specs.Stations as stations;
 
-use certificate_tree::tree::Anchor;
+use certificate::tree::Anchor;
 use core_code::tree::Statement;
 use places::{Place, Point};
 

@@ -2,7 +2,7 @@
 
 ghost use Rattle.std.specs.Prelude.{◌≡◌, Option, map};
 ghost use Rattle.std.specs.Option.{option_map};
-ghost use Rattle.certificate_tree.specs.View as view;
+ghost use Rattle.certificate.specs.View as view;
 ghost use Rattle.place_names.specs.Stations as stations;
 ghost use Rattle.place_names.specs.View.{chart as chart_seen, scene as scene_seen, sight as sight_seen, named};
 ghost use Rattle.place_names.specs.NotesView.{station as station_seen};
@@ -10,7 +10,7 @@ ghost use Rattle.place_names.specs.NotesView.{station as station_seen};
 use crate::chart::Chart;
 use crate::gone::{Named, Scene};
 use crate::sight::Sight;
-use certificate_tree::tree::{Anchor, Spot};
+use certificate::tree::{Anchor, Spot};
 
 /// A place by the numbers of its barrier and its loop, the variables on which items may agree there, and the symbols.
 #[derive(Clone, Copy)]

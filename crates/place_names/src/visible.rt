@@ -8,7 +8,7 @@ ghost use Rattle.place_names.specs.NotesView.{visible as visible_seen};
 use crate::chart::Chart;
 use crate::error::NamesError;
 use crate::gone::{Named, Scene};
-use place_notes::Visible;
+use place_obligations::Visible;
 use std::alloc::Global;
 
 /// The slots of variables.

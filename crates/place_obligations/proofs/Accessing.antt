@@ -31,7 +31,7 @@ use Rattle.place_obligations.specs.Telling.{TellsOfItems}
 use Rattle.place_obligations.specs.Listing.{all_trees, claims_of, accesses_of, is_some, of_place}
 use Rattle.place_obligations.specs.Meetings.{same_at}
 use Rattle.place_obligations.specs.Crossings.{crossings, crossing_obligation}
-use Rattle.place_obligations.proofs.Lines.{root_at, notes_of}
+use Rattle.place_obligations.proofs.PlaceLines.{root_at, notes_of}
 use Rattle.place_obligations.proofs.Nodes.{Made, at_anchor}
 use Rattle.place_obligations.proofs.Planting.{access-has}
 use Rattle.place_obligations.proofs.Started.{over, view}

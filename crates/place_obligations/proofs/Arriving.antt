@@ -23,7 +23,7 @@ use Rattle.obligations.proofs.Holding.{held_settles, fits_itself}
 use Rattle.obligations.proofs.Made.{IsFit}
 use Rattle.obligations.proofs.Standing.{told_replaced, told_divided, past_claim}
 use Rattle.obligations.proofs.Ranges.{IsForm, form_once}
-use Rattle.congruence.specs.Multiples.{Multiple, from-test, to-test, plus, times}
+use Rattle.domain.specs.Multiples.{Multiple, from-test, to-test, plus, times}
 use Rattle.place_obligations.specs.Notes.{Congruence, Notes}
 use Rattle.place_obligations.specs.Listing.{is_some}
 use Rattle.place_obligations.specs.Meetings.{value_form}
@@ -32,7 +32,7 @@ use Rattle.place_obligations.specs.Roots.{is_kept, kinds, are_slots, anchor_form
 use Rattle.place_obligations.specs.Replacing.{replaced}
 use Rattle.place_obligations.specs.Walking.{Placed, on_path, divides, divides_terms, divides_form, claim_facts, claim_congruences, claim_quotient, arrive_at, course}
 use Rattle.place_obligations.proofs.Words.{are_words, words-each, slots-are_words}
-use Rattle.place_obligations.proofs.Lines.{root_at, value_by, facts_hold, congruences_hold, opens_so, Holds}
+use Rattle.place_obligations.proofs.PlaceLines.{root_at, value_by, facts_hold, congruences_hold, opens_so, Holds}
 use Rattle.place_obligations.proofs.Replaced.{replaced-is}
 use Rattle.place_obligations.proofs.Started.{view, forms}
 use Rattle.place_obligations.proofs.Faithfully as faithfully

@@ -26,7 +26,7 @@ use Rattle.place_obligations.specs.Listing.{all_trees, claims_of, ends_in, is_so
 use Rattle.place_obligations.specs.Meetings.{same_at, is_rest, meetings}
 use Rattle.place_obligations.proofs.Words.{are_words, words-each, fits-length}
 use Rattle.place_obligations.proofs.Rooted.{past-each}
-use Rattle.place_obligations.proofs.Lines.{root_at, notes_of}
+use Rattle.place_obligations.proofs.PlaceLines.{root_at, notes_of}
 use Rattle.place_obligations.proofs.Nodes.{Reached, at_anchor}
 use Rattle.place_obligations.proofs.Planting.{end-has}
 use Rattle.place_obligations.proofs.Started.{over, view}

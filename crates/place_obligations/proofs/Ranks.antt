@@ -29,7 +29,7 @@ use Rattle.place_obligations.specs.Telling.{TellsOfItems}
 use Rattle.place_obligations.specs.Limits.{limit, limit_at, AreLimits}
 use Rattle.place_obligations.specs.Listing.{all_trees, claims_of}
 use Rattle.place_obligations.specs.Walking.{course, rank_on}
-use Rattle.place_obligations.proofs.Lines.{notes_of}
+use Rattle.place_obligations.proofs.PlaceLines.{notes_of}
 use Rattle.place_obligations.proofs.Faithfully.{rank-is}
 use Rattle.place_obligations.proofs.Stationed as stationed
 

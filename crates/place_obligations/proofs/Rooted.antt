@@ -24,13 +24,13 @@ use Rattle.obligations.proofs.Holding.{known_of, IsHeld, Suits, held_opening, na
 use Rattle.obligations.proofs.KindEnds.{in_kind-ends}
 use Rattle.obligations.proofs.Ranges.{IsForm, IsValue, form_constant, form_once}
 use Rattle.obligations.proofs.TermSound.{AreForms}
-use Rattle.congruence.specs.Multiples.{from-test}
+use Rattle.domain.specs.Multiples.{from-test}
 use Rattle.place_obligations.specs.Notes.{Congruence}
 use Rattle.place_obligations.specs.Telling.{tells, all_tell, congruences_tell}
 use Rattle.place_obligations.specs.Roots.{is_kept, kinds, kind_of, root_form, values_from, narrowed_from, tops, ends_of, all_ends, congruence_facts}
 use Rattle.place_obligations.specs.Walking.{divides}
 use Rattle.place_obligations.proofs.Words.{are_words, Fit, words-each, fits-length}
-use Rattle.place_obligations.proofs.Lines.{facts_hold, congruences_hold}
+use Rattle.place_obligations.proofs.PlaceLines.{facts_hold, congruences_hold}
 use Rattle.place_obligations.proofs.Replaced.{value_at}
 use Rattle.place_obligations.proofs.Told.{told-value}
 

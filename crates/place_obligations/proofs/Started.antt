@@ -26,7 +26,7 @@ use Rattle.place_obligations.specs.Notes.{Notes}
 use Rattle.place_obligations.specs.Listing.{is_some}
 use Rattle.place_obligations.specs.Telling.{TellsOfItems, all_tell, congruences_tell}
 use Rattle.place_obligations.specs.Roots.{kinds, kind_of, tops, narrowed_from, facts_at, congruences_at, congruence_facts, range_facts, root_facts, root_held, root_values, root_state}
-use Rattle.place_obligations.proofs.Lines.{root_at, Holds}
+use Rattle.place_obligations.proofs.PlaceLines.{root_at, Holds}
 use Rattle.place_obligations.proofs.Rooted.{word-right, held_tops, held_from, all_ends-met, facts-met, fewer, quotients, quotients-length, congruences-met, root_forms}
 
 -- with what is said of its places; its arrays are of both spaces

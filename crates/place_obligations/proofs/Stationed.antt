@@ -27,7 +27,7 @@ use Rattle.place_obligations.specs.Telling.{TellsOfItems}
 use Rattle.place_obligations.specs.Roots.{root_state}
 use Rattle.place_obligations.specs.Walking.{Placed, course}
 use Rattle.place_obligations.specs.Listing.{Planted, planted, all_trees, claims_of}
-use Rattle.place_obligations.proofs.Lines.{notes_of, Holds, holds_of}
+use Rattle.place_obligations.proofs.PlaceLines.{notes_of, Holds, holds_of}
 use Rattle.place_obligations.proofs.Planting.{planted-has, claims-shown}
 use Rattle.place_obligations.proofs.Started.{view, started}
 use Rattle.place_obligations.proofs.Faithfully as faithfully

@@ -30,7 +30,7 @@ use Rattle.place_obligations.specs.Listing.{all_trees, claims_of, accesses_of, e
 use Rattle.place_obligations.specs.Meetings.{meetings}
 use Rattle.place_obligations.specs.Crossings.{crossings, crossing_obligation}
 use Rattle.place_obligations.specs.Shown.{obligations}
-use Rattle.place_obligations.proofs.Lines.{notes_of, line_by, of_holds}
+use Rattle.place_obligations.proofs.PlaceLines.{notes_of, line_by, of_holds}
 use Rattle.place_obligations.proofs.Opened.{opening-words}
 use Rattle.place_obligations.proofs.Started.{view}
 use Rattle.place_obligations.proofs.Arriving.{at_barrier, at_head}

@@ -1,8 +1,8 @@
 -- What is alike, copied place by place.
 use Rattle.std.proofs.Common.{◌≡◌, ℕ, ◌+◌, ◌<◌, ◌≤◌, ◌&&◌, List, [], ◌∷◌, ◌++◌, cond, length, drop, get_or, drop-cons, add-one, refl, sym, ap, subst, ◌∙◌, Some, None}
 use Rattle.std.proofs.Math.ListN.{drop_of_length-le}
-use Rattle.place_notes.specs.View.{same_number, same_of}
-use Rattle.place_notes.specs.declared.notes.Lines.{Lines}
+use Rattle.place_obligations.specs.View.{same_number, same_of}
+use Rattle.place_obligations.specs.declared.notes.Lines.{Lines}
 use Rattle.place_pairs.specs.Alike.{alike_of}
 use Rattle.place_pairs.specs.declared.alike.Alike.{Alike}
 

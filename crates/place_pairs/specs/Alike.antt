@@ -1,7 +1,7 @@
 -- The slots that are alike at a barrier, as they were copied.
 use Rattle.std.specs.Prelude.{ℕ, pos, ◌&&◌, cond, List, [], ◌∷◌, Some, None, false}
 use Rattle.facts.specs.Symbols.{constant}
-use Rattle.place_notes.specs.View.{same_number, no_ranking}
+use Rattle.place_obligations.specs.View.{same_number, no_ranking}
 use Rattle.place_obligations.specs.Notes as notes
 use Rattle.place_pairs.specs.declared.alike.Alike.{Alike}
 

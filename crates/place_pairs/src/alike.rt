@@ -2,13 +2,13 @@
 
 ghost use Rattle.std.specs.Prelude.{◌≡◌, ◌&&◌, IfOk, IfErr, ℕ, map, Some, None};
 ghost use Rattle.facts.specs.Refusals.{IsMemory};
-ghost use Rattle.place_notes.specs.View.{same_number, same_of};
+ghost use Rattle.place_obligations.specs.View.{same_number, same_of};
 ghost use Rattle.place_obligations.specs.Meetings.{same_at as same_slots};
 ghost use Rattle.place_pairs.specs.Alike.{alike_of, notes_of};
 
 use crate::anchors::same_anchor;
 use facts::WalkError;
-use place_notes::Notes;
+use place_obligations::Notes;
 use std::alloc::{AllocError, Global};
 
 /// What is said to be alike at a place.

@@ -19,7 +19,7 @@ use domain::Domain;
 use facts::{Known, WalkError};
 use launch::conditions::Conditions;
 use linear::Form;
-use place_notes::Notes;
+use place_obligations::Notes;
 use std::alloc::Global;
 
 /// Which obligation.
@@ -52,7 +52,7 @@ impl<D: Domain> Obligations<D> {
     ghost use Rattle.launch.specs.View.{conditions as conditions_seen};
     ghost use Rattle.facts.specs.View.{known_seen};
     ghost use Rattle.facts.specs.declared.error.WalkError.{WalkError};
-    ghost use Rattle.place_notes.specs.View.{seen};
+    ghost use Rattle.place_obligations.specs.View.{seen};
     ghost use Rattle.place_obligations.specs.Owning.{all_own_accesses, all_own_ends};
     ghost use Rattle.place_pairs.specs.Alike.{notes_of};
     ghost use Rattle.place_pairs.specs.Fitting.{claims_fit, crossings_fit};

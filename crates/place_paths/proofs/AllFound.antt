@@ -19,8 +19,8 @@ use Rattle.obligations.specs.Statements.{setting}
 use Rattle.obligations.specs.Trees.{Obligation, after}
 use Rattle.path_walk.specs.View as views
 use Rattle.path_walk.specs.declared.setting.Setting as code
-use Rattle.place_notes.specs.View.{seen}
-use Rattle.place_notes.specs.declared.notes.Notes as code_notes
+use Rattle.place_obligations.specs.View.{seen}
+use Rattle.place_obligations.specs.declared.notes.Notes as code_notes
 use Rattle.place_obligations.specs.Crossings.{crossings, crossing_obligation}
 use Rattle.place_obligations.specs.Fitting as meant
 use Rattle.place_obligations.specs.Fitting.{forms_fit}

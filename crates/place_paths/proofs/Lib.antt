@@ -1,6 +1,11 @@
-pub mod Stuck
+pub mod AllFound
+pub mod Behind
+pub mod EveryPlace
+pub mod Fits
+pub mod Last
+pub mod Next
 pub mod OnePath
 pub mod OnePlace
-pub mod EveryPlace
+pub mod Onward
+pub mod Stuck
 pub mod Trees
-pub mod AllFound

@@ -12,14 +12,14 @@ use Rattle.path_walk.specs.Paths.{Choice, Found, Followed, collect}
 use Rattle.path_walk.specs.Refusals.{Refused}
 use Rattle.path_walk.specs.View.{followed}
 use Rattle.path_walk.specs.declared.path.Path.{Path}
-use Rattle.path_turns.specs.Paths.{begun}
+use Rattle.place_paths.specs.Paths.{begun}
 use Rattle.place_claims.specs.View.{placed}
 use Rattle.place_claims.specs.declared.placing.Placing.{Placing}
-use Rattle.place_notes.specs.View.{seen}
+use Rattle.place_obligations.specs.View.{seen}
 use Rattle.place_obligations.specs.Listing.{Planted}
 use Rattle.place_obligations.specs.Roots.{root_facts}
 use Rattle.place_obligations.specs.Walking.{course}
-use Rattle.place_roots.specs.Rooted.{rooted, IsUnrooted}
+use Rattle.place_walk.specs.Rooted.{rooted, IsUnrooted}
 use Rattle.place_paths.specs.Planting.{planted_at}
 use Rattle.place_paths.specs.Walks.{IsCut}
 use Rattle.place_paths.proofs.Stuck.{forms_fit, unrooted, refused}

@@ -9,12 +9,12 @@ use Rattle.path_walk.specs.View.{setting, choice}
 use Rattle.path_walk.specs.declared.path.Choice as code
 use Rattle.path_walk.specs.declared.path.Path.{Path}
 use Rattle.path_walk.proofs.Listing.{tree_accesses, tree_ends}
-use Rattle.path_turns.specs.View.{maybe_choices}
-use Rattle.path_turns.proofs.Onward.{at_first}
-use Rattle.path_turns.proofs.Last.{claims_found, accesses_found, ends_found, few_found, after_found, fits_found}
+use Rattle.place_paths.specs.View.{maybe_choices}
+use Rattle.place_paths.proofs.Onward.{at_first}
+use Rattle.place_paths.proofs.Last.{claims_found, accesses_found, ends_found, few_found, after_found, fits_found}
 use Rattle.place_claims.specs.View.{placed}
 use Rattle.place_claims.specs.declared.placing.Placing.{Placing}
-use Rattle.place_notes.specs.View.{seen}
+use Rattle.place_obligations.specs.View.{seen}
 use Rattle.place_obligations.specs.Notes.{number_at}
 use Rattle.place_obligations.specs.Listing.{Planted}
 use Rattle.place_paths.specs.Planting.{planted_at, planted_by}

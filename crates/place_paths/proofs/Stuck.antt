@@ -10,10 +10,10 @@ use Rattle.obligations.specs.Fitting.{all_fit, tree_fits, tree_denials_fit}
 use Rattle.path_walk.specs.Paths.{Choice, collect}
 use Rattle.path_walk.specs.Turns.{AreRight}
 use Rattle.path_walk.specs.Refusals.{Refused}
-use Rattle.path_turns.specs.Paths.{begun}
-use Rattle.path_turns.proofs.Onward.{path_long, path_unfit}
+use Rattle.place_paths.specs.Paths.{begun}
+use Rattle.place_paths.proofs.Onward.{path_long, path_unfit}
 use Rattle.place_obligations.specs.Listing.{Planted}
-use Rattle.place_roots.specs.Rooted.{IsUnrooted}
+use Rattle.place_walk.specs.Rooted.{IsUnrooted}
 use Rattle.place_paths.specs.declared.error.FindError.TheVariants as errors
 use Rattle.place_paths.specs.Walks.{IsCut, IsStuck}
 

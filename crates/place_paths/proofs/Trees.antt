@@ -11,7 +11,7 @@ use Rattle.path_walk.specs.Paths.{Claimed}
 use Rattle.path_walk.specs.Turns.{from, listed_claims}
 use Rattle.path_walk.specs.declared.path.Path.{Path}
 use Rattle.path_walk.proofs.Listing.{tree_claims}
-use Rattle.path_turns.specs.Paths.{all_claims, all_accesses, all_ends}
+use Rattle.place_paths.specs.Paths.{all_claims, all_accesses, all_ends}
 use Rattle.place_obligations.specs.Crossings.{Crossing}
 use Rattle.place_obligations.specs.Fitting as meant
 use Rattle.place_obligations.specs.Listing as listing

@@ -1,3 +1,7 @@
-pub mod Unfound
+pub mod Behind
+pub mod Paths
 pub mod Planting
+pub mod Unfound
+pub mod View
+pub mod Walked
 pub mod Walks

@@ -8,9 +8,9 @@ use Rattle.obligations.specs.Trees.{after, leaves, accesses, ends}
 use Rattle.path_walk.specs.Paths.{Choice, collect}
 use Rattle.path_walk.specs.Turns.{from, listed_claims}
 use Rattle.path_walk.specs.declared.path.Path.{Path}
-use Rattle.path_turns.specs.Paths.{all_claims, all_accesses, all_ends, begun}
-use Rattle.path_turns.specs.Rests.{paths_left}
-use Rattle.path_turns.specs.Walked as turns
+use Rattle.place_paths.specs.Paths.{all_claims, all_accesses, all_ends, begun}
+use Rattle.place_paths.specs.Behind.{paths_left}
+use Rattle.place_paths.specs.Walked as turns
 use Rattle.place_obligations.specs.Listing.{Planted, claims_of}
 use Rattle.place_obligations.specs.Fitting.{planted_fits, trees_fit}
 use Rattle.place_pairs.specs.declared.walked.Walked.{Walked}

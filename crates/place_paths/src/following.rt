@@ -6,7 +6,7 @@ ghost use Rattle.facts.specs.Launching.{are_sizes};
 ghost use Rattle.obligations.specs.Fitting.{all_fit};
 ghost use Rattle.path_walk.specs.Paths.{collect};
 ghost use Rattle.path_walk.specs.View.{followed, choice as choice_seen};
-ghost use Rattle.path_turns.specs.Paths.{begun};
+ghost use Rattle.place_paths.specs.Paths.{begun};
 ghost use Rattle.place_claims.specs.View.{placed};
 ghost use Rattle.places.specs.View.{place as place_seen};
 ghost use Rattle.place_paths.specs.Planting.{planted_at};
@@ -16,8 +16,7 @@ use domain::Domain;
 use facts::WalkError;
 use path_walk::{Choice, Path};
 use place_claims::Placing;
-use place_roots::root_of;
-use place_sketch::walk_place;
+use place_walk::{root_of, walk_place};
 use places::Place;
 use std::alloc::Global;
 

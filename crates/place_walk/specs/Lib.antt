@@ -1,3 +1,10 @@
-pub mod Steps
+pub mod Families
 pub mod Flows
 pub mod Fronts
+pub mod Heads
+pub mod OperatorSteps
+pub mod Parts
+pub mod Rests
+pub mod Rooted
+pub mod Slots
+pub mod Steps

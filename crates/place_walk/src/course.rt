@@ -8,12 +8,13 @@ ghost use Rattle.path_walk.specs.View.{followed, value as value_seen};
 ghost use Rattle.place_claims.specs.View.{placed};
 ghost use Rattle.place_walk.specs.Steps as steps;
 
+use crate::lawful::is_lawful;
+use crate::terms::{test_of, value_of};
 use core_code::tree::{Array, Site, Term};
 use domain::Domain;
 use path_walk::{Halt, Path, Value, access};
 use place_claims::{Placing, refuse, stand_before};
 use std::alloc::Global;
-use term_walk::{is_lawful, test_of, value_of};
 
 /// A term's value at a statement.
 pub fn value_at<D: Domain>(

@@ -1,19 +1,44 @@
-//! Section: Walks. Promises exactly what one work-item finds along a path from a place; stands on `term_walk` and `place_claims`.
+//! Section: Walks. Promises exactly what is known of an item where a place's tree begins, and what one work-item finds along a path from
+//! there to its end; stands on `path_walk`, `places` and `place_claims`.
 //!
-//! The walk of a place along one path: terms and assignments as `term_walk` has them, claims as `place_claims` has them. Each contract
-//! is that of a step of `path_walk`, of the walk that the definitions have; statements tell how they are left (`specs/Flows.antt`).
+//! The walk of a place along one path. Of a term the operands come from left to right, then the operator at its own site; a choice walks
+//! what it evaluates. Operands were brought to the kind of their operator before, and terms are lawful: of elaborated kernels all are.
+//! Claims are as `place_claims` has them. What is left at a place stands from the outermost to the innermost; a path goes through it from
+//! the innermost.
+//!
+//! Each contract is that of a step of `path_walk`, of the walk that the definitions have; it holds whatever goes on, and each error says
+//! what is true of all that is found along the path. Statements tell how they are left (`specs/Flows.antt`).
 #![tactic(auto)]
 
 mod barriers;
+mod cases;
 mod course;
+mod dividing;
+mod ends;
+mod family;
 mod flow;
 mod fronts;
+mod heads;
+mod holding;
+mod known;
+mod lawful;
 mod loops;
+mod masks;
+mod operands;
+mod operators;
+mod powers;
+mod products;
+mod remainders;
+mod rests;
+mod root;
+mod said;
+mod shifts;
+mod slots;
 mod statements;
+mod terms;
+mod variables;
+mod walking;
 
-pub use barriers::holds_barrier;
-pub use course::{test_at, value_at, walk_set, walk_store};
-pub use flow::{Flow, stop_here, turn};
-pub use fronts::{number_of, update_of, walk_again, walk_front, walk_fronts};
-pub use loops::{close_loop, open_loop, stop_at_head, test_head};
-pub use statements::{walk_statement, walk_statements};
+pub use fronts::number_of;
+pub use root::root_of;
+pub use walking::walk_place;

@@ -5,8 +5,8 @@ use Rattle.std.specs.Int.{int_min, int_max}
 use Rattle.std.specs.Int.RustNames.{int_le}
 use Rattle.std.proofs.lemmas.Int.{ints, clamps}
 use Rattle.domain.specs.declared.Bounds.{Bounds}
-use Rattle.interval.specs.Ends.{least, greatest, end, span, all, add, far, multiply, at_least, at_most}
-use Rattle.interval.specs.Members.{fits-in, yes-le}
+use Rattle.domain.specs.Ends.{least, greatest, end, span, all, add, far, multiply, at_least, at_most}
+use Rattle.domain.specs.IntervalMembers.{fits-in, yes-le}
 
 -- there is an end, and it stands between the two
 abbrev pub EndIn : (low high : ℤ) → Option ℤ → Type 0

@@ -16,7 +16,7 @@ use Rattle.obligations.specs.Held.{Held, latest, element_held}
 use Rattle.obligations.specs.Walks.{Setting, State, element_of, settles, low_end}
 use Rattle.obligations.specs.Terms.{id_form}
 use Rattle.obligations.specs.Statements.{setting, opening_values}
-use Rattle.interval.specs.Ends.{all, at_least, at_most}
+use Rattle.domain.specs.Ends.{all, at_least, at_most}
 use Rattle.plain_kernels.specs.Domains.{domain}
 use Rattle.plain_kernels.proofs.Ends.{EndsIn, IsEnd, Scales, counts, one-number}
 use Rattle.plain_kernels.proofs.Terms.{Both, FirstIn, settled, scales_up, scales_down, one_more, merge-nil, multiples-put}

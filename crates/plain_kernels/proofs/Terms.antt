@@ -7,10 +7,10 @@ use Rattle.semantics.proofs.Integers.{add-mul}
 use Rattle.linear.specs.Exact.{Terms, put, merge, multiples}
 use Rattle.domain.specs.declared.Bounds.{Bounds}
 use Rattle.domain.specs.declared.Residue.{Residue}
-use Rattle.interval.specs.Members.{yes-le}
-use Rattle.interval.specs.Products.{mul-le_pos}
-use Rattle.product.specs.Both.{larger}
-use Rattle.product.specs.declared.Product.{Product}
+use Rattle.domain.specs.IntervalMembers.{yes-le}
+use Rattle.domain.specs.Products.{mul-le_pos}
+use Rattle.domain.specs.Both.{larger}
+use Rattle.domain.specs.declared.product.Product.{Product}
 use Rattle.facts.specs.Elements.{is_from_zero}
 use Rattle.obligations.specs.Held.{terms_with}
 use Rattle.plain_kernels.specs.Domains.{domain}

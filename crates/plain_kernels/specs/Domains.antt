@@ -1,12 +1,12 @@
 -- The domain that a check takes: an interval and a congruence of each number.
 use Rattle.std.specs.Prelude.{◌&&◌}
-use Rattle.congruence.specs.contracts.CongruenceDomain.TheImpl as congruence
-use Rattle.congruence.specs.declared.Congruence.{Congruence}
+use Rattle.domain.specs.contracts.congruence.CongruenceDomain.TheImpl as congruence
+use Rattle.domain.specs.declared.congruence.Congruence.{Congruence}
 use Rattle.domain.specs.declared.Domain.{Ghosts}
-use Rattle.interval.specs.contracts.IntervalDomain.TheImpl as interval
-use Rattle.interval.specs.declared.Interval.{Interval}
-use Rattle.product.specs.Both.{narrowed, finer}
-use Rattle.product.specs.declared.Product.{Product}
+use Rattle.domain.specs.contracts.interval.IntervalDomain.TheImpl as interval
+use Rattle.domain.specs.declared.interval.Interval.{Interval}
+use Rattle.domain.specs.Both.{narrowed, finer}
+use Rattle.domain.specs.declared.product.Product.{Product}
 
 -- of each of two domains an element
 abbrev pub both : {A B : Type 0} → Ghosts A → Ghosts B → Ghosts (Product A B)

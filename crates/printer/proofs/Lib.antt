@@ -1,1 +1,13 @@
+pub mod BareHeadline
+pub mod BareLimits
+pub mod BareRounds
+pub mod BareStatements
+pub mod BareSteps
+pub mod BareTerms
+pub mod BareTexts
+pub mod BareWorlds
+pub mod NamedTokens
+pub mod PrintableTrees
+pub mod ReadBack
+pub mod Rooms
 pub mod Texts

@@ -3,7 +3,7 @@ use Rattle.std.proofs.Common.{◌≡◌, ℕ, List, [], ◌∷◌, ◌++◌, map
 use Rattle.std.specs.Prelude.{◌⊎◌, Option, Some, None, Result, Ok, Err, IfSome, IfOk, codes}
 use Rattle.std.specs.String.{string_bytes}
 use Rattle.reading.specs.Answers as kernels
-use Rattle.launch_words.specs.Answers as launches
+use Rattle.launch_text.specs.Answers as launches
 use Rattle.cert_check.specs.Numbers as checks
 use Rattle.executor.specs.Numbers as runs
 use Rattle.proof_search.specs.Numbers as searches
@@ -11,15 +11,15 @@ use Rattle.std.proofs.lemmas.List.{append-nil}
 use Rattle.findings.specs.View.{finding as finding_seen}
 use Rattle.telling.specs.Refusals.{IsRefusalLine, refusal_line, place_seen}
 use Rattle.telling.specs.Refusing.{IsRefusedText, IsRefusedKernel, IsUnanswered}
-use Rattle.proof_telling.specs.Proving.{IsProvedText, IsUnproved, proved_lines, found, findings_text}
+use Rattle.telling.specs.Proving.{IsProvedText, IsUnproved, proved_lines, found, findings_text}
 use Rattle.command_line.specs.Words.{HasWord, saved_as}
 use Rattle.semantics.specs.Launch.{Launch}
 use Rattle.semantics.specs.Conditions.{Conditions, Meets}
 use Rattle.launch.specs.Least.{probe}
 use Rattle.launch.specs.View.{conditions as conditions_seen}
 use Rattle.telling.specs.Telling.{accepted_line}
-use Rattle.proof_telling.specs.Proving.{no_launch_line}
-use Rattle.proof_telling.specs.Verdicts.{Begins, Explains}
+use Rattle.telling.specs.Proving.{no_launch_line}
+use Rattle.telling.specs.ProvingVerdicts.{Begins, Explains}
 use Rattle.program.specs.Running.{kernel_read, conditions_read, saving, IsSafeText}
 use Rattle.program.specs.Running.{Read, Write, IsOf, Reads, Does, Saves, IsRefusalText, own, checked, ran, proved, explained, explained_check, printed, Success, Output, done, refused, silent, torn}
 use Rattle.program.specs.Refusing.{Refusal}

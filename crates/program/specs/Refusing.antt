@@ -1,8 +1,8 @@
 -- What a line that refuses tells of the texts that were asked about.
 use Rattle.std.specs.Prelude.{◌≡◌, ℕ, List, Option, None}
 use Rattle.telling.specs.Refusing.{IsRefusedText, IsRefusedKernel, IsUnanswered}
-use Rattle.proof_telling.specs.Proving.{IsUnproved}
-use Rattle.proof_telling.specs.Verdicts.{Begins}
+use Rattle.telling.specs.Proving.{IsUnproved}
+use Rattle.telling.specs.ProvingVerdicts.{Begins}
 use Rattle.program.specs.Running.{Read, Write, Answers}
 
 -- where no certificate is found none is written; where a refusal is explained, it begins the text

@@ -5,7 +5,7 @@ use Rattle.semantics.specs.Launch.{Launch}
 use Rattle.semantics.specs.Conditions.{Conditions, Meets}
 use Rattle.reading.specs.Kernels.{Kernel}
 use Rattle.telling.specs.Telling.{IsSafe, IsAcceptedText, IsResultText, IsPrintedText, accepted_line}
-use Rattle.proof_telling.specs.Proving.{no_launch_line}
+use Rattle.telling.specs.Proving.{no_launch_line}
 use Rattle.telling.specs.Refusals.{IsRefusalLine}
 use Rattle.command_line.specs.Words.{operands, HasWord, saved_as}
 use Rattle.program.specs.First.{first_kernel, first_conditions, first_certificate}

@@ -3,10 +3,10 @@ use Rattle.std.specs.Prelude.{◌≡◌, ◌⊎◌, ℕ, List, Option, None, tak
 use Rattle.std.specs.String.{string_bytes}
 use Rattle.std.specs.Io.KnownBytes.{Appends, Keeps}
 use Rattle.telling.specs.Verdicts.{Checks, Runs, Prints}
-use Rattle.proof_telling.specs.Proving.{IsProvedText, IsUnproved}
+use Rattle.telling.specs.Proving.{IsProvedText, IsUnproved}
 use Rattle.telling.specs.declared.Verdict.{Verdict}
 use Rattle.telling.specs.declared.Verdict.TheVariants as verdicts
-use Rattle.proof_telling.specs.Verdicts.{Begins, ExplainsCheck}
+use Rattle.telling.specs.ProvingVerdicts.{Begins, ExplainsCheck}
 use Rattle.program.specs.Running.{Read, Write, Answers, Saves, saving, IsFound, IsSought}
 
 -- of a search: what was found is in the file that the words name, if they name one; a refusal writes none

@@ -3,8 +3,8 @@
 ghost use Rattle.std.specs.Prelude.{◌≡◌, ◌≢◌, ℕ, List, [], ◌∷◌, IfOk, OnOk, codes};
 ghost use Rattle.std.specs.Option.{option_map};
 ghost use Rattle.telling.specs.Verdicts.{Checks};
-ghost use Rattle.proof_telling.specs.Proving.{IsProvedText};
-ghost use Rattle.proof_telling.specs.Verdicts.{Proves};
+ghost use Rattle.telling.specs.Proving.{IsProvedText};
+ghost use Rattle.telling.specs.ProvingVerdicts.{Proves};
 ghost use Rattle.command_line.specs.Words.{texts, HasWord, HasNames, HasSearch, HasSubject};
 ghost use Rattle.program.specs.First.{first_kernel, first_conditions, first_certificate};
 ghost use Rattle.program.specs.Running.{IsOf, Reads, Does, IsPut, Saves, saving, kernel_read, conditions_read, certificate_read, HasNoWord, Success, IsOut, Output};
@@ -15,12 +15,14 @@ use crate::files::{FileFault, Files};
 use crate::first::first_texts;
 use crate::writing::is_written;
 use command_line::{Line, Names, Search, Subject, read_line};
-use proof_telling::{Sought, explain_check, explain_texts, prove_texts};
 use std::alloc::Global;
 use std::io::Write;
 use std::sync::Wait;
 use std::thread::Threads;
-use telling::{Texts, Verdict, check_texts, print_text, run_texts};
+use telling::{
+    Sought, Texts, Verdict, check_texts, explain_check, explain_texts, print_text, prove_texts,
+    run_texts,
+};
 
 const USAGE: &[u8] = b"usage: kverify prove | check | explain | run | print\n";
 

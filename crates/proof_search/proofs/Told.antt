@@ -14,7 +14,7 @@ use Rattle.syntax.specs.declared.tree.Kernel as trees
 use Rattle.core_code.specs.declared.tree.Core.{Core}
 use Rattle.launch.specs.View.{conditions as conditions_seen}
 use Rattle.launch.specs.declared.conditions.Conditions as code
-use Rattle.launch_words.specs.View.{lined}
+use Rattle.launch_text.specs.View.{lined}
 use Rattle.launch_text.proofs.LeastFits.{conditions_meant}
 use Rattle.findings.specs.Findings.{Finding}
 use Rattle.findings.specs.View.{finding as finding_seen}

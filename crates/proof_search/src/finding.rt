@@ -6,30 +6,29 @@ ghost use Rattle.core_code.specs.declared.tree.Core.{Core};
 ghost use Rattle.syntax.specs.declared.tree.Kernel as trees;
 ghost use Rattle.launch.specs.declared.conditions.Conditions as code;
 ghost use Rattle.launch_text.specs.Fits.{IsOf};
-ghost use Rattle.launch_words.specs.View.{lined};
+ghost use Rattle.launch_text.specs.View.{lined};
 ghost use Rattle.work_item.specs.Proper.{is_proper};
 ghost use Rattle.facts.specs.Launching.{are_sizes};
 ghost use Rattle.proof_search.specs.Searching.{Means, TellsOf};
 
 use crate::error::VerifyError;
 use crate::shortfall::findings_of;
-use assembling::Missing;
 use cert_check::error::{CheckError, ShowError};
 use certificate::{Certificate, LIMIT, write};
-use certificate_search::{SearchError, search};
+use certificate_search::{Missing, SearchError, search};
 use facts::WalkError;
 use guess_walk::Subject;
 use launch::conditions::Conditions;
-use launch_grammar::laws::what_is_read_of_conditions_is_their_text;
+use launch_text::laws::what_is_read_of_conditions_is_their_text;
 use launch_text::read_conditions;
 use place_paths::FindError;
 use places::{PlaceError, places};
-use proper_kernels::laws::what_is_read_is_proper;
 use reading::laws::{bytes_are_the_text_of_what_is_read, local_sizes_are_within_limits};
 use reading::read_kernel;
-use statement_sites::site_at;
+use shown_kernels::proper::what_is_read_is_proper;
 use std::alloc::Global;
 use std::thread::Threads;
+use syntax::site_at;
 use types::typed::Typed;
 
 /// What is said where the places of a kernel cannot be walked to an end.

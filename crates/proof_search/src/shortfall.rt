@@ -7,20 +7,20 @@ ghost use Rattle.syntax.specs.declared.tree.Kernel as trees;
 ghost use Rattle.launch.specs.declared.conditions.Conditions as code;
 ghost use Rattle.launch.specs.View.{conditions as conditions_seen};
 ghost use Rattle.launch_text.specs.Fits.{IsOf};
-ghost use Rattle.launch_words.specs.View.{lined};
+ghost use Rattle.launch_text.specs.View.{lined};
 ghost use Rattle.reading.specs.Answers.{kernel_seen};
 ghost use Rattle.work_item.specs.Proper.{is_proper};
 ghost use Rattle.findings.specs.View.{finding as finding_seen};
 ghost use Rattle.proof_search.specs.Findings.{IsTrue, AreTrue};
 
-use assembling::{Mark, Missing};
+use certificate_search::{Mark, Missing};
 use diagnostics::{Finding, Spot, confirm, possible};
 use launch::conditions::Conditions;
 use launch::probe::probe;
-use launch_grammar::laws::a_least_launch_fits;
+use launch_text::laws::a_least_launch_fits;
 use path_walk::Sort;
-use statement_sites::site_at;
 use std::alloc::{AllocError, Global};
+use syntax::site_at;
 use types::typed::Typed;
 use words::{Fault, Kind};
 

@@ -12,7 +12,7 @@ use Rattle.semantics.specs.Item.{Entry, Status, Running, Waiting, Ended, Stopped
 use Rattle.semantics.specs.Ask.{Ask, Goes, on_value, stores, choose, act}
 use Rattle.semantics.specs.Solo.{moved}
 use Rattle.loop_bounds.specs.Costs.{loads, cost}
-use Rattle.step_bounds.proofs.TermLoads.{Uses, uses}
+use Rattle.rankings.proofs.TermLoads.{Uses, uses}
 use Rattle.arrivals.specs.Points.{IsFormed}
 use Rattle.arrivals.proofs.Tests.{or_left, or_right}
 use Rattle.arrivals.proofs.Controlled.{Separate}

@@ -1,9 +1,12 @@
-pub mod Falling
 pub mod Bounded
-pub mod Remaining
-pub mod Ready
+pub mod Falling
 pub mod Kept
 pub mod Listed
-pub mod Short
+pub mod LoopFreeKept
+pub mod LoopFreeRemaining
 pub mod OneLoop
 pub mod OneLoopRanked
+pub mod Ready
+pub mod Remaining
+pub mod Short
+pub mod TermLoads

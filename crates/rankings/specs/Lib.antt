@@ -1,3 +1,4 @@
 pub mod Limits
+pub mod LoopFree
 pub mod Ranked
 pub mod Within

@@ -11,9 +11,9 @@ use Rattle.texts.specs.Spelling.{IsTextTree}
 use Rattle.texts.proofs.Endings.{lexemes_ended}
 use Rattle.texts.proofs.Spellings.{lexemes_spelt}
 use Rattle.parser.specs.Parsed.{Parsed, parsed}
-use Rattle.kernel_grammar.proofs.Exact.{parsed-sound}
-use Rattle.kernel_grammar.proofs.TextTrees.{text-tree}
-use Rattle.kernel_grammar.proofs.Truth.{parsed-complete}
+use Rattle.parser.proofs.Exact.{parsed-sound}
+use Rattle.parser.proofs.TextTrees.{text-tree}
+use Rattle.parser.proofs.Truth.{parsed-complete}
 use Rattle.reading.specs.Kernels.{Kernel, Read, of_types, of_tree, of_tokens, read}
 use Rattle.reading.specs.Texts.{IsTextOf}
 

@@ -3,7 +3,7 @@ use Rattle.std.proofs.Common.{◌≡◌, List, [], ◌∷◌, map, refl, ap}
 use Rattle.lexer.specs.Seen.{token}
 use Rattle.lexer.specs.declared.Token.{Token}
 use Rattle.texts.specs.Lexemes as texts
-use Rattle.readers.specs.View as parser
+use Rattle.parser.specs.View as parser
 
 pub lexemes-same : (ts : List Token) → texts.lexemes (map token ts) ≡ parser.lexemes ts
 lexemes-same [] = refl

@@ -2,16 +2,16 @@
 use Rattle.std.specs.Prelude.{ℕ, ◌≡◌, Option, Result, Ok, Err}
 use Rattle.lexer.specs.Seen as lexer
 use Rattle.lexer.specs.declared.TextError.TheVariants as texts
-use Rattle.readers.specs.View as parser
+use Rattle.parser.specs.View as parser
 use Rattle.parser.specs.Parsed as parsed
 use Rattle.parser.specs.declared.error.ParseError.TheVariants as trees
 use Rattle.syntax.specs.View.{kernel}
 use Rattle.core_code.specs.View.{site}
 use Rattle.syntax.specs.declared.tree.Kernel as tree
-use Rattle.scopes.specs.Answers as types
+use Rattle.types.specs.Answers as types
 use Rattle.core_code.specs.View as core
 use Rattle.core_code.specs.declared.tree.Core.{Core}
-use Rattle.scopes.specs.declared.error.TypeError.TheVariants as typing
+use Rattle.types.specs.declared.error.TypeError.TheVariants as typing
 use Rattle.reading.specs.Kernels.{Kernel, Read, OfText, OfTree, OfTypes}
 use Rattle.reading.specs.declared.KernelError.{KernelError}
 use Rattle.reading.specs.declared.KernelError.TheVariants as errors

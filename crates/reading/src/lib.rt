@@ -10,10 +10,10 @@ ghost use Rattle.reading.specs.Answers.{Gives};
 use lexer::{TextError, lex};
 use parser::error::ParseError;
 use parser::parse;
-use scopes::error::TypeError;
 use std::alloc::Global;
 use thiserror::Error;
 use types::check::check_types;
+use types::error::TypeError;
 use types::typed::Typed;
 
 pub mod laws;

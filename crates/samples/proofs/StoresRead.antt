@@ -11,11 +11,11 @@ use Rattle.texts.specs.Limits.{within_limits}
 use Rattle.texts.specs.Scope.{reserved_names}
 use Rattle.texts.specs.Typing.{type_of, types_of, function_named, left_out_names, is_left_out}
 use Rattle.texts.specs.Elaboration.{elaborate_assignment, elaborate_declaration, elaborate_statement, elaborate_all, elaborate}
-use Rattle.readers.specs.Expressions.{chain, ranked, more_arguments, arguments, inside, operand_reader, expression_reader}
-use Rattle.statement_parser.specs.Heads.{ended}
-use Rattle.readers.specs.Kernels.{buffer_reader, value_reader, parameter_reader, more_parameters, parameters_reader, sizes_reader, attribute_reader, kernel_reader}
+use Rattle.parser.specs.Expressions.{chain, ranked, more_arguments, arguments, inside, operand_reader, expression_reader}
+use Rattle.parser.specs.Heads.{ended}
+use Rattle.parser.specs.Kernels.{buffer_reader, value_reader, parameter_reader, more_parameters, parameters_reader, sizes_reader, attribute_reader, kernel_reader}
 use Rattle.parser.specs.Parsed.{parsed}
-use Rattle.readers.specs.Statements.{assigned_reader, index_reader, assignment_reader, declaration_reader, first_reader, tested, parts_reader, head_reader, items, named, array_reader, statement_reader, body_reader, block_reader, item_reader}
+use Rattle.parser.specs.Statements.{assigned_reader, index_reader, assignment_reader, declaration_reader, first_reader, tested, parts_reader, head_reader, items, named, array_reader, statement_reader, body_reader, block_reader, item_reader}
 use Rattle.reading.specs.Kernels.{read}
 use Rattle.samples.specs.Stores.{stores, kernel_of}
 

@@ -7,8 +7,8 @@ use Rattle.loop_bounds.specs.declared.bound.LoopBound.{LoopBound}
 use Rattle.rankings.specs.Limits.{limit_of, limits, AreFitting}
 use Rattle.rankings.proofs.Listed.{limits-turns, limits-are}
 use Rattle.place_obligations.specs.Limits.{limit, turns_at, AreLimits}
-use Rattle.place_notes.specs.declared.notes.Notes.{Notes}
-use Rattle.place_notes.specs.View.{ranking, ranking_of, seen}
+use Rattle.place_obligations.specs.declared.notes.Notes.{Notes}
+use Rattle.place_obligations.specs.View.{ranking, ranking_of, seen}
 
 one_limit : (b : Bound) → limit (ranking b).bound ≡ limit_of b
 one_limit (bounds.Down f step m) = refl

@@ -15,12 +15,12 @@ ghost use Rattle.place_obligations.specs.Limits.{turns_at, AreLimits};
 ghost use Rattle.place_obligations.specs.Shown.{obligations};
 ghost use Rattle.reading.specs.Kernels.{Kernel, read};
 
+use crate::proper::what_is_read_is_proper;
 pub use crate::ranked::{noted_rankings_are_limits, noted_rankings_have_their_turns};
+use crate::sound::what_is_read_is_sound_where_barriers_are_met;
 use domain::Domain;
 use place_obligations::laws::what_is_shown_by_places_is_safe_within_its_cost;
-use proper_kernels::laws::what_is_read_is_proper;
 use reduction::headline;
-use sound_kernels::laws::what_is_read_is_sound_where_barriers_are_met;
 
 /// A kernel that is read of bytes, each of whose loops with a barrier meets one on each way through, and of which all is shown under
 /// conditions, whatever is said of its places and loops, has the headline at each launch that meets the conditions, within its cost.

@@ -21,8 +21,8 @@ use Rattle.launch.specs.View.{conditions as conditions_seen, launch as launch_se
 use Rattle.launch.specs.declared.conditions.Conditions.{Conditions}
 use Rattle.launch.specs.declared.launches.Launch.{Launch}
 use Rattle.launch.specs.declared.launches.Buffers.{Buffers}
-use Rattle.launch_words.specs.View as view
-use Rattle.launch_words.specs.View.{lined}
+use Rattle.launch_text.specs.View as view
+use Rattle.launch_text.specs.View.{lined}
 use Rattle.launch_text.proofs.LeastFits.{conditions_meant, launch_meant}
 use Rattle.reading.specs.Answers.{kernel_seen}
 use Rattle.reading.specs.Texts.{IsTextOf}

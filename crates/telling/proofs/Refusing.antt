@@ -7,9 +7,9 @@ use Rattle.reading.specs.Kernels.{Kernel}
 use Rattle.launch.specs.View.{conditions as conditions_seen, launch as launch_seen}
 use Rattle.launch.specs.declared.conditions.Conditions.{Conditions}
 use Rattle.launch.specs.declared.launches.Launch.{Launch}
-use Rattle.launch_words.specs.View as reading
-use Rattle.launch_words.specs.Answers as launches
-use Rattle.launch_words.specs.declared.error.LaunchTextError.{LaunchTextError}
+use Rattle.launch_text.specs.View as reading
+use Rattle.launch_text.specs.Answers as launches
+use Rattle.launch_text.specs.declared.error.LaunchTextError.{LaunchTextError}
 use Rattle.cert_check.specs.Numbers as checks
 use Rattle.cert_check.specs.Numbers.{at_line}
 use Rattle.cert_check.specs.Refusing.{Refuses}

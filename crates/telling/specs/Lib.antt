@@ -1,4 +1,6 @@
+pub mod Proving
+pub mod ProvingVerdicts
 pub mod Refusals
-pub mod Telling
 pub mod Refusing
+pub mod Telling
 pub mod Verdicts

@@ -1,27 +1,32 @@
-//! Section: Runs and program. Promises what is written says `accepted` only of what is; stands on `cert_check` and `executor`.
+//! Section: Runs and program. Promises that `accepted` is told only of what is, and of a refusal that what its findings confirm is true;
+//! stands on `cert_check`, `executor` and `verify`.
 //!
-//! What the program says of texts: it checks them, runs an accepted kernel, or prints a kernel's canonical text, and tells the answer or the
-//! refusal.
+//! What the program says of texts: it checks them, runs an accepted kernel, prints a kernel's canonical text, or looks for a certificate,
+//! and tells the answer or the refusal with its findings. What it says besides, where a refusal is explained, stands behind what is told.
 #![tactic(auto)]
 
 ghost use Rattle.std.specs.Prelude.{◌≡◌};
-ghost use Rattle.launch_words.specs.Answers as launches;
+ghost use Rattle.launch_text.specs.Answers as launches;
 ghost use Rattle.cert_check.specs.Numbers as checks;
 ghost use Rattle.cert_check.specs.Numbers.{at_line};
 ghost use Rattle.executor.specs.Numbers as runs;
 ghost use Rattle.telling.specs.Verdicts.{Checks, Runs, Prints, IsRefusal};
 
+mod explained;
+mod proving;
 mod refusal;
 
 use cert_check::check;
 use cert_check::error::{CheckError, Place};
 use executor::{RunError, run};
-use launch_grammar::laws::{
+pub use explained::{explain_check, explain_texts};
+use launch_text::error::LaunchTextError;
+use launch_text::laws::{
     what_is_read_of_a_launch_is_its_text, what_is_read_of_conditions_is_their_text,
 };
-use launch_text::error::LaunchTextError;
 use launch_text::{read_launch, write_buffers};
 use printer::print;
+pub use proving::{Sought, prove_texts};
 use reading::laws::bytes_are_the_text_of_what_is_read;
 use reading::read_kernel;
 pub use refusal::Refusal;

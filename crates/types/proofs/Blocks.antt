@@ -9,10 +9,10 @@ use Rattle.texts.specs.Typing.{TypedTerm, type_of}
 use Rattle.texts.specs.Elaboration.{Elaborated, elaborated, single, join, elaborate_first, elaborate_assignment, Around, InLoop, inside, elaborate_statement, elaborate_all}
 use Rattle.core_code.specs.View.{statement, statements}
 use Rattle.types.specs.Blocks.{behind, block, repeated, turn, otherwise}
-use Rattle.scopes.specs.Answers.{Gives, Refuses}
+use Rattle.types.specs.Answers.{Gives, Refuses}
 use Rattle.core_code.specs.declared.tree.Statement.{Statement}
-use Rattle.scopes.specs.declared.error.TypeError.{TypeError}
-use Rattle.scopes.specs.declared.error.TypeError.TheVariants as errors
+use Rattle.types.specs.declared.error.TypeError.{TypeError}
+use Rattle.types.specs.declared.error.TypeError.TheVariants as errors
 use Rattle.syntax.specs.View.{statement as stmt, statements as stmts}
 use Rattle.syntax.specs.declared.tree.Stmt.{Stmt}
 use Rattle.core_code.proofs.Rows.{seen_if, seen_loop}

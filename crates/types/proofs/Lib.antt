@@ -1,5 +1,5 @@
 pub mod Arguments
 pub mod Blocks
-pub mod Names
 pub mod Kernels
+pub mod Names
 pub mod Rooms

@@ -8,8 +8,8 @@ use Rattle.texts.specs.Surface as surface
 use Rattle.texts.specs.TypeFaults.{TypeFault, NameTwice, Checked, then, when}
 use Rattle.texts.specs.Scope.{Scope, Binding, ArrayAt, may_declare, bind, declare_array}
 use Rattle.types.specs.Blocks.{behind, block, repeated}
-use Rattle.scopes.specs.Names.{binding, names}
-use Rattle.scopes.specs.declared.scope.Binding.{Binding as Bound}
+use Rattle.types.specs.Names.{binding, names}
+use Rattle.types.specs.declared.scope.Binding.{Binding as Bound}
 use Rattle.texts.specs.Elaboration.{Elaborated, elaborated, join, elaborate_declaration, elaborate_first, Around, InKernel, InBlock, InLoop, elaborate_statement, elaborate_all}
 
 abbrev pub Extends : List Binding → List Binding → Type 0

@@ -10,7 +10,7 @@ use Rattle.texts.specs.Typing.{type_of}
 use Rattle.texts.specs.Declarations.{declared_first, declared_in, declared_by}
 use Rattle.texts.specs.Elaboration.{Elaborated, elaborated, declare_parameter, declare_parameters, elaborate_assignment, elaborate_declaration, elaborate_first, elaborate_statement, elaborate_all, barrier_of, Around, InKernel, InBlock, InLoop, inside, jump_to}
 use Rattle.types.specs.Blocks.{behind, block}
-use Rattle.scopes.specs.Rooms.{declared}
+use Rattle.types.specs.Rooms.{declared}
 use Rattle.std.specs.Prelude.{Vec}
 use Rattle.std.specs.declared.alloc.Global.{Global}
 use Rattle.core_code.specs.declared.tree.Site.{Site}

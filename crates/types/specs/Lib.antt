@@ -1,3 +1,6 @@
-pub mod Functions
-pub mod Blocks
+pub mod Answers
 pub mod Arounds
+pub mod Blocks
+pub mod Functions
+pub mod Names
+pub mod Rooms

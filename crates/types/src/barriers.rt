@@ -6,10 +6,10 @@ ghost use Rattle.texts.specs.Surface as surface;
 ghost use Rattle.syntax.specs.View.{infix_sign, expression};
 ghost use Rattle.core_code.specs.View.{site as site_of};
 ghost use Rattle.core_code.specs.View.{statement};
-ghost use Rattle.scopes.specs.Answers.{Gives};
+ghost use Rattle.types.specs.Answers.{Gives};
 
+use crate::error::{TypeError, TypeFault};
 use core_code::tree::{Operator, Site, Statement};
-use scopes::error::{TypeError, TypeFault};
 use syntax::tree::{Expr, InfixSign};
 
 // Whether a flag is the local one.

@@ -5,11 +5,11 @@ ghost use Rattle.texts.specs.Declarations.{HasFewNames};
 ghost use Rattle.texts.specs.Elaboration.{elaborate as elaborates};
 ghost use Rattle.syntax.specs.View.{kernel as tree_seen};
 ghost use Rattle.core_code.specs.View.{kernel as core_seen};
-ghost use Rattle.scopes.specs.Answers.{Gives};
+ghost use Rattle.types.specs.Answers.{Gives};
 
 use crate::elaboration::elaborate;
+use crate::error::TypeError;
 use crate::typed::Typed;
-use scopes::error::TypeError;
 use std::alloc::Global;
 use syntax::tree::Kernel;
 

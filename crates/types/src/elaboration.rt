@@ -5,13 +5,13 @@ ghost use Rattle.texts.specs.Declarations.{HasFewNames};
 ghost use Rattle.texts.specs.Elaboration as elaboration;
 ghost use Rattle.syntax.specs.View.{kernel as tree_of};
 ghost use Rattle.core_code.specs.View.{kernel};
-ghost use Rattle.scopes.specs.Answers.{Gives};
+ghost use Rattle.types.specs.Answers.{Gives};
 
+use crate::error::TypeError;
 use crate::jumps::Around;
+use crate::scope::Scope;
 use crate::statements::elaborate_all;
 use core_code::tree::Core;
-use scopes::error::TypeError;
-use scopes::scope::Scope;
 use std::alloc::Global;
 use syntax::tree::Kernel;
 use words::Kind;

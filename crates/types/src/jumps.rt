@@ -4,11 +4,11 @@ ghost use Rattle.std.specs.Prelude.{◌≡◌};
 ghost use Rattle.texts.specs.Elaboration as elaboration;
 ghost use Rattle.syntax.specs.View.{jump_word};
 ghost use Rattle.core_code.specs.View.{site as site_of, statement};
-ghost use Rattle.scopes.specs.Answers.{Gives};
+ghost use Rattle.types.specs.Answers.{Gives};
 ghost use Rattle.types.specs.Arounds.{around as around_of};
 
+use crate::error::{TypeError, TypeFault};
 use core_code::tree::{Site, Statement};
-use scopes::error::{TypeError, TypeFault};
 use syntax::tree::JumpWord;
 
 /// Where a statement stands: directly in the kernel's body, in a block outside all loops, or in loops, the innermost of which has

@@ -11,18 +11,18 @@ ghost use Rattle.syntax.specs.View.{expression, assignment, first as first_of, s
 ghost use Rattle.core_code.specs.View.{term, statement, statements};
 ghost use Rattle.types.specs.Arounds.{around as around_of};
 ghost use Rattle.types.specs.Blocks.{behind, block, otherwise, repeated, turn};
-ghost use Rattle.scopes.specs.Names.{scope_seen, one_seen, all_seen};
-ghost use Rattle.scopes.specs.Answers.{Gives};
-ghost use Rattle.scopes.specs.Rooms.{HasRoom};
+ghost use Rattle.types.specs.Names.{scope_seen, one_seen, all_seen};
+ghost use Rattle.types.specs.Answers.{Gives};
+ghost use Rattle.types.specs.Rooms.{HasRoom};
 
 use crate::assignments::elaborate_assignment;
 use crate::barriers::barrier_of;
 use crate::declared::{declare_local, elaborate_declaration, elaborate_first};
+use crate::error::TypeError;
 use crate::jumps::{Around, jump_to};
+use crate::scope::Scope;
 use crate::typing::type_of;
 use core_code::tree::{Statement, Term};
-use scopes::error::TypeError;
-use scopes::scope::Scope;
 use std::alloc::Global;
 use syntax::tree::{Assignment, Expr, First, Stmt};
 

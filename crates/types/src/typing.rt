@@ -12,14 +12,14 @@ ghost use Rattle.syntax.specs.View.{expression, expressions, infix_sign, prefix_
 ghost use Rattle.core_code.specs.View.{site};
 ghost use Rattle.core_code.specs.View.{term, array as array_seen, unary_operator, function as function_of};
 ghost use Rattle.types.specs.Functions.{pick as pick_of};
-ghost use Rattle.scopes.specs.Names.{names, meaning_seen};
-ghost use Rattle.scopes.specs.Answers.{typed_term, IsTyped, IsArrayOf};
+ghost use Rattle.types.specs.Names.{names, meaning_seen};
+ghost use Rattle.types.specs.Answers.{typed_term, IsTyped, IsArrayOf};
 
 use crate::calls::{Pick, function_named, is_left_out, pick_named};
+use crate::conversions::{TypedTerm, bring, common};
+use crate::error::{TypeError, TypeFault};
+use crate::scope::{Binding, Meaning, meaning_of};
 use core_code::tree::{Array, Function, Site, Term, UnaryOperator};
-use scopes::conversions::{TypedTerm, bring, common};
-use scopes::error::{TypeError, TypeFault};
-use scopes::scope::{Binding, Meaning, meaning_of};
 use std::alloc::{AllocError, Global};
 use syntax::tree::{Expr, InfixSign, PrefixSign};
 use words::Kind;

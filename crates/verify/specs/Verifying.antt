@@ -4,7 +4,7 @@ use Rattle.texts.specs.ConditionsReading.{conditions_of}
 use Rattle.syntax.specs.View.{kernel as tree_seen}
 use Rattle.core_code.specs.View.{kernel as core_seen}
 use Rattle.launch.specs.View.{conditions as conditions_seen}
-use Rattle.launch_words.specs.View.{lined}
+use Rattle.launch_text.specs.View.{lined}
 use Rattle.reading.specs.Kernels.{read}
 use Rattle.reading.specs.Answers.{kernel_seen}
 use Rattle.cert_check.specs.Accepting.{IsAccepted, HasHeadline}

@@ -1,5 +1,5 @@
 -- Proper kernels: each value of a term is a word of 32 bits, and all work-items of a launch have numbers of 64 bits. Those which are read
--- from a text are proper (`proper_kernels`); of others `is_proper` tests it.
+-- from a text are proper (`sound_kernels`); of others `is_proper` tests it.
 use Rattle.std.specs.Prelude.{ℕ, List, [], ◌∷◌, Bool, true, false, ◌&&◌, nat_le, nat_lt}
 use Rattle.semantics.specs.Word.{Kind, Int, Uint, UnaryOperator, Negate, Complement, ShiftLeft, ShiftRight, in_kind}
 use Rattle.semantics.specs.Core.{Term, Literal, Variable, Id, Load, Unary, Binary, Convert, Compare, Not, And, Or, Select, Minimum, Maximum, Statement, Set, Store, If, Loop, Barrier, Return, Break, Continue, Statements, none, one}

@@ -5,7 +5,5 @@
 
 mod log;
 mod rising;
-#[cfg(test)]
-mod tests;
 
 pub use log::{WriteLog, apply};

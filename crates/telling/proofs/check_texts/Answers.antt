@@ -1,7 +1,7 @@
 use Rattle.reading.specs.Answers.{kernel_seen}
 use Rattle.syntax.specs.View.{kernel}
 use Rattle.launch.specs.View.{conditions}
-use Rattle.launch_words.specs.View.{lined}
+use Rattle.launch_text.specs.View.{lined}
 use Rattle.cert_check.specs.View.{typed_of, kept}
 use Rattle.telling.proofs.Meanings.{is_safe}
 use Rattle.telling.proofs.Refusing.{of_check}

@@ -6,12 +6,12 @@ use Rattle.texts.specs.LaunchText.{buffers_text}
 use Rattle.syntax.specs.View.{kernel}
 use Rattle.core_code.specs.View.{kernel as core}
 use Rattle.launch.specs.View.{conditions, launch}
-use Rattle.launch_words.specs.View as reading
-use Rattle.launch_words.specs.View.{lined}
+use Rattle.launch_text.specs.View as reading
+use Rattle.launch_text.specs.View.{lined}
 use Rattle.reading.specs.Answers.{kernel_seen}
 use Rattle.cert_check.specs.View.{typed_of, kept}
 use Rattle.telling.proofs.Meanings.{is_safe, is_run}
-use Rattle.launch_words.specs.Answers as texts
+use Rattle.launch_text.specs.Answers as texts
 use Rattle.telling.proofs.Refusing.{unaccepted_run, unread_run, not_run}
 use Rattle.telling.proofs.run_texts.Goals as goal
 

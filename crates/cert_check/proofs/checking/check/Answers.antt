@@ -2,7 +2,7 @@ use Rattle.std.proofs.Common.{rules, arith, sym, subst}
 use Rattle.std.proofs.lemmas.Int.{ints}
 use Rattle.core_code.specs.View.{kernel}
 use Rattle.launch.specs.View.{conditions}
-use Rattle.launch_words.specs.View.{lined}
+use Rattle.launch_text.specs.View.{lined}
 use Rattle.launch_text.proofs.LeastFits.{conditions_meant}
 use Rattle.texts.specs.ConditionsReading.{meant}
 use Rattle.reading.specs.Answers.{kernel_seen}

@@ -7,14 +7,14 @@ use Rattle.launch.specs.View.{conditions}
 use Rattle.facts.specs.Launching.{are_sizes}
 use Rattle.arrivals.specs.Places.{places}
 use Rattle.places.specs.View.{place}
-use Rattle.place_notes.specs.View.{seen}
+use Rattle.place_obligations.specs.View.{seen}
 use Rattle.place_obligations.specs.Telling.{TellsOfItems}
 use Rattle.place_names.specs.Noted.{noted}
 use Rattle.place_names.specs.Noting.{lacks}
 use Rattle.place_names.specs.NotesView as views
 use Rattle.plain_kernels.specs.Domains.{domain}
 use Rattle.certificate.specs.Certificates.{certificate}
-use Rattle.certificate_tree.specs.View.{entry}
+use Rattle.certificate.specs.View.{entry}
 use Rattle.entry_check.specs.Lacking.{PassesOf, TellsOf}
 use Rattle.cert_check.specs.Checked.{AllIsShown, PassesWith, Unshown}
 use Rattle.cert_check.proofs.Handing.{mapped, follows, of_none, of_some}

@@ -1,7 +1,7 @@
 use Rattle.std.proofs.Common.{length, ap, sym, ◌∙◌, arith}
 use Rattle.texts.proofs.DraftsRead.{add_line_back}
 use Rattle.lines.specs.Left.{left}
-use Rattle.certificate_parts.specs.Drafts as drafts
+use Rattle.certificate.specs.Drafts as drafts
 use Rattle.certificate.proofs.Steps.{one_row}
 use Rattle.certificate.proofs.reader.read_lines.Goals as goal
 

@@ -3,7 +3,7 @@ use Rattle.texts.specs.CertificateDrafts as drafting
 use Rattle.texts.specs.CertificateReading as reading
 use Rattle.texts.proofs.DraftsRead.{IsDraft}
 use Rattle.lines.specs.Left.{left}
-use Rattle.certificate_parts.specs.Drafts as drafts
+use Rattle.certificate.specs.Drafts as drafts
 use Rattle.certificate.proofs.reader.read_lines.Given as goal
 
 abbrev pub invariant-loop-line : goal.invariant-loop-line

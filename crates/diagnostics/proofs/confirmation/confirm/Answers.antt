@@ -5,7 +5,7 @@ use Rattle.work_item.specs.View.{setup_of}
 use Rattle.machine.specs.Worlds.{setup, world}
 use Rattle.diagnostics.specs.Confirming.{IsConfirmed}
 use Rattle.diagnostics.specs.Replays.{finding_of}
-use Rattle.sightings.specs.Visits.{IsSighting}
+use Rattle.findings.specs.Visits.{IsSighting}
 use Rattle.diagnostics.proofs.Runs.{confirms}
 use Rattle.diagnostics.proofs.confirmation.confirm.Goals as goal
 

@@ -1,5 +1,5 @@
 use Rattle.std.proofs.Common.{◌≡◌, ◌++◌, drop, map}
-use Rattle.certificate_tree.specs.View.{step as step_seen}
+use Rattle.certificate.specs.View.{step as step_seen}
 use Rattle.cut_proof.specs.View.{line}
 use Rattle.entry_check.specs.Entries.{line_of}
 use Rattle.entry_check.proofs.derivations.derivation_of.Given as goal

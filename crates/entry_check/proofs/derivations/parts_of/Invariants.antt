@@ -1,5 +1,5 @@
 use Rattle.std.proofs.Common.{◌≡◌, ◌++◌, drop, map}
-use Rattle.certificate_tree.specs.View.{scaled}
+use Rattle.certificate.specs.View.{scaled}
 use Rattle.entry_check.specs.Entries.{part_of}
 use Rattle.entry_check.proofs.derivations.parts_of.Given as goal
 

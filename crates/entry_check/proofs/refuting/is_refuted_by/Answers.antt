@@ -2,7 +2,7 @@ use Rattle.std.proofs.Common.{◌≡◌, Some, ap, sym, subst, ◌∙◌}
 use Rattle.std.specs.Prelude.{IsTrue}
 use Rattle.semantics.specs.Linear.{IsImpossible}
 use Rattle.linear.specs.Forms.{forms}
-use Rattle.certificate_tree.specs.View.{entry}
+use Rattle.certificate.specs.View.{entry}
 use Rattle.place_pairs.specs.Goals.{maybe_forms}
 use Rattle.place_pairs.specs.Listed.{listed, nth_obligation}
 use Rattle.entry_check.specs.Entries.{facts_for}

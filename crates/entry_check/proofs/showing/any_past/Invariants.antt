@@ -1,5 +1,5 @@
 use Rattle.std.proofs.Common.{◌≡◌, drop, map}
-use Rattle.certificate_tree.specs.View.{entry}
+use Rattle.certificate.specs.View.{entry}
 use Rattle.entry_check.specs.Entries.{is_past}
 use Rattle.entry_check.proofs.showing.any_past.Given as goal
 

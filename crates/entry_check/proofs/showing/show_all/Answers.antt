@@ -1,11 +1,11 @@
 use Rattle.std.proofs.Common.{rules, ◌≡◌, [], map, ap, subst, IfOk, ◌∙◌}
 use Rattle.std.specs.List.{All}
-use Rattle.certificate_tree.specs.View.{entry}
+use Rattle.certificate.specs.View.{entry}
 use Rattle.core_code.specs.View.{kernel}
 use Rattle.launch.specs.View.{conditions}
 use Rattle.facts.proofs.Unmade.{passed}
 use Rattle.obligations.specs.Shown.{IsShown}
-use Rattle.place_notes.specs.View.{seen, quotient_of}
+use Rattle.place_obligations.specs.View.{seen, quotient_of}
 use Rattle.place_obligations.specs.Shown.{obligations}
 use Rattle.place_pairs.specs.Listed.{listed, made_fit}
 use Rattle.place_pairs.specs.Refusals.{DoNotFit}

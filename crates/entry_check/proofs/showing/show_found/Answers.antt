@@ -1,7 +1,7 @@
 use Rattle.std.proofs.Common.{rules, arith, ◌≡◌, ℕ, ◌≤◌, ◌<◌, ◌+◌, ◌-◌, length, map, get_or, ap, sym, subst, ◌∙◌}
 use Rattle.std.specs.Prelude.{Option}
-use Rattle.certificate_tree.specs.View.{entry}
-use Rattle.place_notes.specs.View.{quotient_of}
+use Rattle.certificate.specs.View.{entry}
+use Rattle.place_obligations.specs.View.{quotient_of}
 use Rattle.place_pairs.specs.Listed.{listed, nth_obligation, no_obligation, made_fit}
 use Rattle.place_pairs.specs.Refusals.{DoNotFit}
 use Rattle.obligations.specs.Shown.{IsShown}

@@ -1,6 +1,6 @@
 use Rattle.std.proofs.Common.{◌<◌, ℕ, ◌+◌, get_or, map}
-use Rattle.certificate_tree.specs.View.{entry}
-use Rattle.place_notes.specs.View.{quotient_of}
+use Rattle.certificate.specs.View.{entry}
+use Rattle.place_obligations.specs.View.{quotient_of}
 use Rattle.place_pairs.specs.Listed.{listed, no_obligation}
 use Rattle.obligations.specs.Shown.{IsShown}
 use Rattle.entry_check.specs.Lacking.{Passes}

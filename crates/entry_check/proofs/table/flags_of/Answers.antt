@@ -1,5 +1,5 @@
 use Rattle.std.proofs.Common.{arith, map, ap, ◌∙◌, length}
-use Rattle.certificate_tree.specs.View.{entry}
+use Rattle.certificate.specs.View.{entry}
 use Rattle.entry_check.specs.Entries.{entry_of}
 use Rattle.entry_check.proofs.Entering.{one_flag, all_flags, is_found_some}
 use Rattle.entry_check.proofs.table.flags_of.Goals as goal

@@ -1,5 +1,5 @@
 use Rattle.std.proofs.Common.{◌≡◌, ◌<◌, ℕ, false, length, map, slice_index_or}
-use Rattle.certificate_tree.specs.View.{entry}
+use Rattle.certificate.specs.View.{entry}
 use Rattle.entry_check.specs.Entries.{has_entry}
 use Rattle.entry_check.proofs.table.flags_of.Given as goal
 

@@ -2,8 +2,8 @@ use Rattle.std.proofs.Common.{◌≡◌, drop, map}
 use Rattle.texts.specs.LaunchWords.{each}
 use Rattle.texts.specs.ConditionsReading.{argument_due, argument_lines}
 use Rattle.syntax.specs.View.{parameter}
-use Rattle.launch_words.specs.Answers.{cursor}
-use Rattle.launch_words.specs.View.{arguments}
+use Rattle.launch_text.specs.Answers.{cursor}
+use Rattle.launch_text.specs.View.{arguments}
 use Rattle.launch_text.proofs.conditions.argument_lines.Given as goal
 
 abbrev pub invariant-loop-parameter : goal.invariant-loop-parameter

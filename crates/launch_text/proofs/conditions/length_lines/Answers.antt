@@ -4,8 +4,8 @@ use Rattle.words.specs.View.{kind}
 use Rattle.texts.specs.LaunchWords.{each}
 use Rattle.texts.specs.ConditionsReading as meaning
 use Rattle.syntax.specs.View.{parameter}
-use Rattle.launch_words.specs.Answers.{cursor}
-use Rattle.launch_words.specs.View as view
+use Rattle.launch_text.specs.Answers.{cursor}
+use Rattle.launch_text.specs.View as view
 use Rattle.launch_text.proofs.Rows.{each_over, each_skips, each_due}
 use Rattle.launch_text.proofs.conditions.length_lines.Goals as goal
 

@@ -2,8 +2,8 @@ use Rattle.std.proofs.Common.{rules, ◌-◌, map, List, ap, sym, ◌∙◌}
 use Rattle.std.proofs.lemmas.List.{map_push}
 use Rattle.texts.specs.ConditionsReading as meaning
 use Rattle.syntax.specs.View.{parameter}
-use Rattle.launch_words.specs.Answers.{cursor}
-use Rattle.launch_words.specs.View as view
+use Rattle.launch_text.specs.Answers.{cursor}
+use Rattle.launch_text.specs.View as view
 use Rattle.launch_text.proofs.Requirements.{requirements_over, requirements_spent, requirements_due}
 use Rattle.launch_text.proofs.conditions.requirement_lines.Goals as goal
 

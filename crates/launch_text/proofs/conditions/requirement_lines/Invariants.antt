@@ -1,8 +1,8 @@
 use Rattle.std.proofs.Common.{◌≡◌, [], map}
 use Rattle.texts.specs.ConditionsReading.{requirement_lines}
 use Rattle.syntax.specs.View.{parameter}
-use Rattle.launch_words.specs.Answers.{cursor}
-use Rattle.launch_words.specs.View.{requirements}
+use Rattle.launch_text.specs.Answers.{cursor}
+use Rattle.launch_text.specs.View.{requirements}
 use Rattle.launch_text.proofs.conditions.requirement_lines.Given as goal
 
 abbrev pub invariant-lines : goal.invariant-lines

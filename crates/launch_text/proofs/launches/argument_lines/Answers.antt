@@ -5,8 +5,8 @@ use Rattle.semantics.specs.Word.{Word}
 use Rattle.texts.specs.LaunchWords.{each}
 use Rattle.texts.specs.LaunchReading as meaning
 use Rattle.syntax.specs.View.{parameter}
-use Rattle.launch_words.specs.Answers.{cursor}
-use Rattle.launch_words.specs.View as view
+use Rattle.launch_text.specs.Answers.{cursor}
+use Rattle.launch_text.specs.View as view
 use Rattle.launch_text.proofs.Rows.{each_over, each_skips, each_due}
 use Rattle.launch_text.proofs.launches.argument_lines.Goals as goal
 

@@ -2,8 +2,8 @@ use Rattle.std.proofs.Common.{◌≡◌, ◌-◌, drop, map}
 use Rattle.texts.specs.LaunchWords.{each}
 use Rattle.texts.specs.LaunchReading.{most_words, words_of, buffer_due, buffer_lines}
 use Rattle.syntax.specs.View.{parameter}
-use Rattle.launch_words.specs.Answers.{cursor}
-use Rattle.launch_words.specs.View.{buffers}
+use Rattle.launch_text.specs.Answers.{cursor}
+use Rattle.launch_text.specs.View.{buffers}
 use Rattle.launch_text.proofs.launches.buffer_lines.Given as goal
 
 abbrev pub invariant-loop-parameter : goal.invariant-loop-parameter

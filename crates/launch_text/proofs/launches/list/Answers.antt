@@ -5,8 +5,8 @@ use Rattle.words.specs.View.{kind, word}
 use Rattle.texts.specs.LaunchFaults as texts
 use Rattle.texts.specs.LaunchWords.{word_at}
 use Rattle.texts.specs.LaunchReading.{list_at}
-use Rattle.launch_words.specs.Answers.{cursor, read}
-use Rattle.launch_words.specs.View as view
+use Rattle.launch_text.specs.Answers.{cursor, read}
+use Rattle.launch_text.specs.View as view
 use Rattle.launch_text.proofs.Lists.{behind_word, list_over, list_due, list_spent, list_more}
 use Rattle.launch_text.proofs.launches.list.Goals as goal
 

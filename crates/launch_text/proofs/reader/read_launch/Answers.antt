@@ -3,7 +3,7 @@ use Rattle.semantics.specs.Launch as meaning
 use Rattle.texts.specs.LaunchReading.{launch_of}
 use Rattle.syntax.specs.View.{kernel as tree_of, parameter}
 use Rattle.core_code.specs.View.{kernel as core_of}
-use Rattle.launch_words.specs.View as view
+use Rattle.launch_text.specs.View as view
 use Rattle.launch_text.proofs.Parameters.{kernel_back}
 use Rattle.launch_text.proofs.LaunchFit.{launch_fits}
 use Rattle.launch_text.proofs.LeastFits.{launch_meant}

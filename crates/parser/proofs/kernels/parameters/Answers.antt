@@ -2,12 +2,12 @@ use Rattle.std.proofs.Common.{◌≡◌, ◌+◌, ◌-◌, [], ◌∷◌, ◌++�
 use Rattle.std.specs.Prelude.{map}
 use Rattle.std.proofs.lemmas.List.{map-append}
 use Rattle.syntax.specs.View.{parameter}
-use Rattle.readers.specs.Reader.{front, run, carry}
-use Rattle.readers.specs.View.{lexemes}
-use Rattle.readers.specs.Expressions.{is_comma, is_right_parenthesis}
-use Rattle.readers.specs.Kernels.{parameter_reader, more_parameters}
+use Rattle.parser.specs.Reader.{front, run, carry}
+use Rattle.parser.specs.View.{lexemes}
+use Rattle.parser.specs.Expressions.{is_comma, is_right_parenthesis}
+use Rattle.parser.specs.Kernels.{parameter_reader, more_parameters}
 use Rattle.parser.proofs.ParameterLists.{in_list, some-given, another, closes, too-many}
-use Rattle.readers.proofs.Steps.{stops-carry}
+use Rattle.parser.proofs.Steps.{stops-carry}
 use Rattle.parser.proofs.kernels.parameters.Goals as goal
 
 pub returns : goal.returns

@@ -1,9 +1,9 @@
 use Rattle.std.proofs.Common.{◌≡◌, ◌-◌}
 use Rattle.std.specs.Prelude.{map}
 use Rattle.syntax.specs.View.{parameter}
-use Rattle.readers.specs.Reader.{run}
-use Rattle.readers.specs.View.{lexemes}
-use Rattle.readers.specs.Kernels.{parameters_reader, more_parameters}
+use Rattle.parser.specs.Reader.{run}
+use Rattle.parser.specs.View.{lexemes}
+use Rattle.parser.specs.Kernels.{parameters_reader, more_parameters}
 use Rattle.parser.proofs.ParameterLists.{in_list}
 use Rattle.parser.proofs.kernels.parameters.Given as goal
 

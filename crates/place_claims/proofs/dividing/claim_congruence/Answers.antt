@@ -1,7 +1,7 @@
 use Rattle.linear.specs.Forms.{form, forms}
 use Rattle.facts.proofs.Unmade.{handed}
 use Rattle.path_walk.specs.View.{followed}
-use Rattle.place_notes.specs.View.{congruence}
+use Rattle.place_obligations.specs.View.{congruence}
 use Rattle.place_claims.specs.View.{placed}
 use Rattle.place_claims.proofs.Lines.{divided_does, product_unfit, form_unfit}
 use Rattle.place_claims.proofs.dividing.claim_congruence.Goals as goal

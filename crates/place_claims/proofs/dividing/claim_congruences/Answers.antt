@@ -2,7 +2,7 @@ use Rattle.std.proofs.Common.{refl, map, ◌+◌, arith}
 use Rattle.facts.proofs.Unmade.{handed}
 use Rattle.place_obligations.specs.Walking.{claim_congruences}
 use Rattle.path_walk.specs.View.{followed}
-use Rattle.place_notes.specs.View.{congruence}
+use Rattle.place_obligations.specs.View.{congruence}
 use Rattle.place_claims.specs.View.{placed}
 use Rattle.place_claims.specs.Claims.{claim_congruence}
 use Rattle.place_claims.proofs.Each.{each_next, each_stops}

@@ -1,5 +1,5 @@
 use Rattle.std.proofs.Common.{◌≡◌, drop}
-use Rattle.place_notes.specs.View as view
+use Rattle.place_obligations.specs.View as view
 use Rattle.place_claims.proofs.lookups.same_of.Given as goal
 
 abbrev pub invariant-loop-lines : goal.invariant-loop-lines

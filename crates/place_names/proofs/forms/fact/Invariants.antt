@@ -1,6 +1,6 @@
 use Rattle.std.proofs.Common.{◌≡◌, drop, map}
 use Rattle.linear.specs.Forms.{form}
-use Rattle.certificate_tree.specs.View as view
+use Rattle.certificate.specs.View as view
 use Rattle.facts.specs.Symbols.{constant}
 use Rattle.place_names.specs.Sights as sights
 use Rattle.place_names.specs.View.{chart, sight}

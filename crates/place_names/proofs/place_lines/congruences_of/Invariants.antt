@@ -1,6 +1,6 @@
 use Rattle.std.proofs.Common.{◌≡◌, drop, map}
-use Rattle.certificate_tree.specs.View as view
-use Rattle.place_notes.specs.View.{congruence}
+use Rattle.certificate.specs.View as view
+use Rattle.place_obligations.specs.View.{congruence}
 use Rattle.place_names.specs.Noted as noted
 use Rattle.place_names.specs.Noted.{each}
 use Rattle.place_names.specs.View.{chart, sight}

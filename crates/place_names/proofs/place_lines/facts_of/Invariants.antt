@@ -1,6 +1,6 @@
 use Rattle.std.proofs.Common.{◌≡◌, drop, map}
 use Rattle.linear.specs.Forms as forms
-use Rattle.certificate_tree.specs.View.{form}
+use Rattle.certificate.specs.View.{form}
 use Rattle.place_names.specs.Noted.{each}
 use Rattle.place_names.specs.Sights.{fact}
 use Rattle.place_names.specs.View.{chart, sight}

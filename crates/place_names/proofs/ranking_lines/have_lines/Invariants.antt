@@ -1,6 +1,6 @@
 use Rattle.std.proofs.Common.{◌≡◌, drop, map}
 use Rattle.texts.specs.CertificateRules.{all}
-use Rattle.certificate_tree.specs.View as view
+use Rattle.certificate.specs.View as view
 use Rattle.place_names.specs.Noted.{has_line}
 use Rattle.place_names.specs.View.{scene}
 use Rattle.place_names.proofs.ranking_lines.have_lines.Given as goal

@@ -1,5 +1,5 @@
 use Rattle.std.proofs.Common.{◌≡◌, drop, map}
-use Rattle.certificate_tree.specs.View as view
+use Rattle.certificate.specs.View as view
 use Rattle.place_names.specs.Noted as noted
 use Rattle.place_names.proofs.ranking_lines.is_bounded.Given as goal
 

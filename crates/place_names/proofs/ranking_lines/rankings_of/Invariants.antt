@@ -1,5 +1,5 @@
 use Rattle.std.proofs.Common.{◌≡◌, drop, map}
-use Rattle.certificate_tree.specs.View as view
+use Rattle.certificate.specs.View as view
 use Rattle.place_names.specs.Noted.{each, ranked_of}
 use Rattle.place_names.specs.NotesView.{ranked}
 use Rattle.place_names.specs.View.{chart}

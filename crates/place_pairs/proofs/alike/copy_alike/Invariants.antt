@@ -1,5 +1,5 @@
 use Rattle.std.proofs.Common.{◌≡◌, ℕ, drop}
-use Rattle.place_notes.specs.View.{same_of}
+use Rattle.place_obligations.specs.View.{same_of}
 use Rattle.place_pairs.proofs.Copied.{alike_then}
 use Rattle.place_pairs.proofs.alike.copy_alike.Given as goal
 

@@ -2,7 +2,7 @@ use Rattle.std.proofs.Common.{◌+◌, map, arith}
 use Rattle.core_code.specs.View.{kernel}
 use Rattle.facts.proofs.Unmade.{passed}
 use Rattle.path_walk.specs.View.{setting}
-use Rattle.place_notes.specs.View.{seen}
+use Rattle.place_obligations.specs.View.{seen}
 use Rattle.places.specs.View.{place}
 use Rattle.place_paths.specs.Planting.{all_by}
 use Rattle.place_paths.specs.Walks.{IsAnyStuck}

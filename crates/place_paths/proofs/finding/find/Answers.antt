@@ -3,7 +3,7 @@ use Rattle.core_code.specs.View.{kernel}
 use Rattle.launch.specs.View.{conditions}
 use Rattle.linear.specs.Forms.{forms}
 use Rattle.facts.proofs.Unmade.{passed}
-use Rattle.place_notes.specs.View.{seen}
+use Rattle.place_obligations.specs.View.{seen}
 use Rattle.place_paths.specs.Unfound.{IsUnfound}
 use Rattle.place_paths.specs.declared.error.FindError.TheVariants as errors
 use Rattle.place_paths.proofs.AllFound.{stuck_all, few_all, own_accesses, own_ends, found_is, all_fitting, ungathered}

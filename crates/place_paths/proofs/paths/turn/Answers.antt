@@ -1,8 +1,8 @@
 use Rattle.std.proofs.Common.{rules, ◌≡◌, ◌<◌, ◌∙◌, ◌+◌, map, length, refl, sym, ap, subst}
 use Rattle.facts.proofs.Unmade.{passed}
 use Rattle.path_walk.specs.View.{choice}
-use Rattle.path_turns.specs.View.{maybe_choices}
-use Rattle.path_turns.proofs.Onward.{next_from, one_more, fewer_left, many_end}
+use Rattle.place_paths.specs.View.{maybe_choices}
+use Rattle.place_paths.proofs.Onward.{next_from, one_more, fewer_left, many_end}
 use Rattle.places.specs.View.{place}
 use Rattle.place_claims.specs.View.{placed}
 use Rattle.place_paths.specs.Planting.{planted_at}

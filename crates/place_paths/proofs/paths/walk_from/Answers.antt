@@ -2,7 +2,7 @@ use Rattle.std.proofs.Common.{ap, subst, ◌∙◌}
 use Rattle.facts.proofs.Unmade.{passed}
 use Rattle.core_code.specs.View.{kernel}
 use Rattle.path_walk.specs.View.{setting}
-use Rattle.place_notes.specs.View.{seen}
+use Rattle.place_obligations.specs.View.{seen}
 use Rattle.places.specs.View.{place}
 use Rattle.obligations.specs.Trees.{after}
 use Rattle.place_claims.specs.declared.placing.Placing.{Placing}

@@ -1,4 +1,4 @@
-use Rattle.path_turns.specs.View.{maybe_choices}
+use Rattle.place_paths.specs.View.{maybe_choices}
 use Rattle.places.specs.View.{place}
 use Rattle.place_claims.specs.View.{placed}
 use Rattle.place_paths.specs.Planting.{planted_at}

@@ -1,7 +1,7 @@
 use Rattle.core_code.specs.View.{term}
 use Rattle.path_walk.specs.View.{followed}
 use Rattle.place_claims.specs.View.{placed}
-use Rattle.place_walk.proofs.Heads.{head_halts, head_past, head_into, head_stops}
+use Rattle.place_walk.proofs.LoopHeads.{head_halts, head_past, head_into, head_stops}
 use Rattle.place_walk.proofs.loops.test_head.Goals as goal
 
 pub returns : goal.returns

@@ -1,5 +1,5 @@
 use Rattle.std.proofs.Common.{subst}
-use Rattle.proof_telling.specs.Verdicts.{ExplainsCheck}
+use Rattle.telling.specs.ProvingVerdicts.{ExplainsCheck}
 use Rattle.program.specs.Running as running
 use Rattle.program.proofs.one_run.explained_check.Goals as goal
 

@@ -1,5 +1,5 @@
 use Rattle.std.proofs.Common.{refl, subst}
-use Rattle.proof_telling.specs.Verdicts.{Explains}
+use Rattle.telling.specs.ProvingVerdicts.{Explains}
 use Rattle.program.specs.Running as running
 use Rattle.program.proofs.Verdicts.{is_explained}
 use Rattle.program.proofs.one_run.explained_search.Goals as goal

@@ -1,5 +1,5 @@
 use Rattle.std.proofs.Common.{refl, subst}
-use Rattle.proof_telling.specs.Verdicts.{Proves}
+use Rattle.telling.specs.ProvingVerdicts.{Proves}
 use Rattle.program.proofs.one_run.searched.Goals as goal
 
 pub returns-clause-reads : goal.returns-clause-reads

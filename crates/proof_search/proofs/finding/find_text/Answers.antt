@@ -1,6 +1,6 @@
 use Rattle.syntax.specs.View.{kernel as tree_seen}
 use Rattle.core_code.specs.View.{kernel}
-use Rattle.launch_words.specs.View.{lined}
+use Rattle.launch_text.specs.View.{lined}
 use Rattle.reading.specs.Answers.{kernel_seen}
 use Rattle.cert_check.proofs.Sizes.{sizes_fit}
 use Rattle.proof_search.proofs.Told.{all_told}

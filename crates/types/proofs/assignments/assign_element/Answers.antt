@@ -1,6 +1,6 @@
 use Rattle.std.proofs.Common.{arith}
 use Rattle.std.proofs.lemmas.Grind.{common_steps}
-use Rattle.scopes.specs.Answers.{typed_term}
+use Rattle.types.specs.Answers.{typed_term}
 use Rattle.types.proofs.assignments.assign_element.Goals as goal
 
 pub returns-in_err-value-2 : goal.returns-in_err-value-2

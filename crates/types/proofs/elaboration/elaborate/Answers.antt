@@ -1,7 +1,7 @@
 use Rattle.std.proofs.Common.{◌≡◌, length, rules, ap, ◌∙◌, arith}
 use Rattle.texts.specs.Scope.{empty_scope}
 use Rattle.syntax.specs.View.{kernel as tree_of}
-use Rattle.scopes.specs.Names.{scope_seen, all_seen}
+use Rattle.types.specs.Names.{scope_seen, all_seen}
 use Rattle.types.proofs.Kernels.{kernel-done, kinds-behind}
 use Rattle.types.proofs.Rooms.{parameters-grown}
 use Rattle.types.proofs.elaboration.elaborate.Goals as goal

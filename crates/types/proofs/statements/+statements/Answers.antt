@@ -8,9 +8,9 @@ use Rattle.texts.specs.Elaboration.{elaborated, single, elaborate_statement, ela
 use Rattle.syntax.proofs.Rows.{seen_if, seen_while, seen_for, seen_block}
 use Rattle.syntax.specs.View.{jump_word, statement as stmt, statements as stmts, first as first_of, assignment, expression}
 use Rattle.core_code.specs.View.{site as site_of}
-use Rattle.scopes.specs.Names.{scope_seen, one_seen, all_seen}
+use Rattle.types.specs.Names.{scope_seen, one_seen, all_seen}
 use Rattle.core_code.specs.View.{term, statement, statements}
-use Rattle.scopes.specs.Answers.{typed_term}
+use Rattle.types.specs.Answers.{typed_term}
 use Rattle.types.specs.Arounds.{around as around_of}
 use Rattle.types.proofs.Blocks.{all-done, all-step, gives-behind, gives-alone, if-taken, if-refused, otherwise-done, while-done, repeated-done, for-done, for-first, for-repeated, behind-two, block-done}
 use Rattle.types.proofs.Rooms.{statement-grown, first-grown, block-grown, next-room, if-declares, while-declares, for-declares, block-declares}

@@ -3,10 +3,10 @@ use Rattle.texts.specs.Declarations.{declared_by}
 use Rattle.texts.specs.Elaboration as elaboration
 use Rattle.syntax.specs.View.{statements as stmts}
 use Rattle.core_code.specs.View.{statements}
-use Rattle.scopes.specs.Names.{scope_seen}
+use Rattle.types.specs.Names.{scope_seen}
 use Rattle.types.specs.Arounds.{around}
 use Rattle.types.specs.Blocks.{behind}
-use Rattle.scopes.specs.Rooms.{HasRoom}
+use Rattle.types.specs.Rooms.{HasRoom}
 use Rattle.types.proofs.statements.+statements.Given as goal
 
 abbrev pub invariant-elaborate_all-loop-s : goal.invariant-elaborate_all-loop-s

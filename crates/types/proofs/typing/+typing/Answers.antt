@@ -4,7 +4,7 @@ use Rattle.syntax.proofs.Rows.{seen_call}
 use Rattle.syntax.specs.View.{expression}
 use Rattle.core_code.specs.View.{site}
 use Rattle.types.specs.Functions.{pick as pick_of}
-use Rattle.scopes.specs.Names.{names}
+use Rattle.types.specs.Names.{names}
 use Rattle.types.proofs.Arguments.{pick-two}
 use Rattle.types.proofs.typing.+typing.Goals as goal
 

@@ -4,7 +4,7 @@ use Rattle.launch.specs.View.{conditions}
 use Rattle.linear.specs.Forms.{forms}
 use Rattle.facts.proofs.Unmade.{passed}
 use Rattle.facts.specs.View.{known_seen}
-use Rattle.place_notes.specs.View.{seen}
+use Rattle.place_obligations.specs.View.{seen}
 use Rattle.place_obligations.specs.Owning.{all_own_accesses, all_own_ends}
 use Rattle.place_pairs.specs.Alike.{notes_of}
 use Rattle.place_pairs.specs.Listed.{made_fit, all_listed, all_fit}

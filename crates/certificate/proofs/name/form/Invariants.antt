@@ -1,0 +1,12 @@
+use Rattle.std.proofs.Common.{◌≡◌, [], length, map, None}
+use Rattle.std.specs.Option.{option_copied}
+use Rattle.texts.specs.CertificateForms.{form_of}
+use Rattle.lines.specs.Left.{left}
+use Rattle.certificate.specs.View as view
+use Rattle.certificate.proofs.name.form.Given as goal
+
+abbrev pub invariant-loop-word : goal.invariant-loop-word
+invariant-loop-word l = form_of [] None (left l.words) ≡ form_of (map view.term l.terms.items) (option_copied l.before) (left l.rest)
+
+abbrev pub decreases-loop-word : goal.decreases-loop-word
+decreases-loop-word l = length (left l.rest)

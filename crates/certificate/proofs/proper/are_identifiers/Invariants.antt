@@ -1,0 +1,8 @@
+use Rattle.std.proofs.Common.{◌≡◌, drop, map}
+use Rattle.std.specs.String.{string_bytes}
+use Rattle.texts.specs.CertificateForms.{is_identifier}
+use Rattle.texts.specs.CertificateRules as rules
+use Rattle.certificate.proofs.proper.are_identifiers.Given as goal
+
+abbrev pub invariant-loop-name : goal.invariant-loop-name
+invariant-loop-name l = rules.all is_identifier (map string_bytes (drop l.name-index l.names)) ≡ rules.all is_identifier (map string_bytes l.names)

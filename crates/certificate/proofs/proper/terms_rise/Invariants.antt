@@ -1,0 +1,13 @@
+use Rattle.std.proofs.Common.{◌≡◌, ◌-◌, ◌≤◌, length, drop, map}
+use Rattle.texts.specs.CertificateRules as rules
+use Rattle.certificate.specs.View as view
+use Rattle.certificate.proofs.proper.terms_rise.Given as goal
+
+abbrev pub invariant-loop-i : goal.invariant-loop-i
+invariant-loop-i l = record {
+  within : l.i ≤ length l.terms;
+  same : rules.rises rules.term_is_before (map view.term (drop l.i l.terms)) ≡ rules.rises rules.term_is_before (map view.term l.terms);
+}
+
+abbrev pub decreases-loop-i : goal.decreases-loop-i
+decreases-loop-i l = length l.terms - l.i

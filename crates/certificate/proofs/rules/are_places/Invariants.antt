@@ -1,0 +1,7 @@
+use Rattle.std.proofs.Common.{◌≡◌, drop, map}
+use Rattle.texts.specs.CertificateRules as rules
+use Rattle.certificate.specs.View as view
+use Rattle.certificate.proofs.rules.are_places.Given as goal
+
+abbrev pub invariant-loop-place : goal.invariant-loop-place
+invariant-loop-place l = rules.all rules.is_place (map view.place (drop l.place-index l.places)) ≡ rules.all rules.is_place (map view.place l.places)

@@ -1,7 +1,0 @@
-use Rattle.std.proofs.Common.{◌≡◌, drop, map}
-use Rattle.texts.specs.CertificateRules as rules
-use Rattle.certificate_tree.specs.View as view
-use Rattle.certificate_parts.proofs.entries.are_scaled.Given as goal
-
-abbrev pub invariant-loop-part : goal.invariant-loop-part
-invariant-loop-part l = rules.all rules.is_scaled (map view.scaled (drop l.part-index l.parts)) ≡ rules.all rules.is_scaled (map view.scaled l.parts)

@@ -1,7 +1,0 @@
-use Rattle.std.proofs.Common.{◌≡◌, drop, map}
-use Rattle.texts.specs.CertificateRules as rules
-use Rattle.certificate_tree.specs.View as view
-use Rattle.certificate_parts.proofs.entries.are_steps.Given as goal
-
-abbrev pub invariant-loop-step : goal.invariant-loop-step
-invariant-loop-step l = rules.all rules.is_step (map view.step (drop l.step-index l.steps)) ≡ rules.all rules.is_step (map view.step l.steps)

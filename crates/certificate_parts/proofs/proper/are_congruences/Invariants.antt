@@ -1,7 +1,0 @@
-use Rattle.std.proofs.Common.{◌≡◌, drop, map}
-use Rattle.texts.specs.CertificateRules as rules
-use Rattle.certificate_tree.specs.View as view
-use Rattle.certificate_parts.proofs.proper.are_congruences.Given as goal
-
-abbrev pub invariant-loop-congruence : goal.invariant-loop-congruence
-invariant-loop-congruence l = rules.all rules.is_congruence (map view.congruence (drop l.congruence-index l.congruences)) ≡ rules.all rules.is_congruence (map view.congruence l.congruences)

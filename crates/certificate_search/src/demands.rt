@@ -1,0 +1,413 @@
+//! What the guesses of a walk rest on.
+
+ghost use Rattle.std.specs.Prelude.{◌≤◌, ◌<◌, length};
+ghost use Rattle.place_pairs.specs.Listed.{listed};
+ghost use Rattle.plain_kernels.specs.Domains.{domain};
+
+use crate::table::Demand;
+use crate::used::{Ground, used_guesses};
+use candidate_lines::{Candidate, Line, copied};
+use cut_proof::Derivation;
+use cut_search::{Answer, Memory, Point};
+use guess_walk::{both_sides, reached};
+use linear::{Form, Symbol};
+use path_walk::{Claim, Goal, Stop};
+use place_pairs::{About, Manner, Part, Place};
+use place_paths::FindError;
+use std::alloc::{AllocError, Global};
+
+/// Points at which all is so that is known at the end of a path, or of two, and a guess was not.
+#[derive(Drop)]
+struct Points {
+    of: (usize, usize),
+    points: Vec<Point>,
+}
+
+impl Points {
+    /// For the ends of these paths.
+    fn turn_to(&mut self, of: (usize, usize)) {
+        if self.of != of {
+            self.of = of;
+            self.points.clear();
+        }
+    }
+}
+
+fn value_at(point: &[(Symbol, i64)], symbol: Symbol) -> i64 {
+    for entry in point {
+        if entry.0 == symbol {
+            return entry.1;
+        }
+    }
+    0
+}
+
+fn value_of(form: &Form, point: &[(Symbol, i64)]) -> Option<i64> {
+    let mut sum = form.constant_part();
+    for term in form.terms() {
+        let product = term.coefficient.checked_mul(value_at(point, term.symbol))?;
+        sum = sum.checked_add(product)?;
+    }
+    Some(sum)
+}
+
+/// The form is below 0 at one of the points.
+fn is_denied(form: &Form, points: &[Point]) -> bool {
+    for point in points {
+        if value_of(form, point.as_slice()).is_some_and(|value| value < 0) {
+            return true;
+        }
+    }
+    false
+}
+
+/// The modulus does not divide the form at one of the points.
+fn is_undivided(form: &Form, modulus: u64, points: &[Point]) -> bool {
+    if modulus == 0 {
+        return false;
+    }
+    for point in points {
+        if let Some(value) = value_of(form, point.as_slice()) {
+            if value.unsigned_abs() % modulus != 0 {
+                return true;
+            }
+        }
+    }
+    false
+}
+
+/// The guess that a claim is of, where it is one of those at a path's end, and whether it is the second claim of a congruence.
+fn guess_of(ground: &Ground<'_>, at: Place) -> Option<(u32, bool)> {
+    let tagged = ground.found.paths().get(at.path)?;
+    let end = tagged.path.ends.first()?;
+    let to = reached(end.stop, tagged.anchor, ground.sights)?;
+    let lines = ground.table.places.get(to)?;
+    let before = tagged.path.claims.len().checked_sub(lines.len())?;
+    let place = at.item.checked_sub(before)?;
+    let guess = lines.at(place)?;
+    let is_second = place >= lines.facts.len() && (place - lines.facts.len()) % 2 == 1;
+    Some((guess, is_second))
+}
+
+fn claim_at<'a>(ground: &Ground<'a>, at: Place) -> Option<&'a Claim> {
+    ground.found.paths().get(at.path)?.path.claims.get(at.item)
+}
+
+/// The guess that an obligation is of, if it is of one.
+pub fn target_of(ground: &Ground<'_>, part: Part) -> Option<u32> {
+    match part {
+        Part::Claim(at) => {
+            let (guess, _) = guess_of(ground, at)?;
+            Some(guess)
+        }
+        Part::Ends { first, about, .. } => agreement_of(ground, first, about),
+        Part::Accesses { .. } => None,
+    }
+}
+
+/// What a question was answered with: the guesses that a derivation uses.
+fn support_of(
+    alloc: Global,
+    ground: &Ground<'_>,
+    part: Part,
+    facts: &[Form],
+    derivation: &Derivation,
+) -> Result<Option<Vec<u32>>, AllocError> {
+    let Some(origin) = ground.origin(part) else {
+        return Ok(None);
+    };
+    let used = used_guesses(alloc, &origin, facts, derivation)?;
+    Ok(Some(used))
+}
+
+/// A question is asked of the search; a point that answers it goes to the points.
+fn asked(
+    alloc: Global,
+    ground: &Ground<'_>,
+    part: Part,
+    facts: &[Form],
+    memory: &mut Memory,
+    points: &mut Vec<Point>,
+) -> Result<Option<Vec<u32>>, AllocError> {
+    match memory.ask(alloc, facts)? {
+        Answer::Proof(derivation) => support_of(alloc, ground, part, facts, &derivation),
+        Answer::Model(point) => {
+            points.push(point)?;
+            Ok(None)
+        }
+        Answer::Undecided => Ok(None),
+    }
+}
+
+/// The congruences known at a path's beginning: its place's, with their moduli.
+fn known_multiples(
+    alloc: Global,
+    ground: &Ground<'_>,
+    candidates: &[Candidate],
+    path: usize,
+) -> Result<Vec<(u64, Form)>, AllocError> {
+    let mut known = Vec::new(alloc);
+    let Some(place) = ground.places.get(path) else {
+        return Ok(known);
+    };
+    let Some(lines) = ground.table.places.get(*place) else {
+        return Ok(known);
+    };
+    for guess in lines.multiples.as_slice() {
+        if let Some(candidate) = candidates.get(*guess as usize) {
+            if let Line::Multiple { modulus, form } = &candidate.line {
+                let form = copied(alloc, form)?;
+                known.push((*modulus, form))?;
+            }
+        }
+    }
+    Ok(known)
+}
+
+/// Two lists of guesses as one.
+fn joined(mut first: Vec<u32>, second: &[u32]) -> Result<Vec<u32>, AllocError> {
+    for guess in second {
+        if !first.as_slice().contains(guess) {
+            first.push(*guess)?;
+        }
+    }
+    Ok(first)
+}
+
+/// A congruence, by facts without a denial.
+fn divided(
+    alloc: Global,
+    ground: &Ground<'_>,
+    candidates: &[Candidate],
+    at: Place,
+    modulus: u64,
+    facts: &[Form],
+    form: &Form,
+    memory: &mut Memory,
+    points: &mut Vec<Point>,
+) -> Result<Option<Vec<u32>>, AllocError> {
+    if is_undivided(form, modulus, points.as_slice()) {
+        return Ok(None);
+    }
+    let known = known_multiples(alloc, ground, candidates, at.path)?;
+    let Some(shown) = both_sides(
+        alloc,
+        facts,
+        form,
+        modulus,
+        known.as_slice(),
+        memory,
+        points,
+    )?
+    else {
+        return Ok(None);
+    };
+    let part = Part::Claim(at);
+    let Some(least) = support_of(alloc, ground, part, facts, &shown.least)? else {
+        return Ok(None);
+    };
+    let Some(most) = support_of(alloc, ground, part, facts, &shown.most)? else {
+        return Ok(None);
+    };
+    Ok(Some(joined(least, most.as_slice())?))
+}
+
+/// The facts of an obligation in a manner; none where it does not fit.
+fn facts_of(
+    alloc: Global,
+    ground: &Ground<'_>,
+    number: usize,
+    manner: Manner,
+) -> Result<Option<Vec<Form>>, FindError>
+    requires first { 0 < number }
+    requires last { number ≤ length (listed domain ground.now.found.now) }
+{
+    Ok(ground.found.facts(alloc, number, manner)?)
+}
+
+/// What shows a claim of a guess.
+fn claim_support(
+    alloc: Global,
+    ground: &Ground<'_>,
+    candidates: &[Candidate],
+    number: usize,
+    at: Place,
+    line: &Line,
+    memory: &mut Memory,
+    points: &mut Vec<Point>,
+) -> Result<Option<Vec<u32>>, FindError>
+    requires first { 0 < number }
+    requires last { number ≤ length (listed domain ground.now.found.now) }
+{
+    let Some(claim) = claim_at(ground, at) else {
+        return Ok(None);
+    };
+    match (&claim.goal, line) {
+        (Goal::Replaced { form, .. } | Goal::AtLeastZero(form), Line::Fact(_)) => {
+            if is_denied(form, points.as_slice()) {
+                return Ok(None);
+            }
+            let Some(facts) = facts_of(alloc, ground, number, Manner::Plainly)? else {
+                return Ok(None);
+            };
+            let part = Part::Claim(at);
+            Ok(asked(alloc, ground, part, facts.as_slice(), memory, points)?)
+        }
+        (Goal::Divided { form, .. }, Line::Multiple { modulus, .. }) => {
+            let Some(mut facts) = facts_of(alloc, ground, number, Manner::ByQuotient)? else {
+                return Ok(None);
+            };
+            drop(facts.pop());
+            Ok(divided(
+                alloc,
+                ground,
+                candidates,
+                at,
+                *modulus,
+                facts.as_slice(),
+                form,
+                memory,
+                points,
+            )?)
+        }
+        _ => Ok(None),
+    }
+}
+
+/// The obligation of a claim; none where it is none of a guess, or nothing is to be shown.
+fn claim_demand(
+    alloc: Global,
+    ground: &Ground<'_>,
+    candidates: &[Candidate],
+    number: usize,
+    at: Place,
+    lacking: &[bool],
+    memory: &mut Memory,
+    points: &mut Points,
+) -> Result<Option<Demand>, FindError>
+    requires first { 0 < number }
+    requires last { number ≤ length (listed domain ground.now.found.now) }
+{
+    let Some((guess, is_second)) = guess_of(ground, at) else {
+        return Ok(None);
+    };
+    if is_second || lacking.get(guess as usize).copied().unwrap_or(true) {
+        return Ok(None);
+    }
+    if ground.found.is_settled(alloc, number)? {
+        return Ok(None);
+    }
+    let Some(candidate) = candidates.get(guess as usize) else {
+        return Ok(None);
+    };
+    points.turn_to((at.path, at.path));
+    let line = &candidate.line;
+    let found = &mut points.points;
+    let support = claim_support(alloc, ground, candidates, number, at, line, memory, found)?;
+    Ok(Some(Demand { guess, support }))
+}
+
+/// The guess that items agree on a slot at the barrier where two ends meet.
+fn agreement_of(ground: &Ground<'_>, first: Place, about: About) -> Option<u32> {
+    let slot = match about {
+        About::AtLeast(slot) | About::AtMost(slot) => slot,
+        About::Never => return None,
+    };
+    let tagged = ground.found.paths().get(first.path)?;
+    let end = tagged.path.ends.get(first.item)?;
+    match end.stop {
+        Stop::Barrier(_) => {}
+        Stop::Head { .. } | Stop::End => return None,
+    }
+    let to = reached(end.stop, tagged.anchor, ground.sights)?;
+    ground.table.places.get(to)?.agreeing(slot)
+}
+
+/// The obligation that items agree.
+fn agreement_demand(
+    alloc: Global,
+    ground: &Ground<'_>,
+    number: usize,
+    part: Part,
+    guess: u32,
+    memory: &mut Memory,
+    points: &mut Points,
+) -> Result<Option<Demand>, FindError>
+    requires first { 0 < number }
+    requires last { number ≤ length (listed domain ground.now.found.now) }
+{
+    if ground.found.is_settled(alloc, number)? {
+        return Ok(None);
+    }
+    let Some(facts) = facts_of(alloc, ground, number, Manner::Plainly)? else {
+        return Ok(Some(Demand {
+            guess,
+            support: None,
+        }));
+    };
+    let found = &mut points.points;
+    let support = asked(alloc, ground, part, facts.as_slice(), memory, found)?;
+    Ok(Some(Demand { guess, support }))
+}
+
+/// The obligation of a number, if it is one of a guess.
+fn demand_of(
+    alloc: Global,
+    ground: &Ground<'_>,
+    candidates: &[Candidate],
+    number: usize,
+    lacking: &[bool],
+    memory: &mut Memory,
+    points: &mut Points,
+) -> Result<Option<Demand>, FindError>
+    requires first { 0 < number }
+    requires last { number ≤ length (listed domain ground.now.found.now) }
+{
+    let part = ground.found.part(number);
+    match part {
+        Part::Claim(at) => {
+            claim_demand(
+                alloc, ground, candidates, number, at, lacking, memory, points,
+            )
+        }
+        Part::Ends { first, about, .. } => {
+            let Some(guess) = agreement_of(ground, first, about) else {
+                return Ok(None);
+            };
+            if lacking.get(guess as usize).copied().unwrap_or(true) {
+                return Ok(None);
+            }
+            agreement_demand(alloc, ground, number, part, guess, memory, points)
+        }
+        Part::Accesses { .. } => Ok(None),
+    }
+}
+
+/// The obligations of all guesses of a walk, but those of guesses for which one was found that nothing shows.
+pub fn demands_of(
+    alloc: Global,
+    ground: &Ground<'_>,
+    candidates: &[Candidate],
+    memory: &mut Memory,
+) -> Result<Vec<Demand>, FindError> {
+    let mut demands: Vec<Demand> = Vec::new(alloc);
+    let mut lacking = vec![in alloc; false; candidates.len()]?;
+    let mut points = Points {
+        of: (0, 0),
+        points: Vec::new(alloc),
+    };
+    for i in 0..ground.found.len() {
+        let flags = lacking.as_slice();
+        let Some(demand) = demand_of(alloc, ground, candidates, i + 1, flags, memory, &mut points)?
+        else {
+            continue;
+        };
+        if demand.support.is_none() {
+            if let Some(flag) = lacking.get_mut(demand.guess as usize) {
+                *flag = true;
+            }
+        }
+        demands.push(demand)?;
+    }
+    Ok(demands)
+}

@@ -1,0 +1,220 @@
+//! What a loop's form is at most where it opens.
+
+ghost use Rattle.std.specs.Prelude.{◌≤◌, ◌<◌, length};
+ghost use Rattle.place_pairs.specs.Listed.{listed};
+ghost use Rattle.plain_kernels.specs.Domains.{domain};
+
+use candidate_lines::{Ranking, copied, plus};
+use cut_search::{Answer, Memory};
+use guess_walk::Elements;
+use linear::{Form, Symbol};
+use path_walk::{Goal, Sort};
+use place_pairs::{Manner, Obligations, Part};
+use place_paths::FindError;
+use std::alloc::Global;
+
+/// A limit that no opening of a loop passes by half: walks that look for the least ones have it in the place of them.
+pub const UNLIMITED: i64 = 1 << 48;
+
+/// A question: the facts at an opening, the last one that the form passes `UNLIMITED`.
+#[derive(Drop)]
+struct Opening {
+    facts: Vec<Form>,
+}
+
+/// The form at an opening, where the claim is one of an opening: `UNLIMITED` less the form.
+fn is_opening(found: &Obligations<Elements>, part: Part, number: u32) -> bool {
+    let Part::Claim(at) = part else {
+        return false;
+    };
+    let Some(tagged) = found.paths().get(at.path) else {
+        return false;
+    };
+    let Some(claim) = tagged.path.claims.get(at.item) else {
+        return false;
+    };
+    if claim.spot.statement != number {
+        return false;
+    }
+    match (claim.sort, &claim.goal) {
+        (Sort::OfRanking, Goal::Replaced { form, .. }) => form.constant_part() > UNLIMITED / 2,
+        _ => false,
+    }
+}
+
+/// The facts of an obligation.
+fn facts_of(
+    alloc: Global,
+    found: &Obligations<Elements>,
+    number: usize,
+) -> Result<Option<Vec<Form>>, FindError>
+    requires first { 0 < number }
+    requires last { number ≤ length (listed domain found.now) }
+{
+    Ok(found.facts(alloc, number, Manner::Plainly)?)
+}
+
+/// All openings of a loop.
+fn openings_of(
+    alloc: Global,
+    found: &Obligations<Elements>,
+    number: u32,
+) -> Result<Vec<Opening>, FindError> {
+    let mut openings = Vec::new(alloc);
+    for i in 0..found.len() {
+        let part = found.part(i + 1);
+        if !is_opening(found, part, number) {
+            continue;
+        }
+        if let Some(facts) = facts_of(alloc, found, i + 1)? {
+            openings.push(Opening { facts })?;
+        }
+    }
+    Ok(openings)
+}
+
+fn value_at(point: &[(Symbol, i64)], symbol: Symbol) -> i64 {
+    for entry in point {
+        if entry.0 == symbol {
+            return entry.1;
+        }
+    }
+    0
+}
+
+fn value_of(form: &Form, point: &[(Symbol, i64)]) -> Option<i64> {
+    let mut sum = form.constant_part();
+    for term in form.terms() {
+        let product = term.coefficient.checked_mul(value_at(point, term.symbol))?;
+        sum = sum.checked_add(product)?;
+    }
+    Some(sum)
+}
+
+/// Whether the form may pass a limit at an opening: what it may be, at least.
+#[derive(Clone, Copy)]
+enum Passing {
+    Never,
+    To(i64),
+    Perhaps,
+}
+
+/// The facts with another limit in the last one.
+fn limited(alloc: Global, facts: &[Form], limit: i64) -> Result<Option<Vec<Form>>, FindError> {
+    let mut list = Vec::new(alloc);
+    let Some(count) = facts.len().checked_sub(1) else {
+        return Ok(None);
+    };
+    for fact in &facts[..count] {
+        list.push(copied(alloc, fact)?)?;
+    }
+    let Some(last) = plus(alloc, &facts[count], UNLIMITED.saturating_sub(limit))? else {
+        return Ok(None);
+    };
+    list.push(last)?;
+    Ok(Some(list))
+}
+
+/// The form may pass a limit at one opening.
+fn passes_at(
+    alloc: Global,
+    opening: &Opening,
+    limit: i64,
+    memory: &mut Memory,
+) -> Result<Passing, FindError> {
+    let Some(facts) = limited(alloc, opening.facts.as_slice(), limit)? else {
+        return Ok(Passing::Perhaps);
+    };
+    match memory.ask(alloc, facts.as_slice())? {
+        Answer::Proof(_) => Ok(Passing::Never),
+        Answer::Undecided => Ok(Passing::Perhaps),
+        Answer::Model(point) => {
+            let over = facts
+                .last()
+                .and_then(|last| value_of(last, point.as_slice()));
+            match over {
+                // (the last fact is the form less the limit and one)
+                Some(over) => Ok(Passing::To(over.saturating_add(limit).saturating_add(1))),
+                None => Ok(Passing::Perhaps),
+            }
+        }
+    }
+}
+
+/// At one of them.
+fn passes_somewhere(
+    alloc: Global,
+    openings: &[Opening],
+    limit: i64,
+    memory: &mut Memory,
+) -> Result<Passing, FindError> {
+    for opening in openings {
+        match passes_at(alloc, opening, limit, memory)? {
+            Passing::Never => {}
+            found => return Ok(found),
+        }
+    }
+    Ok(Passing::Never)
+}
+
+/// The least limit from `low` to `high` that is shown, `high` being shown; 128 questions at most, where half as many are enough.
+fn least_between(
+    alloc: Global,
+    openings: &[Opening],
+    low: i64,
+    high: i64,
+    memory: &mut Memory,
+) -> Result<i64, FindError> {
+    let mut low = low;
+    let mut high = high;
+    for _ in 0..128 {
+        if low >= high {
+            return Ok(high);
+        }
+        let middle = low.saturating_add(high.saturating_sub(low) / 2);
+        match passes_somewhere(alloc, openings, middle, memory)? {
+            Passing::Never => high = middle,
+            Passing::To(value) => low = value.max(middle.saturating_add(1)),
+            Passing::Perhaps => low = middle.saturating_add(1),
+        }
+    }
+    Ok(high)
+}
+
+/// The limit of one loop.
+fn least_limit(
+    alloc: Global,
+    openings: &[Opening],
+    memory: &mut Memory,
+) -> Result<Option<i64>, FindError> {
+    let mut low = 0;
+    // Each point tells a value that the form may have; mostly the first ones tell the greatest.
+    for _ in 0..8 {
+        match passes_somewhere(alloc, openings, low, memory)? {
+            Passing::Never => return Ok(Some(low)),
+            Passing::To(value) => low = value.max(low.saturating_add(1)),
+            Passing::Perhaps => break,
+        }
+    }
+    let high = UNLIMITED / 4;
+    match passes_somewhere(alloc, openings, high, memory)? {
+        Passing::Never => Ok(Some(least_between(alloc, openings, low.min(high), high, memory)?)),
+        Passing::To(_) | Passing::Perhaps => Ok(None),
+    }
+}
+
+/// The least limits that are shown, of a walk in which each is `UNLIMITED`; of a loop of which none is shown, 0.
+pub fn least_limits(
+    alloc: Global,
+    found: &Obligations<Elements>,
+    rankings: &[Ranking],
+    memory: &mut Memory,
+) -> Result<Vec<i64>, FindError> {
+    let mut limits = Vec::new(alloc);
+    for ranking in rankings {
+        let openings = openings_of(alloc, found, ranking.number)?;
+        let limit = least_limit(alloc, openings.as_slice(), memory)?;
+        limits.push(limit.unwrap_or(0))?;
+    }
+    Ok(limits)
+}

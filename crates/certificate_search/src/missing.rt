@@ -1,0 +1,93 @@
+//! What is not shown, and where the kernel asks for it.
+
+ghost use Rattle.std.specs.Prelude.{◌≤◌, ◌<◌, length};
+ghost use Rattle.place_pairs.specs.Listed.{listed};
+ghost use Rattle.plain_kernels.specs.Domains.{domain};
+
+use crate::used::Ground;
+use core_code::tree::Site;
+use path_walk::{Sort, Spot, Stop};
+use place_pairs::{Part, Place};
+
+/// What an obligation is about: an access, an operator or an index by its site; a barrier or a loop by its statement's number; an end.
+#[derive(Clone, Copy)]
+pub enum Mark {
+    Store(Site),
+    Load(Site),
+    At(Site),
+    Barrier(u32),
+    Loop(u32),
+    End,
+}
+
+/// An obligation that nothing shows: what is to be shown, and of what; of a pair also the second one.
+#[derive(Clone, Copy)]
+pub struct Missing {
+    pub sort: Sort,
+    pub first: Mark,
+    pub second: Option<Mark>,
+}
+
+/// What a claim is about.
+fn claimed(sort: Sort, spot: Spot) -> Mark {
+    match sort {
+        Sort::OfRanking => Mark::Loop(spot.statement),
+        _ => Mark::At(spot.site),
+    }
+}
+
+/// Where an item stops.
+fn stopped(ground: &Ground<'_>, at: Place) -> Mark {
+    let Some(tagged) = ground.found.paths().get(at.path) else {
+        return Mark::End;
+    };
+    let Some(end) = tagged.path.ends.get(at.item) else {
+        return Mark::End;
+    };
+    match end.stop {
+        Stop::Barrier(number) => Mark::Barrier(number),
+        Stop::Head { number, .. } => Mark::Loop(number),
+        Stop::End => Mark::End,
+    }
+}
+
+/// An access.
+fn accessed(ground: &Ground<'_>, at: Place) -> Mark {
+    let Some(tagged) = ground.found.paths().get(at.path) else {
+        return Mark::End;
+    };
+    let Some(access) = tagged.path.accesses.get(at.item) else {
+        return Mark::End;
+    };
+    let site = access.target.spot.site;
+    if access.target.is_store {
+        Mark::Store(site)
+    } else {
+        Mark::Load(site)
+    }
+}
+
+/// What is missing where nothing shows the obligation of this number.
+pub fn missing_of(ground: &Ground<'_>, number: usize) -> Missing
+    requires first { 0 < number }
+    requires last { number ≤ length (listed domain ground.now.found.now) }
+{
+    let sort = ground.found.sort(number);
+    match ground.found.part(number) {
+        Part::Claim(_) => Missing {
+            sort,
+            first: claimed(sort, ground.found.spot(number)),
+            second: None,
+        },
+        Part::Ends { first, second, .. } => Missing {
+            sort,
+            first: stopped(ground, first),
+            second: Some(stopped(ground, second)),
+        },
+        Part::Accesses { first, second } => Missing {
+            sort,
+            first: accessed(ground, first),
+            second: Some(accessed(ground, second)),
+        },
+    }
+}

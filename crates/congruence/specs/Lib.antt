@@ -1,4 +1,0 @@
-pub mod Residues
-pub mod Multiples
-pub mod Laws
-pub mod Quotients

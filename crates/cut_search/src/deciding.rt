@@ -1,0 +1,142 @@
+// A list of facts decided: by sums alone, then by cuts, and by dives now and then.
+use super::answer::{Answer, Point};
+use super::cuts::{Cuts, cut};
+use super::dive::dive;
+use super::whole::point_of;
+use super::writing::{derive, derive_given};
+use crate::stop::Stop;
+use crate::tableau::{PIVOTS, Part, Tableau};
+use linear::Fact;
+use std::alloc::{AllocError, Global};
+
+/// How often the tableau is solved, cuts made between.
+const ROUNDS: u32 = 40;
+
+/// Facts that several lists begin with, taken in and solved.
+#[derive(Drop)]
+pub struct Prepared {
+    tableau: Tableau,
+    count: usize,
+}
+
+impl Prepared {
+    /// No facts.
+    pub fn new(alloc: Global) -> Prepared {
+        Prepared {
+            tableau: Tableau::new(alloc),
+            count: 0,
+        }
+    }
+
+    /// These facts, or none where that is given up.
+    pub fn of_facts(alloc: Global, facts: &[Fact]) -> Result<Prepared, AllocError> {
+        match solved(alloc, facts) {
+            Ok(tableau) => Ok(Prepared {
+                tableau,
+                count: facts.len(),
+            }),
+            Err(Stop::GivenUp) => Ok(Prepared::new(alloc)),
+            Err(Stop::Memory) => Err(AllocError),
+        }
+    }
+
+    /// Decides a list that begins with the facts that are prepared.
+    pub fn decide(&self, alloc: Global, facts: &[Fact]) -> Result<Answer, Stop> {
+        let tableau = self.tableau.copy(alloc, PIVOTS)?;
+        decide_from(alloc, tableau, facts, self.count)
+    }
+}
+
+/// Decides a list with other steps, each by the first row and variable.
+pub fn decide_orderly(alloc: Global, facts: &[Fact]) -> Result<Answer, Stop> {
+    decide_from(alloc, Tableau::orderly(alloc), facts, 0)
+}
+
+/// Takes in the facts behind the first `count`, and decides.
+fn decide_from(
+    alloc: Global,
+    start: Tableau,
+    facts: &[Fact],
+    count: usize,
+) -> Result<Answer, Stop> {
+    let mut tableau = start;
+    match enter_all(alloc, &mut tableau, facts, count)? {
+        Some(number) => Ok(Answer::Proof(derive_given(alloc, number)?)),
+        None => conclude(alloc, facts, tableau),
+    }
+}
+
+/// The tableau of facts that are in common.
+fn solved(alloc: Global, facts: &[Fact]) -> Result<Tableau, Stop> {
+    let mut tableau = Tableau::new(alloc);
+    if enter_all(alloc, &mut tableau, facts, 0)?.is_some() {
+        return Err(Stop::GivenUp);
+    }
+    let _parts = tableau.solve(alloc)?;
+    Ok(tableau)
+}
+
+/// Takes in the facts behind the first `count`, or answers the number of one that is a constant below 0.
+fn enter_all(
+    alloc: Global,
+    tableau: &mut Tableau,
+    facts: &[Fact],
+    count: usize,
+) -> Result<Option<u32>, Stop> {
+    for (place, fact) in facts.iter().enumerate().skip(count) {
+        let Ok(number) = u32::try_from(place.saturating_add(1)) else {
+            return Err(Stop::GivenUp);
+        };
+        if !fact.terms().is_empty() {
+            tableau.enter_fact(alloc, number, fact)?;
+        } else if fact.constant_part() < 0 {
+            return Ok(Some(number));
+        }
+    }
+    Ok(None)
+}
+
+/// Whether a dive is made in this round.
+fn dives(round: u32) -> bool {
+    matches!(round, 8 | 24)
+}
+
+/// A whole point: the tableau's own, or in some rounds one near it.
+fn whole_point(alloc: Global, tableau: &Tableau, round: u32) -> Result<Option<Point>, Stop> {
+    let own = point_of(alloc, tableau.solved.as_slice())?;
+    if own.is_some() || !dives(round) {
+        return Ok(own);
+    }
+    dive(alloc, tableau)
+}
+
+/// Solves the tableau, and makes cuts while its point is not whole.
+fn conclude(alloc: Global, facts: &[Fact], start: Tableau) -> Result<Answer, Stop> {
+    let mut tableau = start;
+    for round in 0..ROUNDS {
+        if let Some(parts) = tableau.solve(alloc)? {
+            return proof(alloc, &tableau, parts.as_slice());
+        }
+        if let Some(point) = whole_point(alloc, &tableau, round)? {
+            return Ok(Answer::Model(point));
+        }
+        match cut(alloc, &mut tableau, facts)? {
+            Cuts::Made => {}
+            Cuts::Refuting(parts) => return proof(alloc, &tableau, parts.as_slice()),
+            Cuts::Exhausted => return last_dive(alloc, &tableau),
+        }
+    }
+    Err(Stop::GivenUp)
+}
+
+fn last_dive(alloc: Global, tableau: &Tableau) -> Result<Answer, Stop> {
+    match dive(alloc, tableau)? {
+        Some(point) => Ok(Answer::Model(point)),
+        None => Err(Stop::GivenUp),
+    }
+}
+
+fn proof(alloc: Global, tableau: &Tableau, parts: &[Part]) -> Result<Answer, Stop> {
+    let derivation = derive(alloc, tableau.origins.as_slice(), parts)?;
+    Ok(Answer::Proof(derivation))
+}

@@ -1,0 +1,239 @@
+//! A search that remembers.
+
+ghost use Rattle.std.specs.Prelude.{◌≡◌, IfOk, IfSome};
+ghost use Rattle.linear.specs.Forms.{forms};
+ghost use Rattle.cut_search.specs.Answers.{IsAnswer};
+
+use crate::answer::{Answer, Point};
+use crate::found::Found;
+use crate::hashes::{first_place, hash_of_list, hashes_of};
+use crate::point::meets;
+use crate::searching::search;
+use candidate_lines::copied;
+use cut_proof::{Derivation, refutes};
+use linear::Form;
+use std::alloc::{AllocError, Global};
+
+/// How many answers of a kind are remembered before all of them are forgotten.
+const LIMIT: usize = 4096;
+
+/// A point, and the number of the fact that was denied.
+#[derive(Drop)]
+struct Seen {
+    key: u64,
+    point: Point,
+}
+
+/// The numbers of a list: of its last fact, of all of it, and of each fact.
+#[derive(Drop)]
+struct Numbers {
+    key: u64,
+    whole: u64,
+    each: Vec<u64>,
+}
+
+impl Numbers {
+    fn of_facts(alloc: Global, facts: &[Form]) -> Result<Numbers, AllocError> {
+        let each = hashes_of(alloc, facts)?;
+        Ok(Numbers {
+            key: each.as_slice().last().copied().unwrap_or(0),
+            whole: hash_of_list(each.as_slice()),
+            each,
+        })
+    }
+}
+
+/// What was found so far: derivations, points, and the numbers of lists of which neither was found.
+#[derive(Drop)]
+pub struct Memory {
+    found: Vec<Found>,
+    points: Vec<Seen>,
+    undecided: Vec<u64>,
+    searches: usize,
+}
+
+impl Memory {
+    /// Nothing is remembered.
+    pub fn new(alloc: Global) -> Memory {
+        Memory {
+            found: Vec::new(alloc),
+            points: Vec::new(alloc),
+            undecided: Vec::new(alloc),
+            searches: 0,
+        }
+    }
+
+    /// How many questions were not answered from memory.
+    pub fn searches(&self) -> usize {
+        self.searches
+    }
+
+    /// A derivation that refutes the facts, or whole numbers that meet them all, remembered or searched for. The last fact is
+    /// the denial of what is to be shown; of equal facts a derivation names the first.
+    pub fn ask(&mut self, alloc: Global, facts: &[Form]) -> Result<Answer, AllocError>
+        ensures { IfOk result (λ a. IsAnswer (forms facts.now) a) }
+    {
+        let numbers = Numbers::of_facts(alloc, facts)?;
+        if let Some(answer) = self.recall(alloc, facts, &numbers)? {
+            return Ok(answer);
+        }
+        self.seek(alloc, facts, &numbers)?;
+        self.recall_found(alloc, facts, &numbers)
+    }
+
+    /// What is remembered of the facts, after a search.
+    fn recall_found(
+        &self,
+        alloc: Global,
+        facts: &[Form],
+        numbers: &Numbers,
+    ) -> Result<Answer, AllocError>
+        ensures { IfOk result (λ a. IsAnswer (forms facts.now) a) }
+    {
+        match self.recall(alloc, facts, numbers)? {
+            Some(answer) => Ok(answer),
+            None => Ok(Answer::Undecided),
+        }
+    }
+
+    /// What is remembered of the facts.
+    fn recall(
+        &self,
+        alloc: Global,
+        facts: &[Form],
+        numbers: &Numbers,
+    ) -> Result<Option<Answer>, AllocError>
+        ensures { IfOk result (λ r. IfSome r (λ a. IsAnswer (forms facts.now) a)) }
+    {
+        if let Some(answer) = self.recall_proof(alloc, facts, numbers)? {
+            return Ok(Some(answer));
+        }
+        if self.undecided.as_slice().contains(&numbers.whole) {
+            return Ok(Some(Answer::Undecided));
+        }
+        self.recall_point(facts, numbers.key)
+    }
+
+    fn recall_proof(
+        &self,
+        alloc: Global,
+        facts: &[Form],
+        numbers: &Numbers,
+    ) -> Result<Option<Answer>, AllocError>
+        ensures { IfOk result (λ r. IfSome r (λ a. IsAnswer (forms facts.now) a)) }
+    {
+        for found in self.found.as_slice() {
+            if let Some(derivation) = found.over(alloc, numbers.key, numbers.each.as_slice())? {
+                let answer = checked_proof(alloc, facts, derivation)?;
+                if answer.is_some() {
+                    return Ok(answer);
+                }
+            }
+        }
+        Ok(None)
+    }
+
+    fn recall_point(&self, facts: &[Form], key: u64) -> Result<Option<Answer>, AllocError>
+        ensures { IfOk result (λ r. IfSome r (λ a. IsAnswer (forms facts.now) a)) }
+    {
+        for seen in self.points.as_slice() {
+            if seen.key == key {
+                let answer = checked_point(facts, seen.point.clone()?);
+                if answer.is_some() {
+                    return Ok(answer);
+                }
+            }
+        }
+        Ok(None)
+    }
+
+    /// Searches, and remembers what is found.
+    fn seek(&mut self, alloc: Global, facts: &[Form], numbers: &Numbers) -> Result<(), AllocError> {
+        self.searches = self.searches.saturating_add(1);
+        let distinct = distinct_of(alloc, facts, numbers.each.as_slice())?;
+        match search(alloc, distinct.facts.as_slice())? {
+            Answer::Proof(derivation) => self.keep_proof(alloc, numbers.key, &distinct, derivation),
+            Answer::Model(point) => self.keep_point(numbers.key, point),
+            Answer::Undecided => self.keep_undecided(numbers.whole),
+        }
+    }
+
+    fn keep_proof(
+        &mut self,
+        alloc: Global,
+        key: u64,
+        distinct: &Distinct,
+        derivation: Derivation,
+    ) -> Result<(), AllocError> {
+        if self.found.len() >= LIMIT {
+            self.found.clear();
+        }
+        let found = Found::new(alloc, key, distinct.hashes.as_slice(), derivation)?;
+        self.found.push(found)?;
+        Ok(())
+    }
+
+    fn keep_point(&mut self, key: u64, point: Point) -> Result<(), AllocError> {
+        if self.points.len() >= LIMIT {
+            self.points.clear();
+        }
+        self.points.push(Seen { key, point })?;
+        Ok(())
+    }
+
+    fn keep_undecided(&mut self, whole: u64) -> Result<(), AllocError> {
+        if self.undecided.len() >= LIMIT {
+            self.undecided.clear();
+        }
+        self.undecided.push(whole)?;
+        Ok(())
+    }
+}
+
+/// Facts of a list, each once, and their numbers.
+#[derive(Drop)]
+struct Distinct {
+    facts: Vec<Form>,
+    hashes: Vec<u64>,
+}
+
+/// A list without what is repeated.
+fn distinct_of(alloc: Global, facts: &[Form], hashes: &[u64]) -> Result<Distinct, AllocError> {
+    let mut distinct = Distinct {
+        facts: Vec::new(alloc),
+        hashes: Vec::new(alloc),
+    };
+    for (fact, hash) in facts.iter().zip(hashes) {
+        if first_place(distinct.hashes.as_slice(), *hash).is_none() {
+            distinct.facts.push(copied(alloc, fact)?)?;
+            distinct.hashes.push(*hash)?;
+        }
+    }
+    Ok(distinct)
+}
+
+/// The derivation, if it refutes the facts.
+fn checked_proof(
+    alloc: Global,
+    facts: &[Form],
+    derivation: Derivation,
+) -> Result<Option<Answer>, AllocError>
+    ensures { IfOk result (λ r. IfSome r (λ a. IsAnswer (forms facts.now) a)) }
+{
+    if refutes(alloc, facts, &derivation)? {
+        Ok(Some(Answer::Proof(derivation)))
+    } else {
+        Ok(None)
+    }
+}
+
+/// The point, if it meets the facts.
+fn checked_point(facts: &[Form], point: Point) -> Option<Answer>
+    ensures { IfSome result (λ a. IsAnswer (forms facts.now) a) }
+{
+    if meets(facts, point.as_slice()) {
+        Some(Answer::Model(point))
+    } else {
+        None
+    }
+}

@@ -1,0 +1,45 @@
+//! Forms in names where no place narrows what a name means.
+
+use crate::kernel_names::Names;
+use candidate_lines::{family, index_of};
+use certificate::tree;
+use linear::{Form, Symbol};
+use std::alloc::{AllocError, Global};
+
+/// None of the variables before it is called as this one is.
+fn is_first(variables: &[&str], slot: usize) -> bool {
+    let Some(name) = variables.get(slot) else {
+        return false;
+    };
+    for earlier in variables.iter().take(slot) {
+        if *earlier == *name {
+            return false;
+        }
+    }
+    true
+}
+
+/// Its name, if any, means the symbol everywhere in the kernel.
+fn is_plain(variables: &[&str], symbol: Symbol) -> bool {
+    let family = family(symbol);
+    if family != 6 && family != 7 {
+        return true;
+    }
+    let Ok(slot) = usize::try_from(index_of(symbol)) else {
+        return false;
+    };
+    is_first(variables, slot)
+}
+
+impl<'a> Names<'a> {
+    /// The form in names as an entry names its quotient, where a name means the first variable that is called so; none where a symbol has no
+    /// such name.
+    pub fn quotient(&self, alloc: Global, form: &Form) -> Result<Option<tree::Form>, AllocError> {
+        for term in form.terms() {
+            if !is_plain(self.variables.as_slice(), term.symbol) {
+                return Ok(None);
+            }
+        }
+        self.form(alloc, form)
+    }
+}

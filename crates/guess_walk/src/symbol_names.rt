@@ -1,0 +1,148 @@
+//! The names of symbols, and forms in names.
+
+use crate::kernel_names::Names;
+use candidate_lines::{family, index_of};
+use certificate::spelling::push_name;
+use certificate::tree::{self, Dimension, Name};
+use linear::{Form, Symbol};
+use std::alloc::{AllocError, Global};
+use std::cmp::Ordering;
+
+/// A term with the spelling of its name.
+#[derive(Drop)]
+struct SpeltTerm {
+    spelling: String,
+    term: tree::Term,
+}
+
+fn dimension_of(index: u64) -> Option<Dimension> {
+    match index {
+        0 => Some(Dimension::First),
+        1 => Some(Dimension::Second),
+        2 => Some(Dimension::Third),
+        _ => None,
+    }
+}
+
+/// The name of a count or an id.
+fn name_by_dimension(symbol: Symbol) -> Option<Name> {
+    let dimension = dimension_of(index_of(symbol))?;
+    match family(symbol) {
+        0 => Some(Name::Groups(dimension)),
+        3 => Some(Name::Local(dimension)),
+        4 => Some(Name::Group(dimension)),
+        _ => None,
+    }
+}
+
+/// The name of a new symbol, or of a loop's turns.
+fn name_by_number(symbol: Symbol) -> Option<Name> {
+    let index = index_of(symbol);
+    match family(symbol) {
+        5 => {
+            let number = index.checked_add(1)?;
+            Some(Name::Fresh(number))
+        }
+        8 => Some(Name::Turns(index)),
+        _ => None,
+    }
+}
+
+/// How the kernel spells what the symbol stands for.
+fn spelt_in_kernel<'a>(names: &Names<'a>, symbol: Symbol) -> Option<&'a str> {
+    let Ok(index) = usize::try_from(index_of(symbol)) else {
+        return None;
+    };
+    let found = match family(symbol) {
+        1 => names.arguments.get(index),
+        2 => names.buffers.get(index),
+        6 | 7 => names.variables.get(index),
+        _ => None,
+    };
+    match found {
+        None => None,
+        Some(name) => Some(*name),
+    }
+}
+
+/// The name of what the kernel declares.
+fn name_by_kernel(
+    alloc: Global,
+    names: &Names<'_>,
+    symbol: Symbol,
+) -> Result<Option<Name>, AllocError> {
+    let Some(spelt) = spelt_in_kernel(names, symbol) else {
+        return Ok(None);
+    };
+    let name = String::from_str(alloc, spelt)?;
+    match family(symbol) {
+        1 => Ok(Some(Name::Argument(name))),
+        2 => Ok(Some(Name::Length(name))),
+        6 => Ok(Some(Name::Variable(name))),
+        _ => Ok(Some(Name::AtAnchor(name))),
+    }
+}
+
+/// The symbol's name, where it has one.
+fn name_of(alloc: Global, names: &Names<'_>, symbol: Symbol) -> Result<Option<Name>, AllocError> {
+    match family(symbol) {
+        0 | 3 | 4 => Ok(name_by_dimension(symbol)),
+        5 | 8 => Ok(name_by_number(symbol)),
+        _ => name_by_kernel(alloc, names, symbol),
+    }
+}
+
+/// A term with its spelling.
+fn spelt(alloc: Global, coefficient: i64, name: Name) -> Result<SpeltTerm, AllocError> {
+    let mut spelling = String::new(alloc);
+    push_name(&mut spelling, &name)?;
+    Ok(SpeltTerm {
+        spelling,
+        term: tree::Term { coefficient, name },
+    })
+}
+
+/// Where among rising terms another one belongs.
+fn index_among(terms: &[SpeltTerm], spelling: &str) -> usize {
+    for (index, term) in terms.iter().enumerate() {
+        if spelling.as_bytes().cmp(term.spelling.as_bytes()) == Ordering::Less {
+            return index;
+        }
+    }
+    terms.len()
+}
+
+/// A term more, in the order of the bytes of names.
+fn put(terms: &mut Vec<SpeltTerm>, term: SpeltTerm) -> Result<(), AllocError> {
+    let index = index_among(terms.as_slice(), term.spelling.as_str()).min(terms.len());
+    terms.insert(index, term)?;
+    Ok(())
+}
+
+/// The terms without their spellings.
+fn unspelt(alloc: Global, terms: Vec<SpeltTerm>) -> Result<Vec<tree::Term>, AllocError> {
+    let mut plain = Vec::new(alloc);
+    for term in terms {
+        plain.push(term.term)?;
+    }
+    Ok(plain)
+}
+
+impl<'a> Names<'a> {
+    /// The form in names, where each of its symbols has one.
+    pub fn form(&self, alloc: Global, form: &Form) -> Result<Option<tree::Form>, AllocError> {
+        let mut terms = Vec::new(alloc);
+        for term in form.terms() {
+            let Some(name) = name_of(alloc, self, term.symbol)? else {
+                return Ok(None);
+            };
+            let term = spelt(alloc, term.coefficient, name)?;
+            put(&mut terms, term)?;
+        }
+        let terms = unspelt(alloc, terms)?;
+        Ok(Some(tree::Form {
+            terms,
+            constant: form.constant_part(),
+        }))
+    }
+}

@@ -1,6 +1,0 @@
-use Rattle.std.proofs.Common.{arith}
-use Rattle.std.proofs.lemmas.Int.{ints, clamps}
-use Rattle.interval.proofs.greatest_size.Goals as goal
-
-pub returns-clause-value : goal.returns-clause-value
-returns-clause-value c = omega (arith, ints, clamps, c.max.ensures.value)

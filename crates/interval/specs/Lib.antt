@@ -1,6 +1,0 @@
-pub mod Ends
-pub mod Members
-pub mod Sums
-pub mod Products
-pub mod Quotients
-pub mod Remainders

@@ -1,5 +1,0 @@
-use Rattle.kernel_grammar.proofs.TextTrees.{text-tree}
-use Rattle.kernel_grammar.proofs.laws.the_tree_of_a_text.Goals as goal
-
-pub returns : goal.returns
-returns c = text-tree

@@ -1,5 +1,0 @@
-use Rattle.kernel_grammar.proofs.Exact.{parsed-sound}
-use Rattle.kernel_grammar.proofs.laws.what_is_parsed_is_in_the_grammar.Goals as goal
-
-pub returns : goal.returns
-returns c = parsed-sound

@@ -1,5 +1,0 @@
-use Rattle.launch_grammar.proofs.ConditionsForth.{one_meaning}
-use Rattle.launch_grammar.proofs.laws.a_conditions_text_says_one_thing.Goals as goal
-
-pub returns : goal.returns
-returns c = one_meaning

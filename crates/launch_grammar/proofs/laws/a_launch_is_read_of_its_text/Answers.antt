@@ -1,5 +1,0 @@
-use Rattle.launch_grammar.proofs.SpellingsForth.{spelling_forth}
-use Rattle.launch_grammar.proofs.laws.a_launch_is_read_of_its_text.Goals as goal
-
-pub returns : goal.returns
-returns c = spelling_forth

@@ -1,5 +1,0 @@
-use Rattle.launch_grammar.proofs.SpellingsForth.{one_launch}
-use Rattle.launch_grammar.proofs.laws.a_launch_text_says_one_launch.Goals as goal
-
-pub returns : goal.returns
-returns c = one_launch

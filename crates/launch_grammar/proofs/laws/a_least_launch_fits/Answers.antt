@@ -1,5 +1,0 @@
-use Rattle.launch_text.proofs.LeastFits.{least_fits}
-use Rattle.launch_grammar.proofs.laws.a_least_launch_fits.Goals as goal
-
-pub returns : goal.returns
-returns c = least_fits

@@ -1,5 +1,0 @@
-use Rattle.launch_grammar.proofs.LaunchTaken.{launch_took}
-use Rattle.launch_grammar.proofs.laws.what_is_read_of_a_launch_is_its_text.Goals as goal
-
-pub returns : goal.returns
-returns c = launch_took

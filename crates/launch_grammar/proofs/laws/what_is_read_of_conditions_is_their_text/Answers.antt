@@ -1,5 +1,0 @@
-use Rattle.launch_grammar.proofs.ConditionsTaken.{conditions_took}
-use Rattle.launch_grammar.proofs.laws.what_is_read_of_conditions_is_their_text.Goals as goal
-
-pub returns : goal.returns
-returns c = conditions_took

@@ -1,0 +1,176 @@
+-- What a conditions text says by cases is read of it.
+use Rattle.std.proofs.Common.{◌≡◌, ℕ, zero, suc, ◌+◌, ◌≤◌, true, false, nat_lt, List, [], ◌∷◌, ◌++◌, length, Ok, refl, ap, sym, ◌∙◌, append_assoc, arith}
+use Rattle.std.specs.Prelude.{codes, bytes_eq}
+use Rattle.std.specs.Fmt.{decimal}
+use Rattle.std.proofs.lemmas.Bool.{cond-false}
+use Rattle.std.proofs.lemmas.List.{append-nil}
+use Rattle.semantics.specs.Word.{Kind}
+use Rattle.semantics.specs.Launch.{Three}
+use Rattle.semantics.specs.Conditions as meaning
+use Rattle.semantics.specs.Conditions.{Range, Summand}
+use Rattle.texts.specs.CertificateForms.{is_identifier}
+use Rattle.texts.specs.Surface.{Parameter, Buffer, Value}
+use Rattle.texts.specs.Spelling.{SpellsParameters}
+use Rattle.texts.specs.LaunchFaults.{Cursor, cursor, then, expect, end_line}
+use Rattle.texts.specs.LaunchWords.{Conditions, due, due_blank, due_parameter, head_line, first_word, each}
+use Rattle.texts.specs.ConditionsReading.{Length, Requirement, Lined, length_meant, requirement_meant, meant, length_of, length_line, length_due, requirement_of, requirement_line, requirement_lines, budget_line, lined, conditions_at, conditions_limit, conditions_of}
+use Rattle.texts.specs.ConditionsText.{IsShortSum, groups_text, length_text, requirement_text, budget_text, AreLengthLines, no_length, past_value, a_length, AreRequirementLines, no_requirement, a_requirement, IsConditionsText}
+use Rattle.launch_text.specs.Parameters.{AreNamed}
+use Rattle.launch_text.proofs.Back.{same_back}
+use Rattle.launch_text.proofs.Forth.{natural_forth, parameter_forth}
+use Rattle.launch_text.proofs.LinesForth.{blank_forth, end_forth, each_goes, each_skips, each_ends, appended, end_text_forth}
+use Rattle.launch_text.proofs.LaunchForth.{not_above}
+use Rattle.launch_text.proofs.LinesTaken.{length_shape, requirement_shape}
+use Rattle.launch_text.proofs.SumsForth.{blank_stops, end_stops, short_sum_forth}
+use Rattle.launch_text.proofs.RangesForth.{ReadsLines, groups_forth, arguments_forth}
+
+length_word_due : (rest : List ℕ) (n : ℕ) → due_blank Conditions (codes "length") (cursor n (codes "length " ++ rest)) ≡ Ok (cursor n rest)
+unfolding due_blank due expect
+length_word_due rest n = refl
+
+require_due : (rest : List ℕ) (n : ℕ) → due_blank Conditions (codes "require") (cursor n (codes "require " ++ rest)) ≡ Ok (cursor n rest)
+unfolding due_blank due expect
+require_due rest n = refl
+
+budget_due : (rest : List ℕ) (n : ℕ) → due_blank Conditions (codes "budget") (cursor n (codes "budget " ++ rest)) ≡ Ok (cursor n rest)
+unfolding due_blank due expect
+budget_due rest n = refl
+
+head_forth : (rest : List ℕ) → head_line Conditions (codes "conditions") (cursor 1 (codes "conditions 1" ++ (10 ∷ rest))) ≡ Ok (cursor 2 rest)
+unfolding head_line due expect end_line
+head_forth rest = refl
+
+least_forth : (rest : List ℕ) (n : ℕ) → expect (codes ">= ") (cursor n (codes ">= " ++ rest)) ≡ Ok (cursor n rest)
+unfolding expect
+least_forth rest n = refl
+
+least_between : (rest : List ℕ) (n : ℕ) → expect (codes " >= ") (cursor n (codes " >= " ++ rest)) ≡ Ok (cursor n rest)
+unfolding expect
+least_between rest n = refl
+
+length_forth : (ps : List Parameter) (k : Kind) (name sum : List ℕ) (ss : List Summand) (rest : List ℕ) (n : ℕ) → AreNamed ps → is_identifier name ≡ true → IsShortSum ps sum ss → length_line ps k name (cursor n (length_text name sum ++ rest)) ≡ Ok (length_of k ss n, cursor (n + 1) rest)
+unfolding length_line due_parameter
+length_forth ps k name sum ss rest n all i h =
+    rw (
+      sym (length_shape name sum rest),
+      length_word_due (name ++ (32 ∷ (codes ">= " ++ (sum ++ (10 ∷ rest))))) n,
+      parameter_forth ps name (32 ∷ (codes ">= " ++ (sum ++ (10 ∷ rest)))) n i refl,
+      blank_forth (codes ">= " ++ (sum ++ (10 ∷ rest))) n,
+      least_forth (sum ++ (10 ∷ rest)) n,
+      short_sum_forth ps sum ss (10 ∷ rest) n all h (end_stops rest) refl,
+      end_forth rest n,
+    ) refl
+
+lengths_forth : (all : List Parameter) (done : List Length) (ps : List Parameter) (lines : List ℕ) (sums : List (List Summand)) (rest : List ℕ) (n : ℕ) → AreNamed all → AreNamed ps → AreLengthLines all ps lines sums → ReadsLines (each (length_due all) done ps) length_meant done lines sums rest n
+lengths_forth all done ps lines sums rest n i j no_length = record { read = []; line = n; is_read = each_ends (length_due all) done (cursor n rest); is_meant = refl }
+lengths_forth all done ps lines sums rest n i j (past_value {ps = others} k site name more) =
+    let behind = lengths_forth all done others lines sums rest n i j.1 more in
+    record {
+      read = behind.read;
+      line = behind.line;
+      is_read = each_skips (length_due all) done (Value k site name) others (cursor n (lines ++ rest)) refl ∙ behind.is_read;
+      is_meant = behind.is_meant;
+    }
+lengths_forth all done ps lines sums rest n i j (a_length {ps = others} {lines = after} {sum = sum} {ss = ss} {sums = least} constant k site name h more) =
+    let a : Length = length_of k ss n in
+    let own = length_line all k name in
+    let behind = lengths_forth all (done ++ a ∷ []) others after least rest (n + 1) i j.1 more in
+    let here : own (cursor n ((length_text name sum ++ after) ++ rest)) ≡ Ok (a, cursor (n + 1) (after ++ rest)) =
+    ap (λ bytes. own (cursor n bytes)) (append_assoc (length_text name sum) after rest) ∙ length_forth all k name sum ss (after ++ rest) n i j.0 h in
+    record {
+      read = a ∷ behind.read;
+      line = behind.line;
+      is_read = each_goes (length_due all) done (Buffer constant k site name) others (cursor n ((length_text name sum ++ after) ++ rest)) (cursor (n + 1) (after ++ rest)) own a refl here
+          ∙ behind.is_read ∙ appended done a behind.read (cursor behind.line rest);
+      is_meant = ap (λ others. ss ∷ others) behind.is_meant;
+    }
+
+requirement_forth : (ps : List Parameter) (left right : List ℕ) (r : meaning.Requirement) (rest : List ℕ) (n : ℕ) → AreNamed ps → IsShortSum ps left r.left → IsShortSum ps right r.right
+    → requirement_line ps (cursor n (requirement_text left right ++ rest)) ≡ Ok (requirement_of r.left r.right n, cursor (n + 1) rest)
+unfolding requirement_line
+requirement_forth ps left right r rest n i a b =
+    rw (
+      sym (requirement_shape left right rest),
+      require_due (left ++ (codes " >= " ++ (right ++ (10 ∷ rest)))) n,
+      short_sum_forth ps left r.left (codes " >= " ++ (right ++ (10 ∷ rest))) n i a (blank_stops (62 ∷ 61 ∷ 32 ∷ (right ++ (10 ∷ rest)))) refl,
+      least_between (right ++ (10 ∷ rest)) n,
+      short_sum_forth ps right r.right (10 ∷ rest) n i b (end_stops rest) refl,
+      end_forth rest n,
+    ) refl
+
+none_left : (ps : List Parameter) (room : ℕ) (done : List Requirement) (rest : List ℕ) (n : ℕ) → bytes_eq (first_word rest) (codes "require") ≡ false → requirement_lines ps room done (cursor n rest) ≡ Ok (done ++ [], cursor n rest)
+unfolding requirement_lines
+none_left ps zero done rest n h = rw (h, append-nil done) refl
+none_left ps (suc room) done rest n h = rw (h, append-nil done) refl
+
+one_more : (ps : List Parameter) (room : ℕ) (done : List Requirement) (left right rest : List ℕ) (n : ℕ) (r : Requirement) → requirement_line ps (cursor n (requirement_text left right ++ rest)) ≡ Ok (r, cursor (n + 1) rest)
+    → requirement_lines ps (suc room) done (cursor n (requirement_text left right ++ rest)) ≡ requirement_lines ps room (done ++ r ∷ []) (cursor (n + 1) rest)
+unfolding requirement_lines
+one_more ps room done left right rest n r e = ap (λ s. then s (λ (t : Requirement × Cursor). requirement_lines ps room (done ++ t.0 ∷ []) t.1)) e
+
+requirements_forth : (ps : List Parameter) (room : ℕ) (done : List Requirement) (lines : List ℕ) (rs : List meaning.Requirement) (rest : List ℕ) (n : ℕ) → AreNamed ps → AreRequirementLines ps lines rs → length rs ≤ room → bytes_eq (first_word rest) (codes "require") ≡ false
+    → ReadsLines (requirement_lines ps room done) requirement_meant done lines rs rest n
+requirements_forth ps room done lines rs rest n i no_requirement l h = record { read = []; line = n; is_read = none_left ps room done rest n h; is_meant = refl }
+requirements_forth ps zero done lines rs rest n i (a_requirement {rs = others} r a b more) l h = absurd (omega arith)
+requirements_forth ps (suc room) done lines rs rest n i (a_requirement {left = left} {right = right} {lines = after} {rs = others} r a b more) l h =
+    let own : Requirement = requirement_of r.left r.right n in
+    let behind = requirements_forth ps room (done ++ own ∷ []) after others rest (n + 1) i more (omega (arith, l)) h in
+    record {
+      read = own ∷ behind.read;
+      line = behind.line;
+      is_read = ap (λ bytes. requirement_lines ps (suc room) done (cursor n bytes)) (append_assoc (requirement_text left right) after rest)
+          ∙ one_more ps room done left right (after ++ rest) n own (requirement_forth ps left right r (after ++ rest) n i a b)
+          ∙ behind.is_read ∙ appended done own behind.read (cursor behind.line rest);
+      is_meant = ap (λ others. r ∷ others) behind.is_meant;
+    }
+
+budget_forth : (m : ℕ) (n : ℕ) → 1 ≤ m → m ≤ 1000000000000 → budget_line (cursor n (budget_text m)) ≡ Ok (m, cursor (n + 1) [])
+unfolding budget_line
+budget_forth m n a b =
+    rw (budget_due (decimal m ++ 10 ∷ []) n, natural_forth 1 1000000000000 m (10 ∷ []) n a b (omega arith) refl, end_forth [] n) refl
+
+made : (c : meaning.Conditions) (groups : Three Range) (arguments : List Range) (lengths : List (List Summand)) (requires : List meaning.Requirement) → groups ≡ c.groups → arguments ≡ c.arguments → lengths ≡ c.lengths → requires ≡ c.requires
+    → (let d : meaning.Conditions = record { groups = groups; arguments = arguments; lengths = lengths; requires = requires; budget = c.budget } in d ≡ c)
+made c groups arguments lengths requires p q r s = rw (p, q, r, s) refl
+
+lines_forth : (ps : List Parameter) (text : List ℕ) (c : meaning.Conditions) → AreNamed ps → IsConditionsText ps text c → (l : Lined) × (conditions_at ps (cursor 1 text) ≡ Ok l) × (meant l ≡ c)
+unfolding conditions_at
+lines_forth ps text c i t =
+    let last : List ℕ = budget_text c.budget in
+    let behind_lengths : List ℕ = t.requirement_lines ++ last in
+    let behind_arguments : List ℕ = t.length_lines ++ behind_lengths in
+    let body : List ℕ = t.argument_lines ++ behind_arguments in
+    let groups = groups_forth c.groups body 2 t.counts_x t.counts_y t.counts_z t.few_groups in
+    let arguments = arguments_forth ps [] ps t.argument_lines c.arguments behind_arguments 3 i t.arguments in
+    let lengths = lengths_forth ps [] ps t.length_lines c.lengths behind_lengths arguments.line i i t.lengths in
+    let requires = requirements_forth ps 16 [] t.requirement_lines c.requires last lengths.line i t.requires t.few_requires refl in (
+      lined groups.groups 2 arguments.read lengths.read requires.read c.budget,
+      rw (
+        t.is_text,
+        head_forth (groups_text c.groups ++ body),
+        groups.is_read,
+        arguments.is_read,
+        lengths.is_read,
+        requires.is_read,
+        budget_forth c.budget requires.line t.budget.0 t.budget.1,
+        end_text_forth (requires.line + 1),
+      ) refl,
+      made c _ _ _ _ groups.is_meant arguments.is_meant lengths.is_meant requires.is_meant,
+    )
+
+-- the names of a kernel's text are names of parameters
+pub spelt_names : (ps : List Parameter) → SpellsParameters ps → AreNamed ps
+spelt_names [] h = tt
+spelt_names (Buffer constant k site name ∷ ps) h = (h.0, spelt_names ps h.1)
+spelt_names (Value k site name ∷ ps) h = (h.0, spelt_names ps h.1)
+
+pub conditions_forth : (ps : List Parameter) (text : List ℕ) (c : meaning.Conditions) → SpellsParameters ps → IsConditionsText ps text c → length text ≤ conditions_limit → (l : Lined) × (conditions_of ps text ≡ Ok l) × (meant l ≡ c)
+conditions_forth ps text c i t h =
+    let l = lines_forth ps text c (spelt_names ps i) t in
+    (l.0, cond-false (nat_lt conditions_limit (length text)) _ _ (not_above conditions_limit (length text) h) ∙ l.1, l.2)
+
+pub one_meaning : (ps : List Parameter) (text : List ℕ) (c d : meaning.Conditions) → SpellsParameters ps → length text ≤ conditions_limit → IsConditionsText ps text c → IsConditionsText ps text d → c ≡ d
+one_meaning ps text c d i h t u =
+    let l = conditions_forth ps text c i t h in
+    let m = conditions_forth ps text d i u h in
+    sym l.2 ∙ ap meant (same_back l.0 m.0 (sym l.1 ∙ m.1)) ∙ m.2

@@ -1,0 +1,288 @@
+-- What a line's reader took from the front is that line.
+use Rattle.std.proofs.Common.{◌≡◌, ℕ, zero, suc, ◌*◌, ◌≤◌, true, false, nat_le, nat_lt, List, [], ◌∷◌, ◌++◌, length, map, Ok, refl, ap, sym, ◌∙◌, subst, append_assoc, arith}
+use Rattle.std.specs.Prelude.{pos, ◌≤ℤ◌, ◌*ℤ◌, int_le, bytes_eq, codes}
+use Rattle.std.specs.Fmt.{decimal, signed_decimal}
+use Rattle.std.proofs.lemmas.Bool.{cond_both}
+use Rattle.std.proofs.lemmas.Bool.Decides.{nat_tests}
+use Rattle.std.proofs.lemmas.Int.{ints}
+use Rattle.std.proofs.lemmas.List.{append-nil}
+use Rattle.semantics.specs.Word.{Kind, in_kind}
+use Rattle.semantics.specs.Launch.{Three}
+use Rattle.semantics.specs.Conditions as meaning
+use Rattle.semantics.specs.Conditions.{Range, Summand}
+use Rattle.texts.specs.Surface.{Parameter, Buffer, Value}
+use Rattle.texts.specs.LaunchFaults.{LimitPassed, EmptyRange, Cursor, Step, refused, then, expect, end_line}
+use Rattle.texts.specs.LaunchWords.{Conditions, natural_at, word_at, due_blank, due_parameter, first_word, each}
+use Rattle.texts.specs.LaunchSums.{sum_at}
+use Rattle.texts.specs.ConditionsReading.{CountRange, ArgumentRange, Length, Requirement, counts_meant, argument_meant, length_meant, requirement_meant, counts_between, counts_at, words_between, three_counts_at, three, groups_line, argument_at, argument_line, argument_due, length_of, length_line, length_due, requirement_of, requirement_line, requirement_lines, budget_line}
+use Rattle.texts.specs.ConditionsText.{IsShortSum, range_text, AreCounts, AreOfKind, groups_text, argument_text, length_text, requirement_text, budget_text, AreArgumentLines, no_argument, past_buffer, an_argument, AreLengthLines, no_length, past_value, a_length, AreRequirementLines, no_requirement, a_requirement}
+use Rattle.launch.proofs.Unmet.{le-true}
+use Rattle.launch_text.proofs.Back.{then_back, same_back, when_back, unless_back, natural_back, word_back}
+use Rattle.launch_text.proofs.Taken.{expect_took, end_took, natural_took, word_took, due_blank_took, due_parameter_took}
+use Rattle.launch_text.proofs.SumsTaken.{joined, short_sum_took}
+
+counted : (low high : ℕ) → (1 ≤ low) × (low ≤ 65536) → (1 ≤ high) × (high ≤ 65536) → nat_le low high ≡ true → AreCounts (counts_meant (counts_between low high))
+counted low high a b h = (grind (arith, ints, a), grind (arith, ints, nat_tests), grind (arith, ints, b))
+
+abbrev TookCounts : Cursor → CountRange × Cursor → Type 0
+TookCounts c t = (c.rest ≡ range_text (counts_meant t.0) ++ t.1.rest) × AreCounts (counts_meant t.0)
+
+counts_took : (c : Cursor) (t : CountRange × Cursor) → counts_at c ≡ Ok t → TookCounts c t
+unfolding counts_at
+counts_took c t e =
+    let low = then_back (natural_at 1 65536 c) _ t e in
+    let d = then_back (expect _ low.0.1) _ t low.2 in
+    let high = then_back (natural_at 1 65536 d.0) _ t d.2 in
+    let order = when_back (nat_le low.0.0 high.0.0) _ EmptyRange high.0.1 t high.2 in
+    subst (λ (r : CountRange × Cursor). TookCounts c r) (same_back (counts_between low.0.0 high.0.0, high.0.1) t order.1) (
+      joined (codes "..") (decimal low.0.0) (decimal high.0.0) high.0.1.rest c.rest low.0.1.rest d.0.rest (natural_took 1 65536 c low.0 low.1) (expect_took (codes "..") low.0.1 d.0 d.1) (natural_took 1 65536 d.0 high.0 high.1),
+      counted low.0.0 high.0.0 (natural_back 1 65536 c low.0 low.1) (natural_back 1 65536 d.0 high.0 high.1) order.0,
+    )
+
+abbrev pub groups_meant : Three CountRange → Three Range
+groups_meant g = three (counts_meant g.x) (counts_meant g.y) (counts_meant g.z)
+
+abbrev three_text : Three Range → List ℕ
+three_text g = range_text g.x ++ (codes " " ++ (range_text g.y ++ (codes " " ++ range_text g.z)))
+
+-- what is so of three ranges
+pub record AreGroups (g : Three Range) : Type 0 where
+  pub x : AreCounts g.x
+  pub y : AreCounts g.y
+  pub z : AreCounts g.z
+
+abbrev TookThree : Cursor → Three CountRange × Cursor → Type 0
+TookThree c t = (c.rest ≡ three_text (groups_meant t.0) ++ t.1.rest) × AreGroups (groups_meant t.0)
+
+three_joined : (x y z rest whole a b d e : List ℕ) → whole ≡ x ++ a → a ≡ 32 ∷ b → b ≡ y ++ d → d ≡ 32 ∷ e → e ≡ z ++ rest → whole ≡ (x ++ (codes " " ++ (y ++ (codes " " ++ z)))) ++ rest
+three_joined x y z rest whole a b d e p q r s t = joined (codes " ") x (y ++ (codes " " ++ z)) rest whole a b p q (joined (codes " ") y z rest b d e r s t)
+
+three_took : (c : Cursor) (t : Three CountRange × Cursor) → three_counts_at c ≡ Ok t → TookThree c t
+unfolding three_counts_at
+three_took c t e =
+    let x = then_back (counts_at c) _ t e in
+    let d = then_back (expect _ x.0.1) _ t x.2 in
+    let y = then_back (counts_at d.0) _ t d.2 in
+    let f = then_back (expect _ y.0.1) _ t y.2 in
+    let z = then_back (counts_at f.0) _ t f.2 in
+    let a = counts_took c x.0 x.1 in
+    let b = counts_took d.0 y.0 y.1 in
+    let g = counts_took f.0 z.0 z.1 in
+    subst (λ (r : Three CountRange × Cursor). TookThree c r) (same_back (three x.0.0 y.0.0 z.0.0, z.0.1) t z.2) (
+      three_joined (range_text (counts_meant x.0.0)) (range_text (counts_meant y.0.0)) (range_text (counts_meant z.0.0)) z.0.1.rest c.rest x.0.1.rest d.0.rest y.0.1.rest f.0.rest a.0 (expect_took (codes " ") x.0.1 d.0 d.1) b.0 (expect_took (codes " ") y.0.1 f.0 f.1) g.0,
+      record { x = a.1; y = b.1; z = g.1 },
+    )
+
+-- what the line of groups said
+pub record TookGroups (c : Cursor) (t : Three CountRange × Cursor) : Type 0 where
+  pub rest : c.rest ≡ groups_text (groups_meant t.0) ++ t.1.rest
+  pub counts : AreGroups (groups_meant t.0)
+  pub few : ((groups_meant t.0).x.high *ℤ (groups_meant t.0).y.high *ℤ (groups_meant t.0).z.high) ≤ℤ pos 1048576
+
+pub groups_shape : (x y z rest : List ℕ) → codes "groups" ++ (32 ∷ ((x ++ (codes " " ++ (y ++ (codes " " ++ z)))) ++ (10 ∷ rest))) ≡ (codes "groups " ++ (x ++ (codes " " ++ (y ++ (codes " " ++ (z ++ 10 ∷ [])))))) ++ rest
+groups_shape x y z rest = simp append_assoc
+
+groups_whole : (g : Three Range) (rest whole a b : List ℕ) → whole ≡ codes "groups" ++ (32 ∷ a) → a ≡ three_text g ++ b → b ≡ 10 ∷ rest → whole ≡ groups_text g ++ rest
+groups_whole g rest whole a b p q r =
+    p ∙ ap (λ x. codes "groups " ++ x) (q ∙ ap (λ x. three_text g ++ x) r) ∙ groups_shape (range_text g.x) (range_text g.y) (range_text g.z) rest
+
+not_more : (n most : ℕ) → nat_lt most n ≡ false → pos n ≤ℤ pos most
+not_more n most h = grind (arith, ints, nat_tests)
+
+pub groups_took : (c : Cursor) (t : Three CountRange × Cursor) → groups_line c ≡ Ok t → TookGroups c t
+unfolding groups_line
+groups_took c t e =
+    let a = then_back (due_blank _ _ c) _ t e in
+    let b = then_back (three_counts_at a.0) _ t a.2 in
+    let f = unless_back (nat_lt 1048576 (b.0.0.x.high * b.0.0.y.high * b.0.0.z.high)) _ LimitPassed b.0.1 t b.2 in
+    let d = then_back (end_line b.0.1) _ t f.1 in
+    let g = three_took a.0 b.0 b.1 in
+    subst (λ (r : Three CountRange × Cursor). TookGroups c r) (same_back (b.0.0, d.0) t d.2) (record {
+      rest = groups_whole (groups_meant b.0.0) d.0.rest c.rest a.0.rest b.0.1.rest (due_blank_took Conditions (codes "groups") c a.0 a.1) g.0 (end_took b.0.1 d.0 d.1);
+      counts = g.1;
+      few = not_more (b.0.0.x.high * b.0.0.y.high * b.0.0.z.high) 1048576 f.0;
+    })
+
+ranged : (k : Kind) (r : ArgumentRange) → in_kind k r.low.value ≡ true → in_kind k r.high.value ≡ true → int_le r.low.value r.high.value ≡ true → AreOfKind k (argument_meant r)
+ranged k r a b h = (a, b, le-true r.low.value r.high.value h)
+
+abbrev TookRange : Kind → Cursor → ArgumentRange × Cursor → Type 0
+TookRange k c t = (c.rest ≡ range_text (argument_meant t.0) ++ t.1.rest) × AreOfKind k (argument_meant t.0)
+
+range_took : (k : Kind) (c : Cursor) (t : ArgumentRange × Cursor) → argument_at k c ≡ Ok t → TookRange k c t
+unfolding argument_at
+range_took k c t e =
+    let low = then_back (word_at k c) _ t e in
+    let d = then_back (expect _ low.0.1) _ t low.2 in
+    let high = then_back (word_at k d.0) _ t d.2 in
+    let order = when_back (int_le low.0.0.value high.0.0.value) _ EmptyRange high.0.1 t high.2 in
+    let r : ArgumentRange = words_between low.0.0 high.0.0 c.line in
+    subst (λ (u : ArgumentRange × Cursor). TookRange k c u) (same_back (r, high.0.1) t order.1) (
+      joined (codes "..") (signed_decimal low.0.0.value) (signed_decimal high.0.0.value) high.0.1.rest c.rest low.0.1.rest d.0.rest (word_took k c low.0 low.1) (expect_took (codes "..") low.0.1 d.0 d.1) (word_took k d.0 high.0 high.1),
+      ranged k r (word_back k c low.0 low.1).1 (word_back k d.0 high.0 high.1).1 order.0,
+    )
+
+abbrev TookArgument : Kind → (name : List ℕ) → Cursor → ArgumentRange × Cursor → Type 0
+TookArgument k name c t = (c.rest ≡ argument_text name (argument_meant t.0) ++ t.1.rest) × AreOfKind k (argument_meant t.0)
+
+pub argument_shape : (name range rest : List ℕ) → codes "arg" ++ (32 ∷ (name ++ (32 ∷ (range ++ (10 ∷ rest))))) ≡ (codes "arg " ++ (name ++ (codes " " ++ (range ++ 10 ∷ [])))) ++ rest
+argument_shape name range rest = simp append_assoc
+
+argument_whole : (name : List ℕ) (range : Range) (rest whole a b : List ℕ) → whole ≡ codes "arg" ++ (32 ∷ (name ++ (32 ∷ a))) → a ≡ range_text range ++ b → b ≡ 10 ∷ rest → whole ≡ argument_text name range ++ rest
+argument_whole name range rest whole a b p q r =
+    p ∙ ap (λ x. codes "arg " ++ (name ++ (32 ∷ x))) (q ∙ ap (λ x. range_text range ++ x) r) ∙ argument_shape name (range_text range) rest
+
+argument_took : (ps : List Parameter) (k : Kind) (name : List ℕ) (c : Cursor) (t : ArgumentRange × Cursor) → argument_line ps k name c ≡ Ok t → TookArgument k name c t
+unfolding argument_line
+argument_took ps k name c t e =
+    let a = then_back (due_parameter _ _ ps name c) _ t e in
+    let b = then_back (argument_at k a.0) _ t a.2 in
+    let d = then_back (end_line b.0.1) _ t b.2 in
+    let r = range_took k a.0 b.0 b.1 in
+    subst (λ (u : ArgumentRange × Cursor). TookArgument k name c u) (same_back (b.0.0, d.0) t d.2) (
+      argument_whole name (argument_meant b.0.0) d.0.rest c.rest a.0.rest b.0.1.rest (due_parameter_took Conditions (codes "arg") ps name c a.0 a.1) r.0 (end_took b.0.1 d.0 d.1),
+      r.1,
+    )
+
+-- lines behind those that were read before
+pub record TookLines {A B : Type 0} (Are : List ℕ → List B → Type 0) (view : A → B) (done : List A) (c : Cursor) (t : List A × Cursor) : Type 0 where
+  pub read : List A
+  pub all : t.0 ≡ done ++ read
+  pub lines : List ℕ
+  pub are : Are lines (map view read)
+  pub rest : c.rest ≡ lines ++ t.1.rest
+
+pub no_line : {A B : Type 0} (Are : List ℕ → List B → Type 0) (view : A → B) (done : List A) (c : Cursor) (t : List A × Cursor) → Are [] [] → (let s : Step (List A × Cursor) = Ok (done, c) in s ≡ Ok t) → TookLines Are view done c t
+no_line Are view done c t a e = subst (λ t. TookLines Are view done c t) (same_back (done, c) t e) (record { read = []; all = sym (append-nil done); lines = []; are = a; rest = refl })
+
+pub one_line : {A B : Type 0} (Are More : List ℕ → List B → Type 0) (view : A → B) (done : List A) (a : A) (line : List ℕ) (c d : Cursor) (t : List A × Cursor) → c.rest ≡ line ++ d.rest → ((lines : List ℕ) (bs : List B) → Are lines bs → More (line ++ lines) (view a ∷ bs)) → TookLines Are view (done ++ a ∷ []) d t → TookLines More view done c t
+one_line {A} Are More view done a line c d t q go others = record {
+  read = a ∷ others.read;
+  all = others.all ∙ append_assoc done (a ∷ []) others.read;
+  lines = line ++ others.lines;
+  are = go others.lines (map view others.read) others.are;
+  rest = q ∙ ap (λ x. line ++ x) others.rest ∙ sym (append_assoc line others.lines t.1.rest);
+}
+
+pub arguments_took : (all : List Parameter) (done : List ArgumentRange) (ps : List Parameter) (c : Cursor) (t : List ArgumentRange × Cursor) → each (argument_due all) done ps c ≡ Ok t → TookLines (AreArgumentLines ps) argument_meant done c t
+unfolding each
+arguments_took all done [] c t e = no_line (AreArgumentLines []) argument_meant done c t no_argument e
+arguments_took all done (Buffer constant k site name ∷ ps) c t e =
+    let others = arguments_took all done ps c t e in
+    record { read = others.read; all = others.all; lines = others.lines; are = past_buffer constant k site name others.are; rest = others.rest }
+arguments_took all done (Value k site name ∷ ps) c t e =
+    let u = then_back (argument_line all k name c) _ t e in
+    let one = argument_took all k name c u.0 u.1 in
+    let r : Range = argument_meant u.0.0 in
+    one_line (AreArgumentLines ps) (AreArgumentLines (Value k site name ∷ ps)) argument_meant done u.0.0 (argument_text name r) c u.0.1 t one.0
+    (λ lines rs more. an_argument k site name r one.1 more) (arguments_took all (done ++ u.0.0 ∷ []) ps u.0.1 t u.2)
+
+-- what the line of a length said
+abbrev TookLength : List Parameter → (name : List ℕ) → Cursor → Length × Cursor → Type 0
+TookLength ps name c t = (sum : List ℕ) × IsShortSum ps sum (length_meant t.0) × (c.rest ≡ length_text name sum ++ t.1.rest)
+
+pub length_shape : (name sum rest : List ℕ) → codes "length" ++ (32 ∷ (name ++ (32 ∷ (codes ">= " ++ (sum ++ (10 ∷ rest)))))) ≡ (codes "length " ++ (name ++ (codes " >= " ++ (sum ++ 10 ∷ [])))) ++ rest
+length_shape name sum rest = simp append_assoc
+
+length_whole : (name sum rest whole a b d : List ℕ) → whole ≡ codes "length" ++ (32 ∷ (name ++ (32 ∷ a))) → a ≡ codes ">= " ++ b → b ≡ sum ++ d → d ≡ 10 ∷ rest → whole ≡ length_text name sum ++ rest
+length_whole name sum rest whole a b d p q r s =
+    p ∙ ap (λ x. codes "length " ++ (name ++ (32 ∷ x))) (q ∙ ap (λ x. codes ">= " ++ x) (r ∙ ap (λ x. sum ++ x) s)) ∙ length_shape name sum rest
+
+length_took : (ps : List Parameter) (k : Kind) (name : List ℕ) (c : Cursor) (t : Length × Cursor) → length_line ps k name c ≡ Ok t → TookLength ps name c t
+unfolding length_line
+length_took ps k name c t e =
+    let a = then_back (due_parameter _ _ ps name c) _ t e in
+    let b = then_back (expect _ a.0) _ t a.2 in
+    let s = then_back (sum_at ps 8 [] b.0) _ t b.2 in
+    let d = then_back (end_line s.0.1) _ t s.2 in
+    let sum = short_sum_took ps b.0 s.0 s.1 in
+    subst (λ (r : Length × Cursor). TookLength ps name c r) (same_back (length_of k s.0.0 c.line, d.0) t d.2) (
+      sum.0,
+      sum.1,
+      length_whole name sum.0 d.0.rest c.rest a.0.rest b.0.rest s.0.1.rest (due_parameter_took Conditions (codes "length") ps name c a.0 a.1) (expect_took (codes ">= ") a.0 b.0 b.1) sum.2 (end_took s.0.1 d.0 d.1),
+    )
+
+pub lengths_took : (all : List Parameter) (done : List Length) (ps : List Parameter) (c : Cursor) (t : List Length × Cursor) → each (length_due all) done ps c ≡ Ok t → TookLines (AreLengthLines all ps) length_meant done c t
+unfolding each
+lengths_took all done [] c t e = no_line (AreLengthLines all []) length_meant done c t no_length e
+lengths_took all done (Value k site name ∷ ps) c t e =
+    let others = lengths_took all done ps c t e in
+    record { read = others.read; all = others.all; lines = others.lines; are = past_value k site name others.are; rest = others.rest }
+lengths_took all done (Buffer constant k site name ∷ ps) c t e =
+    let u = then_back (length_line all k name c) _ t e in
+    let one = length_took all k name c u.0 u.1 in
+    one_line (AreLengthLines all ps) (AreLengthLines all (Buffer constant k site name ∷ ps)) length_meant done u.0.0 (length_text name one.0) c u.0.1 t one.2
+    (λ lines sums more. a_length constant k site name one.1 more) (lengths_took all (done ++ u.0.0 ∷ []) ps u.0.1 t u.2)
+
+-- what the line of a requirement said
+pub record TookRequirement (ps : List Parameter) (c : Cursor) (t : Requirement × Cursor) : Type 0 where
+  pub left : List ℕ
+  pub right : List ℕ
+  pub left_sum : IsShortSum ps left (requirement_meant t.0).left
+  pub right_sum : IsShortSum ps right (requirement_meant t.0).right
+  pub rest : c.rest ≡ requirement_text left right ++ t.1.rest
+
+pub requirement_shape : (left right rest : List ℕ) → codes "require" ++ (32 ∷ (left ++ (codes " >= " ++ (right ++ (10 ∷ rest))))) ≡ (codes "require " ++ (left ++ (codes " >= " ++ (right ++ 10 ∷ [])))) ++ rest
+requirement_shape left right rest = simp append_assoc
+
+requirement_whole : (left right rest whole a b d f : List ℕ) → whole ≡ codes "require" ++ (32 ∷ a) → a ≡ left ++ b → b ≡ codes " >= " ++ d → d ≡ right ++ f → f ≡ 10 ∷ rest → whole ≡ requirement_text left right ++ rest
+requirement_whole left right rest whole a b d f p q r s t =
+    p ∙ ap (λ x. codes "require " ++ x) (q ∙ ap (λ x. left ++ x) (r ∙ ap (λ x. codes " >= " ++ x) (s ∙ ap (λ x. right ++ x) t))) ∙ requirement_shape left right rest
+
+requirement_took : (ps : List Parameter) (c : Cursor) (t : Requirement × Cursor) → requirement_line ps c ≡ Ok t → TookRequirement ps c t
+unfolding requirement_line
+requirement_took ps c t e =
+    let a = then_back (due_blank _ _ c) _ t e in
+    let left = then_back (sum_at ps 8 [] a.0) _ t a.2 in
+    let b = then_back (expect _ left.0.1) _ t left.2 in
+    let right = then_back (sum_at ps 8 [] b.0) _ t b.2 in
+    let d = then_back (end_line right.0.1) _ t right.2 in
+    let l = short_sum_took ps a.0 left.0 left.1 in
+    let r = short_sum_took ps b.0 right.0 right.1 in
+    subst (λ (u : Requirement × Cursor). TookRequirement ps c u) (same_back (requirement_of left.0.0 right.0.0 c.line, d.0) t d.2) (record {
+      left = l.0;
+      right = r.0;
+      left_sum = l.1;
+      right_sum = r.1;
+      rest = requirement_whole l.0 r.0 d.0.rest c.rest a.0.rest left.0.1.rest b.0.rest right.0.1.rest (due_blank_took Conditions (codes "require") c a.0 a.1) l.2 (expect_took (codes " >= ") left.0.1 b.0 b.1) r.2 (end_took right.0.1 d.0 d.1);
+    })
+
+-- at most as many as there was room for
+abbrev pub AreFewRequirements : List Parameter → (room : ℕ) → List ℕ → List meaning.Requirement → Type 0
+AreFewRequirements ps room lines rs = AreRequirementLines ps lines rs × (length rs ≤ room)
+
+pub requirements_took : (ps : List Parameter) (room : ℕ) (done : List Requirement) (c : Cursor) (t : List Requirement × Cursor) → requirement_lines ps room done c ≡ Ok t → TookLines (AreFewRequirements ps room) requirement_meant done c t
+unfolding requirement_lines
+requirements_took ps zero done c t =
+    cond_both (bytes_eq (first_word c.rest) (codes "require")) (refused LimitPassed c) (Ok (done, c)) (λ s. s ≡ Ok t → TookLines (AreFewRequirements ps zero) requirement_meant done c t)
+    (λ _ e. absurd cc) (λ _ e. no_line (AreFewRequirements ps zero) requirement_meant done c t (no_requirement, omega arith) e)
+requirements_took ps (suc room) done c t =
+    cond_both (bytes_eq (first_word c.rest) (codes "require")) (then (requirement_line ps c) (λ u. requirement_lines ps room (done ++ u.0 ∷ []) u.1)) (Ok (done, c)) (λ s. s ≡ Ok t → TookLines (AreFewRequirements ps (suc room)) requirement_meant done c t)
+    (λ _ e. let u = then_back (requirement_line ps c) _ t e in
+    let one = requirement_took ps c u.0 u.1 in
+    one_line (AreFewRequirements ps room) (AreFewRequirements ps (suc room)) requirement_meant done u.0.0 (requirement_text one.left one.right) c u.0.1 t one.rest
+    (λ lines rs more. (a_requirement (requirement_meant u.0.0) one.left_sum one.right_sum more.0, omega (arith, more.1))) (requirements_took ps room (done ++ u.0.0 ∷ []) u.0.1 t u.2))
+    (λ _ e. no_line (AreFewRequirements ps (suc room)) requirement_meant done c t (no_requirement, omega arith) e)
+
+abbrev TookBudget : Cursor → ℕ × Cursor → Type 0
+TookBudget c t = (c.rest ≡ budget_text t.0 ++ t.1.rest) × ((1 ≤ t.0) × (t.0 ≤ 1000000000000))
+
+budget_shape : (number rest : List ℕ) → codes "budget" ++ (32 ∷ (number ++ (10 ∷ rest))) ≡ (codes "budget " ++ (number ++ 10 ∷ [])) ++ rest
+budget_shape number rest = simp append_assoc
+
+budget_whole : (n : ℕ) (rest whole a b : List ℕ) → whole ≡ codes "budget" ++ (32 ∷ a) → a ≡ decimal n ++ b → b ≡ 10 ∷ rest → whole ≡ budget_text n ++ rest
+budget_whole n rest whole a b p q r = p ∙ ap (λ x. codes "budget " ++ x) (q ∙ ap (λ x. decimal n ++ x) r) ∙ budget_shape (decimal n) rest
+
+pub budget_took : (c : Cursor) (t : ℕ × Cursor) → budget_line c ≡ Ok t → TookBudget c t
+unfolding budget_line
+budget_took c t e =
+    let a = then_back (due_blank _ _ c) _ t e in
+    let n = then_back (natural_at 1 1000000000000 a.0) _ t a.2 in
+    let d = then_back (end_line n.0.1) _ t n.2 in
+    subst (λ (u : ℕ × Cursor). TookBudget c u) (same_back (n.0.0, d.0) t d.2) (
+      budget_whole n.0.0 d.0.rest c.rest a.0.rest n.0.1.rest (due_blank_took Conditions (codes "budget") c a.0 a.1) (natural_took 1 1000000000000 a.0 n.0 n.1) (end_took n.0.1 d.0 d.1),
+      natural_back 1 1000000000000 a.0 n.0 n.1,
+    )
+
+pub not_above : (a b : ℕ) → nat_lt a b ≡ false → b ≤ a
+not_above a b h = grind (arith, nat_tests)

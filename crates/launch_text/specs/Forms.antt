@@ -1,0 +1,8 @@
+-- The code's two texts.
+use Rattle.texts.specs.LaunchWords as words
+use Rattle.launch_text.specs.declared.keyword.Form.{Form}
+use Rattle.launch_text.specs.declared.keyword.Form.TheVariants as forms
+
+abbrev pub form : Form → words.Form
+form forms.Conditions = words.Conditions
+form forms.Launch = words.Launch

@@ -1,7 +1,0 @@
-use Rattle.std.proofs.Common.{◌≡◌, ◌+◌, drop}
-use Rattle.std.specs.List.{prefix_len}
-use Rattle.texts.specs.Tokens.{is_word_byte}
-use Rattle.launch_words.proofs.name.name_length.Given as goal
-
-abbrev pub invariant-loop-i : goal.invariant-loop-i
-invariant-loop-i l = prefix_len is_word_byte l.bytes ≡ l.i + prefix_len is_word_byte (drop l.i l.bytes)

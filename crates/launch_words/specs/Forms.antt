@@ -1,8 +1,0 @@
--- The code's two texts.
-use Rattle.texts.specs.LaunchWords as words
-use Rattle.launch_words.specs.declared.keyword.Form.{Form}
-use Rattle.launch_words.specs.declared.keyword.Form.TheVariants as forms
-
-abbrev pub form : Form → words.Form
-form forms.Conditions = words.Conditions
-form forms.Launch = words.Launch

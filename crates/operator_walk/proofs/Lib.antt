@@ -1,2 +1,0 @@
-pub mod PowerSizes
-pub mod Operating

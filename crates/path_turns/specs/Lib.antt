@@ -1,4 +1,0 @@
-pub mod View
-pub mod Paths
-pub mod Rests
-pub mod Walked

@@ -1,3 +1,0 @@
-pub mod Rooted
-pub mod Families
-pub mod Slots

@@ -1,0 +1,23 @@
+-- Kernels that are the same but for positions.
+use Rattle.std.specs.Prelude.{◌≡◌, ℕ, List, Ok}
+use Rattle.texts.specs.Tokens.{Token}
+use Rattle.texts.specs.Lexemes.{lexemes}
+use Rattle.texts.specs.Reading.{Reads}
+use Rattle.texts.specs.KernelGrammar.{IsKernel}
+use Rattle.texts.specs.KernelLimits.{IsWithinLimits}
+use Rattle.texts.specs.Elaboration.{elaborate}
+use Rattle.texts.specs.Bare.{bare_kernel}
+use Rattle.reading.specs.Kernels.{Kernel}
+use Rattle.printer.specs.BareCore.{bare_core}
+
+pub record AreAlike (k l : Kernel) : Type 0 where
+  pub tree : bare_kernel k.tree ≡ bare_kernel l.tree
+  pub core : bare_core k.core ≡ bare_core l.core
+
+-- the bytes are the text of the kernel, but for the limit of bytes
+pub record IsTextAtAnyLength (bytes : List ℕ) (k : Kernel) : Type 0 where
+  pub tokens : List Token
+  pub are_tokens : Reads bytes 0 bytes tokens
+  pub in_grammar : IsKernel 64 (lexemes tokens) k.tree
+  pub within_limits : IsWithinLimits k.tree
+  pub is_typed : elaborate k.tree ≡ Ok k.core

@@ -1,0 +1,4 @@
+pub mod Alike
+pub mod BareCore
+pub mod BareRuns
+pub mod Meaning

@@ -1,0 +1,73 @@
+//! Laws of canonical texts.
+
+ghost use Rattle.std.specs.Prelude.{◌≡◌, ◌≤◌, ℕ, List, length, Ok};
+ghost use Rattle.printer.specs.Alike.{AreAlike, IsTextAtAnyLength};
+ghost use Rattle.printer.specs.BareCore.{bare_core, bare_checked};
+ghost use Rattle.printer.specs.Meaning.{at_launch, MeansTheSame};
+ghost use Rattle.reading.specs.Kernels.{Kernel, read};
+ghost use Rattle.semantics.specs.Headline.{Headline};
+ghost use Rattle.semantics.specs.Launch as launch;
+ghost use Rattle.semantics.specs.Rounds.{result_by_rounds};
+ghost use Rattle.texts.specs.Bare.{bare_kernel};
+ghost use Rattle.texts.specs.Brackets.{AllOpenStatements};
+ghost use Rattle.texts.specs.Canonical.{canonical};
+ghost use Rattle.texts.specs.CanonicalTokens.{IsPrintableKernel};
+ghost use Rattle.texts.specs.Elaboration.{elaborate};
+ghost use Rattle.texts.specs.Spelling.{AreNumbered};
+ghost use Rattle.texts.specs.Surface as surface;
+
+/// What was read can be printed: names are names, numbers are of their kinds, statements are numbered in the order of the source, and
+/// their canonical text opens no more brackets at once than a text may.
+pub fn what_is_read_can_be_printed()
+    ensures { (bytes : List ℕ) (k : Kernel) → read bytes ≡ Ok k → IsPrintableKernel k.tree × AreNumbered 1 k.tree.body × AllOpenStatements 63 k.tree.body }
+{}
+
+/// Its canonical text says the same kernel, positions aside, however long that text is.
+pub fn a_canonical_text_says_what_was_read()
+    ensures { (bytes : List ℕ) (k : Kernel) → read bytes ≡ Ok k → (l : Kernel) × IsTextAtAnyLength (canonical k.tree) l × AreAlike l k }
+{}
+
+/// Within the limit of bytes that kernel is read of it.
+pub fn a_canonical_text_is_read_back()
+    ensures { (bytes : List ℕ) (k : Kernel) → read bytes ≡ Ok k → length (canonical k.tree) ≤ 65536 → (l : Kernel) × (read (canonical k.tree) ≡ Ok l) × AreAlike l k }
+{}
+
+/// What is read of a canonical text is the same kernel, positions aside.
+pub fn what_is_read_of_a_canonical_text_is_its_kernel()
+    ensures { (bytes : List ℕ) (k l : Kernel) → read bytes ≡ Ok k → read (canonical k.tree) ≡ Ok l → AreAlike l k }
+{}
+
+/// Printed again, it gives the same bytes.
+pub fn a_canonical_text_is_its_own()
+    ensures { (bytes : List ℕ) (k l : Kernel) → read bytes ≡ Ok k → read (canonical k.tree) ≡ Ok l → canonical l.tree ≡ canonical k.tree }
+{}
+
+/// Trees that are the same but for positions have one canonical text.
+pub fn trees_that_are_alike_have_one_text()
+    ensures { (k l : surface.Kernel) → bare_kernel k ≡ bare_kernel l → canonical k ≡ canonical l }
+{}
+
+/// And kernels that were read and have one canonical text are the same but for positions.
+pub fn kernels_of_one_text_are_alike()
+    ensures { (a b : List ℕ) (k l : Kernel) → read a ≡ Ok k → read b ≡ Ok l → canonical k.tree ≡ canonical l.tree → AreAlike k l }
+{}
+
+/// Elaboration heeds no position: of a tree without positions it gives the core without positions, or the same fault.
+pub fn elaboration_heeds_no_position()
+    ensures { (k : surface.Kernel) → elaborate (bare_kernel k) ≡ bare_checked bare_core (elaborate k) }
+{}
+
+/// Nor does what kernels mean: of cores that are the same but for positions both have the headline at a launch, or neither has.
+pub fn the_headline_heeds_no_position()
+    ensures { (k l : launch.Kernel) (given : launch.Launch) (bound : ℕ) → bare_core k ≡ bare_core l → Headline (at_launch k given) bound → Headline (at_launch l given) bound }
+{}
+
+/// And their result by rounds is the same.
+pub fn the_result_heeds_no_position()
+    ensures { (k l : launch.Kernel) (given : launch.Launch) (bound : ℕ) → bare_core k ≡ bare_core l → result_by_rounds (at_launch k given) bound ≡ result_by_rounds (at_launch l given) bound }
+{}
+
+/// So what is read of a canonical text means what its kernel means, at each launch of it.
+pub fn a_canonical_text_means_what_its_kernel_means()
+    ensures { (bytes : List ℕ) (k l : Kernel) (given : launch.Launch) (bound : ℕ) → read bytes ≡ Ok k → read (canonical k.tree) ≡ Ok l → MeansTheSame k.core l.core given bound }
+{}

@@ -1,5 +1,0 @@
-use Rattle.printing_laws.proofs.BareHeadline.{headline-alike}
-use Rattle.printing_laws.proofs.laws.the_headline_heeds_no_position.Goals as goal
-
-pub returns : goal.returns
-returns c = headline-alike

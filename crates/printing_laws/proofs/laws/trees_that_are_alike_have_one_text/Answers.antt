@@ -1,5 +1,0 @@
-use Rattle.printing_laws.proofs.ReadBack.{texts-alike}
-use Rattle.printing_laws.proofs.laws.trees_that_are_alike_have_one_text.Goals as goal
-
-pub returns : goal.returns
-returns c = texts-alike

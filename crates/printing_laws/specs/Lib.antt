@@ -1,4 +1,0 @@
-pub mod BareCore
-pub mod BareRuns
-pub mod Alike
-pub mod Meaning

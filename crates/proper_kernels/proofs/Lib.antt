@@ -1,4 +1,0 @@
-pub mod Holding
-pub mod Terms
-pub mod Elaborating
-pub mod ProperReads

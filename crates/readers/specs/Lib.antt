@@ -1,6 +1,0 @@
-pub mod Reader
-pub mod Expressions
-pub mod View
-pub mod Statements
-pub mod Kernels
-pub mod Fronts

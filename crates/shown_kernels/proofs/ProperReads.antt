@@ -1,0 +1,55 @@
+-- What is read of bytes is proper.
+use Rattle.std.proofs.Common.{◌≡◌, ◌≤◌, ◌<◌, ◌*◌, ℕ, zero, suc, List, true, arith, refl, sym, subst, nat_lt}
+use Rattle.std.specs.Prelude.{nat_le, Result, Ok, Err, IfOk}
+use Rattle.std.proofs.lemmas.Bool.Decides.{nat_tests}
+use Rattle.semantics.specs.Launch.{Three, product}
+use Rattle.semantics.specs.Launch as launch
+use Rattle.texts.specs.Surface as surface
+use Rattle.texts.specs.Scope.{empty_scope}
+use Rattle.texts.specs.Elaboration.{InKernel, elaborate, elaborate_all, declare_parameters}
+use Rattle.texts.specs.KernelLimits.{IsLocalSize}
+use Rattle.reading.specs.Kernels.{Kernel, read}
+use Rattle.reading.proofs.Grammatical.{read-sound, read-tree}
+use Rattle.work_item.specs.Proper.{are_sizes, are_proper, is_proper}
+use Rattle.shown_kernels.proofs.Holding.{Holds, then-any, held, both}
+use Rattle.core_code.specs.View.{kernel}
+use Rattle.core_code.specs.declared.tree.Core.{Core}
+use Rattle.syntax.specs.declared.tree.Kernel as tree
+use Rattle.reading.specs.Answers.{Gives, kernel_seen}
+use Rattle.reading.specs.declared.KernelError.{KernelError}
+use Rattle.shown_kernels.proofs.Elaborating.{elaborated-proper}
+
+above : (a b : ℕ) → 1 ≤ a → 1 ≤ b → 1 ≤ a * b
+above zero b h k = absurd (omega arith)
+above (suc a) zero h k = absurd (omega arith)
+above (suc a) (suc b) h k = omega arith
+
+-- elaboration keeps the sizes
+core-sizes : (t : surface.Kernel) → Holds (λ (k : launch.Kernel). k.sizes ≡ t.sizes) (elaborate t)
+unfolding elaborate
+core-sizes t =
+    then-any (λ (k : launch.Kernel). k.sizes ≡ t.sizes) (declare_parameters empty_scope t.parameters) _ (λ outer.
+    then-any (λ (k : launch.Kernel). k.sizes ≡ t.sizes) (elaborate_all InKernel outer t.body) _ (λ b. refl))
+
+sizes-fit : (t : Three ℕ) → IsLocalSize t.x → IsLocalSize t.y → IsLocalSize t.z → t.x * t.y * t.z ≤ 1024 → are_sizes t ≡ true
+sizes-fit t x y z p =
+    both (nat_le t.x 1024) _ (low t.x 1024 x.1) (both (nat_le t.y 1024) _ (low t.y 1024 y.1) (both (nat_le t.z 1024) _ (low t.z 1024 z.1)
+    (both (nat_lt 0 (product t)) (nat_le (product t) 1024) (some (product t) (above (t.x * t.y) t.z (above t.x t.y x.0 y.0) z.0)) (low (product t) 1024 p))))
+  where
+    low : (a b : ℕ) → a ≤ b → nat_le a b ≡ true
+    low a b h = grind (arith, nat_tests)
+
+    some : (a : ℕ) → 0 < a → nat_lt 0 a ≡ true
+    some a h = grind (arith, nat_tests)
+
+pub read-proper : (bytes : List ℕ) (k : Kernel) → read bytes ≡ Ok k → is_proper k.core ≡ true
+read-proper bytes k h =
+    let t = read-sound bytes k h in
+    let s = t.within_limits.1.local_sizes in
+    both (are_sizes k.core.sizes) (are_proper k.core.body)
+    (subst (λ z. are_sizes z ≡ true) (sym (held (λ (x : launch.Kernel). x.sizes ≡ k.tree.sizes) (elaborate k.tree) k.core t.is_typed (core-sizes k.tree))) (sizes-fit k.tree.sizes s.0 s.1 s.2 s.3))
+    (elaborated-proper k.tree k.core (read-tree bytes k h).body t.is_typed)
+
+pub answers_proper : (r : Result (tree.Kernel × Core) KernelError) (bytes : List ℕ) → Gives r (read bytes) → IfOk r (λ t. is_proper (kernel t.1) ≡ true)
+answers_proper (Ok t) bytes h = read-proper bytes (kernel_seen t) h
+answers_proper (Err e) bytes h = tt

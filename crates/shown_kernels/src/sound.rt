@@ -1,0 +1,62 @@
+//! What is read is numbered as in the source, its numbers tell its statements apart, and it names what it declares.
+
+ghost use Rattle.std.specs.Prelude.{◌≡◌, ℕ, ◌+◌, List, [], Ok, None};
+ghost use Rattle.semantics.specs.Core.{Statements};
+ghost use Rattle.semantics.specs.Launch.{Kernel as Core};
+ghost use Rattle.semantics.specs.Setup.{Setup};
+ghost use Rattle.arrivals.specs.Loops.{unmet};
+ghost use Rattle.arrivals.specs.Points.{AreFormed, IsNumbered, points};
+ghost use Rattle.arrivals.specs.Shown.{IsSound};
+ghost use Rattle.texts.specs.Surface.{Kernel as Tree};
+ghost use Rattle.texts.specs.KernelLimits.{statements_of};
+ghost use Rattle.texts.specs.Spelling.{AreNumbered};
+ghost use Rattle.texts.specs.Elaboration.{elaborate};
+ghost use Rattle.reading.specs.Kernels.{Kernel, read};
+ghost use Rattle.shown_kernels.specs.Declared.{declared_by, AllWithin};
+ghost use Rattle.lanes.specs.Lowering.{IsOrderly};
+ghost use Rattle.lanes.specs.Order.{AllNumbered};
+ghost use Rattle.shown_kernels.specs.Told.{AreTold};
+
+/// Statements that are told apart are formed, and their numbers tell their points apart.
+pub fn what_is_told_apart_is_formed()
+    ensures formed { (ss : Statements) → AreTold ss → AreFormed ss }
+    ensures numbered { (ss : Statements) → AreTold ss → IsNumbered (points ss []) }
+{}
+
+/// A tree's statements are numbered from 1 in the order of the source, so its core's numbers lie as in the source, and tell its
+/// statements apart.
+pub fn what_is_elaborated_rises()
+    ensures rises { (t : Tree) (k : Core) → AreNumbered 1 t.body → elaborate t ≡ Ok k → AllNumbered [] 1 (1 + statements_of t.body) k.body }
+    ensures told { (t : Tree) (k : Core) → AreNumbered 1 t.body → elaborate t ≡ Ok k → AreTold k.body }
+{}
+
+/// So it is of each kernel that is read of bytes.
+pub fn what_is_read_rises()
+    ensures rises { (bytes : List ℕ) (k : Kernel) → read bytes ≡ Ok k → (low : ℕ) × (high : ℕ) × AllNumbered [] low high k.core.body }
+    ensures told { (bytes : List ℕ) (k : Kernel) → read bytes ≡ Ok k → AreTold k.core.body }
+{}
+
+/// Each kernel that is read of bytes is formed, and its numbers tell its points apart.
+pub fn what_is_read_is_formed()
+    ensures { (bytes : List ℕ) (k : Kernel) → read bytes ≡ Ok k → AreFormed k.core.body × IsNumbered (points k.core.body []) }
+{}
+
+/// So all that such a kernel has to be is that each of its loops with a barrier meets one on each way through.
+pub fn what_is_read_is_sound_where_barriers_are_met()
+    ensures { (bytes : List ℕ) (k : Kernel) (s : Setup) → read bytes ≡ Ok k → s.kernel ≡ k.core → unmet k.core.body ≡ None → IsSound s }
+{}
+
+/// A core's statements name slots, buffers and local arrays that it declares.
+pub fn what_is_elaborated_is_within()
+    ensures { (t : Tree) (k : Core) → elaborate t ≡ Ok k → AllWithin (declared_by k) k.body }
+{}
+
+/// So do those of each kernel that is read of bytes.
+pub fn what_is_read_is_within()
+    ensures { (bytes : List ℕ) (k : Kernel) → read bytes ≡ Ok k → AllWithin (declared_by k.core) k.core.body }
+{}
+
+/// So each kernel that is read of bytes is orderly: it has lane code that stores what its work-groups do.
+pub fn what_is_read_is_orderly()
+    ensures { (bytes : List ℕ) (k : Kernel) → read bytes ≡ Ok k → IsOrderly k.core }
+{}

@@ -1,5 +1,0 @@
-use Rattle.sound_kernels.proofs.Numbering.{elaborated-rises, elaborated-told}
-use Rattle.sound_kernels.proofs.laws.what_is_elaborated_rises.Goals as goal
-
-pub returns : goal.returns
-returns c = record { rises = elaborated-rises; told = elaborated-told }

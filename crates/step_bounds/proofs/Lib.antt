@@ -1,3 +1,0 @@
-pub mod TermLoads
-pub mod Remaining
-pub mod Kept

@@ -1,0 +1,37 @@
+-- What is told where a certificate is looked for.
+use Rattle.std.specs.Prelude.{◌≡◌, ◌++◌, ℕ, List}
+use Rattle.std.specs.String.{string_bytes}
+use Rattle.telling.specs.Refusing.{IsRefusedText}
+use Rattle.telling.specs.Telling.{IsAcceptedText}
+use Rattle.telling.specs.declared.Verdict.{Verdict}
+use Rattle.telling.specs.declared.Verdict.TheVariants as verdicts
+use Rattle.telling.specs.Proving.{IsProvedText, IsUnproved}
+use Rattle.telling.specs.declared.proving.Sought.{Sought}
+use Rattle.telling.specs.declared.proving.Sought.TheVariants as answers
+
+abbrev pub Proves : Sought → (kernel conditions : List ℕ) → Type 0
+Proves (answers.Found text certificate) kernel conditions = IsProvedText kernel conditions certificate.items text.items
+Proves (answers.Refused text) kernel conditions = IsUnproved kernel conditions (string_bytes text)
+Proves answers.OutOfMemory kernel conditions = Unit {0}
+
+-- a text that begins with what is told
+abbrev pub Begins : (tells : List ℕ → Type 0) (text : List ℕ) → Type 0
+Begins tells text = (told : List ℕ) × (more : List ℕ) × tells told × (text ≡ told ++ more)
+
+-- a refusal that begins so, or want of memory
+abbrev pub GoesOn : (told : List ℕ) → Verdict → Type 0
+GoesOn told (verdicts.Done text) = ⊥
+GoesOn told (verdicts.Refused text) = (more : List ℕ) × (string_bytes text ≡ told ++ more)
+GoesOn told verdicts.OutOfMemory = Unit {0}
+
+-- where a refusal of a search is explained: what `prove` tells comes first
+abbrev pub Explains : Verdict → (kernel conditions : List ℕ) → Type 0
+Explains (verdicts.Done text) kernel conditions = (certificate : List ℕ) × IsProvedText kernel conditions certificate text.items
+Explains (verdicts.Refused text) kernel conditions = Begins (IsUnproved kernel conditions) (string_bytes text)
+Explains verdicts.OutOfMemory kernel conditions = Unit {0}
+
+-- where a refusal of a check is explained: what `check` tells comes first
+abbrev pub ExplainsCheck : Verdict → (kernel conditions certificate : List ℕ) → Type 0
+ExplainsCheck (verdicts.Done text) kernel conditions certificate = IsAcceptedText kernel conditions text.items
+ExplainsCheck (verdicts.Refused text) kernel conditions certificate = Begins (IsRefusedText kernel conditions certificate) (string_bytes text)
+ExplainsCheck verdicts.OutOfMemory kernel conditions certificate = Unit {0}

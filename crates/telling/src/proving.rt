@@ -1,0 +1,155 @@
+//! What is told where a certificate is looked for.
+
+ghost use Rattle.std.specs.Prelude.{◌≡◌, ◌++◌, ℕ, List, map, IfOk, IfErr, OnOk, IfSome};
+ghost use Rattle.std.specs.String.{string_bytes};
+ghost use Rattle.semantics.specs.Conditions.{Meets};
+ghost use Rattle.launch.specs.Least as least;
+ghost use Rattle.launch.specs.View.{conditions as conditions_seen};
+ghost use Rattle.findings.specs.View.{finding as finding_seen};
+ghost use Rattle.findings.specs.Wording.{finding_text};
+ghost use Rattle.proof_search.specs.Searching.{TellsOf};
+ghost use Rattle.telling.specs.Proving.{IsProvedText, proved_lines, found as found_in, findings_text};
+ghost use Rattle.telling.specs.ProvingVerdicts.{Proves};
+
+use crate::refusal::Refusal;
+use diagnostics::{Finding, line};
+use launch::conditions::Conditions;
+use launch::probe::probe;
+use launch_text::laws::what_is_read_of_conditions_is_their_text;
+use reading::laws::bytes_are_the_text_of_what_is_read;
+use std::alloc::{AllocError, Global};
+use std::sync::Wait;
+use std::thread::Threads;
+use verify::{Verified, VerifyError, verify};
+
+/// What the program answers where it looks for a certificate.
+#[derive(Drop)]
+pub enum Sought {
+    /// What is written, and the certificate's text.
+    Found {
+        written: Vec<u8>,
+        certificate: Vec<u8>,
+    },
+    /// The refusal, and a line for each finding.
+    Refused(String),
+    OutOfMemory,
+}
+
+/// What is written of a kernel that is proved, and its certificate's text.
+#[derive(Drop)]
+pub struct Proved {
+    pub written: Vec<u8>,
+    pub certificate: Vec<u8>,
+}
+
+/// What is written of a kernel that is proved under conditions.
+fn lines(alloc: Global, conditions: &Conditions) -> Result<Vec<u8>, AllocError>
+    ensures text { IfOk result (λ v. v.items ≡ proved_lines (least.probe conditions.now)) }
+    ensures least { IfOk result (λ _. IfSome (least.probe conditions.now) (Meets (conditions_seen conditions.now))) }
+{
+    match probe(alloc, conditions)? {
+        Some(_) => Vec::from_slice(alloc, b"accepted\n"),
+        None => Vec::from_slice(alloc, b"accepted\nno launch found at least values\n"),
+    }
+}
+
+/// The findings of an error.
+pub fn findings_of(error: &VerifyError) -> &[Finding]
+    ensures { result.now ≡ found_in error.now }
+{
+    match error {
+        VerifyError::NotShown(findings) => findings.as_slice(),
+        VerifyError::Check(_) | VerifyError::Workers | VerifyError::TooLong | VerifyError::Memory =>
+            &[],
+    }
+}
+
+/// The line of a finding, behind what is written.
+fn push_line(alloc: Global, text: &mut String, finding: &Finding) -> Result<(), AllocError>
+    ensures { OnOk result (string_bytes text.new ≡ string_bytes text.old ++ finding_text (finding_seen finding.now)) }
+{
+    let line = line(alloc, finding)?;
+    text.push_str(&line)
+}
+
+/// A line for each finding, behind what is written.
+#[tactic(auto, using(launch_text::proofs::Texts::one_word, launch_text::proofs::Texts::no_word))]
+fn push_lines(alloc: Global, text: &mut String, findings: &[Finding]) -> Result<(), AllocError>
+    ensures { OnOk result (string_bytes text.new ≡ string_bytes text.old ++ findings_text (map finding_seen findings.now)) }
+{
+    for finding in findings {
+        push_line(alloc, text, finding)?;
+    }
+    Ok(())
+}
+
+/// What is said where no certificate is found.
+#[tactic(auto, using(crate::proofs::ProvingMeanings::are_true))]
+pub fn unproved(alloc: Global, error: &VerifyError) -> Sought
+    ensures { (workers : ℕ) (kernel conditions : List ℕ) → TellsOf error.now workers kernel conditions → Proves result kernel conditions }
+{
+    let refusal = Refusal {
+        number: error.number(),
+        place: error.place(),
+    };
+    let Some(mut text) = refusal.told(alloc) else {
+        return Sought::OutOfMemory;
+    };
+    match push_lines(alloc, &mut text, findings_of(error)) {
+        Ok(()) => Sought::Refused(text),
+        Err(_) => Sought::OutOfMemory,
+    }
+}
+
+/// A certificate that is found, with what is written of it, or why there is none.
+pub fn found<R: Threads + Wait + Sync>(
+    rt: &R,
+    alloc: Global,
+    kernel: &[u8],
+    conditions: &[u8],
+    workers: u32,
+) -> Result<Proved, VerifyError>
+    ensures proved { IfOk result (λ p. IsProvedText kernel.now conditions.now p.certificate.items p.written.items) }
+    ensures told { IfErr result (λ e. TellsOf e workers kernel.now conditions.now) }
+{
+    bytes_are_the_text_of_what_is_read();
+    what_is_read_of_conditions_is_their_text();
+    let Verified {
+        accepted,
+        certificate,
+    } = match verify(rt, alloc, kernel, conditions, workers) {
+        Ok(verified) => verified,
+        Err(error) => return Err(error),
+    };
+    match lines(alloc, accepted.conditions()) {
+        Ok(written) => Ok(Proved {
+            written,
+            certificate,
+        }),
+        Err(_) => Err(VerifyError::Memory),
+    }
+}
+
+/// Looks for a certificate: `accepted` and the certificate, or why there is none.
+pub fn prove_texts<R: Threads + Wait + Sync>(
+    rt: &R,
+    alloc: Global,
+    kernel: &[u8],
+    conditions: &[u8],
+    workers: u32,
+) -> Sought
+    ensures { Proves result kernel.now conditions.now }
+{
+    match found(rt, alloc, kernel, conditions, workers) {
+        Ok(
+            Proved {
+                written,
+                certificate,
+            },
+        ) => Sought::Found {
+            written,
+            certificate,
+        },
+        Err(error) => unproved(alloc, &error),
+    }
+}

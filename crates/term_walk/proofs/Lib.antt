@@ -1,3 +1,0 @@
-pub mod AtSites
-pub mod Numbers
-pub mod Then

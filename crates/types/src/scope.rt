@@ -1,0 +1,52 @@
+//! Which names are visible, and what they stand for.
+
+ghost use Rattle.std.specs.Prelude.{◌≡◌};
+ghost use Rattle.std.specs.Option.{option_map};
+ghost use Rattle.texts.specs.Scope as scope;
+ghost use Rattle.types.specs.Names.{meaning_seen, names};
+
+use core_code::tree::{Array, LocalArray};
+use words::Kind;
+
+/// A private variable or value parameter, or a buffer parameter or local array.
+#[derive(Clone, Copy)]
+pub enum Meaning {
+    Variable {
+        slot: u32,
+        kind: Kind,
+    },
+    Array {
+        array: Array,
+        kind: Kind,
+        writable: bool,
+    },
+}
+
+/// A visible name.
+#[derive(Clone, Copy)]
+pub struct Binding<'a> {
+    pub name: &'a str,
+    pub meaning: Meaning,
+}
+
+/// What is visible, in order of declaration, and all that was declared so far: the kinds of the slots and of the buffers, and the
+/// local arrays.
+#[derive(Drop)]
+pub struct Scope<'a> {
+    pub visible: Vec<Binding<'a>>,
+    pub slots: Vec<Kind>,
+    pub buffers: Vec<Kind>,
+    pub arrays: Vec<LocalArray>,
+}
+
+/// What a name stands for, where it is visible.
+pub fn meaning_of(visible: &[Binding], name: &str) -> Option<Meaning>
+    ensures { option_map meaning_seen result ≡ scope.meaning_of (names visible.now) name.now }
+{
+    for binding in visible {
+        if binding.name == name {
+            return Some(binding.meaning);
+        }
+    }
+    None
+}

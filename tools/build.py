@@ -105,7 +105,8 @@ def main(program):
     for it in crates:
         stale += [it] * (not it.is_kept() or any(below in stale for below in it.below()))
     if len(stale) == len(crates):
-        say(f"proving the program before its first run, {len(crates)} crates, once")
+        say(f"proving the program before its first run, {len(crates)} crates, once; some forty minutes to an hour on four processors")
+        say("who cannot wait puts `try` before the words: a run without proofs, in three minutes")
     elif stale:
         say(f"proving what has changed and what stands on it, {len(stale)} of {len(crates)} crates")
     for it in stale:

@@ -155,7 +155,7 @@ fn stride_of(
 }
 
 /// The path's value of a variable that holds the variable itself once.
-fn grown<'a>(from: &Sight, leaf: &'a Leaf, slot: u32) -> Option<&'a Form> {
+pub fn grown<'a>(from: &Sight, leaf: &'a Leaf, slot: u32) -> Option<&'a Form> {
     let value = leaf.variables.get(slot as usize)?;
     if has_slot(from, slot) && value.coefficient(variable(slot)) == 1 {
         Some(value)

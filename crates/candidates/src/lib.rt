@@ -12,6 +12,7 @@ mod carrying;
 mod courses;
 mod fact_lines;
 mod gathering;
+mod growth;
 mod leaf_lines;
 mod names;
 mod naming;

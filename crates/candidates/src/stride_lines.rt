@@ -67,7 +67,7 @@ fn tell_course(
 }
 
 /// The ways of a variable from the first values that it begins with.
-fn first_ways(
+pub fn first_ways(
     alloc: Global,
     sight: &Sight,
     courses: &Courses,

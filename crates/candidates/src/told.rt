@@ -3,6 +3,7 @@
 use crate::carrying::carry;
 use crate::courses::Courses;
 use crate::gathering::Gathering;
+use crate::growth::tell_growth;
 use crate::leaf_lines::tell_leaf;
 use crate::naming::Naming;
 use crate::single_values::{Given, given_values};
@@ -45,7 +46,7 @@ fn tell_leaves(
     Ok(courses)
 }
 
-/// What the ends of all paths of a walk that takes each claim as shown tell: candidates of ranks 0 to 2, without repeats, and by how much
+/// What the ends of all paths of a walk that takes each claim as shown tell: candidates of ranks 0 to 3, without repeats, and by how much
 /// variables step. What is known of each launch and item is not said again; variables are `uint` by their slots.
 pub fn guess_told(
     alloc: Global,
@@ -60,6 +61,7 @@ pub fn guess_told(
     let courses = tell_leaves(&mut told, values.as_slice(), leaves, namings.as_slice())?;
     carry(&mut told, leaves, namings.as_slice())?;
     tell_strides(&mut told, &courses)?;
+    tell_growth(&mut told, &courses, leaves, values.as_slice())?;
     told.add_unreached()?;
     let strides = all_strides(alloc, &courses)?;
     Ok(Told {

@@ -29,7 +29,7 @@ struct Source {
 }
 
 /// Whether a number is no multiple of another one.
-fn is_fraction(number: i64, denominator: i64) -> bool {
+pub fn is_fraction(number: i64, denominator: i64) -> bool {
     match number.checked_rem(denominator) {
         Some(rest) => rest != 0,
         None => false,
@@ -113,7 +113,7 @@ fn has_parts(origins: &[Origin], parts: &[Part]) -> bool {
 }
 
 /// What a slack says of symbols, over the denominator 1.
-fn form_of(alloc: Global, tableau: &Tableau, facts: &[Fact], slack: u32) -> Result<Row, Stop> {
+pub fn form_of(alloc: Global, tableau: &Tableau, facts: &[Fact], slack: u32) -> Result<Row, Stop> {
     match tableau.origins.get(slack as usize) {
         Some(Origin::Given(number, _)) => {
             let Some(fact) = facts.get((*number as usize).saturating_sub(1)) else {
@@ -156,7 +156,7 @@ fn enter_cut(
 }
 
 /// Takes in a cut as `enter_cut` does, and drops it where a number leaves `i64`.
-fn try_cut(
+pub fn try_cut(
     alloc: Global,
     tableau: &mut Tableau,
     facts: &[Fact],

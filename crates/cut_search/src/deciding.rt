@@ -2,6 +2,7 @@
 use super::answer::{Answer, Point};
 use super::cuts::{Cuts, cut};
 use super::dive::dive;
+use super::sums::enter_sums;
 use super::whole::point_of;
 use super::writing::{derive, derive_given};
 use crate::stop::Stop;
@@ -48,8 +49,32 @@ impl Prepared {
 }
 
 /// Decides a list with other steps, each by the first row and variable.
-pub fn decide_orderly(alloc: Global, facts: &[Fact]) -> Result<Answer, Stop> {
+fn decide_orderly(alloc: Global, facts: &[Fact]) -> Result<Answer, Stop> {
     decide_from(alloc, Tableau::orderly(alloc), facts, 0)
+}
+
+/// Decides a list with sums of two facts taken in before anything else.
+fn decide_by_sums(alloc: Global, start: Tableau, facts: &[Fact]) -> Result<Answer, Stop> {
+    let mut tableau = start;
+    if let Some(number) = enter_all(alloc, &mut tableau, facts, 0)? {
+        return Ok(Answer::Proof(derive_given(alloc, number)?));
+    }
+    match enter_sums(alloc, &mut tableau, facts)? {
+        Some(parts) => proof(alloc, &tableau, parts.as_slice()),
+        None => conclude(alloc, facts, tableau),
+    }
+}
+
+/// Decides a list that was given up, in other ways.
+pub fn decide_otherwise(alloc: Global, facts: &[Fact]) -> Result<Answer, Stop> {
+    let mut outcome = decide_orderly(alloc, facts);
+    if let Err(Stop::GivenUp) = outcome {
+        outcome = decide_by_sums(alloc, Tableau::new(alloc), facts);
+    }
+    if let Err(Stop::GivenUp) = outcome {
+        outcome = decide_by_sums(alloc, Tableau::orderly(alloc), facts);
+    }
+    outcome
 }
 
 /// Takes in the facts behind the first `count`, and decides.

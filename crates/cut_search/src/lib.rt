@@ -7,7 +7,8 @@
 //! that point from the whole ones, and bounds on single symbols seek a whole one near it. It ends by counts of its steps, so one list has
 //! one answer. A tableau has rows of whole numbers over one denominator, with entries where they are not 0, and keeps what each slack, a
 //! fact or a cut that is at least 0, and each symbol is over the variables that have no row. A step lets one of those in for a slack that
-//! is below 0. A number that leaves `i64` ends the search.
+//! is below 0. A number that leaves `i64` ends the search. A list that is given up is tried once more in another order of steps, and then
+//! with all sums of two facts that round.
 #![tactic(auto)]
 
 mod answer;
@@ -24,6 +25,7 @@ mod point;
 mod row;
 mod searching;
 mod stop;
+mod sums;
 mod tableau;
 mod whole;
 mod writing;

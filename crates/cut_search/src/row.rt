@@ -17,7 +17,7 @@ pub enum Variable {
 }
 
 /// A variable with its coefficient, which is not 0.
-#[derive(Clone, Copy)]
+#[derive(Clone, Copy, PartialEq, Eq)]
 pub struct Entry {
     pub variable: Variable,
     pub coefficient: i64,

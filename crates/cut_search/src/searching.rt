@@ -8,7 +8,7 @@ ghost use Rattle.cut_search.specs.Answers.{IsAnswer};
 
 use super::point::meets;
 use crate::answer::{Answer, Point};
-use crate::deciding::{Prepared, decide_orderly};
+use crate::deciding::{Prepared, decide_otherwise};
 use crate::stop::Stop;
 use cut_proof::{Derivation, refutes};
 use linear::Fact;
@@ -39,7 +39,7 @@ impl Start {
         ensures { IfOk result (λ a. IsAnswer (forms facts.now) a) }
     {
         match self.prepared.decide(alloc, facts) {
-            Err(Stop::GivenUp) => settled(alloc, facts, decide_orderly(alloc, facts)),
+            Err(Stop::GivenUp) => settled(alloc, facts, decide_otherwise(alloc, facts)),
             outcome => settled(alloc, facts, outcome),
         }
     }

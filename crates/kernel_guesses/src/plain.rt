@@ -217,6 +217,29 @@ fn keep_multiples(
     Ok(())
 }
 
+/// That a variable is above an earlier one or an argument, or below it.
+fn keep_orders(
+    alloc: Global,
+    sight: &Sight,
+    slots: &[u32],
+    arguments: &[Form],
+    shelf: &mut Shelf,
+) -> Result<(), AllocError> {
+    for slot in slots {
+        let own = one_of(alloc, variable(*slot))?;
+        for earlier in slots {
+            if *earlier < *slot {
+                let other = one_of(alloc, variable(*earlier))?;
+                shelf.keep_apart(alloc, sight, &own, &other)?;
+            }
+        }
+        for argument in arguments {
+            shelf.keep_apart(alloc, sight, &own, argument)?;
+        }
+    }
+    Ok(())
+}
+
 /// All guesses of a place.
 fn keep_place(
     alloc: Global,
@@ -236,7 +259,7 @@ fn keep_place(
     for slot in slots {
         keep_multiples(alloc, sight, *slot, hand, shelf)?;
     }
-    Ok(())
+    keep_orders(alloc, sight, slots, hand.arguments.as_slice(), shelf)
 }
 
 /// It is not the kernel's entry.
@@ -245,7 +268,8 @@ fn is_place(sight: &Sight) -> bool {
 }
 
 /// The last guesses, of each place but the entry: differences of a variable and of numbers of the kernel, ids, arguments and other
-/// variables, what divides them, and how the loops around are ranked. Each place may fill what is left of the room, shared out evenly.
+/// variables, what divides them, how the loops around are ranked, and which variable is above which. Each place may fill what is left of
+/// the room, shared out evenly.
 pub fn guess_plainly(
     alloc: Global,
     core: &Core,

@@ -1,6 +1,6 @@
 //! A list of guesses with limited room.
 
-use candidate_lines::{Candidate, Line, Sight, copied, try_difference};
+use candidate_lines::{Candidate, Line, Sight, copied, plus, try_difference};
 use linear::Form;
 use std::alloc::{AllocError, Global};
 
@@ -69,6 +69,35 @@ impl Shelf {
     ) -> Result<(), AllocError> {
         self.keep_at_least(alloc, sight, left, right)?;
         self.keep_at_least(alloc, sight, right, left)
+    }
+
+    /// The first form is above the second one.
+    fn keep_above(
+        &mut self,
+        alloc: Global,
+        sight: &Sight,
+        greater: &Form,
+        smaller: &Form,
+    ) -> Result<(), AllocError> {
+        if self.is_full() {
+            return Ok(());
+        }
+        match plus(alloc, smaller, 1)? {
+            Some(least) => self.keep_at_least(alloc, sight, greater, &least),
+            None => Ok(()),
+        }
+    }
+
+    /// Each is above the other one.
+    pub fn keep_apart(
+        &mut self,
+        alloc: Global,
+        sight: &Sight,
+        left: &Form,
+        right: &Form,
+    ) -> Result<(), AllocError> {
+        self.keep_above(alloc, sight, left, right)?;
+        self.keep_above(alloc, sight, right, left)
     }
 
     /// A number divides a form.

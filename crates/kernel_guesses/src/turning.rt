@@ -67,7 +67,8 @@ fn shrinks(operator: UnaryOperator) -> bool {
     }
 }
 
-/// A part of the term that its value hangs on is shifted right or divided.
+/// A part of the term that its value hangs on is shifted right or divided, or is a remainder by what is no number, as in Euclid's
+/// algorithm.
 fn is_halved(alloc: Global, frame: &Frame, term: &Term) -> Result<bool, AllocError> {
     match term {
         Term::Convert { of, .. } => is_halved(alloc, frame, of),
@@ -80,6 +81,11 @@ fn is_halved(alloc: Global, frame: &Frame, term: &Term) -> Result<bool, AllocErr
             let divisor = constant_of(alloc, frame, right)?;
             Ok(divisor.is_some_and(|number| number >= 2))
         }
+        Term::Binary {
+            operator: Operator::Remainder,
+            right,
+            ..
+        } => Ok(constant_of(alloc, frame, right)?.is_none()),
         Term::Binary {
             operator: Operator::Add | Operator::Subtract,
             left,

@@ -4,7 +4,7 @@ use crate::frame::Frame;
 use crate::test_forms::TestForm;
 use crate::turning::Turning;
 use candidate_lines::{
-    Descent, Ranking, copied, family, index_of, is_same, plus, try_multiple, variable,
+    Descent, Ranking, copied, family, index_of, is_same, plus, try_multiple, try_sum, variable,
 };
 use linear::{Form, Symbol};
 use std::alloc::{AllocError, Global};
@@ -85,7 +85,27 @@ impl Options {
             let form = copied(alloc, &given.form)?;
             self.keep(Descent::Down(1), form)?;
         }
+        self.keep_sums(alloc, forms)
+    }
+
+    /// The sums of two forms of a test, one of which falls in each turn, as in a merge.
+    fn keep_sums(&mut self, alloc: Global, forms: &[TestForm]) -> Result<(), AllocError> {
+        for (place, given) in forms.iter().enumerate() {
+            for earlier in forms.iter().take(place) {
+                if let Some(form) = try_sum(alloc, &earlier.form, &given.form)? {
+                    self.keep_down(form)?;
+                }
+            }
+        }
         Ok(())
+    }
+
+    /// A form with terms, which falls by 1.
+    fn keep_down(&mut self, form: Form) -> Result<(), AllocError> {
+        if form.terms().is_empty() {
+            return Ok(());
+        }
+        self.keep(Descent::Down(1), form)
     }
 
     /// The form was above 0 in the turn before, so it is above 0 with a step more.

@@ -137,17 +137,40 @@ fn step_on(
     leaf: &Leaf,
     slot: u32,
     values: &[Given],
-) -> Result<Option<Reach>, AllocError> {
+) -> Result<Option<Form>, AllocError> {
     let Some(value) = grown(sight, leaf, slot) else {
         return Ok(None);
     };
     let own = one_of(alloc, variable(slot))?;
-    let Some(step) = try_difference(alloc, value, &own)? else {
-        return Ok(None);
-    };
-    match settled(alloc, &step, values)? {
+    match try_difference(alloc, value, &own)? {
+        Some(step) => settled(alloc, &step, values),
+        None => Ok(None),
+    }
+}
+
+/// Between what a variable steps along a path.
+fn reach_on(
+    alloc: Global,
+    sight: &Sight,
+    leaf: &Leaf,
+    slot: u32,
+    values: &[Given],
+) -> Result<Option<Reach>, AllocError> {
+    match step_on(alloc, sight, leaf, slot, values)? {
         Some(step) => reach_of(alloc, leaf.facts.as_slice(), &step),
         None => Ok(None),
+    }
+}
+
+/// The end nearer to 0 of a step that is no number, where some facts hold and if they say that it is not 0.
+fn sure_end(alloc: Global, facts: &[Form], step: &Form) -> Result<Option<i64>, AllocError> {
+    if step.terms().is_empty() {
+        return Ok(None);
+    }
+    match reach_of(alloc, facts, step)? {
+        Some(reach) if reach.low >= 1 => Ok(Some(reach.low)),
+        Some(reach) if reach.high <= -1 => Ok(Some(reach.high)),
+        _ => Ok(None),
     }
 }
 
@@ -166,7 +189,7 @@ impl Turns<'_> {
         let mut all: Option<Reach> = None;
         for leaf in self.leaves {
             if leaf.from == self.place && leaf.to == self.place {
-                let Some(one) = step_on(alloc, self.sight, leaf, slot, self.values)? else {
+                let Some(one) = reach_on(alloc, self.sight, leaf, slot, self.values)? else {
                     return Ok(None);
                 };
                 all = Some(all.map_or(one, |other| other.join(one)));
@@ -294,4 +317,29 @@ pub fn tell_growth(
         tell_place(told, turns, courses)?;
     }
     Ok(())
+}
+
+/// By how much variables step at least, by their slots, where that is no number along a path: as `get_global_size(0)`, of which the
+/// conditions have the least value.
+pub fn sure_steps(
+    alloc: Global,
+    sights: &[Sight],
+    leaves: &[Leaf],
+    values: &[Given],
+    known: &[Form],
+) -> Result<Vec<(u32, i64)>, AllocError> {
+    let mut out = Vec::new(alloc);
+    for leaf in leaves {
+        let Some(sight) = sights.get(leaf.from) else {
+            return Ok(out);
+        };
+        for slot in sight.slots.iter() {
+            if let Some(step) = step_on(alloc, sight, leaf, *slot, values)? {
+                if let Some(end) = sure_end(alloc, known, &step)? {
+                    out.push((*slot, end))?;
+                }
+            }
+        }
+    }
+    Ok(out)
 }

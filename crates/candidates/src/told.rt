@@ -3,7 +3,7 @@
 use crate::carrying::carry;
 use crate::courses::Courses;
 use crate::gathering::Gathering;
-use crate::growth::tell_growth;
+use crate::growth::{sure_steps, tell_growth};
 use crate::leaf_lines::tell_leaf;
 use crate::naming::Naming;
 use crate::single_values::{Given, given_values};
@@ -63,7 +63,9 @@ pub fn guess_told(
     tell_strides(&mut told, &courses)?;
     tell_growth(&mut told, &courses, leaves, values.as_slice())?;
     told.add_unreached()?;
-    let strides = all_strides(alloc, &courses)?;
+    let mut strides = all_strides(alloc, &courses)?;
+    let more = sure_steps(alloc, sights, leaves, values.as_slice(), known)?;
+    strides.extend_from_slice(more.as_slice())?;
     Ok(Told {
         candidates: told.into_candidates(),
         strides,

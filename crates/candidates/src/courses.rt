@@ -1,5 +1,6 @@
 //! How variables go from place to place: what they begin with, and by how much they step.
 
+use crate::growth::one_value;
 use crate::single_values::{Given, has_slot, settled};
 use candidate_lines::{Leaf, Sight, divisor_of, is_same, one_of, try_difference, variable};
 use linear::Form;
@@ -132,12 +133,13 @@ impl Courses {
     }
 }
 
-/// By how much the value is more than the variable was, if that is one number and not 0.
+/// By how much the value is more than the variable was, if that is one number and not 0, in each launch and item.
 fn stride_of(
     alloc: Global,
     slot: u32,
     value: &Form,
     values: &[Given],
+    known: &[Form],
 ) -> Result<Option<i64>, AllocError> {
     let own = one_of(alloc, variable(slot))?;
     let Some(step) = try_difference(alloc, value, &own)? else {
@@ -146,11 +148,9 @@ fn stride_of(
     let Some(step) = settled(alloc, &step, values)? else {
         return Ok(None);
     };
-    let stride = step.constant_part();
-    if step.terms().is_empty() && stride != 0 {
-        Ok(Some(stride))
-    } else {
-        Ok(None)
+    match one_value(alloc, known, &step)? {
+        Some(stride) if stride != 0 => Ok(Some(stride)),
+        _ => Ok(None),
     }
 }
 
@@ -171,11 +171,12 @@ pub fn steps_of(
     to: &Sight,
     leaf: &Leaf,
     values: &[Given],
+    known: &[Form],
 ) -> Result<Vec<(u32, i64)>, AllocError> {
     let mut steps = Vec::new(alloc);
     for slot in to.slots.iter() {
         if let Some(value) = grown(from, leaf, *slot) {
-            if let Some(stride) = stride_of(alloc, *slot, value, values)? {
+            if let Some(stride) = stride_of(alloc, *slot, value, values, known)? {
                 steps.push((*slot, stride))?;
             }
         }

@@ -12,7 +12,7 @@ pub struct Gathering<'a> {
     pub alloc: Global,
     pub sights: &'a [Sight],
     unsigned: &'a [bool],
-    known: Vec<Form>,
+    pub known: Vec<Form>,
     pub shelf: Shelf,
 }
 

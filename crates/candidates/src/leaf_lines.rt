@@ -118,7 +118,7 @@ pub fn tell_leaf(
     let (Some(from), Some(to)) = (sights.get(leaf.from), sights.get(leaf.to)) else {
         return Ok(());
     };
-    let steps = steps_of(told.alloc, from, to, leaf, values)?;
+    let steps = steps_of(told.alloc, from, to, leaf, values, told.known.as_slice())?;
     courses.add_steps(steps.as_slice())?;
     tell_values(told, courses, from, to, leaf, naming)?;
     tell_alike(told, leaf.to, to)?;

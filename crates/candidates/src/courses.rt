@@ -1,6 +1,6 @@
 //! How variables go from place to place: what they begin with, and by how much they step.
 
-use crate::growth::one_value;
+use crate::reach::one_value;
 use crate::single_values::{Given, has_slot, settled};
 use candidate_lines::{Leaf, Sight, divisor_of, is_same, one_of, try_difference, variable};
 use linear::Form;

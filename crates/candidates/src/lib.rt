@@ -8,6 +8,7 @@
 #![tactic(auto)]
 
 mod aliases;
+mod bounds;
 mod carrying;
 mod courses;
 mod fact_lines;
@@ -16,13 +17,16 @@ mod growth;
 mod leaf_lines;
 mod names;
 mod naming;
+mod nests;
 mod pairs;
 mod projection;
+mod reach;
 mod shelf;
 mod single_values;
 mod stride_lines;
 mod sums;
 mod told;
+mod turns;
 
 pub use fact_lines::fact_at;
 pub use told::{Told, guess_told};

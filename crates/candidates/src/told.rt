@@ -3,11 +3,12 @@
 use crate::carrying::carry;
 use crate::courses::Courses;
 use crate::gathering::Gathering;
-use crate::growth::{sure_steps, tell_growth};
+use crate::growth::tell_growth;
 use crate::leaf_lines::tell_leaf;
 use crate::naming::Naming;
 use crate::single_values::{Given, given_values};
 use crate::stride_lines::{all_strides, tell_strides};
+use crate::turns::sure_steps;
 use candidate_lines::{Candidate, Leaf, Sight};
 use linear::Form;
 use std::alloc::{AllocError, Global};

@@ -22,23 +22,39 @@ fn derivation(alloc: Global, last: &[(i64, u32)]) -> Result<Derivation, AllocErr
 }
 
 // `2*x - 1 >= 0` and `1 - 2*x >= 0`, which meet at one half.
+fn facts(alloc: Global) -> Result<Vec<Form>, LinearError> {
+    let mut facts = Vec::new(alloc);
+    facts.push(fact(alloc, 2, -1)?)?;
+    facts.push(fact(alloc, -2, 1)?)?;
+    Ok(facts)
+}
+
+// Last lines behind a division of the first fact, and whether they refute: with a negative weight, with lines that fall, with a line that
+// comes later and with none, they do not.
+const LAST: &[(&[(i64, u32)], bool)] = &[
+    (&[(1, 2), (2, 3)], true),
+    (&[(-1, 1), (1, 2), (4, 3)], false),
+    (&[(2, 3), (1, 2)], false),
+    (&[(1, 2), (2, 4)], false),
+    (&[], false),
+];
+
+fn as_told(alloc: Global, facts: &[Form]) -> Result<u32, AllocError> {
+    let mut count = 0u32;
+    for (last, refuting) in LAST {
+        let derivation = derivation(alloc, last)?;
+        if refutes(alloc, facts, &derivation)? == *refuting {
+            count = count.saturating_add(1);
+        }
+    }
+    Ok(count)
+}
+
 #[test]
 fn half(rt: HostRuntime) -> Result<(), Fail> {
-    let alloc = rt.alloc();
-    let (Ok(low), Ok(high)) = (fact(alloc, 2, -1), fact(alloc, -2, 1)) else {
-        assert!(rt; false);
-        return Ok(());
+    let Ok(facts) = facts(rt.alloc()) else {
+        return Err(Fail::new("the facts of a test were not made"));
     };
-    let facts = vec![in alloc; low, high]?;
-    let refuting = derivation(alloc, &[(1, 2), (2, 3)])?;
-    assert!(rt; refutes(alloc, facts.as_slice(), &refuting)?);
-    let negative = derivation(alloc, &[(-1, 1), (1, 2), (4, 3)])?;
-    assert!(rt; !refutes(alloc, facts.as_slice(), &negative)?);
-    let falling = derivation(alloc, &[(2, 3), (1, 2)])?;
-    assert!(rt; !refutes(alloc, facts.as_slice(), &falling)?);
-    let later = derivation(alloc, &[(1, 2), (2, 4)])?;
-    assert!(rt; !refutes(alloc, facts.as_slice(), &later)?);
-    let none = derivation(alloc, &[])?;
-    assert!(rt; !refutes(alloc, facts.as_slice(), &none)?);
+    assert_eq!(rt; as_told(rt.alloc(), &facts)?, 5);
     Ok(())
 }

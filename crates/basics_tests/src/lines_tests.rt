@@ -4,7 +4,7 @@ use lines::pieces::Pieces;
 use std::test::Fail;
 
 #[test]
-fn numbers(rt: HostRuntime) {
+fn naturals(rt: HostRuntime) {
     for (text, wanted) in [
         ("0", Ok(0)),
         ("9223372036854775807", Ok(9_223_372_036_854_775_807)),
@@ -15,6 +15,10 @@ fn numbers(rt: HostRuntime) {
     ] {
         assert_eq!(rt; natural(text.as_bytes()), wanted);
     }
+}
+
+#[test]
+fn integers(rt: HostRuntime) {
     for (text, wanted) in [
         ("-9223372036854775808", Ok(i64::MIN)),
         ("-9223372036854775809", Err(NumberFault::TooLarge)),

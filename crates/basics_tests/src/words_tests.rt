@@ -92,23 +92,52 @@ fn of_one(w: Word) -> [Result<Word, Fault>; 4] {
     ]
 }
 
-#[test]
-fn pairs(rt: HostRuntime) -> Result<(), Fail> {
-    let mut text = String::new(rt.alloc());
+fn tell_int_pairs(text: &mut String) -> Result<(), Fail> {
     for a in [-7, 7, i32::MAX, i32::MIN] {
         for b in [2, -2, -1, 0] {
             write!(text, "\n{a} {b}:")?;
-            tell(&mut text, &of_pair(Word::Int(a), Word::Int(b)))?;
+            tell(text, &of_pair(Word::Int(a), Word::Int(b)))?;
         }
     }
-    assert_eq!(rt; text.as_str(), INT_PAIRS);
-    text.clear();
+    Ok(())
+}
+
+fn tell_uint_pairs(text: &mut String) -> Result<(), Fail> {
     for a in [1, 2147483648, u32::MAX] {
         for b in [0, 2, 2147483648, u32::MAX] {
             write!(text, "\n{a} {b}:")?;
-            tell(&mut text, &of_pair(Word::Uint(a), Word::Uint(b)))?;
+            tell(text, &of_pair(Word::Uint(a), Word::Uint(b)))?;
         }
     }
+    Ok(())
+}
+
+fn tell_ints(text: &mut String) -> Result<(), Fail> {
+    for a in [0, 1, -1, i32::MAX, i32::MIN] {
+        write!(text, "\n{a}:")?;
+        tell(text, &of_one(Word::Int(a)))?;
+    }
+    Ok(())
+}
+
+fn tell_uints(text: &mut String) -> Result<(), Fail> {
+    for a in [0, 1, 2147483647, 2147483648, u32::MAX] {
+        let w = Word::Uint(a);
+        write!(text, "\n{a}:")?;
+        tell(text, &of_one(w))?;
+        tell(text, &[shl(w, 0), shl(w, 1), shl(w, 31)])?;
+        tell(text, &[shr(w, 0), shr(w, 1), shr(w, 31)])?;
+    }
+    Ok(())
+}
+
+#[test]
+fn pairs(rt: HostRuntime) -> Result<(), Fail> {
+    let mut text = String::new(rt.alloc());
+    tell_int_pairs(&mut text)?;
+    assert_eq!(rt; text.as_str(), INT_PAIRS);
+    text.clear();
+    tell_uint_pairs(&mut text)?;
     assert_eq!(rt; text.as_str(), UINT_PAIRS);
     Ok(())
 }
@@ -116,19 +145,10 @@ fn pairs(rt: HostRuntime) -> Result<(), Fail> {
 #[test]
 fn singles(rt: HostRuntime) -> Result<(), Fail> {
     let mut text = String::new(rt.alloc());
-    for a in [0, 1, -1, i32::MAX, i32::MIN] {
-        write!(text, "\n{a}:")?;
-        tell(&mut text, &of_one(Word::Int(a)))?;
-    }
+    tell_ints(&mut text)?;
     assert_eq!(rt; text.as_str(), INTS);
     text.clear();
-    for a in [0, 1, 2147483647, 2147483648, u32::MAX] {
-        let w = Word::Uint(a);
-        write!(text, "\n{a}:")?;
-        tell(&mut text, &of_one(w))?;
-        tell(&mut text, &[shl(w, 0), shl(w, 1), shl(w, 31)])?;
-        tell(&mut text, &[shr(w, 0), shr(w, 1), shr(w, 31)])?;
-    }
+    tell_uints(&mut text)?;
     assert_eq!(rt; text.as_str(), UINTS);
     Ok(())
 }

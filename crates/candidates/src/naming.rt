@@ -50,15 +50,8 @@ impl Naming {
         Ok(naming)
     }
 
-    /// The form over the symbols of the place reached, where each of its symbols has a name there.
-    pub fn rewrite(&self, alloc: Global, form: &Form) -> Result<Option<Form>, AllocError> {
-        let Some(form) = self.aliases.settled(alloc, form)? else {
-            return Ok(None);
-        };
-        self.names.rewritten(alloc, &form, None)
-    }
-
-    /// The same without names that come from this symbol (a variable, an `@x` or a `$K` of the place reached) or hold it.
+    /// The form over the symbols of the place reached, where each of its symbols has a name there: none that comes from this symbol (a
+    /// variable, an `@x` or a `$K` of the place reached) or holds it.
     pub fn rewrite_without(
         &self,
         alloc: Global,

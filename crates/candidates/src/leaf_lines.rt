@@ -86,8 +86,33 @@ fn tell_alike(told: &mut Gathering<'_>, place: usize, to: &Sight) -> Result<(), 
     Ok(())
 }
 
+/// Facts of variables as they are at a loop's test, where the best names are those of the barrier before: a fact without these can be
+/// carried past the next barrier.
+fn tell_here(
+    told: &mut Gathering<'_>,
+    to: &Sight,
+    leaf: &Leaf,
+    facts: &[Form],
+    naming: &Naming,
+) -> Result<(), AllocError> {
+    if to.before.is_empty() {
+        return Ok(());
+    }
+    for fact in facts {
+        if let Some(form) = naming.rewrite_here(told.alloc, fact)? {
+            told.add_fact(leaf.to, &form, 2)?;
+        }
+    }
+    Ok(())
+}
+
 /// What is known at the path's end, and was not where it began.
-fn tell_facts(told: &mut Gathering<'_>, leaf: &Leaf, naming: &Naming) -> Result<(), AllocError> {
+fn tell_facts(
+    told: &mut Gathering<'_>,
+    to: &Sight,
+    leaf: &Leaf,
+    naming: &Naming,
+) -> Result<(), AllocError> {
     let Some(facts) = leaf.facts.get(leaf.begun..) else {
         return Ok(());
     };
@@ -99,6 +124,7 @@ fn tell_facts(told: &mut Gathering<'_>, leaf: &Leaf, naming: &Naming) -> Result<
             told.add_fact(leaf.to, &form, 1)?;
         }
     }
+    tell_here(told, to, leaf, facts, naming)?;
     let sums = naming.eliminated(told.alloc, facts)?;
     for form in sums.iter() {
         told.add_fact(leaf.to, form, 1)?;
@@ -122,5 +148,5 @@ pub fn tell_leaf(
     courses.add_steps(steps.as_slice())?;
     tell_values(told, courses, from, to, leaf, naming)?;
     tell_alike(told, leaf.to, to)?;
-    tell_facts(told, leaf, naming)
+    tell_facts(told, to, leaf, naming)
 }

@@ -1,9 +1,30 @@
 //! What symbols of a path are called at the place that it reaches.
 
 use crate::sums::{plus_symbol, plus_times};
-use candidate_lines::{is_global, one_of, try_difference, try_multiple};
+use candidate_lines::{at_anchor, family, is_global, one_of, try_difference, try_multiple};
 use linear::{Form, Symbol, Term};
 use std::alloc::{AllocError, Global};
+
+/// Which names are left out: none, those that come from a symbol or hold it, or those of variables at the anchor.
+#[derive(Clone, Copy)]
+pub enum Except {
+    Nothing,
+    Of(Symbol),
+    AtAnchor,
+}
+
+fn is_anchored(symbol: Symbol) -> bool {
+    family(symbol) == family(at_anchor(0))
+}
+
+fn has_anchored(form: &Form) -> bool {
+    for term in form.terms() {
+        if is_anchored(term.symbol) {
+            return true;
+        }
+    }
+    false
+}
 
 /// A symbol, so many times, is a form over the symbols of the place reached; one of these, the owner, told it.
 #[derive(Drop)]
@@ -38,11 +59,12 @@ impl Name {
         }))
     }
 
-    /// It neither comes from the symbol nor holds it.
-    fn is_without(&self, symbol: Option<Symbol>) -> bool {
-        match symbol {
-            None => true,
-            Some(symbol) => self.owner != symbol && self.form.coefficient(symbol) == 0,
+    /// It is none of those that are left out.
+    fn is_without(&self, except: Except) -> bool {
+        match except {
+            Except::Nothing => true,
+            Except::Of(symbol) => self.owner != symbol && self.form.coefficient(symbol) == 0,
+            Except::AtAnchor => !is_anchored(self.owner) && !has_anchored(&self.form),
         }
     }
 }
@@ -133,16 +155,16 @@ impl Names {
         Ok(())
     }
 
-    /// The form with names in place of the symbols, each the best that its coefficient admits and that is without a symbol.
+    /// The form with names in place of the symbols, each the best that its coefficient admits and that is not left out.
     pub fn rewritten(
         &self,
         alloc: Global,
         form: &Form,
-        without: Option<Symbol>,
+        except: Except,
     ) -> Result<Option<Form>, AllocError> {
         let mut sum = Form::constant(alloc, form.constant_part());
         for term in form.terms() {
-            let Some(next) = self.plus_term(alloc, &sum, *term, without)? else {
+            let Some(next) = self.plus_term(alloc, &sum, *term, except)? else {
                 return Ok(None);
             };
             sum = next;
@@ -156,12 +178,12 @@ impl Names {
         alloc: Global,
         sum: &Form,
         term: Term,
-        without: Option<Symbol>,
+        except: Except,
     ) -> Result<Option<Form>, AllocError> {
         if is_global(term.symbol) {
             return plus_symbol(alloc, sum, term.symbol, term.coefficient);
         }
-        let Some(name) = self.name_of(term, without) else {
+        let Some(name) = self.name_of(term, except) else {
             return Ok(None);
         };
         let Some(times) = term.coefficient.checked_div(name.factor) else {
@@ -170,12 +192,12 @@ impl Names {
         plus_times(alloc, sum, &name.form, times)
     }
 
-    /// The best name of a term's symbol that its coefficient admits and that is without a symbol.
-    fn name_of(&self, term: Term, without: Option<Symbol>) -> Option<&Name> {
+    /// The best name of a term's symbol that its coefficient admits and that is not left out.
+    fn name_of(&self, term: Term, except: Except) -> Option<&Name> {
         let named = self.find(term.symbol)?;
         for name in named.names.as_slice() {
             let rest = term.coefficient.checked_rem(name.factor);
-            if rest == Some(0) && name.is_without(without) {
+            if rest == Some(0) && name.is_without(except) {
                 return Some(name);
             }
         }

@@ -1,7 +1,7 @@
 //! The end of a path, in the terms of the place that it reaches.
 
 use crate::aliases::Aliases;
-use crate::names::{Name, Named, Names};
+use crate::names::{Except, Name, Named, Names};
 use crate::sums::plus_symbol;
 use candidate_lines::{
     Leaf, Sight, at_anchor, family, is_global, try_difference, try_multiple, turns, variable,
@@ -61,7 +61,15 @@ impl Naming {
         let Some(form) = self.aliases.settled(alloc, form)? else {
             return Ok(None);
         };
-        self.names.rewritten(alloc, &form, Some(without))
+        self.names.rewritten(alloc, &form, Except::Of(without))
+    }
+
+    /// The same without variables at the anchor of the place reached.
+    pub fn rewrite_here(&self, alloc: Global, form: &Form) -> Result<Option<Form>, AllocError> {
+        let Some(form) = self.aliases.settled(alloc, form)? else {
+            return Ok(None);
+        };
+        self.names.rewritten(alloc, &form, Except::AtAnchor)
     }
 
     /// Forms that are 0 at the place reached: the best name of a symbol less another one that a variable told.
@@ -182,7 +190,7 @@ fn solve(alloc: Global, names: &mut Names, value: &Value) -> Result<(), AllocErr
     let Some(others) = without_term(alloc, &value.form, term)? else {
         return Ok(());
     };
-    let Some(others) = names.rewritten(alloc, &others, None)? else {
+    let Some(others) = names.rewritten(alloc, &others, Except::Nothing)? else {
         return Ok(());
     };
     let Some(name) = Name::told(alloc, value.owner, term.coefficient, &others)? else {

@@ -1,5 +1,6 @@
 //! Facts with one symbol that has no name each, taken in pairs.
 
+use crate::names::Except;
 use crate::naming::Naming;
 use crate::sums::plus_times;
 use candidate_lines::{divisor_of, try_multiple};
@@ -88,7 +89,7 @@ impl Naming {
         if sum.terms().is_empty() {
             return Ok(None);
         }
-        self.names.rewritten(alloc, &sum, None)
+        self.names.rewritten(alloc, &sum, Except::Nothing)
     }
 }
 

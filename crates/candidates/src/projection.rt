@@ -1,5 +1,6 @@
 //! Facts with symbols that have no name, made into facts without them.
 
+use crate::names::Except;
 use crate::naming::{Naming, Value};
 use crate::sums::{plus_symbol, plus_times};
 use candidate_lines::{divisor_of, is_global, try_multiple};
@@ -67,7 +68,7 @@ impl Naming {
         let Some(unnamed) = try_multiple(alloc, &split.unnamed, times)? else {
             return Ok(None);
         };
-        let Some(form) = self.names.rewritten(alloc, &unnamed, None)? else {
+        let Some(form) = self.names.rewritten(alloc, &unnamed, Except::Nothing)? else {
             return Ok(None);
         };
         plus_times(alloc, &form, &split.named, times)

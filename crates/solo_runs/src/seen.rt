@@ -6,8 +6,11 @@ use candidate_lines::{
 use linear::{Form, Symbol};
 use std::alloc::{AllocError, Global};
 
-/// So many different states are kept of a place.
+/// So many different states are kept of a place, of the first steps of all runs.
 const STATES: usize = 160;
+
+/// And so many of their later steps.
+const LATE: u64 = 160;
 
 /// The values of the symbols at a place, by its number in the list of sights.
 #[derive(Drop)]
@@ -33,12 +36,33 @@ pub struct Arrival {
     pub slots: Vec<i64>,
 }
 
-/// A place with marks of the states that are kept of it.
+/// A place with marks of the states that are kept of it: how often the run came there, at which time it is looked at again among its later
+/// steps, and how often that was done in all runs.
 #[derive(Drop)]
 struct Place {
     anchor: Option<u32>,
     head: Option<u32>,
     marks: Vec<u64>,
+    visits: u64,
+    next: u64,
+    late: u64,
+}
+
+impl Place {
+    fn is_open(&self) -> bool {
+        (self.marks.len() as u64) < (STATES as u64).saturating_add(self.late)
+    }
+
+    /// The same among a run's later steps: at each visit up to the 32nd, then at one of two, of three and so on, so that also a loop's last
+    /// turns are seen.
+    fn is_open_late(&mut self) -> bool {
+        if self.late >= LATE || self.visits < self.next {
+            return false;
+        }
+        self.late = self.late.saturating_add(1);
+        self.next = self.visits.saturating_add((self.visits / 16).max(1));
+        true
+    }
 }
 
 /// What the runs have shown.
@@ -123,6 +147,9 @@ impl Observed {
                 anchor: sight.anchor,
                 head: sight.head,
                 marks: Vec::new(alloc),
+                visits: 0,
+                next: 0,
+                late: 0,
             })?;
         }
         Ok(Observed {
@@ -148,15 +175,22 @@ impl Observed {
         None
     }
 
-    /// The place, if more states of it are kept.
-    pub fn open_place(&self, anchor: Option<u32>, head: Option<u32>) -> Option<usize> {
+    /// Comes to a place, early or late in a run: the place, if its state is to be kept.
+    pub fn open_place(
+        &mut self,
+        anchor: Option<u32>,
+        head: Option<u32>,
+        is_late: bool,
+    ) -> Option<usize> {
         let at = self.place_of(anchor, head)?;
-        let place = self.places.get(at)?;
-        if place.marks.len() < STATES {
-            Some(at)
+        let place = self.places.get_mut(at)?;
+        place.visits = place.visits.saturating_add(1);
+        let is_open = if is_late {
+            place.is_open_late()
         } else {
-            None
-        }
+            place.is_open()
+        };
+        if is_open { Some(at) } else { None }
     }
 
     /// Keeps a state, unless it is kept already.
@@ -175,6 +209,10 @@ impl Observed {
 
     /// Begins a run, of which these symbols stay as they are.
     pub fn begin(&mut self, globals: Vec<(Symbol, i64)>) -> Result<(), AllocError> {
+        for place in self.places.iter_mut() {
+            place.visits = 0;
+            place.next = 0;
+        }
         self.runs.push(globals)?;
         Ok(())
     }

@@ -9,8 +9,11 @@ use linear::Symbol;
 use std::alloc::{AllocError, Global};
 use words::Word;
 
-/// So many steps a work-item makes, at most.
-const STEPS: u32 = 400;
+/// So many steps a work-item makes, at most: also the last turns of a loop that has another one in it, with a long body.
+const STEPS: u32 = 16_000;
+
+/// So many of them are early: of these each state and each loop's test is kept, of the later ones some states.
+const EARLY: u32 = 400;
 
 /// How a statement is left.
 #[derive(Clone, Copy)]
@@ -199,6 +202,10 @@ impl<'a> Solo<'a> {
         true
     }
 
+    fn is_late(&self) -> bool {
+        self.left < STEPS - EARLY
+    }
+
     fn set(&mut self, slot: u32, value: &Term) -> Flow {
         let Some(value) = value_of(&mut self.item, value) else {
             return Flow::Ended;
@@ -261,7 +268,8 @@ impl<'a> Solo<'a> {
 
     /// Keeps how the item stands at a place.
     fn note(&mut self, anchor: Option<u32>, head: Option<u32>) -> Result<(), AllocError> {
-        let Some(at) = self.seen.open_place(anchor, head) else {
+        let is_late = self.is_late();
+        let Some(at) = self.seen.open_place(anchor, head, is_late) else {
             return Ok(());
         };
         let Some(sight) = self.sights.get(at) else {
@@ -306,7 +314,7 @@ impl<'a> Solo<'a> {
         Ok(())
     }
 
-    /// Evaluates a loop's test, and keeps it.
+    /// Evaluates a loop's test, and keeps it if it is early.
     fn try_test(
         &mut self,
         number: u32,
@@ -319,8 +327,10 @@ impl<'a> Solo<'a> {
         if holds {
             self.keep_turn(number, rank)?;
         }
-        let slots = self.slots()?;
-        self.seen.note_test(number, first, holds, slots)?;
+        if !self.is_late() {
+            let slots = self.slots()?;
+            self.seen.note_test(number, first, holds, slots)?;
+        }
         Ok(value)
     }
 

@@ -9,10 +9,14 @@ use linear::Symbol;
 use std::alloc::{AllocError, Global};
 use words::Word;
 
-/// So many steps a work-item makes, at most: also the last turns of a loop that has another one in it, with a long body.
-const STEPS: u32 = 16_000;
+/// So many steps a work-item makes, at most, so that it comes to the end of long loops and behind them.
+const STEPS: u32 = 200_000;
 
-/// So many of them are early: of these each state and each loop's test is kept, of the later ones some states.
+/// So many steps all work-items make together, at most, but for the early ones.
+const TOGETHER: u32 = 400_000;
+
+/// So many steps are early: each work-item may make these, and of these each state and each loop's test is kept, of the later ones some
+/// states.
 const EARLY: u32 = 400;
 
 /// How a statement is left.
@@ -43,6 +47,11 @@ pub struct Solo<'a> {
     anchor: Option<u32>,
     anchored: Vec<i64>,
     turned: Vec<(u32, i64)>,
+    /// How many steps it has made.
+    made: u32,
+    /// How many it may make.
+    room: u32,
+    /// How many all may make that come after it.
     left: u32,
 }
 
@@ -159,7 +168,9 @@ impl<'a> Solo<'a> {
             anchor: None,
             anchored: Vec::new(alloc),
             turned: Vec::new(alloc),
-            left: 0,
+            made: 0,
+            room: 0,
+            left: TOGETHER,
         })
     }
 
@@ -179,7 +190,9 @@ impl<'a> Solo<'a> {
         self.keep_anchored()?;
         self.arrivals.clear();
         self.turned.clear();
-        self.left = STEPS;
+        self.left = self.left.saturating_sub(self.made);
+        self.made = 0;
+        self.room = self.left.min(STEPS).max(EARLY);
         Ok(())
     }
 
@@ -193,17 +206,17 @@ impl<'a> Solo<'a> {
         Vec::from_slice(self.alloc, self.item.slots.as_slice())
     }
 
-    /// One step less is left, if there was one.
+    /// Makes one more step, if it may.
     fn steps(&mut self) -> bool {
-        if self.left == 0 {
+        if self.made >= self.room {
             return false;
         }
-        self.left -= 1;
+        self.made = self.made.saturating_add(1);
         true
     }
 
     fn is_late(&self) -> bool {
-        self.left < STEPS - EARLY
+        self.made >= EARLY
     }
 
     fn set(&mut self, slot: u32, value: &Term) -> Flow {

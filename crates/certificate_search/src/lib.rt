@@ -1,7 +1,7 @@
 //! Section: Search. Promises nothing: a certificate for a kernel under conditions, searched; stands on `candidates`, `kernel_guesses`,
 //! `solo_runs`, `guess_walk` and `houdini`.
 //!
-//! Guesses that the walks of the kernel tell are filtered by short runs, settled, and put together to a certificate. To settle them, each
+//! Guesses that the walks of the kernel tell are filtered by runs, settled, and put together to a certificate. To settle them, each
 //! round walks the kernel with the guesses that are left, asks the search once for each obligation of each of them, and settles the board
 //! of what rests on what, until nothing falls. Where something stays unshown, another ranking of its loop is tried, then more guesses.
 //! Whether it is a certificate is the check's to say.

@@ -49,6 +49,7 @@ struct Place {
 }
 
 impl Place {
+    /// A state of a run's early steps is to be kept.
     fn is_open(&self) -> bool {
         (self.marks.len() as u64) < (STATES as u64).saturating_add(self.late)
     }

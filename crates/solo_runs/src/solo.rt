@@ -15,8 +15,8 @@ const STEPS: u32 = 200_000;
 /// So many steps all work-items make together, at most, but for the early ones.
 const TOGETHER: u32 = 400_000;
 
-/// So many steps are early: each work-item may make these, and of these each state and each loop's test is kept, of the later ones some
-/// states.
+/// So many steps are early: each work-item may make these. Each state and each loop's test before the last of them is kept, of what comes
+/// later some states.
 const EARLY: u32 = 400;
 
 /// How a statement is left.

@@ -23,7 +23,8 @@ fn is_slot(symbol: Symbol) -> bool {
     family(symbol) == family(variable(0))
 }
 
-fn is_anchored(symbol: Symbol) -> bool {
+/// The symbol is a variable as it was at the anchor.
+pub fn is_anchored(symbol: Symbol) -> bool {
     family(symbol) == family(at_anchor(0))
 }
 

@@ -51,6 +51,11 @@ impl<'a> Gathering<'a> {
         })
     }
 
+    /// The variable of a slot is a `uint`.
+    pub fn is_unsigned(&self, slot: u64) -> bool {
+        self.unsigned.get(slot as usize).copied().unwrap_or(false)
+    }
+
     /// A fact of a place, if it is worth a guess.
     pub fn add_fact(&mut self, place: usize, fact: &Form, rank: u32) -> Result<(), AllocError> {
         let Some(sight) = self.sights.get(place) else {

@@ -2,6 +2,7 @@
 
 use crate::courses::{Courses, steps_of};
 use crate::gathering::Gathering;
+use crate::names::Except;
 use crate::naming::Naming;
 use crate::single_values::{Given, has_slot};
 use candidate_lines::{Leaf, Line, Sight, one_of, turns, variable};
@@ -40,7 +41,7 @@ fn tell_variable(
         return Ok(());
     };
     let symbol = variable(slot);
-    let Some(form) = naming.rewrite_without(told.alloc, value, symbol)? else {
+    let Some(form) = naming.rewrite(told.alloc, value, Except::Of(symbol))? else {
         return Ok(());
     };
     tell_value(told, leaf.to, symbol, &form)?;
@@ -68,7 +69,7 @@ fn tell_values(
     }
     for (number, value) in leaf.ranks.iter() {
         let symbol = turns(*number);
-        if let Some(form) = naming.rewrite_without(told.alloc, value, symbol)? {
+        if let Some(form) = naming.rewrite(told.alloc, value, Except::Of(symbol))? {
             tell_value(told, leaf.to, symbol, &form)?;
         }
     }
@@ -99,7 +100,7 @@ fn tell_here(
         return Ok(());
     }
     for fact in facts {
-        if let Some(form) = naming.rewrite_here(told.alloc, fact)? {
+        if let Some(form) = naming.rewrite(told.alloc, fact, Except::AtAnchor)? {
             told.add_fact(leaf.to, &form, 2)?;
         }
     }

@@ -27,6 +27,7 @@ mod stride_lines;
 mod sums;
 mod told;
 mod turns;
+mod weakening;
 
 pub use fact_lines::fact_at;
 pub use told::{Told, guess_told};

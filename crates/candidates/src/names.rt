@@ -1,20 +1,18 @@
 //! What symbols of a path are called at the place that it reaches.
 
+use crate::fact_lines::is_anchored;
 use crate::sums::{plus_symbol, plus_times};
-use candidate_lines::{at_anchor, family, is_global, one_of, try_difference, try_multiple};
+use candidate_lines::{is_global, one_of, try_difference, try_multiple};
 use linear::{Form, Symbol, Term};
 use std::alloc::{AllocError, Global};
 
-/// Which names are left out: none, those that come from a symbol or hold it, or those of variables at the anchor.
+/// Which names are left out: none, those that come from a symbol (a variable, an `@x` or a `$K` of the place reached) or hold it, or those
+/// of variables at the anchor.
 #[derive(Clone, Copy)]
 pub enum Except {
     Nothing,
     Of(Symbol),
     AtAnchor,
-}
-
-fn is_anchored(symbol: Symbol) -> bool {
-    family(symbol) == family(at_anchor(0))
 }
 
 fn has_anchored(form: &Form) -> bool {

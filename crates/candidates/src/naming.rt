@@ -50,26 +50,17 @@ impl Naming {
         Ok(naming)
     }
 
-    /// The form over the symbols of the place reached, where each of its symbols has a name there: none that comes from this symbol (a
-    /// variable, an `@x` or a `$K` of the place reached) or holds it.
-    pub fn rewrite_without(
+    /// The form over the symbols of the place reached, where each of its symbols has a name there that is not left out.
+    pub fn rewrite(
         &self,
         alloc: Global,
         form: &Form,
-        without: Symbol,
+        except: Except,
     ) -> Result<Option<Form>, AllocError> {
         let Some(form) = self.aliases.settled(alloc, form)? else {
             return Ok(None);
         };
-        self.names.rewritten(alloc, &form, Except::Of(without))
-    }
-
-    /// The same without variables at the anchor of the place reached.
-    pub fn rewrite_here(&self, alloc: Global, form: &Form) -> Result<Option<Form>, AllocError> {
-        let Some(form) = self.aliases.settled(alloc, form)? else {
-            return Ok(None);
-        };
-        self.names.rewritten(alloc, &form, Except::AtAnchor)
+        self.names.rewritten(alloc, &form, except)
     }
 
     /// Forms that are 0 at the place reached: the best name of a symbol less another one that a variable told.

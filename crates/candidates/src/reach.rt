@@ -56,6 +56,20 @@ fn least_by(alloc: Global, fact: &Form, form: &Form) -> Result<Option<i64>, Allo
     }
 }
 
+/// The least value of a form, as far as single facts say.
+pub fn least_of(alloc: Global, facts: &[Form], form: &Form) -> Result<Option<i64>, AllocError> {
+    let mut least: Option<i64> = None;
+    for fact in facts {
+        if let Some(low) = least_by(alloc, fact, form)? {
+            least = Some(match least {
+                Some(other) => other.max(low),
+                None => low,
+            });
+        }
+    }
+    Ok(least)
+}
+
 /// The greatest value of a form by a fact that is a number less the form.
 fn greatest_by(alloc: Global, fact: &Form, form: &Form) -> Result<Option<i64>, AllocError> {
     match try_sum(alloc, fact, form)? {
@@ -64,12 +78,21 @@ fn greatest_by(alloc: Global, fact: &Form, form: &Form) -> Result<Option<i64>, A
     }
 }
 
-/// What single facts say of a form.
-fn reach_by(alloc: Global, facts: &[Form], form: &Form) -> Result<Option<Reach>, AllocError> {
-    let mut all = Reach {
-        low: i64::MIN,
-        high: i64::MAX,
-    };
+/// Facts in two lists.
+#[derive(Clone, Copy)]
+pub struct Facts<'a> {
+    pub known: &'a [Form],
+    pub own: &'a [Form],
+}
+
+/// What single facts say of a form, and what was said before.
+fn narrowed(
+    alloc: Global,
+    facts: &[Form],
+    form: &Form,
+    before: Reach,
+) -> Result<Reach, AllocError> {
+    let mut all = before;
     for fact in facts {
         if let Some(low) = least_by(alloc, fact, form)? {
             all.low = all.low.max(low);
@@ -78,6 +101,17 @@ fn reach_by(alloc: Global, facts: &[Form], form: &Form) -> Result<Option<Reach>,
             all.high = all.high.min(high);
         }
     }
+    Ok(all)
+}
+
+/// What single facts say of a form.
+fn reach_by(alloc: Global, facts: Facts<'_>, form: &Form) -> Result<Option<Reach>, AllocError> {
+    let any = Reach {
+        low: i64::MIN,
+        high: i64::MAX,
+    };
+    let known = narrowed(alloc, facts.known, form, any)?;
+    let all = narrowed(alloc, facts.own, form, known)?;
     if all.low > i64::MIN && all.high < i64::MAX {
         Ok(Some(all))
     } else {
@@ -106,7 +140,11 @@ fn unit_of(alloc: Global, form: &Form) -> Result<Option<(Form, i64)>, AllocError
 }
 
 /// What single facts say of all terms together.
-fn reach_as_whole(alloc: Global, facts: &[Form], form: &Form) -> Result<Option<Reach>, AllocError> {
+fn reach_as_whole(
+    alloc: Global,
+    facts: Facts<'_>,
+    form: &Form,
+) -> Result<Option<Reach>, AllocError> {
     let Some((unit, factor)) = unit_of(alloc, form)? else {
         return Ok(None);
     };
@@ -122,7 +160,11 @@ fn added(all: Reach, one: Reach, factor: i64) -> Option<Reach> {
 }
 
 /// What single facts say of each term.
-fn reach_by_terms(alloc: Global, facts: &[Form], form: &Form) -> Result<Option<Reach>, AllocError> {
+fn reach_by_terms(
+    alloc: Global,
+    facts: Facts<'_>,
+    form: &Form,
+) -> Result<Option<Reach>, AllocError> {
     let mut all = Reach { low: 0, high: 0 };
     for term in form.terms() {
         let own = one_of(alloc, term.symbol)?;
@@ -139,6 +181,15 @@ fn reach_by_terms(alloc: Global, facts: &[Form], form: &Form) -> Result<Option<R
 
 /// The values of a form where some facts hold, as far as single ones say.
 pub fn reach_of(alloc: Global, facts: &[Form], form: &Form) -> Result<Option<Reach>, AllocError> {
+    let facts = Facts {
+        known: &[],
+        own: facts,
+    };
+    reach_in(alloc, facts, form)
+}
+
+/// The same of facts in two lists.
+pub fn reach_in(alloc: Global, facts: Facts<'_>, form: &Form) -> Result<Option<Reach>, AllocError> {
     let constant = form.constant_part();
     let constant = Reach {
         low: constant,

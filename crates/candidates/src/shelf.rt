@@ -123,6 +123,11 @@ impl Shelf {
         }
     }
 
+    /// The rank of that candidate.
+    pub fn rank_of(&self, index: usize) -> Option<u32> {
+        Some(self.candidates.get(index)?.rank)
+    }
+
     /// All of them.
     pub fn into_candidates(self) -> Vec<Candidate> {
         self.candidates

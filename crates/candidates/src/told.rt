@@ -9,6 +9,7 @@ use crate::naming::Naming;
 use crate::single_values::{Given, given_values};
 use crate::stride_lines::{all_strides, tell_strides};
 use crate::turns::sure_steps;
+use crate::weakening::tell_weaker;
 use candidate_lines::{Candidate, Leaf, Sight};
 use linear::Form;
 use std::alloc::{AllocError, Global};
@@ -63,6 +64,7 @@ pub fn guess_told(
     carry(&mut told, leaves, namings.as_slice())?;
     tell_strides(&mut told, &courses)?;
     tell_growth(&mut told, &courses, leaves, values.as_slice())?;
+    tell_weaker(&mut told, leaves)?;
     told.add_unreached()?;
     let mut strides = all_strides(alloc, &courses)?;
     let more = sure_steps(alloc, sights, leaves, values.as_slice(), known)?;

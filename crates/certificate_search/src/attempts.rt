@@ -7,7 +7,8 @@ use crate::limits::least_limits;
 use crate::missing::Missing;
 use crate::needed::needed_only;
 use crate::picking::{picked, unrefuted};
-use candidate_lines::{Candidate, Ranking};
+use crate::rounds::{push_all, settle};
+use candidate_lines::{Candidate, Ranking, Sight};
 use candidates::guess_told;
 use certificate::Certificate;
 use cut_search::Memory;
@@ -17,6 +18,9 @@ use place_paths::FindError;
 use solo_runs::{Observed, observe, told_by_runs};
 use std::alloc::{AllocError, Global};
 use std::thread::Threads;
+
+/// How often guesses are settled: those that fell with others once more.
+const CHANCES: u32 = 2;
 
 /// How an attempt ends: with a certificate, or with loops whose rankings are not shown, and all that is not.
 #[derive(Drop)]
@@ -107,7 +111,7 @@ fn written(
     candidates: Vec<Candidate>,
     assembled: Assembled,
     memory: &mut Memory,
-) -> Result<Attempt, SearchError> {
+) -> Result<Conclusion, SearchError> {
     let (candidates, assembled) = dropped(alloc, plan, candidates, assembled, memory)?;
     let Assembled { entries, .. } = assembled;
     let certificate = certificate_of(
@@ -119,9 +123,20 @@ fn written(
         entries,
     )?;
     match certificate {
-        Some(certificate) => Ok(Attempt::Made(certificate)),
+        Some(certificate) => Ok(Conclusion::Made(certificate)),
         None => Err(SearchError::Unsaid),
     }
+}
+
+/// How guesses that stand are put together: to a certificate, or with what they do not show.
+#[derive(Drop)]
+enum Conclusion {
+    Made(Certificate),
+    Failed {
+        candidates: Vec<Candidate>,
+        loops: Vec<u32>,
+        missing: Vec<Missing>,
+    },
 }
 
 /// Guesses that stand are put together.
@@ -130,7 +145,7 @@ fn concluded(
     plan: &Plan<'_>,
     candidates: Vec<Candidate>,
     memory: &mut Memory,
-) -> Result<Attempt, SearchError> {
+) -> Result<Conclusion, SearchError> {
     let found = assemble(alloc, plan, candidates.as_slice(), memory)?;
     let Some(assembled) = found else {
         return Err(SearchError::Unsaid);
@@ -139,42 +154,87 @@ fn concluded(
         return written(alloc, plan, candidates, assembled, memory);
     }
     let Assembled { loops, missing, .. } = assembled;
-    Ok(Attempt::Failed { loops, missing })
+    Ok(Conclusion::Failed {
+        candidates,
+        loops,
+        missing,
+    })
 }
 
-/// Settled guesses, with the least limits of the loops.
-fn settled<R: Threads + Sync>(
+/// What guesses are settled with.
+#[derive(Clone, Copy)]
+struct Setting<'a> {
+    matter: &'a Matter<'a>,
+    sights: &'a [Sight],
+    rankings: &'a [Ranking],
+}
+
+/// Settled guesses, put together with the least limits of the loops; and those that fell with others.
+fn settled_once<R: Threads + Sync>(
     rt: &R,
     alloc: Global,
-    matter: &Matter<'_>,
-    hoped: &Hoped,
+    setting: Setting<'_>,
     candidates: Vec<Candidate>,
-    rankings: &[Ranking],
     memory: &mut Memory,
-) -> Result<Attempt, SearchError> {
-    let most = unlimited(alloc, rankings)?;
-    let sights = hoped.sights.as_slice();
-    let stands = crate::rounds::settle(
+) -> Result<(Conclusion, Vec<Candidate>), SearchError> {
+    let matter = setting.matter;
+    let most = unlimited(alloc, setting.rankings)?;
+    let stands = settle(
         rt,
         alloc,
         matter.subject,
         matter.names,
-        sights,
+        setting.sights,
         candidates,
-        rankings,
+        setting.rankings,
         most.as_slice(),
         matter.workers,
         memory,
     )?;
-    let limits = least_limits(alloc, &stands.resolved.walked.found, rankings, memory)?;
+    let limits = least_limits(
+        alloc,
+        &stands.resolved.walked.found,
+        setting.rankings,
+        memory,
+    )?;
     let plan = Plan {
         subject: matter.subject,
         names: matter.names,
-        sights,
-        rankings,
+        sights: setting.sights,
+        rankings: setting.rankings,
         limits: limits.as_slice(),
     };
-    concluded(alloc, &plan, stands.candidates, memory)
+    let conclusion = concluded(alloc, &plan, stands.candidates, memory)?;
+    Ok((conclusion, stands.lost))
+}
+
+/// Settled guesses; those that fell with others are tried again beside those that stand, where these do not show all.
+fn settled<R: Threads + Sync>(
+    rt: &R,
+    alloc: Global,
+    setting: Setting<'_>,
+    candidates: Vec<Candidate>,
+    memory: &mut Memory,
+) -> Result<Attempt, SearchError> {
+    let mut left = candidates;
+    for chance in 0..CHANCES {
+        let (conclusion, lost) = settled_once(rt, alloc, setting, left, memory)?;
+        match conclusion {
+            Conclusion::Made(certificate) => return Ok(Attempt::Made(certificate)),
+            Conclusion::Failed {
+                candidates,
+                loops,
+                missing,
+            } => {
+                if lost.is_empty() || chance + 1 == CHANCES {
+                    return Ok(Attempt::Failed { loops, missing });
+                }
+                left = candidates;
+                push_all(&mut left, lost)?;
+            }
+        }
+    }
+    Err(SearchError::Unsaid)
 }
 
 /// An attempt with guesses up to a rank.
@@ -190,8 +250,13 @@ pub fn try_guesses<R: Threads + Sync>(
         return Err(SearchError::Unsaid);
     };
     let core = matter.subject.typed.core();
-    let conditions = matter.subject.conditions;
-    let observed = observe(alloc, core, conditions, hoped.sights.as_slice(), rankings)?;
+    let sights = hoped.sights.as_slice();
+    let observed = observe(alloc, core, matter.subject.conditions, sights, rankings)?;
     let candidates = guesses(alloc, matter, &hoped, rankings, &observed, rank)?;
-    settled(rt, alloc, matter, &hoped, candidates, rankings, memory)
+    let setting = Setting {
+        matter,
+        sights,
+        rankings,
+    };
+    settled(rt, alloc, setting, candidates, memory)
 }

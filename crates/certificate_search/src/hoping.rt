@@ -75,6 +75,21 @@ fn walked(
     }
 }
 
+/// What a walk tells.
+fn told_by(alloc: Global, subject: &Subject<'_>, walked: &Walked) -> Result<Hoped, FindError> {
+    let sights = sights_of(alloc, subject, &walked.notes)?;
+    let begun = begun_of(alloc, subject, &walked.notes, sights.as_slice())?;
+    let leaves = leaves_of(alloc, walked, sights.as_slice(), begun.as_slice())?;
+    let known = known_of(alloc, walked, begun.as_slice())?;
+    let unsigned = unsigned_of(alloc, subject)?;
+    Ok(Hoped {
+        sights,
+        leaves,
+        known,
+        unsigned,
+    })
+}
+
 /// What a hopeful walk with these rankings tells; nothing where they have no text.
 pub fn hope(
     alloc: Global,
@@ -83,19 +98,8 @@ pub fn hope(
     rankings: &[Ranking],
     memory: &mut Memory,
 ) -> Result<Option<Hoped>, FindError> {
-    let Some(resolved) = walked(alloc, subject, names, rankings, memory)? else {
-        return Ok(None);
-    };
-    let walked = &resolved.walked;
-    let sights = sights_of(alloc, subject, &walked.notes)?;
-    let begun = begun_of(alloc, subject, &walked.notes, sights.as_slice())?;
-    let leaves = leaves_of(alloc, walked, sights.as_slice(), begun.as_slice())?;
-    let known = known_of(alloc, walked, begun.as_slice())?;
-    let unsigned = unsigned_of(alloc, subject)?;
-    Ok(Some(Hoped {
-        sights,
-        leaves,
-        known,
-        unsigned,
-    }))
+    match walked(alloc, subject, names, rankings, memory)? {
+        Some(resolved) => Ok(Some(told_by(alloc, subject, &resolved.walked)?)),
+        None => Ok(None),
+    }
 }

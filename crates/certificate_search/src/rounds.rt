@@ -14,12 +14,13 @@ use std::alloc::{AllocError, Global};
 use std::thread::Threads;
 use supports::Set;
 
-/// Guesses that stand, with the last walk.
+/// Guesses that stand, with the last walk, and those that fell for no other reason than that one fell on which their derivation rests.
+/// Another derivation may show them: where a false guess contradicts a path, all is derived from it there.
 #[derive(Drop)]
 pub struct Settled {
     pub candidates: Vec<Candidate>,
     pub resolved: Resolved,
-    pub begun: Vec<Begun>,
+    pub lost: Vec<Candidate>,
 }
 
 /// Why nothing was settled.
@@ -93,21 +94,45 @@ fn walked(
     }
 }
 
-/// The guesses of a set.
-fn kept(
+/// Guesses that are left, and those that fell with others.
+#[derive(Drop)]
+struct Parted {
+    left: Vec<Candidate>,
+    lost: Vec<Candidate>,
+}
+
+/// Which of so many guesses have an obligation that nothing shows.
+fn lacking_of(alloc: Global, count: usize, demands: &[Demand]) -> Result<Vec<bool>, AllocError> {
+    let mut flags = vec![in alloc; false; count]?;
+    for demand in demands {
+        if demand.support.is_none() {
+            if let Some(flag) = flags.get_mut(demand.guess as usize) {
+                *flag = true;
+            }
+        }
+    }
+    Ok(flags)
+}
+
+/// The guesses of a set, and those of the others of which each obligation was shown.
+fn part(
     alloc: Global,
     candidates: Vec<Candidate>,
     set: &Set,
-) -> Result<Vec<Candidate>, AllocError> {
+    lacking: &[bool],
+) -> Result<Parted, AllocError> {
     let mut left = Vec::new(alloc);
+    let mut lost = Vec::new(alloc);
     let mut number: u32 = 0;
     for candidate in candidates {
         if set.contains(number) {
             left.push(candidate)?;
+        } else if !lacking.get(number as usize).copied().unwrap_or(true) {
+            lost.push(candidate)?;
         }
         number = number.saturating_add(1);
     }
-    Ok(left)
+    Ok(Parted { left, lost })
 }
 
 /// Something was not shown.
@@ -136,11 +161,53 @@ fn demands_in(
     Ok(demands_of(alloc, &ground, candidates, memory)?)
 }
 
-/// How a round ends.
+/// A walk with guesses, and what they rest on.
+#[derive(Drop)]
+struct Asked {
+    resolved: Resolved,
+    demands: Vec<Demand>,
+}
+
+/// Walks with these guesses, and asks what they rest on.
+fn ask(
+    alloc: Global,
+    matter: &Matter<'_>,
+    candidates: &[Candidate],
+    memory: &mut Memory,
+) -> Result<Asked, SettlingError> {
+    let resolved = walked(alloc, matter, candidates, memory)?;
+    let notes = &resolved.walked.notes;
+    let begun = begun_of(alloc, &matter.subject, notes, matter.sights)?;
+    let demands = demands_in(
+        alloc,
+        matter,
+        candidates,
+        &resolved,
+        begun.as_slice(),
+        memory,
+    )?;
+    Ok(Asked { resolved, demands })
+}
+
+/// The guesses that are left of so many, where each that is not shown falls.
+fn left_of<R: Threads + Sync>(
+    rt: &R,
+    alloc: Global,
+    count: usize,
+    demands: &[Demand],
+    workers: u32,
+) -> Result<Set, SettlingError> {
+    let Ok(count) = u32::try_from(count) else {
+        return Err(SettlingError::Unsaid);
+    };
+    Ok(greatest(rt, alloc, count, demands, workers)?)
+}
+
+/// How a round ends: with all guesses, or with some of them.
 #[derive(Drop)]
 enum Turn {
-    Stands(Settled),
-    Falls(Vec<Candidate>),
+    Stands(Vec<Candidate>, Resolved),
+    Falls(Parted),
 }
 
 /// One round.
@@ -152,33 +219,23 @@ fn round<R: Threads + Sync>(
     workers: u32,
     memory: &mut Memory,
 ) -> Result<Turn, SettlingError> {
-    let resolved = walked(alloc, matter, candidates.as_slice(), memory)?;
-    let begun = begun_of(
-        alloc,
-        &matter.subject,
-        &resolved.walked.notes,
-        matter.sights,
-    )?;
-    let demands = demands_in(
-        alloc,
-        matter,
-        candidates.as_slice(),
-        &resolved,
-        begun.as_slice(),
-        memory,
-    )?;
-    if !any_lacks(demands.as_slice()) {
-        return Ok(Turn::Stands(Settled {
-            candidates,
-            resolved,
-            begun,
-        }));
+    let asked = ask(alloc, matter, candidates.as_slice(), memory)?;
+    let demands = asked.demands.as_slice();
+    if any_lacks(demands) {
+        let set = left_of(rt, alloc, candidates.len(), demands, workers)?;
+        let lacking = lacking_of(alloc, candidates.len(), demands)?;
+        let parted = part(alloc, candidates, &set, lacking.as_slice())?;
+        return Ok(Turn::Falls(parted));
     }
-    let Ok(count) = u32::try_from(candidates.len()) else {
-        return Err(SettlingError::Unsaid);
-    };
-    let set = greatest(rt, alloc, count, demands.as_slice(), workers)?;
-    Ok(Turn::Falls(kept(alloc, candidates, &set)?))
+    Ok(Turn::Stands(candidates, asked.resolved))
+}
+
+/// Guesses behind others.
+pub fn push_all(all: &mut Vec<Candidate>, more: Vec<Candidate>) -> Result<(), AllocError> {
+    for candidate in more {
+        all.push(candidate)?;
+    }
+    Ok(())
 }
 
 /// Guesses of which each is shown by those that are left, with these rankings; at most 512 go in.
@@ -202,10 +259,20 @@ pub fn settle<R: Threads + Sync>(
         most,
     };
     let mut left = candidates;
+    let mut lost = Vec::new(alloc);
     for _ in 0..600 {
         match round(rt, alloc, &matter, left, workers, memory)? {
-            Turn::Stands(settled) => return Ok(settled),
-            Turn::Falls(candidates) => left = candidates,
+            Turn::Stands(candidates, resolved) => {
+                return Ok(Settled {
+                    candidates,
+                    resolved,
+                    lost,
+                });
+            }
+            Turn::Falls(parted) => {
+                left = parted.left;
+                push_all(&mut lost, parted.lost)?;
+            }
         }
     }
     Err(SettlingError::Unsaid)

@@ -2,7 +2,7 @@
 
 use crate::attempts::{Attempt, Matter, try_guesses};
 use crate::error::SearchError;
-use crate::hoping::hope;
+use crate::hoping::{Hoped, hope};
 use crate::missing::Missing;
 use crate::ranked::{advance, all_unrefuted, chosen, is_hopeless};
 use candidates::guess_told;
@@ -11,7 +11,7 @@ use cut_search::Memory;
 use guess_walk::{Names, Subject, names_of};
 use kernel_guesses::{Options, guess_rankings};
 use solo_runs::observe;
-use std::alloc::Global;
+use std::alloc::{AllocError, Global};
 use std::thread::Threads;
 
 /// The ways in which loops may end, and whether runs refute all of some loop.
@@ -21,19 +21,27 @@ struct Ways {
     is_hopeless: bool,
 }
 
-/// How loops may end, by what the kernel's text and a first walk tell, without the ways that runs refute.
-fn find_ways(
+/// A first walk, with the rankings that the kernel's text tells.
+fn walk_first(
     alloc: Global,
     subject: &Subject<'_>,
     names: &Names<'_>,
     memory: &mut Memory,
-) -> Result<Ways, SearchError> {
-    let core = subject.typed.core();
-    let first = guess_rankings(alloc, core, &[])?;
+) -> Result<Hoped, SearchError> {
+    let first = guess_rankings(alloc, subject.typed.core(), &[])?;
     let rankings = chosen(alloc, first.as_slice(), &[])?;
-    let Some(hoped) = hope(alloc, subject, names, rankings.as_slice(), memory)? else {
-        return Err(SearchError::Unsaid);
-    };
+    match hope(alloc, subject, names, rankings.as_slice(), memory)? {
+        Some(hoped) => Ok(hoped),
+        None => Err(SearchError::Unsaid),
+    }
+}
+
+/// How loops may end, by what the kernel's text and a walk tell.
+fn options_of(
+    alloc: Global,
+    subject: &Subject<'_>,
+    hoped: &Hoped,
+) -> Result<Vec<Options>, AllocError> {
     let told = guess_told(
         alloc,
         hoped.sights.as_slice(),
@@ -41,9 +49,20 @@ fn find_ways(
         hoped.known.as_slice(),
         hoped.unsigned.as_slice(),
     )?;
-    let options = guess_rankings(alloc, core, told.strides.as_slice())?;
+    guess_rankings(alloc, subject.typed.core(), told.strides.as_slice())
+}
+
+/// How loops may end, without the ways that runs refute.
+fn find_ways(
+    alloc: Global,
+    subject: &Subject<'_>,
+    names: &Names<'_>,
+    memory: &mut Memory,
+) -> Result<Ways, SearchError> {
+    let hoped = walk_first(alloc, subject, names, memory)?;
+    let options = options_of(alloc, subject, &hoped)?;
     let sights = hoped.sights.as_slice();
-    let observed = observe(alloc, core, subject.conditions, sights, &[])?;
+    let observed = observe(alloc, subject.typed.core(), subject.conditions, sights, &[])?;
     let is_hopeless = is_hopeless(options.as_slice(), &observed);
     let options = all_unrefuted(alloc, options, &observed)?;
     Ok(Ways {

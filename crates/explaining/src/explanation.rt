@@ -7,6 +7,7 @@ ghost use Rattle.work_item.specs.Proper.{is_proper};
 ghost use Rattle.launch_text.specs.Fits.{IsOf};
 ghost use Rattle.launch_text.specs.View.{lined};
 
+use crate::hints::push_hints;
 use crate::meaning::{POSSIBLE, meaning};
 use crate::paragraph::push_paragraph;
 use crate::scene::{push_scene, site_of};
@@ -163,6 +164,21 @@ fn is_possible(finding: &Finding) -> bool {
     matches!(finding.grade, Grade::Possible)
 }
 
+/// What findings that are only possible depend on, and what to do about them.
+fn push_advice(
+    alloc: Global,
+    subject: Subject,
+    findings: &[Finding],
+    out: &mut String,
+) -> Result<(), AllocError> {
+    match read_proper_kernel(alloc, subject.kernel) {
+        Ok(typed) => push_hints(alloc, subject.kernel, typed.core(), findings, out)?,
+        Err(_) => return Err(AllocError),
+    }
+    out.push_str("\n")?;
+    push_paragraph(out, "", POSSIBLE)
+}
+
 /// All findings, and what to do about those that are only possible.
 fn push_findings(
     alloc: Global,
@@ -174,8 +190,7 @@ fn push_findings(
         push_finding(alloc, subject, place.saturating_add(1), finding, out)?;
     }
     if findings.iter().any(is_possible) {
-        out.push_str("\n")?;
-        push_paragraph(out, "", POSSIBLE)?;
+        push_advice(alloc, subject, findings, out)?;
     }
     Ok(())
 }

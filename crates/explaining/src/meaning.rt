@@ -3,7 +3,8 @@
 /// What to do about findings that are only possible.
 pub const POSSIBLE: &str =
     "A possible finding says nothing of the kernel: it is what the search could not show, and a replay of the launch at the least values \
-     did not come there. A tighter condition may help (a range, a length, a requirement), or a certificate written by hand.";
+     did not come there. A tighter condition may help (a range, a length, a requirement), or another way to write the kernel \
+     (docs/KERNELS.md), or a certificate written by hand.";
 
 /// What refusals mean and what to do, by their numbers.
 const MEANINGS: &[(u8, &str)] = &[

@@ -19,8 +19,8 @@ use solo_runs::{Observed, observe, told_by_runs};
 use std::alloc::{AllocError, Global};
 use std::thread::Threads;
 
-/// How often guesses are settled: those that fell with others once more.
-const CHANCES: u32 = 2;
+/// How often guesses are settled: those that fell with others up to eleven times more.
+const CHANCES: u32 = 12;
 
 /// How an attempt ends: with a certificate, or with loops whose rankings are not shown, and all that is not.
 #[derive(Drop)]

@@ -2,7 +2,8 @@
 
 use crate::gathering::Gathering;
 use crate::naming::Naming;
-use candidate_lines::{Leaf, Sight};
+use candidate_lines::{Leaf, Sight, one_of, variable};
+use linear::Form;
 use std::alloc::AllocError;
 
 /// How often all paths are gone along.
@@ -26,6 +27,45 @@ fn carry_fact(
         Some(form) => told.add_fact(leaf.to, &form, CARRIED),
         None => Ok(()),
     }
+}
+
+/// Some symbol makes the form less.
+fn takes_off(form: &Form) -> bool {
+    form.terms().iter().any(|term| term.coefficient < 0)
+}
+
+/// Carries on along one path that a `uint` is not below 0, where another one falls as that grows: of `y = 9 - x` that `y` is at most 9.
+fn carry_natural(
+    told: &mut Gathering<'_>,
+    slot: u32,
+    leaf: &Leaf,
+    naming: &Naming,
+) -> Result<(), AllocError> {
+    let own = one_of(told.alloc, variable(slot))?;
+    match naming.project(told.alloc, &own)? {
+        Some(form) if takes_off(&form) => told.add_fact(leaf.to, &form, CARRIED),
+        _ => Ok(()),
+    }
+}
+
+/// Carries on along all paths what types say.
+fn carry_types(
+    told: &mut Gathering<'_>,
+    leaves: &[Leaf],
+    namings: &[Naming],
+) -> Result<(), AllocError> {
+    let sights = told.sights;
+    for (leaf, naming) in leaves.iter().zip(namings.iter()) {
+        let Some(from) = sights.get(leaf.from) else {
+            return Ok(());
+        };
+        for slot in from.slots.iter() {
+            if told.is_unsigned(*slot as u64) {
+                carry_natural(told, *slot, leaf, naming)?;
+            }
+        }
+    }
+    Ok(())
 }
 
 /// A path back to the head where it begins carries nothing.
@@ -80,8 +120,8 @@ pub fn carry(
         let count = told.shelf.len();
         carry_once(told, carried.as_mut_slice(), leaves, namings)?;
         if told.shelf.len() == count {
-            return Ok(());
+            break;
         }
     }
-    Ok(())
+    carry_types(told, leaves, namings)
 }

@@ -6,7 +6,7 @@ use crate::joining::{Assembled, Plan, assemble};
 use crate::limits::least_limits;
 use crate::missing::Missing;
 use crate::needed::needed_only;
-use crate::picking::{picked, unrefuted};
+use crate::picking::{MOST, Picked, picked, unrefuted, without_spare};
 use crate::rounds::{push_all, settle};
 use candidate_lines::{Candidate, Ranking, Sight};
 use candidates::guess_told;
@@ -19,8 +19,11 @@ use solo_runs::{Observed, observe, told_by_runs};
 use std::alloc::{AllocError, Global};
 use std::thread::Threads;
 
-/// How often guesses are settled: those that fell with others up to eleven times more.
+/// How often guesses are settled: those that fell with others, and those for which there was no room, up to eleven times more.
 const CHANCES: u32 = 12;
+
+/// In how many rounds guesses that are settled once more do not fall with others.
+const PATIENCE: u32 = 60;
 
 /// How an attempt ends: with a certificate, or with loops whose rankings are not shown, and all that is not.
 #[derive(Drop)]
@@ -77,7 +80,7 @@ fn guesses(
         let more = guess_plainly(alloc, core, sights, rankings)?;
         push_new(&mut all, unrefuted(alloc, more, observed, rank)?)?;
     }
-    picked(alloc, all)
+    without_spare(alloc, all)
 }
 
 /// Guesses that stand, assembled; then without those that nothing needs, as long as some fall and all stays shown.
@@ -175,6 +178,7 @@ fn settled_once<R: Threads + Sync>(
     alloc: Global,
     setting: Setting<'_>,
     candidates: Vec<Candidate>,
+    patience: u32,
     memory: &mut Memory,
 ) -> Result<(Conclusion, Vec<Candidate>), SearchError> {
     let matter = setting.matter;
@@ -189,6 +193,7 @@ fn settled_once<R: Threads + Sync>(
         setting.rankings,
         most.as_slice(),
         matter.workers,
+        patience,
         memory,
     )?;
     let limits = least_limits(
@@ -208,7 +213,29 @@ fn settled_once<R: Threads + Sync>(
     Ok((conclusion, stands.lost))
 }
 
-/// Settled guesses; those that fell with others are tried again beside those that stand, where these do not show all.
+/// Guesses that stand and those that fell with others, with as many of the others as there is room for; nothing where all of them stand.
+fn refilled(
+    alloc: Global,
+    standing: Vec<Candidate>,
+    lost: Vec<Candidate>,
+    later: Vec<Candidate>,
+) -> Result<Option<Picked>, AllocError> {
+    let count = standing.len();
+    let mut first = standing;
+    push_all(&mut first, lost)?;
+    let more = picked(alloc, later, MOST.saturating_sub(first.len()))?;
+    push_all(&mut first, more.first)?;
+    if first.len() == count {
+        return Ok(None);
+    }
+    Ok(Some(Picked {
+        first,
+        later: more.later,
+    }))
+}
+
+/// Settled guesses. Where they do not show all, those that fell with others are tried again beside those that stand, and so are those for
+/// which there was no room.
 fn settled<R: Threads + Sync>(
     rt: &R,
     alloc: Global,
@@ -216,9 +243,11 @@ fn settled<R: Threads + Sync>(
     candidates: Vec<Candidate>,
     memory: &mut Memory,
 ) -> Result<Attempt, SearchError> {
-    let mut left = candidates;
+    let mut next = picked(alloc, candidates, MOST)?;
     for chance in 0..CHANCES {
-        let (conclusion, lost) = settled_once(rt, alloc, setting, left, memory)?;
+        let Picked { first, later } = next;
+        let patience = if chance == 0 { 0 } else { PATIENCE };
+        let (conclusion, lost) = settled_once(rt, alloc, setting, first, patience, memory)?;
         match conclusion {
             Conclusion::Made(certificate) => return Ok(Attempt::Made(certificate)),
             Conclusion::Failed {
@@ -226,11 +255,11 @@ fn settled<R: Threads + Sync>(
                 loops,
                 missing,
             } => {
-                if lost.is_empty() || chance + 1 == CHANCES {
-                    return Ok(Attempt::Failed { loops, missing });
+                let more = refilled(alloc, candidates, lost, later)?;
+                match more {
+                    Some(more) if chance + 1 < CHANCES => next = more,
+                    _ => return Ok(Attempt::Failed { loops, missing }),
                 }
-                left = candidates;
-                push_all(&mut left, lost)?;
             }
         }
     }

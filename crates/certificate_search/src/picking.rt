@@ -1,4 +1,4 @@
-//! Which guesses are settled: at most 512.
+//! Which guesses are settled: at most 512 at a time.
 
 use candidate_lines::{Candidate, Line};
 use guess_walk::may_be_said;
@@ -7,7 +7,7 @@ use solo_runs::Observed;
 use std::alloc::{AllocError, Global};
 
 /// How many guesses a board has.
-const MOST: usize = 512;
+pub const MOST: usize = 512;
 
 /// The last rank.
 const LAST: u32 = 4;
@@ -66,18 +66,41 @@ fn spare_of(alloc: Global, candidates: &[Candidate]) -> Result<Vec<bool>, AllocE
     Ok(flags)
 }
 
-/// Which of them are picked, rank by rank: 512 at most.
+/// The guesses without those that tighter ones make needless.
+pub fn without_spare(
+    alloc: Global,
+    candidates: Vec<Candidate>,
+) -> Result<Vec<Candidate>, AllocError> {
+    let spare = spare_of(alloc, candidates.as_slice())?;
+    let mut kept = Vec::new(alloc);
+    let mut number: usize = 0;
+    for candidate in candidates {
+        if !spare.get(number).copied().unwrap_or(true) {
+            kept.push(candidate)?;
+        }
+        number = number.saturating_add(1);
+    }
+    Ok(kept)
+}
+
+/// Guesses for which there is room, and those for which there is none.
+#[derive(Drop)]
+pub struct Picked {
+    pub first: Vec<Candidate>,
+    pub later: Vec<Candidate>,
+}
+
+/// Which of them are picked, rank by rank, where there is room for so many.
 fn picked_of(
     alloc: Global,
     candidates: &[Candidate],
-    spare: &[bool],
+    room: usize,
 ) -> Result<Vec<bool>, AllocError> {
     let mut flags = vec![in alloc; false; candidates.len()]?;
     let mut count: usize = 0;
     for rank in 0..LAST + 1 {
         for i in 0..candidates.len() {
-            let is_left = !spare.get(i).copied().unwrap_or(true);
-            if candidates[i].rank == rank && is_left && count < MOST {
+            if candidates[i].rank == rank && count < room {
                 if let Some(flag) = flags.get_mut(i) {
                     *flag = true;
                     count += 1;
@@ -88,17 +111,23 @@ fn picked_of(
     Ok(flags)
 }
 
-/// The first 512 of them by rank, in their order, without those that tighter ones make needless.
-pub fn picked(alloc: Global, candidates: Vec<Candidate>) -> Result<Vec<Candidate>, AllocError> {
-    let spare = spare_of(alloc, candidates.as_slice())?;
-    let flags = picked_of(alloc, candidates.as_slice(), spare.as_slice())?;
-    let mut kept = Vec::new(alloc);
+/// The first of them by rank, as many as there is room for, and the others; both in their order.
+pub fn picked(
+    alloc: Global,
+    candidates: Vec<Candidate>,
+    room: usize,
+) -> Result<Picked, AllocError> {
+    let flags = picked_of(alloc, candidates.as_slice(), room)?;
+    let mut first = Vec::new(alloc);
+    let mut later = Vec::new(alloc);
     let mut number: usize = 0;
     for candidate in candidates {
         if flags.get(number).copied().unwrap_or(false) {
-            kept.push(candidate)?;
+            first.push(candidate)?;
+        } else {
+            later.push(candidate)?;
         }
         number = number.saturating_add(1);
     }
-    Ok(kept)
+    Ok(Picked { first, later })
 }

@@ -238,7 +238,8 @@ pub fn push_all(all: &mut Vec<Candidate>, more: Vec<Candidate>) -> Result<(), Al
     Ok(())
 }
 
-/// Guesses of which each is shown by those that are left, with these rankings; at most 512 go in.
+/// Guesses of which each is shown by those that are left, with these rankings; at most 512 go in. In the first rounds, as many as there is
+/// patience, only those fall of which an obligation is not shown; in the others those that rest on them as well.
 pub fn settle<R: Threads + Sync>(
     rt: &R,
     alloc: Global,
@@ -249,6 +250,7 @@ pub fn settle<R: Threads + Sync>(
     rankings: &[Ranking],
     most: &[i64],
     workers: u32,
+    patience: u32,
     memory: &mut Memory,
 ) -> Result<Settled, SettlingError> {
     let matter = Matter {
@@ -260,7 +262,7 @@ pub fn settle<R: Threads + Sync>(
     };
     let mut left = candidates;
     let mut lost = Vec::new(alloc);
-    for _ in 0..600 {
+    for turn in 0..600 {
         match round(rt, alloc, &matter, left, workers, memory)? {
             Turn::Stands(candidates, resolved) => {
                 return Ok(Settled {
@@ -271,7 +273,11 @@ pub fn settle<R: Threads + Sync>(
             }
             Turn::Falls(parted) => {
                 left = parted.left;
-                push_all(&mut lost, parted.lost)?;
+                if turn < patience {
+                    push_all(&mut left, parted.lost)?;
+                } else {
+                    push_all(&mut lost, parted.lost)?;
+                }
             }
         }
     }

@@ -1,5 +1,6 @@
 // A list of facts decided: by sums alone, then by cuts, and by dives now and then.
 use super::answer::{Answer, Point};
+use super::congruences::{moduli_of, several};
 use super::cuts::{Cuts, cut};
 use super::dive::dive;
 use super::sums::enter_sums;
@@ -65,6 +66,37 @@ fn decide_by_sums(alloc: Global, start: Tableau, facts: &[Fact]) -> Result<Answe
     }
 }
 
+/// Decides a list without the congruences of all moduli but one.
+fn decide_with_one(
+    alloc: Global,
+    facts: &[Fact],
+    moduli: &[Option<u64>],
+    modulus: u64,
+) -> Result<Answer, Stop> {
+    let mut tableau = Tableau::new(alloc);
+    for (place, of_fact) in moduli.iter().enumerate() {
+        if of_fact.is_none_or(|own| own == modulus) {
+            if let Some(number) = enter_one(alloc, &mut tableau, facts, place)? {
+                return Ok(Answer::Proof(derive_given(alloc, number)?));
+            }
+        }
+    }
+    conclude(alloc, facts, tableau)
+}
+
+/// Decides a list by what it says with the congruences of one modulus alone.
+fn decide_by_modulus(alloc: Global, facts: &[Fact]) -> Result<Answer, Stop> {
+    let moduli = moduli_of(alloc, facts)?;
+    for modulus in several(alloc, moduli.as_slice())? {
+        match decide_with_one(alloc, facts, moduli.as_slice(), modulus) {
+            Ok(Answer::Proof(derivation)) => return Ok(Answer::Proof(derivation)),
+            Err(Stop::Memory) => return Err(Stop::Memory),
+            _ => {}
+        }
+    }
+    Err(Stop::GivenUp)
+}
+
 /// Decides a list that was given up, in other ways.
 pub fn decide_otherwise(alloc: Global, facts: &[Fact]) -> Result<Answer, Stop> {
     let mut outcome = decide_orderly(alloc, facts);
@@ -73,6 +105,9 @@ pub fn decide_otherwise(alloc: Global, facts: &[Fact]) -> Result<Answer, Stop> {
     }
     if let Err(Stop::GivenUp) = outcome {
         outcome = decide_by_sums(alloc, Tableau::orderly(alloc), facts);
+    }
+    if let Err(Stop::GivenUp) = outcome {
+        outcome = decide_by_modulus(alloc, facts);
     }
     outcome
 }
@@ -108,15 +143,29 @@ fn enter_all(
     facts: &[Fact],
     count: usize,
 ) -> Result<Option<u32>, Stop> {
-    for (place, fact) in facts.iter().enumerate().skip(count) {
-        let Ok(number) = u32::try_from(place.saturating_add(1)) else {
-            return Err(Stop::GivenUp);
-        };
-        if !fact.terms().is_empty() {
-            tableau.enter_fact(alloc, number, fact)?;
-        } else if fact.constant_part() < 0 {
-            return Ok(Some(number));
+    for place in count..facts.len() {
+        let number = enter_one(alloc, tableau, facts, place)?;
+        if number.is_some() {
+            return Ok(number);
         }
+    }
+    Ok(None)
+}
+
+/// Takes in the fact at a place of the list, or answers its number where it is a constant below 0.
+fn enter_one(
+    alloc: Global,
+    tableau: &mut Tableau,
+    facts: &[Fact],
+    place: usize,
+) -> Result<Option<u32>, Stop> {
+    let (Some(fact), Ok(number)) = (facts.get(place), u32::try_from(place.saturating_add(1))) else {
+        return Err(Stop::GivenUp);
+    };
+    if !fact.terms().is_empty() {
+        tableau.enter_fact(alloc, number, fact)?;
+    } else if fact.constant_part() < 0 {
+        return Ok(Some(number));
     }
     Ok(None)
 }

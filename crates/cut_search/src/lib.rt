@@ -7,11 +7,12 @@
 //! that point from the whole ones, and bounds on single symbols seek a whole one near it. It ends by counts of its steps, so one list has
 //! one answer. A tableau has rows of whole numbers over one denominator, with entries where they are not 0, and keeps what each slack, a
 //! fact or a cut that is at least 0, and each symbol is over the variables that have no row. A step lets one of those in for a slack that
-//! is below 0. A number that leaves `i64` ends the search. A list that is given up is tried once more in another order of steps, and then
-//! with all sums of two facts that round.
+//! is below 0. A number that leaves `i64` ends the search. A list that is given up is tried once more in another order of steps, then with
+//! all sums of two facts that round, then with the congruences of one modulus alone.
 #![tactic(auto)]
 
 mod answer;
+mod congruences;
 mod cuts;
 mod deciding;
 mod dive;

@@ -1,4 +1,5 @@
-//! The launches under which work-items run: the least one, the greatest one and mixed ones, if they meet the conditions.
+//! The launches under which work-items run: the least one, the greatest one, two with the ends of the arguments' ranges in turn, as a loop
+//! from one argument to the next has its most turns, and mixed ones, if they meet the conditions.
 
 use crate::random::Random;
 use launch::conditions::{ArgumentRange, Conditions, CountRange, Length};
@@ -9,7 +10,7 @@ use std::alloc::{AllocError, Global};
 use words::Word;
 
 /// So many launches, at most.
-const LAUNCHES: usize = 4;
+const LAUNCHES: usize = 6;
 
 /// So many are tried for them.
 const TRIES: u32 = 16;
@@ -53,6 +54,15 @@ fn argument_of(random: &mut Random, attempt: u32, range: &ArgumentRange) -> Word
     }
 }
 
+/// The try whose ends the argument at that place takes: the third and the fourth try take low ends and high ends in turn.
+fn turned(attempt: u32, place: u32) -> u32 {
+    match attempt {
+        2 => place & 1,
+        3 => (place & 1) ^ 1,
+        _ => attempt,
+    }
+}
+
 fn counts_of(random: &mut Random, attempt: u32, conditions: &Conditions) -> Counts {
     let groups = conditions.groups;
     let x = count_of(random, attempt, groups.x);
@@ -69,8 +79,8 @@ fn tried(
 ) -> Result<Launch, AllocError> {
     let groups = counts_of(random, attempt, conditions);
     let mut arguments = Vec::new(alloc);
-    for range in conditions.arguments.iter() {
-        arguments.push(argument_of(random, attempt, range))?;
+    for (place, range) in (0u32..).zip(conditions.arguments.iter()) {
+        arguments.push(argument_of(random, turned(attempt, place), range))?;
     }
     Ok(Launch {
         groups,

@@ -75,6 +75,16 @@ pub struct Named {
 }
 
 impl Named {
+    /// One of its names comes from that owner.
+    fn is_told_by(&self, owner: Symbol) -> bool {
+        for name in self.names.as_slice() {
+            if name.owner == owner {
+                return true;
+            }
+        }
+        false
+    }
+
     /// The least number of times that a name tells of the symbol.
     pub fn least_factor(&self) -> Option<i64> {
         let mut least: Option<i64> = None;
@@ -151,6 +161,22 @@ impl Names {
         names.push(name)?;
         self.list.push(Named { symbol, names })?;
         Ok(())
+    }
+
+    /// One more name for a symbol that has some, if its owner told none of them.
+    pub fn put_beside(
+        &mut self,
+        alloc: Global,
+        symbol: Symbol,
+        name: Option<Name>,
+    ) -> Result<(), AllocError> {
+        let (Some(name), Some(named)) = (name, self.find(symbol)) else {
+            return Ok(());
+        };
+        if named.is_told_by(name.owner) {
+            return Ok(());
+        }
+        self.put(alloc, symbol, name)
     }
 
     /// The form with names in place of the symbols, each the best that its coefficient admits and that is not left out.

@@ -47,6 +47,7 @@ impl Naming {
         naming.take_ranks(alloc, leaf)?;
         naming.name_plainly(alloc)?;
         naming.name_by_sums(alloc)?;
+        naming.name_beside(alloc)?;
         Ok(naming)
     }
 
@@ -122,6 +123,20 @@ impl Naming {
         Ok(())
     }
 
+    /// One more name, behind all others, of each symbol that a value has beside those of the launch and of the item: of `row + groups`, which
+    /// is `row` at the end and was `@row`, that it is `row` less the groups.
+    fn name_beside(&mut self, alloc: Global) -> Result<(), AllocError> {
+        for value in self.values.as_slice() {
+            if let Some(term) = only_own(&value.form) {
+                if let Some(others) = without_term(alloc, &value.form, term)? {
+                    let told = Name::told(alloc, value.owner, term.coefficient, &others)?;
+                    self.names.put_beside(alloc, term.symbol, told)?;
+                }
+            }
+        }
+        Ok(())
+    }
+
     /// Names that values of several symbols tell, where only one has no name yet.
     fn name_by_sums(&mut self, alloc: Global) -> Result<(), AllocError> {
         for value in self.ranks.as_slice() {
@@ -136,6 +151,20 @@ impl Naming {
         }
         Ok(())
     }
+}
+
+/// The one term of a sum whose symbol is not of the launch or the item, if there is just one.
+fn only_own(form: &Form) -> Option<Term> {
+    let mut found = None;
+    for term in form.terms() {
+        if !is_global(term.symbol) {
+            if found.is_some() {
+                return None;
+            }
+            found = Some(*term);
+        }
+    }
+    if form.terms().len() > 1 { found } else { None }
 }
 
 /// The value at the anchor, where it is told.

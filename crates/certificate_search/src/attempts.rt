@@ -6,7 +6,7 @@ use crate::joining::{Assembled, Plan, assemble};
 use crate::limits::least_limits;
 use crate::missing::Missing;
 use crate::needed::needed_only;
-use crate::picking::{MOST, Picked, picked, unrefuted, without_spare};
+use crate::picking::{MOST, Picked, pick, unrefuted, without_spare};
 use crate::rounds::{push_all, settle};
 use candidate_lines::{Candidate, Ranking, Sight};
 use candidates::guess_told;
@@ -223,7 +223,7 @@ fn refilled(
     let count = standing.len();
     let mut first = standing;
     push_all(&mut first, lost)?;
-    let more = picked(alloc, later, MOST.saturating_sub(first.len()))?;
+    let more = pick(alloc, later, MOST.saturating_sub(first.len()))?;
     push_all(&mut first, more.first)?;
     if first.len() == count {
         return Ok(None);
@@ -243,7 +243,7 @@ fn settled<R: Threads + Sync>(
     candidates: Vec<Candidate>,
     memory: &mut Memory,
 ) -> Result<Attempt, SearchError> {
-    let mut next = picked(alloc, candidates, MOST)?;
+    let mut next = pick(alloc, candidates, MOST)?;
     for chance in 0..CHANCES {
         let Picked { first, later } = next;
         let patience = if chance == 0 { 0 } else { PATIENCE };

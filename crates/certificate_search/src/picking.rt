@@ -112,11 +112,7 @@ fn picked_of(
 }
 
 /// The first of them by rank, as many as there is room for, and the others; both in their order.
-pub fn picked(
-    alloc: Global,
-    candidates: Vec<Candidate>,
-    room: usize,
-) -> Result<Picked, AllocError> {
+pub fn pick(alloc: Global, candidates: Vec<Candidate>, room: usize) -> Result<Picked, AllocError> {
     let flags = picked_of(alloc, candidates.as_slice(), room)?;
     let mut first = Vec::new(alloc);
     let mut later = Vec::new(alloc);

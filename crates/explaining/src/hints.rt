@@ -24,12 +24,14 @@ struct Hint {
     reason: Reason,
 }
 
-/// The terms on which something depends: those that are left, which variables were met, and what was found.
+/// The terms on which something depends: those that are left, which variables were met, and what was found; steps count where one of the
+/// findings is a data race.
 #[derive(Drop)]
 struct Slice<'a> {
     left: Vec<&'a Term>,
     met: Vec<bool>,
     hints: Vec<Hint>,
+    has_race: bool,
 }
 
 /// A finding is of that site.
@@ -98,8 +100,27 @@ impl<'a> Slice<'a> {
         Ok(())
     }
 
+    /// What is known of a variable's step.
+    fn push_step(&mut self, slots: &Slots, slot: u32, value: &Term) -> Result<(), AllocError> {
+        match slots.step(slot, value) {
+            Some(site) if self.has_race => {
+                self.hints.push(Hint {
+                    site,
+                    reason: Reason::Step,
+                })?;
+                Ok(())
+            }
+            _ => Ok(()),
+        }
+    }
+
     /// A variable depends on all values that it gets.
-    fn meet(&mut self, statements: &[&'a Statement], wanted: u32) -> Result<(), AllocError> {
+    fn meet(
+        &mut self,
+        statements: &[&'a Statement],
+        slots: &Slots,
+        wanted: u32,
+    ) -> Result<(), AllocError> {
         let Some(is_met) = self.met.get_mut(wanted as usize) else {
             return Ok(());
         };
@@ -111,6 +132,7 @@ impl<'a> Slice<'a> {
             if let Statement::Set { slot, value, .. } = *statement {
                 if *slot == wanted {
                     put(&mut self.left, value)?;
+                    self.push_step(slots, *slot, value)?;
                 }
             }
         }
@@ -157,7 +179,7 @@ impl<'a> Slice<'a> {
                 self.hints.push(Hint { site, reason })?;
             }
             match term {
-                Term::Variable { slot } => self.meet(statements, *slot)?,
+                Term::Variable { slot } => self.meet(statements, slots, *slot)?,
                 _ => self.push_operands(term)?,
             }
         }
@@ -174,9 +196,11 @@ fn hints_of(alloc: Global, core: &Core, findings: &[Finding]) -> Result<Vec<Hint
         left: Vec::new(alloc),
         met: vec![in alloc; false; count]?,
         hints: Vec::new(alloc),
+        has_race: false,
     };
     for finding in findings {
         if let Grade::Possible = finding.grade {
+            slice.has_race |= finding.kind == Kind::Race;
             for statement in statements.iter() {
                 slice.begin(alloc, finding, statement)?;
             }

@@ -14,6 +14,7 @@ pub enum Reason {
     SignedMask,
     Bits,
     Loaded,
+    Step,
 }
 
 impl Reason {
@@ -27,6 +28,7 @@ impl Reason {
             Reason::SignedMask => "mask of an int that may be negative",
             Reason::Bits => "bits of two values",
             Reason::Loaded => "loaded, so any value until it is tested",
+            Reason::Step => "step that is no number, unless one count of groups is allowed",
         }
     }
 }
@@ -79,6 +81,18 @@ fn may_dip(term: &Term, dips: &[bool], kind: Kind) -> bool {
         } => may_dip(left, dips, kind) || may_dip(right, dips, kind),
         _ => false,
     }
+}
+
+fn is_variable(term: &Term, wanted: u32) -> bool {
+    match term {
+        Term::Variable { slot } => *slot == wanted,
+        _ => false,
+    }
+}
+
+/// A variable, an argument, an id or a size.
+fn is_plain(term: &Term) -> bool {
+    matches!(term, Term::Variable { .. } | Term::Id { .. })
 }
 
 impl Slots {
@@ -143,6 +157,23 @@ impl Slots {
             Some(Reason::SignedMask)
         } else {
             None
+        }
+    }
+
+    /// Where a variable steps by a size, an argument or a variable that is no number, if that is its value.
+    pub fn step(&self, slot: u32, value: &Term) -> Option<Site> {
+        match value {
+            Term::Convert { of, .. } => self.step(slot, of),
+            Term::Binary {
+                operator: Operator::Add | Operator::Subtract,
+                site,
+                left,
+                right,
+                ..
+            } if is_variable(left, slot) && is_plain(right) && !self.is_number(right) => Some(
+                *site,
+            ),
+            _ => None,
         }
     }
 

@@ -34,7 +34,8 @@ fn takes_off(form: &Form) -> bool {
     form.terms().iter().any(|term| term.coefficient < 0)
 }
 
-/// Carries on along one path that a `uint` is not below 0, where another one falls as that grows: of `y = 9 - x` that `y` is at most 9.
+/// Carries on along one path that a `uint` is not below 0, where another one falls as that grows: of `y = 9 - x` that `y` is at most 9, by
+/// each name that `x` has.
 fn carry_natural(
     told: &mut Gathering<'_>,
     slot: u32,
@@ -42,10 +43,13 @@ fn carry_natural(
     naming: &Naming,
 ) -> Result<(), AllocError> {
     let own = one_of(told.alloc, variable(slot))?;
-    match naming.project(told.alloc, &own)? {
-        Some(form) if takes_off(&form) => told.add_fact(leaf.to, &form, CARRIED),
-        _ => Ok(()),
+    let forms = naming.all_names(told.alloc, &own)?;
+    for form in forms.iter() {
+        if takes_off(form) {
+            told.add_fact(leaf.to, form, CARRIED)?;
+        }
     }
+    Ok(())
 }
 
 /// Carries on along all paths what types say.
@@ -106,12 +110,13 @@ fn carry_once(
     Ok(())
 }
 
-/// Carries on along all paths, until nothing is new or often enough.
+/// Carries on along all paths what types say, then all that is told, until nothing is new or often enough.
 pub fn carry(
     told: &mut Gathering<'_>,
     leaves: &[Leaf],
     namings: &[Naming],
 ) -> Result<(), AllocError> {
+    carry_types(told, leaves, namings)?;
     let mut carried = Vec::new(told.alloc);
     for _ in leaves {
         carried.push(0usize)?;
@@ -120,8 +125,8 @@ pub fn carry(
         let count = told.shelf.len();
         carry_once(told, carried.as_mut_slice(), leaves, namings)?;
         if told.shelf.len() == count {
-            break;
+            return Ok(());
         }
     }
-    carry_types(told, leaves, namings)
+    Ok(())
 }

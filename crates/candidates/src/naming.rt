@@ -4,7 +4,8 @@ use crate::aliases::Aliases;
 use crate::names::{Except, Name, Named, Names};
 use crate::sums::plus_symbol;
 use candidate_lines::{
-    Leaf, Sight, at_anchor, family, is_global, try_difference, try_multiple, turns, variable,
+    Leaf, Sight, at_anchor, copied, family, is_global, try_difference, try_multiple, turns,
+    variable,
 };
 use linear::{Form, Symbol, Term};
 use std::alloc::{AllocError, Global};
@@ -62,6 +63,23 @@ impl Naming {
             return Ok(None);
         };
         self.names.rewritten(alloc, &form, except)
+    }
+
+    /// All that a symbol is called at the place reached, each so many times as its owner has it.
+    pub fn all_names(&self, alloc: Global, symbol: &Form) -> Result<Vec<Form>, AllocError> {
+        let mut found = Vec::new(alloc);
+        let Some(form) = self.aliases.settled(alloc, symbol)? else {
+            return Ok(found);
+        };
+        let [term] = form.terms() else {
+            return Ok(found);
+        };
+        if let Some(named) = self.names.find(term.symbol) {
+            for name in named.names.as_slice() {
+                found.push(copied(alloc, &name.form)?)?;
+            }
+        }
+        Ok(found)
     }
 
     /// Forms that are 0 at the place reached: the best name of a symbol less another one that a variable told.

@@ -114,12 +114,14 @@ fn lacking_of(alloc: Global, count: usize, demands: &[Demand]) -> Result<Vec<boo
     Ok(flags)
 }
 
-/// The guesses of a set, and those of the others of which each obligation was shown.
+/// The guesses of a set, and those of the others of which each obligation was shown; all others, where guesses that may be true have fallen
+/// before, for want of which an obligation may not have been shown.
 fn part(
     alloc: Global,
     candidates: Vec<Candidate>,
     set: &Set,
     lacking: &[bool],
+    is_sure: bool,
 ) -> Result<Parted, AllocError> {
     let mut left = Vec::new(alloc);
     let mut lost = Vec::new(alloc);
@@ -127,7 +129,7 @@ fn part(
     for candidate in candidates {
         if set.contains(number) {
             left.push(candidate)?;
-        } else if !lacking.get(number as usize).copied().unwrap_or(true) {
+        } else if !is_sure || !lacking.get(number as usize).copied().unwrap_or(true) {
             lost.push(candidate)?;
         }
         number = number.saturating_add(1);
@@ -210,13 +212,14 @@ enum Turn {
     Falls(Parted),
 }
 
-/// One round.
+/// One round. It is sure of what has an obligation that nothing shows, as long as nothing fell with others before.
 fn round<R: Threads + Sync>(
     rt: &R,
     alloc: Global,
     matter: &Matter<'_>,
     candidates: Vec<Candidate>,
     workers: u32,
+    is_sure: bool,
     memory: &mut Memory,
 ) -> Result<Turn, SettlingError> {
     let asked = ask(alloc, matter, candidates.as_slice(), memory)?;
@@ -224,7 +227,7 @@ fn round<R: Threads + Sync>(
     if any_lacks(demands) {
         let set = left_of(rt, alloc, candidates.len(), demands, workers)?;
         let lacking = lacking_of(alloc, candidates.len(), demands)?;
-        let parted = part(alloc, candidates, &set, lacking.as_slice())?;
+        let parted = part(alloc, candidates, &set, lacking.as_slice(), is_sure)?;
         return Ok(Turn::Falls(parted));
     }
     Ok(Turn::Stands(candidates, asked.resolved))
@@ -263,7 +266,7 @@ pub fn settle<R: Threads + Sync>(
     let mut left = candidates;
     let mut lost = Vec::new(alloc);
     for turn in 0..600 {
-        match round(rt, alloc, &matter, left, workers, memory)? {
+        match round(rt, alloc, &matter, left, workers, lost.is_empty(), memory)? {
             Turn::Stands(candidates, resolved) => {
                 return Ok(Settled {
                     candidates,

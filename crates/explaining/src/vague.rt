@@ -28,7 +28,8 @@ impl Reason {
             Reason::SignedMask => "mask of an int that may be negative",
             Reason::Bits => "bits of two values",
             Reason::Loaded => "loaded, so any value until it is tested",
-            Reason::Step => "step that is no number, unless one count of groups is allowed",
+            Reason::Step =>
+                "step that is no number (a size is one where one count of groups is allowed)",
         }
     }
 }

@@ -2,10 +2,12 @@
 
 use crate::carrying::carry;
 use crate::courses::Courses;
+use crate::drifts::tell_drifts;
 use crate::gathering::Gathering;
 use crate::growth::tell_growth;
 use crate::leaf_lines::tell_leaf;
 use crate::naming::Naming;
+use crate::paces::tell_paces;
 use crate::single_values::{Given, given_values};
 use crate::stride_lines::{all_strides, tell_strides};
 use crate::turns::sure_steps;
@@ -65,6 +67,8 @@ pub fn guess_told(
     tell_strides(&mut told, &courses)?;
     tell_growth(&mut told, &courses, leaves, values.as_slice())?;
     tell_weaker(&mut told, leaves)?;
+    tell_drifts(&mut told, &courses, leaves, values.as_slice())?;
+    tell_paces(&mut told, &courses, leaves)?;
     told.add_unreached()?;
     let mut strides = all_strides(alloc, &courses)?;
     let more = sure_steps(alloc, sights, leaves, values.as_slice(), known)?;

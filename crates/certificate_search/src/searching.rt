@@ -14,11 +14,12 @@ use solo_runs::observe;
 use std::alloc::{AllocError, Global};
 use std::thread::Threads;
 
-/// The ways in which loops may end, and whether runs refute all of some loop.
+/// The ways in which loops may end, whether runs refute all of some loop, and whether there is a place but the entry to guess at.
 #[derive(Drop)]
 struct Ways {
     options: Vec<Options>,
     is_hopeless: bool,
+    has_guesses: bool,
 }
 
 /// A first walk, with the rankings that the kernel's text tells.
@@ -68,6 +69,7 @@ fn find_ways(
     Ok(Ways {
         options,
         is_hopeless,
+        has_guesses: hoped.sights.len() > 1,
     })
 }
 
@@ -146,7 +148,7 @@ fn search_named<R: Threads + Sync>(
         if let Some(certificate) = found {
             return Ok(certificate);
         }
-        if ways.is_hopeless {
+        if ways.is_hopeless || !ways.has_guesses {
             return Err(shortfall.told());
         }
     }

@@ -12,6 +12,7 @@ use crate::meaning::{POSSIBLE, meaning};
 use crate::paragraph::push_paragraph;
 use crate::scene::{push_scene, site_of};
 use crate::source::{push_label, push_site};
+use crate::steps::push_steps;
 use crate::titles::{confirmed, label, meant, possible};
 use core_code::tree::Site;
 use findings::{Finding, Grade, Spot};
@@ -29,6 +30,14 @@ use types::typed::Typed;
 struct Subject<'a> {
     kernel: &'a [u8],
     conditions: &'a [u8],
+}
+
+/// The number of a refusal, what was found, and the certificate of which the steps pass the budget, where they do.
+#[derive(Clone, Copy)]
+pub struct Refused<'a> {
+    pub number: u8,
+    pub findings: &'a [Finding],
+    pub over_budget: Option<&'a [u8]>,
 }
 
 /// The number and the title of a finding.
@@ -195,34 +204,48 @@ fn push_findings(
     Ok(())
 }
 
+/// How many steps a work-item takes by a certificate.
+fn push_cost(
+    alloc: Global,
+    kernel: &[u8],
+    certificate: &[u8],
+    out: &mut String,
+) -> Result<(), AllocError> {
+    match read_proper_kernel(alloc, kernel) {
+        Ok(typed) => push_steps(alloc, kernel, &typed, certificate, out),
+        Err(_) => Err(AllocError),
+    }
+}
+
 /// What a refusal means.
 fn explanation(
     alloc: Global,
     subject: Subject,
-    number: u8,
-    findings: &[Finding],
+    refused: &Refused<'_>,
 ) -> Result<String, AllocError> {
     let mut out = String::new(alloc);
-    if findings.is_empty() {
+    if refused.findings.is_empty() {
         out.push_str("\n")?;
-        push_paragraph(&mut out, "", meaning(number))?;
+        push_paragraph(&mut out, "", meaning(refused.number))?;
     }
-    push_findings(alloc, subject, findings, &mut out)?;
+    push_findings(alloc, subject, refused.findings, &mut out)?;
+    if let Some(certificate) = refused.over_budget {
+        push_cost(alloc, subject.kernel, certificate, &mut out)?;
+    }
     Ok(out)
 }
 
-/// What a refusal of a number with these findings means, behind what is written.
+/// What a refusal means, behind what is written.
 pub fn explain(
     alloc: Global,
     kernel: &[u8],
     conditions: &[u8],
-    number: u8,
-    findings: &[Finding],
+    refused: &Refused<'_>,
     out: &mut String,
 ) -> Result<(), AllocError>
     ensures { OnOk result ((more : List ℕ) × (string_bytes out.new ≡ string_bytes out.old ++ more)) }
 {
     let subject = Subject { kernel, conditions };
-    let text = explanation(alloc, subject, number, findings)?;
+    let text = explanation(alloc, subject, refused)?;
     out.push_str(&text)
 }

@@ -15,7 +15,8 @@ mod parts;
 mod scene;
 mod schedule;
 mod source;
+mod steps;
 mod titles;
 mod vague;
 
-pub use explanation::explain;
+pub use explanation::{Refused, explain};

@@ -12,7 +12,7 @@ use linear::Form;
 use std::alloc::{AllocError, Global};
 
 /// How many guesses there are at most.
-const MOST: usize = 512;
+const MOST: usize = 2_048;
 
 /// What is at hand anywhere in a kernel.
 #[derive(Drop)]
@@ -181,7 +181,7 @@ fn keep_anchored(
     Ok(())
 }
 
-/// How what ranked the loops around stands to what ranks them.
+/// How what ranked the loops around stands to what ranks them, and that it was above 0.
 fn keep_ranks(
     alloc: Global,
     sight: &Sight,
@@ -192,6 +192,7 @@ fn keep_ranks(
         if sight.loops.as_slice().contains(&ranking.number) {
             let before = one_of(alloc, turns(ranking.number))?;
             shelf.keep_both(alloc, sight, &before, &ranking.form)?;
+            shelf.keep_at_least(alloc, sight, &before, &Form::constant(alloc, 1))?;
         }
     }
     Ok(())
@@ -217,12 +218,13 @@ fn keep_multiples(
     Ok(())
 }
 
-/// That a variable is above an earlier one or an argument, or below it.
+/// That a variable is more than an earlier one or an argument by a number at least, or less.
 fn keep_orders(
     alloc: Global,
     sight: &Sight,
     slots: &[u32],
     arguments: &[Form],
+    number: i64,
     shelf: &mut Shelf,
 ) -> Result<(), AllocError> {
     for slot in slots {
@@ -230,11 +232,11 @@ fn keep_orders(
         for earlier in slots {
             if *earlier < *slot {
                 let other = one_of(alloc, variable(*earlier))?;
-                shelf.keep_apart(alloc, sight, &own, &other)?;
+                shelf.keep_apart(alloc, sight, &own, &other, number)?;
             }
         }
         for argument in arguments {
-            shelf.keep_apart(alloc, sight, &own, argument)?;
+            shelf.keep_apart(alloc, sight, &own, argument, number)?;
         }
     }
     Ok(())
@@ -259,7 +261,9 @@ fn keep_place(
     for slot in slots {
         keep_multiples(alloc, sight, *slot, hand, shelf)?;
     }
-    keep_orders(alloc, sight, slots, hand.arguments.as_slice(), shelf)
+    let arguments = hand.arguments.as_slice();
+    keep_orders(alloc, sight, slots, arguments, 1, shelf)?;
+    keep_orders(alloc, sight, slots, arguments, -1, shelf)
 }
 
 /// It is not the kernel's entry.
@@ -268,8 +272,8 @@ fn is_place(sight: &Sight) -> bool {
 }
 
 /// The last guesses, of each place but the entry: differences of a variable and of numbers of the kernel, ids, arguments and other
-/// variables, what divides them, how the loops around are ranked, and which variable is above which. Each place may fill what is left of
-/// the room, shared out evenly.
+/// variables, what divides them, how the loops around are ranked, which variable is above which, and which are at most one apart. Each
+/// place may fill what is left of the room, shared out evenly.
 pub fn guess_plainly(
     alloc: Global,
     core: &Core,

@@ -71,33 +71,35 @@ impl Shelf {
         self.keep_at_least(alloc, sight, right, left)
     }
 
-    /// The first form is above the second one.
-    fn keep_above(
+    /// The first form is at least the second one and a number.
+    fn keep_beyond(
         &mut self,
         alloc: Global,
         sight: &Sight,
         greater: &Form,
         smaller: &Form,
+        number: i64,
     ) -> Result<(), AllocError> {
         if self.is_full() {
             return Ok(());
         }
-        match plus(alloc, smaller, 1)? {
+        match plus(alloc, smaller, number)? {
             Some(least) => self.keep_at_least(alloc, sight, greater, &least),
             None => Ok(()),
         }
     }
 
-    /// Each is above the other one.
+    /// Each is at least the other one and a number.
     pub fn keep_apart(
         &mut self,
         alloc: Global,
         sight: &Sight,
         left: &Form,
         right: &Form,
+        number: i64,
     ) -> Result<(), AllocError> {
-        self.keep_above(alloc, sight, left, right)?;
-        self.keep_above(alloc, sight, right, left)
+        self.keep_beyond(alloc, sight, left, right, number)?;
+        self.keep_beyond(alloc, sight, right, left, number)
     }
 
     /// A number divides a form.

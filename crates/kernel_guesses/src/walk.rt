@@ -1,6 +1,7 @@
 //! The loops of a kernel, one after the other.
 
 use crate::frame::Frame;
+use crate::scan::numbers_of;
 use crate::test_forms::keep_test;
 use crate::turning::{Turning, turn_all};
 use crate::ways::{Options, are_seen};
@@ -11,6 +12,7 @@ use std::alloc::{AllocError, Global};
 #[derive(Drop)]
 struct Given<'a> {
     frame: Frame,
+    numbers: Vec<u64>,
     strides: &'a [(u32, i64)],
 }
 
@@ -52,6 +54,19 @@ fn keep_head(
     let mut forms = Vec::new(alloc);
     keep_test(alloc, &given.frame, text.test, true, &mut forms)?;
     options.keep_tests(alloc, forms.as_slice(), turning)
+}
+
+/// What the test at the head tells of a queue.
+fn keep_ends(
+    alloc: Global,
+    given: &Given,
+    text: LoopText,
+    turning: &Turning,
+    options: &mut Options,
+) -> Result<(), AllocError> {
+    let mut forms = Vec::new(alloc);
+    keep_test(alloc, &given.frame, text.test, true, &mut forms)?;
+    options.keep_rooms(alloc, forms.as_slice(), turning, given.numbers.as_slice())
 }
 
 /// The statements end by leaving the loop.
@@ -122,6 +137,7 @@ fn options_of(
     let mut options = Options::new(alloc, text.number);
     keep_head(alloc, given, text, &turning, &mut options)?;
     keep_exits(alloc, given, seen, text, &turning, &mut options)?;
+    keep_ends(alloc, given, text, &turning, &mut options)?;
     Ok(options)
 }
 
@@ -198,6 +214,7 @@ pub fn guess_rankings(
 ) -> Result<Vec<Options>, AllocError> {
     let given = Given {
         frame: Frame::of(alloc, core)?,
+        numbers: numbers_of(alloc, core)?,
         strides,
     };
     let mut walk = Walk {

@@ -4,7 +4,8 @@ use crate::frame::Frame;
 use crate::test_forms::TestForm;
 use crate::turning::Turning;
 use candidate_lines::{
-    Descent, Ranking, copied, family, index_of, is_same, plus, try_multiple, try_sum, variable,
+    Descent, Ranking, copied, family, index_of, is_same, one_of, plus, try_difference,
+    try_multiple, try_sum, variable,
 };
 use linear::{Form, Symbol};
 use std::alloc::{AllocError, Global};
@@ -88,6 +89,26 @@ impl Options {
         self.keep_sums(alloc, forms)
     }
 
+    /// What a test tells of a queue: where both of its ends move, `tail - head`, as of room for 32, `32 - head`.
+    pub fn keep_rooms(
+        &mut self,
+        alloc: Global,
+        forms: &[TestForm],
+        turning: &Turning,
+        numbers: &[u64],
+    ) -> Result<(), AllocError> {
+        for given in forms {
+            if let Some(rest) = without_end(alloc, &given.form, turning)? {
+                for number in numbers {
+                    if let Some(form) = with_room(alloc, &rest, *number)? {
+                        self.keep_down(form)?;
+                    }
+                }
+            }
+        }
+        Ok(())
+    }
+
     /// The sums of two forms of a test, one of which falls in each turn, as in a merge.
     fn keep_sums(&mut self, alloc: Global, forms: &[TestForm]) -> Result<(), AllocError> {
         for (place, given) in forms.iter().enumerate() {
@@ -145,6 +166,38 @@ impl Options {
             self.keep_twice(alloc, &given.form)?;
         }
         self.keep_before(alloc, &given.form, 1)
+    }
+}
+
+/// A variable that steps in the loop.
+fn is_moving(symbol: Symbol, turning: &Turning) -> bool {
+    for stride in turning.strides.as_slice() {
+        if variable(stride.slot) == symbol {
+            return true;
+        }
+    }
+    false
+}
+
+/// The difference of two variables that both step, without the first one.
+fn without_end(alloc: Global, form: &Form, turning: &Turning) -> Result<Option<Form>, AllocError> {
+    let (first, second) = match form.terms() {
+        [one, other] if one.coefficient == 1 && other.coefficient == -1 => (one, other),
+        [one, other] if one.coefficient == -1 && other.coefficient == 1 => (other, one),
+        _ => return Ok(None),
+    };
+    if !is_moving(first.symbol, turning) || !is_moving(second.symbol, turning) {
+        return Ok(None);
+    }
+    let end = one_of(alloc, first.symbol)?;
+    try_difference(alloc, form, &end)
+}
+
+/// A number above 1 and a form.
+fn with_room(alloc: Global, form: &Form, number: u64) -> Result<Option<Form>, AllocError> {
+    match i64::try_from(number) {
+        Ok(room) if room > 1 => plus(alloc, form, room),
+        _ => Ok(None),
     }
 }
 

@@ -6,11 +6,21 @@ use candidate_lines::{
 use linear::{Form, Symbol};
 use std::alloc::{AllocError, Global};
 
-/// So many different states are kept of a place, of the first steps of all runs.
-const STATES: usize = 160;
+/// So many different states are kept of a place, of the first steps of all runs, and so many more for each run, so that the first ones do
+/// not take the room of the others.
+const STATES: u64 = 96;
+
+const STATES_OF_RUN: u64 = 8;
 
 /// And so many of their later steps.
-const LATE: u64 = 160;
+const LATE: u64 = 96;
+
+const LATE_OF_RUN: u64 = 6;
+
+/// So much for all runs, and so much for each one that has begun.
+fn room(all: u64, of_run: u64, runs: u64) -> u64 {
+    of_run.saturating_mul(runs).saturating_add(all)
+}
 
 /// The values of the symbols at a place, by its number in the list of sights.
 #[derive(Drop)]
@@ -50,14 +60,14 @@ struct Place {
 
 impl Place {
     /// A state of a run's early steps is to be kept.
-    fn is_open(&self) -> bool {
-        (self.marks.len() as u64) < (STATES as u64).saturating_add(self.late)
+    fn is_open(&self, runs: u64) -> bool {
+        (self.marks.len() as u64) < room(STATES, STATES_OF_RUN, runs).saturating_add(self.late)
     }
 
     /// The same among a run's later steps: at each visit up to the 32nd, then at one of two, of three and so on, so that also a loop's last
     /// turns are seen.
-    fn is_open_late(&mut self) -> bool {
-        if self.late >= LATE || self.visits < self.next {
+    fn is_open_late(&mut self, runs: u64) -> bool {
+        if self.late >= room(LATE, LATE_OF_RUN, runs) || self.visits < self.next {
             return false;
         }
         self.late = self.late.saturating_add(1);
@@ -184,12 +194,13 @@ impl Observed {
         is_late: bool,
     ) -> Option<usize> {
         let at = self.place_of(anchor, head)?;
+        let runs = self.runs.len() as u64;
         let place = self.places.get_mut(at)?;
         place.visits = place.visits.saturating_add(1);
         let is_open = if is_late {
-            place.is_open_late()
+            place.is_open_late(runs)
         } else {
-            place.is_open()
+            place.is_open(runs)
         };
         if is_open { Some(at) } else { None }
     }

@@ -11,48 +11,68 @@ use crate::refusal::Refusal;
 use crate::{Texts, Verdict};
 use cert_check::check;
 use cert_check::error::CheckError;
-use diagnostics::Finding;
-use explaining::explain;
+use explaining::{Refused, explain};
 use launch_text::laws::what_is_read_of_conditions_is_their_text;
+use proof_search::find_text;
 use reading::laws::bytes_are_the_text_of_what_is_read;
 use std::alloc::Global;
 use std::sync::Wait;
 use std::thread::Threads;
 use verify::VerifyError;
 
-/// What a refusal of a number with these findings means, behind what is told of it.
+/// The number of steps that pass the budget.
+const OVER_BUDGET: u8 = 56;
+
+/// What a refusal means, behind what is told of it.
 fn going_on(
     alloc: Global,
     kernel: &[u8],
     conditions: &[u8],
-    number: u8,
-    findings: &[Finding],
+    refused: &Refused<'_>,
     told: String,
 ) -> Verdict
     ensures { GoesOn (string_bytes told) result }
 {
     let mut text = told;
-    match explain(alloc, kernel, conditions, number, findings, &mut text) {
+    match explain(alloc, kernel, conditions, refused, &mut text) {
         Ok(()) => Verdict::Refused(text),
         Err(_) => Verdict::OutOfMemory,
     }
 }
 
-/// What is said where no certificate is found.
-fn unfound(alloc: Global, kernel: &[u8], conditions: &[u8], error: &VerifyError) -> Verdict
+/// What is said where no certificate is found, or one of which the steps pass the budget.
+fn unfound(
+    alloc: Global,
+    kernel: &[u8],
+    conditions: &[u8],
+    error: &VerifyError,
+    over_budget: Option<&[u8]>,
+) -> Verdict
     ensures { (workers : ℕ) (k c : List ℕ) → TellsOf error.now workers k c → Explains result k c }
 {
+    let refused = Refused {
+        number: error.number(),
+        findings: findings_of(error),
+        over_budget,
+    };
     match unproved(alloc, error) {
-        Sought::Refused(told) => going_on(
-            alloc,
-            kernel,
-            conditions,
-            error.number(),
-            findings_of(error),
-            told,
-        ),
+        Sought::Refused(told) => going_on(alloc, kernel, conditions, &refused, told),
         Sought::Found { .. } | Sought::OutOfMemory => Verdict::OutOfMemory,
     }
+}
+
+/// The certificate that is found, where a refusal of that number is of its steps.
+fn found_over_budget<R: Threads + Sync>(
+    rt: &R,
+    alloc: Global,
+    kernel: &[u8],
+    conditions: &[u8],
+    number: u8,
+) -> Option<Vec<u8>> {
+    if number != OVER_BUDGET {
+        return None;
+    }
+    find_text(rt, alloc, kernel, conditions, 1).ok()
 }
 
 /// Looks for a certificate as `prove` does, with one worker: `accepted`, or why there is none and what that means.
@@ -66,7 +86,10 @@ pub fn explain_texts<R: Threads + Wait + Sync>(
 {
     match found(rt, alloc, kernel, conditions, 1) {
         Ok(Proved { written, .. }) => Verdict::Done(written),
-        Err(error) => unfound(alloc, kernel, conditions, &error),
+        Err(error) => {
+            let certificate = found_over_budget(rt, alloc, kernel, conditions, error.number());
+            unfound(alloc, kernel, conditions, &error, certificate.as_deref())
+        }
     }
 }
 
@@ -79,8 +102,13 @@ fn unaccepted(alloc: Global, texts: Texts, error: &CheckError) -> Verdict
         number,
         place: error.place(),
     };
+    let refused = Refused {
+        number,
+        findings: &[],
+        over_budget: (number == OVER_BUDGET).then_some(texts.certificate),
+    };
     match refusal.told(alloc) {
-        Some(told) => going_on(alloc, texts.kernel, texts.conditions, number, &[], told),
+        Some(told) => going_on(alloc, texts.kernel, texts.conditions, &refused, told),
         None => Verdict::OutOfMemory,
     }
 }

@@ -13,6 +13,7 @@ mod carrying;
 mod courses;
 mod drifts;
 mod fact_lines;
+mod flags;
 mod gathering;
 mod growth;
 mod leaf_lines;

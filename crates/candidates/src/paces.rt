@@ -1,5 +1,5 @@
-//! How fast variables are that step by what is no number, beside those that step by one number: where `o` steps by two and `i` by `run`, that
-//! `o` goes at most twice as far as `i`, or at least.
+//! How fast variables are that step by what is no number, beside those that step by one number: where `o` steps by two and `i` by `run`,
+//! that `o` goes at most twice as far as `i`, or at least.
 
 use crate::courses::{Course, Courses, grown};
 use crate::gathering::Gathering;

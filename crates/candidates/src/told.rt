@@ -3,6 +3,7 @@
 use crate::carrying::carry;
 use crate::courses::Courses;
 use crate::drifts::tell_drifts;
+use crate::flags::tell_flags;
 use crate::gathering::Gathering;
 use crate::growth::tell_growth;
 use crate::leaf_lines::tell_leaf;
@@ -63,6 +64,7 @@ pub fn guess_told(
     let values = given_values(alloc, sights, leaves, unsigned.len())?;
     let mut told = Gathering::new(alloc, sights, known, unsigned)?;
     let courses = tell_leaves(&mut told, values.as_slice(), leaves, namings.as_slice())?;
+    tell_flags(&mut told, leaves, namings.as_slice())?;
     carry(&mut told, leaves, namings.as_slice())?;
     tell_strides(&mut told, &courses)?;
     tell_growth(&mut told, &courses, leaves, values.as_slice())?;

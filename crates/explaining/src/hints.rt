@@ -25,13 +25,13 @@ struct Hint {
 }
 
 /// The terms on which something depends: those that are left, which variables were met, and what was found; steps count where one of the
-/// findings is a data race.
+/// findings is of an index.
 #[derive(Drop)]
 struct Slice<'a> {
     left: Vec<&'a Term>,
     met: Vec<bool>,
     hints: Vec<Hint>,
-    has_race: bool,
+    has_index: bool,
 }
 
 /// A finding is of that site.
@@ -103,7 +103,7 @@ impl<'a> Slice<'a> {
     /// What is known of a variable's step.
     fn push_step(&mut self, slots: &Slots, slot: u32, value: &Term) -> Result<(), AllocError> {
         match slots.step(slot, value) {
-            Some(site) if self.has_race => {
+            Some(site) if self.has_index => {
                 self.hints.push(Hint {
                     site,
                     reason: Reason::Step,
@@ -191,16 +191,16 @@ impl<'a> Slice<'a> {
 fn hints_of(alloc: Global, core: &Core, findings: &[Finding]) -> Result<Vec<Hint>, AllocError> {
     let statements = statements_of(alloc, core.body.as_slice())?;
     let count = core.arguments.len().saturating_add(core.variables.len());
-    let slots = Slots::of(alloc, count, statements.as_slice())?;
+    let slots = Slots::of(alloc, core, statements.as_slice())?;
     let mut slice = Slice {
         left: Vec::new(alloc),
         met: vec![in alloc; false; count]?,
         hints: Vec::new(alloc),
-        has_race: false,
+        has_index: false,
     };
     for finding in findings {
         if let Grade::Possible = finding.grade {
-            slice.has_race |= finding.kind == Kind::Race;
+            slice.has_index |= is_of_indexes(finding.kind);
             for statement in statements.iter() {
                 slice.begin(alloc, finding, statement)?;
             }

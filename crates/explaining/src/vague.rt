@@ -1,6 +1,6 @@
 //! Operators of whose results only a range is known to the walk of a kernel.
 
-use core_code::tree::{Function, Operator, Site, Statement, Term};
+use core_code::tree::{Core, Function, Operator, Site, Statement, Term};
 use std::alloc::{AllocError, Global};
 use words::Kind;
 
@@ -84,6 +84,20 @@ fn may_dip(term: &Term, dips: &[bool], kind: Kind) -> bool {
     }
 }
 
+/// The variable of a slot is an `int`.
+fn is_int(core: &Core, slot: u32) -> bool {
+    let place = slot as usize;
+    let arguments = core.arguments.as_slice();
+    let kind = match arguments.get(place) {
+        Some(kind) => Some(kind),
+        None => core
+            .variables
+            .as_slice()
+            .get(place.saturating_sub(arguments.len())),
+    };
+    kind.is_some_and(|kind| *kind == Kind::Int)
+}
+
 fn is_variable(term: &Term, wanted: u32) -> bool {
     match term {
         Term::Variable { slot } => *slot == wanted,
@@ -117,8 +131,9 @@ impl Slots {
         }
     }
 
-    /// What is known of the variables of a kernel: one that is set twice is no number.
-    pub fn of(alloc: Global, count: usize, statements: &[&Statement]) -> Result<Slots, AllocError> {
+    /// What is known of the variables of a kernel: one that is set twice is no number, and in a loop nothing but its type is known of it.
+    pub fn of(alloc: Global, core: &Core, statements: &[&Statement]) -> Result<Slots, AllocError> {
+        let count = core.arguments.len().saturating_add(core.variables.len());
         let mut slots = Slots::new(alloc, count)?;
         let mut seen = vec![in alloc; false; count]?;
         for statement in statements {
@@ -126,6 +141,9 @@ impl Slots {
                 let is_first = !is_marked(seen.as_slice(), *slot);
                 mark(seen.as_mut_slice(), *slot, true);
                 slots.take(statement, is_first);
+                if !is_first && is_int(core, *slot) {
+                    mark(slots.dips.as_mut_slice(), *slot, true);
+                }
             }
         }
         Ok(slots)

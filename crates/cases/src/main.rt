@@ -9,6 +9,7 @@
 //!
 //!     file NAME    a file in memory begins
 //!     | TEXT       a line of it; `|\ TEXT` puts a text with `\n`, `\r`, `\t`, `\\`, `\xHH` and no line feed, `|* COUNT TEXT` does so often
+//!     |< NAME FIRST LAST    lines of a file that is there, by their numbers
 //!     $ WORDS      a command line; `kverify`'s own, or one of a part of it (see `Part`)
 //!     > TEXT       a line that it is to write; `>*` and `>\` as above
 //!     ! TEXT       a line that it is to write to the standard error
@@ -22,6 +23,7 @@ mod boards;
 mod cuts;
 mod faulty;
 mod launched;
+mod logged;
 mod marks;
 mod meeting;
 mod noted;

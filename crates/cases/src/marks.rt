@@ -79,6 +79,18 @@ pub fn push_often(alloc: Global, out: &mut Vec<u8>, told: &[u8]) -> Result<(), A
     Ok(())
 }
 
+/// The lines of a text from the first number to the last, each with its end.
+pub fn push_lines(out: &mut Vec<u8>, text: &[u8], first: u64, last: u64) -> Result<(), AllocError> {
+    let mut number = 0u64;
+    for line in text.split(|byte| *byte == b'\n') {
+        number = number.saturating_add(1);
+        if number >= first && number <= last {
+            push_line(out, line)?;
+        }
+    }
+    Ok(())
+}
+
 /// The words of a command line.
 pub fn words_of(alloc: Global, line: &[u8]) -> Result<Vec<String>, AllocError> {
     let mut words = Vec::new(alloc);

@@ -2,7 +2,7 @@
 
 use certificate::Certificate;
 use core_code::tree::Statement;
-use loop_bounds::Bound;
+use loop_bounds::{Bound, cost, turns};
 use place_names::notes_of;
 use place_obligations::{Lines, Notes};
 use places::{Place, Point, places};
@@ -80,8 +80,17 @@ fn push_lines(out: &mut String, lines: &Lines) -> Result<(), AllocError> {
 
 fn push_bound(out: &mut String, number: u32, bound: &Bound) -> Result<(), AllocError> {
     match bound {
-        Bound::Down { most, .. } => writeln!(out, "loop {number} down from {most}"),
-        Bound::Halving { most, .. } => writeln!(out, "loop {number} halves from {most}"),
+        Bound::Down { most, .. } => write!(out, "loop {number} down from {most}")?,
+        Bound::Halving { most, .. } => write!(out, "loop {number} halves from {most}")?,
+    }
+    writeln!(out, ", {} turns", turns(bound))
+}
+
+/// How many steps a work-item takes at most.
+fn push_cost(out: &mut String, typed: &Typed, notes: &Notes) -> Result<(), AllocError> {
+    match cost(typed.core(), notes.rankings.as_slice()) {
+        Ok(steps) => writeln!(out, "{steps} steps"),
+        Err(error) => writeln!(out, "refused {error}"),
     }
 }
 
@@ -103,7 +112,10 @@ fn push_named(
     certificate: &Certificate,
 ) -> Result<(), AllocError> {
     match notes_of(alloc, typed, places, certificate) {
-        Ok(Some(notes)) => push_notes(out, &notes),
+        Ok(Some(notes)) => {
+            push_notes(out, &notes)?;
+            push_cost(out, typed, &notes)
+        }
         Ok(None) => out.push_str("names what the kernel lacks\n"),
         Err(error) => writeln!(out, "refused {}", error.number()),
     }

@@ -7,6 +7,7 @@ ghost use Rattle.launch.specs.View.{launch as launch_seen};
 ghost use Rattle.work_item.specs.Proper.{is_proper};
 
 use crate::launched::{push_conditions, push_launch};
+use crate::logged::push_first_log;
 use crate::meeting::push_meeting;
 use crate::noted::{push_placed, push_site};
 use crate::play::{push_found, push_played};
@@ -42,7 +43,7 @@ pub enum Part {
     Launch,
     /// `places KERNEL`: the places of a kernel.
     Places,
-    /// `notes KERNEL CERTIFICATE`: what a certificate says of them.
+    /// `notes KERNEL CERTIFICATE`: what a certificate says of them, and how many steps a work-item takes by it at most.
     Notes,
     /// `site KERNEL NUMBER`: where the statement of a number begins.
     Site,
@@ -52,6 +53,10 @@ pub enum Part {
     Replay,
     /// `meeting KERNEL LAUNCH`: what two workers do that wait for each other.
     Meeting,
+    /// `log KERNEL CONDITIONS LAUNCH`: what the first group of a launch writes.
+    Log,
+    /// `same FILE FILE`: nothing, where two files have the same bytes.
+    Same,
 }
 
 pub fn part_of(word: &str) -> Option<Part> {
@@ -68,6 +73,8 @@ pub fn part_of(word: &str) -> Option<Part> {
         "confirm" => Some(Part::Confirm),
         "replay" => Some(Part::Replay),
         "meeting" => Some(Part::Meeting),
+        "log" => Some(Part::Log),
+        "same" => Some(Part::Same),
         _ => None,
     }
 }
@@ -146,6 +153,14 @@ fn push_certificate(alloc: Global, out: &mut String, text: &[u8]) -> Result<(), 
         Ok(certificate) => push_written(alloc, out, &certificate),
         Err(error) => push_refused(out, &error),
     }
+}
+
+/// Nothing, where two texts have the same bytes, one at least.
+fn push_compared(out: &mut String, first: &[u8], second: &[u8]) -> Result<(), AllocError> {
+    if first == second && !first.is_empty() {
+        return Ok(());
+    }
+    out.push_str("not the same\n")
 }
 
 /// What is asked of a launch.
@@ -230,6 +245,8 @@ pub fn push_part<R: Threads + Wait + Sync>(
     match asked.part {
         Part::Tokens | Part::Tree | Part::Spots => push_lexed(alloc, out, asked),
         Part::Certificate => push_certificate(alloc, out, asked.first),
+        Part::Log => push_first_log(rt, alloc, out, asked.first, asked.second, asked.third),
+        Part::Same => push_compared(out, asked.first, asked.second),
         _ => push_with_kernel(rt, alloc, out, asked),
     }
 }

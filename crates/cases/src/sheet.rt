@@ -1,7 +1,7 @@
 // Files of cases, run.
 
 use crate::answers::{Answer, answer_of};
-use crate::marks::{cut, number_of, push_escaped, push_line, push_often, words_of};
+use crate::marks::{cut, number_of, push_escaped, push_line, push_lines, push_often, words_of};
 use program::files::Files;
 use program::held::Held;
 use std::alloc::{AllocError, Global};
@@ -122,6 +122,22 @@ impl Sheet {
         self.due.command.extend_from_slice(command)
     }
 
+    /// Lines of a file that is there, as `NAME FIRST LAST` says.
+    fn tell_lines(&mut self, told: &[u8]) -> Result<(), AllocError> {
+        let (name, range) = cut(told);
+        let (first, last) = cut(range);
+        let name = shown(self.alloc, name)?;
+        match self.held.read(name.as_str(), 20_000_000) {
+            Ok(text) => push_lines(
+                &mut self.told.bytes,
+                &text,
+                number_of(first),
+                number_of(last),
+            ),
+            Err(_) => Ok(()),
+        }
+    }
+
     /// What stands behind a mark.
     fn tell(&mut self, line: usize, mark: &str, text: &[u8]) -> Result<(), AllocError> {
         match mark {
@@ -130,6 +146,7 @@ impl Sheet {
             "|" => push_line(&mut self.told.bytes, text),
             "|*" => push_often(self.alloc, &mut self.told.bytes, text),
             "|\\" => push_escaped(&mut self.told.bytes, text),
+            "|<" => self.tell_lines(text),
             ">" => push_line(&mut self.due.answer.out, text),
             ">*" => push_often(self.alloc, &mut self.due.answer.out, text),
             ">\\" => push_escaped(&mut self.due.answer.out, text),

@@ -2,6 +2,7 @@
 use Rattle.std.specs.Prelude.{◌≡◌, ℕ, List, [], ◌∷◌, map, Bool, true, false, ◌||◌, cond, Option, Some, None, slice_get, bytes_eq, codes}
 use Rattle.std.specs.Prelude.{String}
 use Rattle.std.specs.Option.{option_map}
+use Rattle.std.specs.Fmt.{decimal}
 use Rattle.std.specs.String.{string_bytes}
 use Rattle.std.specs.declared.alloc.Global.{Global}
 use Rattle.command_line.specs.declared.Names.{Names}
@@ -28,6 +29,20 @@ saved_as is_name [] = None
 saved_as true (w ∷ ws) = Some w
 saved_as false (w ∷ ws) = saved_as (bytes_eq w (codes "--out")) ws
 
+-- the word behind the first `--workers` is their number
+abbrev pub workers_as : (is_number : Bool) → List (List ℕ) → Option (List ℕ)
+workers_as is_number [] = None
+workers_as true (w ∷ ws) = Some w
+workers_as false (w ∷ ws) = workers_as (bytes_eq w (codes "--workers")) ws
+
+-- a decimal with no sign and no zero before it; 1 where there is no word
+abbrev pub IsNumberOf : Option (List ℕ) → ℕ → Type 0
+IsNumberOf None n = n ≡ 1
+IsNumberOf (Some w) n = w ≡ decimal n
+
+abbrev pub AsksWorkers : List (List ℕ) → ℕ → Type 0
+AsksWorkers ws n = IsNumberOf (workers_as false ws) n
+
 -- this is the n-th of them, from 0
 abbrev pub HasWord : List (List ℕ) → ℕ → List ℕ → Type 0
 HasWord ws n w = slice_get (operands false ws) n ≡ Some w
@@ -38,11 +53,12 @@ pub record HasNames (ws : List (List ℕ)) (names : Names) : Type 0 where
   pub conditions : HasWord ws 2 names.conditions.now
   pub certificate : HasWord ws 3 names.certificate.now
 
--- the kernel and the conditions come first, and `--out` names the file to write
+-- the kernel and the conditions come first, `--out` names the file to write, and `--workers` the number of workers
 pub record HasSearch (ws : List (List ℕ)) (search : Search) : Type 0 where
   pub kernel : HasWord ws 1 search.kernel.now
   pub conditions : HasWord ws 2 search.conditions.now
   pub out : option_map (λ w. w.now) search.out ≡ saved_as false ws
+  pub workers : AsksWorkers ws search.workers
 
 -- the kernel and the conditions come first, then the certificate, where there is one
 pub record HasSubject (ws : List (List ℕ)) (subject : Subject) : Type 0 where
@@ -53,7 +69,7 @@ pub record HasSubject (ws : List (List ℕ)) (subject : Subject) : Type 0 where
 abbrev pub Asks : List (List ℕ) → Line → Type 0
 Asks ws lines.First = ws ≡ []
 Asks ws (lines.Check names) = HasWord ws 0 (codes "check") × HasNames ws names
-Asks ws (lines.Run names launch workers) = HasWord ws 0 (codes "run") × HasNames ws names × HasWord ws 4 launch.now
+Asks ws (lines.Run names launch workers) = HasWord ws 0 (codes "run") × HasNames ws names × HasWord ws 4 launch.now × AsksWorkers ws workers
 Asks ws (lines.Prove search) = HasWord ws 0 (codes "prove") × HasSearch ws search
 Asks ws (lines.Explain subject) = HasWord ws 0 (codes "explain") × HasSubject ws subject
 Asks ws (lines.Print kernel) = HasWord ws 0 (codes "print") × HasWord ws 1 kernel.now

@@ -4,11 +4,12 @@
 #![tactic(auto)]
 
 ghost use Rattle.std.specs.Prelude.{◌≡◌, ℕ, List, IfOk, IfSome, false, codes, slice_get};
+ghost use Rattle.std.specs.Fmt.{decimal};
 ghost use Rattle.std.specs.Option.{option_map};
-ghost use Rattle.command_line.specs.Words.{texts, operands, saved_as, HasWord, HasNames, HasSubject, Asks};
+ghost use Rattle.command_line.specs.Words.{texts, operands, saved_as, workers_as, IsNumberOf, AsksWorkers, HasWord, HasNames, HasSubject, Asks};
 
 use clap::error::{Error, ErrorKind};
-use clap::{Arg, ArgAction, ArgMatches, Command};
+use clap::{Arg, ArgAction, Command};
 use std::alloc::{AllocError, Global};
 
 /// What the words ask for; a name is that of a file.
@@ -56,15 +57,14 @@ pub struct Subject<'a> {
 }
 
 /// A decimal of at most 4294967295, with no sign and no zero before it.
-fn decimal(text: &str) -> Option<u32> {
-    let bytes = text.as_bytes();
-    if bytes.len() > 1 && bytes[0] == b'0' {
-        return None;
-    }
-    if !bytes.iter().all(|b| b.is_ascii_digit()) {
-        return None;
-    }
-    text.parse::<u32>().ok()
+fn decimal(alloc: Global, text: &str) -> Result<Option<u32>, AllocError>
+    ensures { IfOk result (λ n. IfSome n (λ n. text.now ≡ decimal n)) }
+{
+    let Ok(number) = text.parse::<u32>() else {
+        return Ok(None);
+    };
+    let spelled = format!(in alloc; "{number}")?;
+    Ok((spelled.as_str() == text).then_some(number))
 }
 
 /// The words of a command: its name, its files, of which the first ones have to be there, and its options.
@@ -172,30 +172,53 @@ fn names_of<'a>(words: &'a [String]) -> Option<Names<'a>>
 }
 
 /// Want of memory is told apart from words that are no command line.
-fn unread(error: &Error) -> Result<Option<u32>, AllocError> {
+fn unread(error: &Error) -> Result<bool, AllocError> {
     if error.kind() == ErrorKind::OutOfMemory {
         return Err(AllocError);
     }
-    Ok(None)
+    Ok(false)
 }
 
-/// The number of workers, 1 where there is no option; none where it is no number.
-fn workers_of(matches: &ArgMatches<'_>) -> Option<u32> {
-    match matches.get_str("workers") {
-        Some(text) => decimal(text),
-        None => Some(1),
+/// The word behind the first `--workers`.
+fn workers_word(words: &[String]) -> Option<&str>
+    ensures { option_map (λ w. w.now) result ≡ workers_as false (texts words.now) }
+{
+    let mut is_number = false;
+    for word in words {
+        if is_number {
+            return Some(word.as_str());
+        }
+        is_number = word.as_str() == "--workers";
+    }
+    None
+}
+
+/// The number that a word says, 1 where there is no word; none where it is no number.
+fn number_of(alloc: Global, word: Option<&str>) -> Result<Option<u32>, AllocError>
+    ensures { IfOk result (λ n. IfSome n (λ n. IsNumberOf (option_map (λ w. w.now) word.entry) n)) }
+{
+    match word {
+        Some(text) => decimal(alloc, text),
+        None => Ok(Some(1)),
     }
 }
 
-/// The number of workers where the words are of this form, and none where they are not.
-fn workers_in(alloc: Global, form: Form<'_>, words: &[String]) -> Result<Option<u32>, AllocError> {
+/// Whether the words are of this form.
+fn is_of(alloc: Global, form: Form<'_>, words: &[String]) -> Result<bool, AllocError> {
     if !is_spelled(words, form.options) {
-        return Ok(None);
+        return Ok(false);
     }
     match command_of(alloc, form)?.try_get_matches_from(words) {
-        Ok(matches) => Ok(workers_of(&matches)),
+        Ok(_) => Ok(true),
         Err(error) => unread(&error),
     }
+}
+
+/// The number of workers that the words say, 1 where they say none; none where it is no number.
+fn workers_in(alloc: Global, words: &[String]) -> Result<Option<u32>, AllocError>
+    ensures { IfOk result (λ n. IfSome n (AsksWorkers (texts words.now))) }
+{
+    number_of(alloc, workers_word(words))
 }
 
 /// What `check` is asked for.
@@ -211,7 +234,8 @@ fn check_of<'a>(words: &'a [String]) -> Line<'a>
 
 /// What `run` is asked for.
 fn run_of<'a>(words: &'a [String], workers: u32) -> Line<'a>
-    requires { HasWord (texts words.now) 0 (codes "run") }
+    requires command { HasWord (texts words.now) 0 (codes "run") }
+    requires workers { AsksWorkers (texts words.now) workers }
     ensures { Asks (texts words.now) result }
 {
     let (Some(names), Some(launch)) = (names_of(words), operand(words, 4)) else {
@@ -226,7 +250,8 @@ fn run_of<'a>(words: &'a [String], workers: u32) -> Line<'a>
 
 /// What `prove` is asked for.
 fn prove_of<'a>(words: &'a [String], workers: u32) -> Line<'a>
-    requires { HasWord (texts words.now) 0 (codes "prove") }
+    requires command { HasWord (texts words.now) 0 (codes "prove") }
+    requires workers { AsksWorkers (texts words.now) workers }
     ensures { Asks (texts words.now) result }
 {
     let (Some(kernel), Some(conditions)) = (operand(words, 1), operand(words, 2)) else {
@@ -275,6 +300,7 @@ fn print_of<'a>(words: &'a [String]) -> Line<'a>
 
 /// What the words ask for, by their command.
 fn asked<'a>(words: &'a [String], workers: u32) -> Line<'a>
+    requires { AsksWorkers (texts words.now) workers }
     ensures { Asks (texts words.now) result }
 {
     match operand(words, 0) {
@@ -297,7 +323,10 @@ pub fn read_line<'a>(alloc: Global, words: &'a [String]) -> Result<Line<'a>, All
     let Some(form) = form_of(operand(words, 0)) else {
         return Ok(Line::Usage);
     };
-    match workers_in(alloc, form, words)? {
+    if !is_of(alloc, form, words)? {
+        return Ok(Line::Usage);
+    }
+    match workers_in(alloc, words)? {
         Some(workers) => Ok(asked(words, workers)),
         None => Ok(Line::Usage),
     }

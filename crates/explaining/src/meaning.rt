@@ -120,7 +120,8 @@ const MEANINGS: &[(u8, &str)] = &[
     (
         53,
         "There are over 256 paths from one place, or over 65,536 obligations: use fewer tests in a row, or put a \
-         barrier between.",
+         barrier between. What prove looks at has more lines than a certificate needs: one with fewer lines, written by \
+         hand, may be checked (docs/CERTIFICATES.md).",
     ),
     (
         54,

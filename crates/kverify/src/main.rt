@@ -1,18 +1,15 @@
 //! Section: Runs and program. Promises no more than `program`, over this machine's files; stands on `program`.
 //!
-//! The program: `kverify check KERNEL CONDITIONS CERTIFICATE` says whether a kernel is accepted, `kverify prove KERNEL CONDITIONS [--workers N]
-//! [--out FILE]` looks for a certificate, `kverify explain KERNEL CONDITIONS [CERTIFICATE]` says in plain words what a refusal means,
-//! `kverify run KERNEL CONDITIONS CERTIFICATE LAUNCH [--workers N]` runs an accepted kernel, and
-//! `kverify print KERNEL` prints its canonical text. Status 0 accepted or done, 1 refused, 2 a command
-//! line that is none, 3 a file or an output that fails, 4 out of memory.
+//! The program: `check`, `prove`, `explain`, `run` and `print`, as `docs/FORMATS.md` has them. Status 0 accepted or done, 1 refused, 2 a
+//! command line that is none, 3 a file or an output that fails, 4 out of memory.
 #![tactic(auto)]
 
 mod disk;
 
 use disk::Disk;
 use program::patience::End;
-use program::tool;
-use std::io::IsTerminal;
+use program::{USAGE, tool};
+use std::io::{ErrorKind, IsTerminal};
 use std::process::ExitCode;
 use std::sync::Wait;
 use std::thread::{Threads, join};
@@ -36,10 +33,10 @@ fn status_of<R: Threads + Wait + Sync>(handle: &R, rt: &HostRuntime, words: &[St
 
 /// Whether the words ask for a search, which may take long.
 fn is_search(words: &[String]) -> bool {
-    match words.first() {
-        Some(word) => matches!(word.as_str(), "prove" | "explain"),
-        None => false,
-    }
+    matches!(
+        words.first().map(|word| word.as_str()),
+        Some("prove" | "explain")
+    )
 }
 
 /// The same, with its end made known.
@@ -76,10 +73,21 @@ fn told_status<R: Threads + Wait + Clock + Sync>(
     status
 }
 
+/// Tells why there are no words: there is no memory for them, or one of them is no text, so they are no command line.
+fn told_wordless(rt: &HostRuntime, error: &io::Error) -> u8 {
+    if error.kind() == ErrorKind::OutOfMemory {
+        let _told = eprintln!(rt; "out of memory");
+        4
+    } else {
+        let _told = eprint!(rt; "{USAGE}");
+        2
+    }
+}
+
 fn main(rt: HostRuntime) -> ExitCode {
-    let Ok(words) = words_of(&rt) else {
-        let _told = eprintln!(&rt; "out of memory");
-        return ExitCode::from(4);
+    let words = match words_of(&rt) {
+        Ok(words) => words,
+        Err(error) => return ExitCode::from(told_wordless(&rt, &error)),
     };
     let words = words.as_slice();
     let status = if is_search(words) && rt.stderr().is_terminal() {

@@ -14,7 +14,7 @@ use Rattle.texts.specs.Spelling.{SpellsParameters}
 use Rattle.texts.specs.LaunchFaults.{Cursor, cursor, then, expect, end_line}
 use Rattle.texts.specs.LaunchWords.{Conditions, due, due_blank, due_parameter, head_line, first_word, each}
 use Rattle.texts.specs.ConditionsReading.{Length, Requirement, Lined, length_meant, requirement_meant, meant, length_of, length_line, length_due, requirement_of, requirement_line, requirement_lines, budget_line, lined, conditions_at, conditions_limit, conditions_of}
-use Rattle.texts.specs.ConditionsText.{IsShortSum, groups_text, length_text, requirement_text, budget_text, AreLengthLines, no_length, past_value, a_length, AreRequirementLines, no_requirement, a_requirement, IsConditionsText}
+use Rattle.texts.specs.ConditionsText.{IsShortSum, groups_text, length_text, requirement_text, budget_text, AreLengthLines, no_length, past_value, a_length, AreRequirementLines, no_requirement, a_requirement, AreConditionsLines, IsConditionsText}
 use Rattle.launch_text.specs.Parameters.{AreNamed}
 use Rattle.launch_text.proofs.Back.{same_back}
 use Rattle.launch_text.proofs.Forth.{natural_forth, parameter_forth}
@@ -133,7 +133,7 @@ made : (c : meaning.Conditions) (groups : Three Range) (arguments : List Range) 
     → (let d : meaning.Conditions = record { groups = groups; arguments = arguments; lengths = lengths; requires = requires; budget = c.budget } in d ≡ c)
 made c groups arguments lengths requires p q r s = rw (p, q, r, s) refl
 
-lines_forth : (ps : List Parameter) (text : List ℕ) (c : meaning.Conditions) → AreNamed ps → IsConditionsText ps text c → (l : Lined) × (conditions_at ps (cursor 1 text) ≡ Ok l) × (meant l ≡ c)
+lines_forth : (ps : List Parameter) (text : List ℕ) (c : meaning.Conditions) → AreNamed ps → AreConditionsLines ps text c → (l : Lined) × (conditions_at ps (cursor 1 text) ≡ Ok l) × (meant l ≡ c)
 unfolding conditions_at
 lines_forth ps text c i t =
     let last : List ℕ = budget_text c.budget in
@@ -164,13 +164,13 @@ spelt_names [] h = tt
 spelt_names (Buffer constant k site name ∷ ps) h = (h.0, spelt_names ps h.1)
 spelt_names (Value k site name ∷ ps) h = (h.0, spelt_names ps h.1)
 
-pub conditions_forth : (ps : List Parameter) (text : List ℕ) (c : meaning.Conditions) → SpellsParameters ps → IsConditionsText ps text c → length text ≤ conditions_limit → (l : Lined) × (conditions_of ps text ≡ Ok l) × (meant l ≡ c)
-conditions_forth ps text c i t h =
-    let l = lines_forth ps text c (spelt_names ps i) t in
-    (l.0, cond-false (nat_lt conditions_limit (length text)) _ _ (not_above conditions_limit (length text) h) ∙ l.1, l.2)
+pub conditions_forth : (ps : List Parameter) (text : List ℕ) (c : meaning.Conditions) → SpellsParameters ps → IsConditionsText ps text c → (l : Lined) × (conditions_of ps text ≡ Ok l) × (meant l ≡ c)
+conditions_forth ps text c i t =
+    let l = lines_forth ps text c (spelt_names ps i) t.lines in
+    (l.0, cond-false (nat_lt conditions_limit (length text)) _ _ (not_above conditions_limit (length text) t.within_limit) ∙ l.1, l.2)
 
-pub one_meaning : (ps : List Parameter) (text : List ℕ) (c d : meaning.Conditions) → SpellsParameters ps → length text ≤ conditions_limit → IsConditionsText ps text c → IsConditionsText ps text d → c ≡ d
-one_meaning ps text c d i h t u =
-    let l = conditions_forth ps text c i t h in
-    let m = conditions_forth ps text d i u h in
+pub one_meaning : (ps : List Parameter) (text : List ℕ) (c d : meaning.Conditions) → SpellsParameters ps → IsConditionsText ps text c → IsConditionsText ps text d → c ≡ d
+one_meaning ps text c d i t u =
+    let l = conditions_forth ps text c i t in
+    let m = conditions_forth ps text d i u in
     sym l.2 ∙ ap meant (same_back l.0 m.0 (sym l.1 ∙ m.1)) ∙ m.2

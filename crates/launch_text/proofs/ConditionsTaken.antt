@@ -6,7 +6,7 @@ use Rattle.texts.specs.Surface.{Parameter}
 use Rattle.texts.specs.LaunchFaults.{LimitPassed, Cursor, cursor}
 use Rattle.texts.specs.LaunchWords.{Conditions, head_line, end_text}
 use Rattle.texts.specs.ConditionsReading.{Lined, meant, argument_meant, length_meant, requirement_meant, groups_line, argument_lines, length_lines, requirement_lines, budget_line, lined, conditions_at, conditions_limit, conditions_of}
-use Rattle.texts.specs.ConditionsText.{groups_text, budget_text, AreArgumentLines, AreLengthLines, IsConditionsText}
+use Rattle.texts.specs.ConditionsText.{groups_text, budget_text, AreArgumentLines, AreLengthLines, AreConditionsLines, IsConditionsText}
 use Rattle.launch_text.proofs.Back.{then_back, same_back, unless_back}
 use Rattle.launch_text.proofs.Taken.{head_took, end_text_took}
 use Rattle.launch_text.proofs.LinesTaken.{groups_meant, groups_took, arguments_took, lengths_took, requirements_took, budget_took, AreFewRequirements, not_above}
@@ -16,7 +16,7 @@ whole : (all groups arguments lengths requires budget r1 r2 r3 r4 r5 r6 : List �
 whole all groups arguments lengths requires budget r1 r2 r3 r4 r5 r6 a b c d e f g =
     a ∙ ap (λ x. codes "conditions 1" ++ (10 ∷ x)) (b ∙ ap (λ x. groups ++ x) (c ∙ ap (λ x. arguments ++ x) (d ∙ ap (λ x. lengths ++ x) (e ∙ ap (λ x. requires ++ x) (f ∙ ap (λ x. budget ++ x) g ∙ append-nil budget)))))
 
-lines_took : (ps : List Parameter) (c : Cursor) (x : Lined) → conditions_at ps c ≡ Ok x → IsConditionsText ps c.rest (meant x)
+lines_took : (ps : List Parameter) (c : Cursor) (x : Lined) → conditions_at ps c ≡ Ok x → AreConditionsLines ps c.rest (meant x)
 unfolding conditions_at
 lines_took ps c x e =
     let head = then_back (head_line _ _ c) _ x e in
@@ -32,7 +32,7 @@ lines_took ps c x e =
     let r = requirements_took ps 16 [] lengths.0.1 requires.0 requires.1 in
     let b = budget_took requires.0.1 budget.0 budget.1 in
     let few = subst (λ rs. AreFewRequirements ps 16 r.lines (map requirement_meant rs)) (sym r.all) r.are in
-    subst (λ (y : Lined). IsConditionsText ps c.rest (meant y)) (same_back (lined groups.0.0 head.0.line arguments.0.0 lengths.0.0 requires.0.0 budget.0.0) x end.2) (record {
+    subst (λ (y : Lined). AreConditionsLines ps c.rest (meant y)) (same_back (lined groups.0.0 head.0.line arguments.0.0 lengths.0.0 requires.0.0 budget.0.0) x end.2) (record {
       argument_lines = a.lines;
       length_lines = l.lines;
       requirement_lines = r.lines;
@@ -49,7 +49,7 @@ lines_took ps c x e =
       budget = b.1;
     })
 
-pub conditions_took : (ps : List Parameter) (text : List ℕ) (x : Lined) → conditions_of ps text ≡ Ok x → IsConditionsText ps text (meant x) × (length text ≤ conditions_limit)
+pub conditions_took : (ps : List Parameter) (text : List ℕ) (x : Lined) → conditions_of ps text ≡ Ok x → IsConditionsText ps text (meant x)
 conditions_took ps text x e =
     let h = unless_back (nat_lt conditions_limit (length text)) (conditions_at ps (cursor 1 text)) LimitPassed (cursor 1 text) x e in
-    (lines_took ps (cursor 1 text) x h.1, not_above conditions_limit (length text) h.0)
+    record { lines = lines_took ps (cursor 1 text) x h.1; within_limit = not_above conditions_limit (length text) h.0 }

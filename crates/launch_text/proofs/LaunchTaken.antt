@@ -12,7 +12,7 @@ use Rattle.texts.specs.LaunchFaults.{LimitPassed, Cursor, Step, cursor, refused,
 use Rattle.texts.specs.LaunchWords.{Launch, natural_at, word_at, due_blank, due_parameter, head_line, end_text, each}
 use Rattle.texts.specs.LaunchReading.{TypedLaunch, number, meant, counts, groups_line, argument_line, argument_due, argument_lines, list_at, fill_at, words_at, most_words, words_of, buffer_line, buffer_due, buffer_lines, fill_line, given, launch_at, launch_limit, launch_of}
 use Rattle.texts.specs.LaunchText.{argument_text, fill_text}
-use Rattle.texts.specs.LaunchSpelling.{AreListed, no_word, a_word, AreContents, listed, filled, contents_text, counts_text, AreWordLines, no_argument, past_buffer, an_argument, AreBufferLines, no_buffer, past_value, a_buffer, IsLaunchText}
+use Rattle.texts.specs.LaunchSpelling.{AreListed, no_word, a_word, AreContents, listed, filled, contents_text, counts_text, AreWordLines, no_argument, past_buffer, an_argument, AreBufferLines, no_buffer, past_value, a_buffer, AreLaunchLines, IsLaunchText}
 use Rattle.texts.proofs.Fits.{begins}
 use Rattle.launch_text.proofs.Back.{then_back, same_back, unless_back, natural_back, word_back}
 use Rattle.launch_text.proofs.Fills.{map-filled}
@@ -232,7 +232,7 @@ whole : (all groups arguments buffers fill r1 r2 r3 r4 r5 : List ℕ) → all �
 whole all groups arguments buffers fill r1 r2 r3 r4 r5 a b c d e f =
     a ∙ ap (λ x. codes "launch 1" ++ (10 ∷ x)) (b ∙ ap (λ x. groups ++ x) (c ∙ ap (λ x. arguments ++ x) (d ∙ ap (λ x. buffers ++ x) (e ∙ ap (λ x. fill ++ x) f ∙ append-nil fill))))
 
-lines_took : (ps : List Parameter) (c : Cursor) (x : TypedLaunch) → launch_at ps c ≡ Ok x → IsLaunchText ps c.rest (meant x)
+lines_took : (ps : List Parameter) (c : Cursor) (x : TypedLaunch) → launch_at ps c ≡ Ok x → AreLaunchLines ps c.rest (meant x)
 unfolding launch_at
 lines_took ps c x e =
     let head = then_back (head_line _ _ c) _ x e in
@@ -246,7 +246,7 @@ lines_took ps c x e =
     let b = buffers_took ps [] ps arguments.0.1 buffers.0 (omega arith) buffers.1 in
     let lines = b.0 in
     let f = fill_line_took buffers.0.1 fill.0 fill.1 in
-    subst (λ (y : TypedLaunch). IsLaunchText ps c.rest (meant y)) (same_back (given groups.0.0 arguments.0.0 buffers.0.0 fill.0.0) x end.2) (record {
+    subst (λ (y : TypedLaunch). AreLaunchLines ps c.rest (meant y)) (same_back (given groups.0.0 arguments.0.0 buffers.0.0 fill.0.0) x end.2) (record {
       argument_lines = a.lines;
       buffer_lines = lines.lines;
       is_text = whole c.rest (counts_text groups.0.0) a.lines lines.lines (fill_text fill.0.0) head.0.rest groups.0.1.rest arguments.0.1.rest buffers.0.1.rest fill.0.1.rest
@@ -260,7 +260,7 @@ lines_took ps c x e =
       fill = f.1;
     })
 
-pub launch_took : (ps : List Parameter) (text : List ℕ) (x : TypedLaunch) → launch_of ps text ≡ Ok x → IsLaunchText ps text (meant x) × (length text ≤ launch_limit)
+pub launch_took : (ps : List Parameter) (text : List ℕ) (x : TypedLaunch) → launch_of ps text ≡ Ok x → IsLaunchText ps text (meant x)
 launch_took ps text x e =
     let h = unless_back (nat_lt launch_limit (length text)) (launch_at ps (cursor 1 text)) LimitPassed (cursor 1 text) x e in
-    (lines_took ps (cursor 1 text) x h.1, not_above launch_limit (length text) h.0)
+    record { lines = lines_took ps (cursor 1 text) x h.1; within_limit = not_above launch_limit (length text) h.0 }

@@ -10,8 +10,8 @@ use Rattle.semantics.specs.Launch.{Kernel}
 use Rattle.texts.specs.Surface as surface
 use Rattle.texts.specs.Surface.{Parameter, Buffer, Value}
 use Rattle.texts.specs.TypeFaults as checks
-use Rattle.texts.specs.Scope.{Scope, empty_scope, may_declare}
-use Rattle.texts.specs.Elaboration.{InKernel, declare_parameter, declare_parameters, elaborate, elaborate_all}
+use Rattle.texts.specs.Scope.{Scope, empty_scope, may_declare, may_name_kernel}
+use Rattle.texts.specs.Elaboration.{InKernel, declare_parameter, declare_parameters, elaborate_inside, elaborate, elaborate_all}
 use Rattle.texts.specs.LaunchFaults.{Cursor, Step, then}
 use Rattle.texts.specs.LaunchWords.{go_on, each}
 use Rattle.texts.specs.LaunchSums.{value_number}
@@ -63,9 +63,10 @@ made : (a b : Kernel) → (let r : checks.Checked Kernel = Ok a in r ≡ Ok b) �
 made a b e = cc
 
 pub kernel_back : (tree : surface.Kernel) (k : Kernel) → elaborate tree ≡ Ok k → (k.arguments ≡ kinds value_kind tree.parameters) × (k.buffers ≡ kinds buffer_kind tree.parameters)
-unfolding elaborate
+unfolding elaborate elaborate_inside
 kernel_back tree k e =
-    let outer = checked_back (declare_parameters empty_scope tree.parameters) _ k e in
+    let named = checked_back (checks.when (may_name_kernel tree.name) checks.NameTwice tree.name_site empty_scope) _ k e in
+    let outer = checked_back (declare_parameters empty_scope tree.parameters) _ k named.2 in
     let body = checked_back (elaborate_all InKernel outer.0 tree.body) _ k outer.2 in
     let all = declared_all tree.parameters empty_scope outer.0 outer.1 in
     let q = made _ k body.2 in

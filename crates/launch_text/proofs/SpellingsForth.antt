@@ -17,7 +17,7 @@ use Rattle.texts.specs.LaunchFaults.{Cursor, Step, cursor, then, expect}
 use Rattle.texts.specs.LaunchWords.{word_at, due_parameter, each}
 use Rattle.texts.specs.LaunchReading.{TypedLaunch, number, meant, groups_line, argument_line, argument_due, list_at, fill_at, words_at, most_words, words_of, buffer_line, buffer_due, given, launch_at, launch_limit, launch_of}
 use Rattle.texts.specs.LaunchText.{argument_text, fill_text}
-use Rattle.texts.specs.LaunchSpelling.{AreListed, no_word, a_word, AreContents, listed, filled, contents_text, counts_text, AreWordLines, no_argument, past_buffer, an_argument, AreBufferLines, no_buffer, past_value, a_buffer, IsLaunchText}
+use Rattle.texts.specs.LaunchSpelling.{AreListed, no_word, a_word, AreContents, listed, filled, contents_text, counts_text, AreWordLines, no_argument, past_buffer, an_argument, AreBufferLines, no_buffer, past_value, a_buffer, AreLaunchLines, IsLaunchText}
 use Rattle.launch_text.specs.Parameters.{AreNamed}
 use Rattle.launch_text.proofs.Back.{same_back}
 use Rattle.launch_text.proofs.Fills.{map-filled}
@@ -149,7 +149,7 @@ buffers_forth all done ps lines buffers rest n i (a_buffer {ps = others} {lines 
 made : (l : meaning.Launch) (buffers : List (List ℤ)) → buffers ≡ l.buffers → (let d : meaning.Launch = record { groups = l.groups; arguments = l.arguments; buffers = buffers; fill = l.fill } in d ≡ l)
 made l buffers p = rw p refl
 
-lines_forth : (ps : List Parameter) (text : List ℕ) (l : meaning.Launch) → AreNamed ps → IsLaunchText ps text l → (x : TypedLaunch) × (launch_at ps (cursor 1 text) ≡ Ok x) × (meant x ≡ l)
+lines_forth : (ps : List Parameter) (text : List ℕ) (l : meaning.Launch) → AreNamed ps → AreLaunchLines ps text l → (x : TypedLaunch) × (launch_at ps (cursor 1 text) ≡ Ok x) × (meant x ≡ l)
 unfolding launch_at
 lines_forth ps text l i t =
     let last : List ℕ = fill_text l.fill in
@@ -170,13 +170,13 @@ lines_forth ps text l i t =
       made l _ buffers.is_meant,
     )
 
-pub spelling_forth : (ps : List Parameter) (text : List ℕ) (l : meaning.Launch) → SpellsParameters ps → IsLaunchText ps text l → length text ≤ launch_limit → (x : TypedLaunch) × (launch_of ps text ≡ Ok x) × (meant x ≡ l)
-spelling_forth ps text l i t h =
-    let x = lines_forth ps text l (spelt_names ps i) t in
-    (x.0, cond-false (nat_lt launch_limit (length text)) _ _ (not_above launch_limit (length text) h) ∙ x.1, x.2)
+pub spelling_forth : (ps : List Parameter) (text : List ℕ) (l : meaning.Launch) → SpellsParameters ps → IsLaunchText ps text l → (x : TypedLaunch) × (launch_of ps text ≡ Ok x) × (meant x ≡ l)
+spelling_forth ps text l i t =
+    let x = lines_forth ps text l (spelt_names ps i) t.lines in
+    (x.0, cond-false (nat_lt launch_limit (length text)) _ _ (not_above launch_limit (length text) t.within_limit) ∙ x.1, x.2)
 
-pub one_launch : (ps : List Parameter) (text : List ℕ) (l m : meaning.Launch) → SpellsParameters ps → length text ≤ launch_limit → IsLaunchText ps text l → IsLaunchText ps text m → l ≡ m
-one_launch ps text l m i h t u =
-    let x = spelling_forth ps text l i t h in
-    let y = spelling_forth ps text m i u h in
+pub one_launch : (ps : List Parameter) (text : List ℕ) (l m : meaning.Launch) → SpellsParameters ps → IsLaunchText ps text l → IsLaunchText ps text m → l ≡ m
+one_launch ps text l m i t u =
+    let x = spelling_forth ps text l i t in
+    let y = spelling_forth ps text m i u in
     sym x.2 ∙ ap meant (same_back x.0 y.0 (sym x.1 ∙ y.1)) ∙ y.2

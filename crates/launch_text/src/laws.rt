@@ -3,7 +3,7 @@
 ghost use Rattle.std.specs.Prelude.{◌≡◌, ◌≤◌, ℕ, List, length, Ok, Some};
 ghost use Rattle.texts.specs.Surface.{Parameter};
 ghost use Rattle.texts.specs.Spelling.{SpellsParameters};
-ghost use Rattle.texts.specs.ConditionsReading.{Lined, meant, conditions_limit, conditions_of};
+ghost use Rattle.texts.specs.ConditionsReading.{Lined, meant, conditions_of};
 ghost use Rattle.texts.specs.ConditionsText.{IsConditionsText};
 ghost use Rattle.texts.specs.LaunchReading as launches;
 ghost use Rattle.texts.specs.LaunchReading.{TypedLaunch, launch_limit, launch_of};
@@ -29,30 +29,30 @@ pub fn a_launch_is_read_back()
 
 /// What is read of a conditions text is what its text says, case by case.
 pub fn what_is_read_of_conditions_is_their_text()
-    ensures { (ps : List Parameter) (text : List ℕ) (l : Lined) → conditions_of ps text ≡ Ok l → IsConditionsText ps text (meant l) × (length text ≤ conditions_limit) }
+    ensures { (ps : List Parameter) (text : List ℕ) (l : Lined) → conditions_of ps text ≡ Ok l → IsConditionsText ps text (meant l) }
 {}
 
 /// What a conditions text says, case by case, is read of it, where the names are those of a kernel's text.
 pub fn conditions_are_read_of_their_text()
-    ensures { (ps : List Parameter) (text : List ℕ) (c : meaning.Conditions) → SpellsParameters ps → IsConditionsText ps text c → length text ≤ conditions_limit → (l : Lined) × (conditions_of ps text ≡ Ok l) × (meant l ≡ c) }
+    ensures { (ps : List Parameter) (text : List ℕ) (c : meaning.Conditions) → SpellsParameters ps → IsConditionsText ps text c → (l : Lined) × (conditions_of ps text ≡ Ok l) × (meant l ≡ c) }
 {}
 
 /// So a text says one thing.
 pub fn a_conditions_text_says_one_thing()
-    ensures { (ps : List Parameter) (text : List ℕ) (c d : meaning.Conditions) → SpellsParameters ps → length text ≤ conditions_limit → IsConditionsText ps text c → IsConditionsText ps text d → c ≡ d }
+    ensures { (ps : List Parameter) (text : List ℕ) (c d : meaning.Conditions) → SpellsParameters ps → IsConditionsText ps text c → IsConditionsText ps text d → c ≡ d }
 {}
 
 /// What is read of a launch text is what its text says, case by case.
 pub fn what_is_read_of_a_launch_is_its_text()
-    ensures { (ps : List Parameter) (text : List ℕ) (l : TypedLaunch) → launch_of ps text ≡ Ok l → IsLaunchText ps text (launches.meant l) × (length text ≤ launch_limit) }
+    ensures { (ps : List Parameter) (text : List ℕ) (l : TypedLaunch) → launch_of ps text ≡ Ok l → IsLaunchText ps text (launches.meant l) }
 {}
 
 /// What a launch text says, case by case, is read of it, where the names are those of a kernel's text.
 pub fn a_launch_is_read_of_its_text()
-    ensures { (ps : List Parameter) (text : List ℕ) (l : Launch) → SpellsParameters ps → IsLaunchText ps text l → length text ≤ launch_limit → (x : TypedLaunch) × (launch_of ps text ≡ Ok x) × (launches.meant x ≡ l) }
+    ensures { (ps : List Parameter) (text : List ℕ) (l : Launch) → SpellsParameters ps → IsLaunchText ps text l → (x : TypedLaunch) × (launch_of ps text ≡ Ok x) × (launches.meant x ≡ l) }
 {}
 
 /// So a text says one launch.
 pub fn a_launch_text_says_one_launch()
-    ensures { (ps : List Parameter) (text : List ℕ) (l m : Launch) → SpellsParameters ps → length text ≤ launch_limit → IsLaunchText ps text l → IsLaunchText ps text m → l ≡ m }
+    ensures { (ps : List Parameter) (text : List ℕ) (l m : Launch) → SpellsParameters ps → IsLaunchText ps text l → IsLaunchText ps text m → l ≡ m }
 {}

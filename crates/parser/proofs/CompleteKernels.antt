@@ -148,7 +148,7 @@ unfolding kernel_reader
 kernel-complete (rules.kernel {room = room} {ps = ps} {body = body} x y z f at1 at2 at3 at4 at5 at6 at7 at8 at9 at10 at11 at12 at13 at14 at15 at16 at17 at18 at19 parameters items) =
     answers (record { kind = token.End; site = at19 } ∷ [])
     (both (attribute-complete x y z at1 at2 at3 at4 at5 at6 at7 at8 at9 at10 at11 at12 at13 at14) (λ f. f) (λ f. f.1.local_sizes) (sure refl (sure refl (sure refl
-    (both (parameters-complete parameters) (λ f. f) (λ few. few-named (record { name = f; sizes = record { x = x.value; y = y.value; z = z.value }; parameters = ps; body = body }) few.1) (sure refl
+    (both (parameters-complete parameters) (λ f. f) (λ few. few-named (record { name = f; name_site = at16; sizes = record { x = x.value; y = y.value; z = z.value }; parameters = ps; body = body }) few.1) (sure refl
     (both (block-step 32 63 1 (items-complete 1 items (omega arith) 513 32 63 1 (omega arith) (omega arith)))
     (λ f. (omega (arith, f.0), f.1)) (λ f. (omega (arith, f.0, later-length (past refl (parameters-later parameters) stays)), omega (arith, f.1.statements, items-counts 1 items), f.1.arrays))
     (both (looks gives) (λ f. f) (λ f. f) gives))))))))

@@ -24,11 +24,11 @@ over : {A B : Type 0} → (a : A) (sign : Attempt Site) (next : A → List Lexem
 over a (Took s rest) next = refl
 over a (Refused fault rest) next = refl
 
-over-name : {B : Type 0} → (o : Attempt (List ℕ × Site)) (next : List ℕ → List Lexeme → Attempt B) → carry o (λ x rest. carry (run (expects is_left_parenthesis) rest) (λ s rest. next x.0 rest)) ≡ carry (carry o (λ x rest. carry (run (expects is_left_parenthesis) rest) (λ s rest. Took x.0 rest))) next
-over-name (Took x rest) next = over x.0 (run (expects is_left_parenthesis) rest) next
+over-name : {B : Type 0} → (o : Attempt (List ℕ × Site)) (next : List ℕ × Site → List Lexeme → Attempt B) → carry o (λ x rest. carry (run (expects is_left_parenthesis) rest) (λ s rest. next x rest)) ≡ carry (carry o (λ x rest. carry (run (expects is_left_parenthesis) rest) (λ s rest. Took x rest))) next
+over-name (Took x rest) next = over x (run (expects is_left_parenthesis) rest) next
 over-name (Refused fault rest) next = refl
 
-over-void : {B : Type 0} → (o : Attempt Site) (next : List ℕ → List Lexeme → Attempt B) → carry o (λ a rest. carry (run (takes name_at) rest) (λ x rest. carry (run (expects is_left_parenthesis) rest) (λ s rest. next x.0 rest))) ≡ carry (carry o (λ a rest. carry (run (takes name_at) rest) (λ x rest. carry (run (expects is_left_parenthesis) rest) (λ s rest. Took x.0 rest)))) next
+over-void : {B : Type 0} → (o : Attempt Site) (next : List ℕ × Site → List Lexeme → Attempt B) → carry o (λ a rest. carry (run (takes name_at) rest) (λ x rest. carry (run (expects is_left_parenthesis) rest) (λ s rest. next x rest))) ≡ carry (carry o (λ a rest. carry (run (takes name_at) rest) (λ x rest. carry (run (expects is_left_parenthesis) rest) (λ s rest. Took x rest)))) next
 over-void (Took a rest) next = over-name (run (takes name_at) rest) next
 over-void (Refused fault rest) next = refl
 
@@ -60,14 +60,14 @@ pub attribute-ends : (sizes : Three ℕ) (ts : List Lexeme) → run (sized sizes
 unfolding attribute_end sized
 attribute-ends sizes ts = passed is_right_parenthesis is_right_parenthesis is_right_parenthesis (Gives sizes) ts
 
-unfoldable pub bodied : Three ℕ → List ℕ → List Parameter → Reader Kernel
-bodied sizes name ps = Then (expects is_left_brace) (λ a. Then (block_reader 32 63 1) (λ body. Then (ended body.0) (λ body. Gives (record { name = name; sizes = sizes; parameters = ps; body = body }))))
+unfoldable pub bodied : Three ℕ → List ℕ × Site → List Parameter → Reader Kernel
+bodied sizes name ps = Then (expects is_left_brace) (λ a. Then (block_reader 32 63 1) (λ body. Then (ended body.0) (λ body. Gives (record { name = name.0; name_site = name.1; sizes = sizes; parameters = ps; body = body }))))
 
-unfoldable pub named : Three ℕ → List ℕ → Reader Kernel
+unfoldable pub named : Three ℕ → List ℕ × Site → Reader Kernel
 named sizes name = Then parameters_reader (λ ps. bodied sizes name ps)
 
 unfoldable pub headed : Three ℕ → Reader Kernel
-headed sizes = Then (expects is_void) (λ a. Then (takes name_at) (λ x. Then (expects is_left_parenthesis) (λ b. named sizes x.0)))
+headed sizes = Then (expects is_void) (λ a. Then (takes name_at) (λ x. Then (expects is_left_parenthesis) (λ b. named sizes x)))
 
 pub kernel-is : (ts : List Lexeme) → run kernel_reader ts ≡ carry (run attribute_reader ts) (λ sizes rest. run (headed sizes) rest)
 unfolding kernel_reader headed named bodied
@@ -77,13 +77,13 @@ pub kernel-headed : (sizes : Three ℕ) (ts : List Lexeme) → run (headed sizes
 unfolding headed head_reader
 kernel-headed sizes ts = over-void (run (expects is_void) ts) (λ name rest. run (named sizes name) rest)
 
-pub kernel-named : (sizes : Three ℕ) (name : List ℕ) (ts : List Lexeme) → run (named sizes name) ts ≡ carry (run parameters_reader ts) (λ ps rest. run (bodied sizes name ps) rest)
+pub kernel-named : (sizes : Three ℕ) (name : List ℕ × Site) (ts : List Lexeme) → run (named sizes name) ts ≡ carry (run parameters_reader ts) (λ ps rest. run (bodied sizes name ps) rest)
 unfolding named
 kernel-named sizes name ts = refl
 
-pub kernel-bodied : (sizes : Three ℕ) (name : List ℕ) (ps : List Parameter) (ts : List Lexeme) → run (bodied sizes name ps) ts ≡ carry (run body_reader ts) (λ body rest. Took (record { name = name; sizes = sizes; parameters = ps; body = body }) rest)
+pub kernel-bodied : (sizes : Three ℕ) (name : List ℕ × Site) (ps : List Parameter) (ts : List Lexeme) → run (bodied sizes name ps) ts ≡ carry (run body_reader ts) (λ body rest. Took (record { name = name.0; name_site = name.1; sizes = sizes; parameters = ps; body = body }) rest)
 unfolding bodied body_reader
-kernel-bodied sizes name ps ts = three (run (expects is_left_brace) ts) (λ a rest. run (block_reader 32 63 1) rest) (λ body rest. run (ended body.0) rest) (λ body rest. Took (record { name = name; sizes = sizes; parameters = ps; body = body }) rest)
+kernel-bodied sizes name ps ts = three (run (expects is_left_brace) ts) (λ a rest. run (block_reader 32 63 1) rest) (λ body rest. run (ended body.0) rest) (λ body rest. Took (record { name = name.0; name_site = name.1; sizes = sizes; parameters = ps; body = body }) rest)
 
 pub ruleset attribute_steps = (stops-carry, attribute-opens, attribute-named, attribute-sized, attribute-ends)
 

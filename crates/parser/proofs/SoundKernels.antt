@@ -199,14 +199,14 @@ pub record KernelRead (ts : List Lexeme) (k : Kernel) : Type 0 where
   pub arrays : AllArraysFit k.body
 
 whole : (ts us vs ws rest : List Lexeme) (s : Three ℕ) (f : List ℕ) (ps : List Parameter) (body : Statements × ℕ) (at1 at2 at3 at4 : Site) → EndsOnce ts → Attribute ts s us → us ≡ word words.Void at1 ∷ name f at2 ∷ mark signs.LeftParenthesis at3 ∷ vs → IsParameters vs ps (mark signs.LeftBrace at4 ∷ ws) →
-    ItemsRead 63 1 ws body rest → is_end (front rest).kind ≡ true → KernelRead ts (record { name = f; sizes = s; parameters = ps; body = body.0 })
+    ItemsRead 63 1 ws body rest → is_end (front rest).kind ≡ true → KernelRead ts (record { name = f; name_site = at2; sizes = s; parameters = ps; body = body.0 })
 whole ts us vs ws rest s f ps body a1 a2 a3 a4 ended_once (attribute x y z at1 at2 at3 at4 at5 at6 at7 at8 at9 at10 at11 at12 at13 at14 here same fit) header parameters items final =
     let before : List Lexeme → List Lexeme = λ l. word words.Kernel at1 ∷ word words.Attribute at2 ∷ mark signs.LeftParenthesis at3 ∷ mark signs.LeftParenthesis at4 ∷ name (codes "reqd_work_group_size") at5
     ∷ mark signs.LeftParenthesis at6 ∷ number x at7 ∷ mark signs.Comma at8 ∷ number y at9 ∷ mark signs.Comma at10 ∷ number z at11 ∷ mark signs.RightParenthesis at12 ∷ mark signs.RightParenthesis at13 ∷ mark signs.RightParenthesis at14 ∷ l in
     let all : ts ≡ before (word words.Void a1 ∷ name f a2 ∷ mark signs.LeftParenthesis a3 ∷ vs) = here ∙ ap before header in
     let left : EndsOnce rest = later-ends (over refl (items-later items.0)) (later-ends (parameters-later parameters) (later-ends (headed at1 at2 at3 at4 at5 at6 at7 at8 at9 at10 at11 at12 at13 at14 a1 a2 a3 x y z f vs) (subst EndsOnce all ended_once))) in
     record {
-      in_grammar = subst (λ s. IsKernel 64 ts (record { name = f; sizes = s; parameters = ps; body = body.0 })) same (subst (λ l. IsKernel 64 l (record { name = f; sizes = record { x = x.value; y = y.value; z = z.value }; parameters = ps; body = body.0 })) (sym all)
+      in_grammar = subst (λ s. IsKernel 64 ts (record { name = f; name_site = a2; sizes = s; parameters = ps; body = body.0 })) same (subst (λ l. IsKernel 64 l (record { name = f; name_site = a2; sizes = record { x = x.value; y = y.value; z = z.value }; parameters = ps; body = body.0 })) (sym all)
           (kernel x y z f at1 at2 at3 at4 at5 at6 at7 at8 at9 at10 at11 at12 at13 at14 a1 a2 a3 a4 (front rest).site parameters (subst (IsItems 63 1 ws body.0 body.1) (end-alone rest left final) items.0)));
       local_sizes = fit;
       statements = omega (arith, items-counts 1 items.0, items.1);
@@ -252,7 +252,7 @@ kernel-sound ts rest k once h = by (taking kernel_reader ts rest k h)
             let b = ps.3 in
             let body = b.3 in
             let e = body.3 in
-            subst (KernelRead ts) e.3.0 (subst (λ x. KernelRead ts (record { name = f.0.0; sizes = w.0; parameters = ps.0; body = x })) same
+            subst (KernelRead ts) e.3.0 (subst (λ x. KernelRead ts (record { name = f.0.0; name_site = f.0.1; sizes = w.0; parameters = ps.0; body = x })) same
             (whole ts w.1 p.1 b.1 body.1 w.0 f.0.0 ps.0 body.0 (front w.1).site f.0.1 (front f.1).site (front ps.1).site once (attribute-sound ts w.1 w.0 w.2)
             (next (void_due w.1 v.1 v.0 v.2) (next (a-name v.1 f.1 f.0 f.2) (left_parenthesis_due f.1 p.1 p.0 p.2)))
             (subst (IsParameters p.1 ps.0) (left_brace_due ps.1 b.1 b.0 b.2) (parameters-sound p.1 ps.1 ps.0 ps.2))

@@ -1,6 +1,7 @@
 -- Lexemes have one kernel.
 use Rattle.std.proofs.Common.{◌≡◌, ℕ, suc, true, false, List, [], ◌∷◌, refl, ap, sym, ◌∙◌, subst}
 use Rattle.std.proofs.lemmas.Bool.{false≢true}
+use Rattle.semantics.specs.Core.{Site}
 use Rattle.texts.specs.Numbers.{Literal}
 use Rattle.texts.specs.Signs as signs
 use Rattle.texts.specs.Tokens as token
@@ -36,8 +37,8 @@ parameters-unique {left = left} (rules.another_parameter {q = q} {ps = ps} comma
     let f = parameters-unique k (subst (λ l. IsParameters l (q' ∷ qs) left) (sym (ap behind e.1)) k') in
     (ap (λ p. p ∷ q ∷ ps) e.0 ∙ ap (λ l. p' ∷ l) f.0, f.1)
 
-made : (x y z : Literal) (f : List ℕ) (ps : List Parameter) (body : Statements) → Kernel
-made x y z f ps body = record { name = f; sizes = record { x = x.value; y = y.value; z = z.value }; parameters = ps; body = body }
+made : (x y z : Literal) (f : List ℕ) (at : Site) (ps : List Parameter) (body : Statements) → Kernel
+made x y z f at ps body = record { name = f; name_site = at; sizes = record { x = x.value; y = y.value; z = z.value }; parameters = ps; body = body }
 
 pub kernel-unique : (ts : List Lexeme) (k l : Kernel) (room other : ℕ) → IsKernel room ts k → IsKernel other ts l → k ≡ l
 unfolding made
@@ -46,4 +47,4 @@ kernel-unique ts k l room other
     (rules.kernel {room = more} {next = over} {ps = qs} {body = rest} x' y' z' f' b1 b2 b3 b4 b5 b6 b7 b8 b9 b10 b11 b12 b13 b14 b15 b16 b17 b18 b19 h' i') =
     let p = parameters-unique h h' in
     let q = items-unique i (subst (λ l. IsItems (suc (suc more)) 1 l rest over (record { kind = token.End; site = b19 } ∷ [])) (sym (ap behind p.1)) i') in
-    ap (λ ps. made x y z f ps body) p.0 ∙ ap (made x y z f qs) q.0
+    ap (λ ps. made x y z f at16 ps body) p.0 ∙ ap (made x y z f at16 qs) q.0

@@ -91,4 +91,4 @@ ended body = Looks (λ t. cond (is_end t.kind) (Gives body) (Fails Expected))
 unfoldable pub kernel_reader : Reader Kernel
 kernel_reader =
     Then attribute_reader (λ sizes. Then (expects is_void) (λ a. Then (takes name_at) (λ f. Then (expects is_left_parenthesis) (λ b. Then parameters_reader (λ ps.
-    Then (expects is_left_brace) (λ c. Then (block_reader 32 63 1) (λ body. Then (ended body.0) (λ body. Gives (record { name = f.0; sizes = sizes; parameters = ps; body = body })))))))))
+    Then (expects is_left_brace) (λ c. Then (block_reader 32 63 1) (λ body. Then (ended body.0) (λ body. Gives (record { name = f.0; name_site = f.1; sizes = sizes; parameters = ps; body = body })))))))))

@@ -20,8 +20,8 @@ unfoldable pub attribute_end : Reader Site
 attribute_end = Then (expects is_right_parenthesis) (λ a. Then (expects is_right_parenthesis) (λ b. expects is_right_parenthesis))
 
 -- from `void` to the parenthesis that opens the parameters
-unfoldable pub head_reader : Reader (List ℕ)
-head_reader = Then (expects is_void) (λ a. Then (takes name_at) (λ x. Then (expects is_left_parenthesis) (λ b. Gives x.0)))
+unfoldable pub head_reader : Reader (List ℕ × Site)
+head_reader = Then (expects is_void) (λ a. Then (takes name_at) (λ x. Then (expects is_left_parenthesis) (λ b. Gives x)))
 
 -- the body in braces, and then the end
 unfoldable pub body_reader : Reader Statements

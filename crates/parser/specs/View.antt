@@ -1,10 +1,13 @@
 -- What the code reads and answers, as the definitions have it.
 use Rattle.std.specs.Prelude.{◌≡◌, ℕ, List, map, Result, Ok, Err, Vec, slice_index}
 use denote.Ref.{Bor}
+use Rattle.semantics.specs.Core.{Site}
 use Rattle.texts.specs.Lexemes.{Lexeme, lexeme}
 use Rattle.texts.specs.ParseFaults as rules
 use Rattle.texts.specs.Surface as surface
 use Rattle.std.specs.declared.alloc.Global.{Global}
+use Rattle.core_code.specs.View.{site}
+use Rattle.core_code.specs.declared.tree.Site as code
 use Rattle.syntax.specs.View.{infix_sign, expressions, statement, statements, parameter}
 use Rattle.syntax.specs.declared.tree.Expr.{Expr}
 use Rattle.syntax.specs.declared.tree.Stmt.{Stmt}
@@ -52,6 +55,10 @@ numbered entry = (statement entry.0, entry.1)
 
 abbrev pub all_numbered : Vec Stmt Global × ℕ → surface.Statements × ℕ
 all_numbered entry = (statements entry.0.items, entry.1)
+
+-- a name, and where it stands
+abbrev pub named_seen : Bor (List ℕ) × code.Site → List ℕ × Site
+named_seen named = (named.0.now, site named.1)
 
 abbrev pub parameters_seen : Vec Parameter Global → List surface.Parameter
 parameters_seen ps = map parameter ps.items

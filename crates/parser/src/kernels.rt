@@ -4,7 +4,7 @@ ghost use Rattle.std.specs.Prelude.{◌≡◌, ◌≤◌, ◌*◌, ◌&&◌, nat
 ghost use Rattle.syntax.specs.View.{parameter as parameter_seen, kernel as kernel_seen};
 ghost use Rattle.parser.specs.Reader.{run};
 ghost use Rattle.core_code.specs.View.{site as site_of};
-ghost use Rattle.parser.specs.View.{lexemes, Reads, parameters_seen, sizes_seen, text_seen};
+ghost use Rattle.parser.specs.View.{lexemes, Reads, named_seen, parameters_seen, sizes_seen};
 ghost use Rattle.parser.specs.Pieces as pieces;
 ghost use Rattle.parser.specs.Pieces.{body_seen};
 ghost use Rattle.parser.specs.Kernels as reads;
@@ -186,18 +186,19 @@ fn attribute<'a>(tokens: &'a [Token<'a>]) -> Result<([u32; 3], &'a [Token<'a>]),
     Ok((sizes, rest))
 }
 
-// The name, between `void` and the parenthesis that opens the parameters.
+// The name with its site, between `void` and the parenthesis that opens the parameters.
 #[tactic(auto, using(crate::proofs::Steps::part_steps), unfolding(crate::specs::Pieces::head_reader))]
-fn head<'a>(tokens: &'a [Token<'a>]) -> Result<(&'a str, &'a [Token<'a>]), Stop<'a>>
-    ensures { Reads text_seen result (run pieces.head_reader (lexemes tokens.now)) }
+fn head<'a>(tokens: &'a [Token<'a>]) -> Result<((&'a str, Site), &'a [Token<'a>]), Stop<'a>>
+    ensures { Reads named_seen result (run pieces.head_reader (lexemes tokens.now)) }
 {
     let (_, rest) = pass(is_void(kind_at(tokens)), tokens)?;
     let Some(name) = name_of(kind_at(rest)) else {
         return Err(Stop::Refused(ParseFault::Expected, rest));
     };
+    let site = site_at(rest);
     let rest = behind(rest);
     let (_, rest) = pass(is_left_parenthesis(kind_at(rest)), rest)?;
-    Ok((name, rest))
+    Ok(((name, site), rest))
 }
 
 // The body in braces, and then the end.
@@ -225,11 +226,12 @@ pub fn whole_kernel<'a>(
     ensures { Reads kernel_seen result (run reads.kernel_reader (lexemes tokens.now)) }
 {
     let (sizes, rest) = attribute(tokens)?;
-    let (name, rest) = head(rest)?;
+    let ((name, name_site), rest) = head(rest)?;
     let (parameters, rest) = parameters(alloc, rest)?;
     let (body, rest) = whole_body(alloc, rest)?;
     let kernel = Kernel {
         name: String::from_str(alloc, name)?,
+        name_site,
         sizes,
         parameters,
         body,

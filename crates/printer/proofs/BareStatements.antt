@@ -7,9 +7,9 @@ use Rattle.semantics.specs.Core.{Site}
 use Rattle.texts.specs.Bare.{nowhere, bare_expression, bare_expressions, bare_declaration, bare_index, bare_assignment, bare_first, bare_statement, bare_statements, bare_parameter, bare_kernel}
 use Rattle.texts.specs.Surface.{Arithmetic, LeftShift, RightShift, Comparison, LogicalAnd, LogicalOr, AssignSign, Plain, With, WithLeftShift, WithRightShift, Expression, Number, Name, Element, Call, Prefix, Cast, Infix, Conditional, Expressions, nothing, also, Declaration, Assignment, First, FirstDeclares, FirstAssigns, JumpWord, Return, Break, Continue, Statement, Declare, DeclareArray, Assign, If, While, For, Barrier, Jump, Block, Statements, none, one, Parameter, Buffer, Value, Kernel, site_of}
 use Rattle.texts.specs.TypeFaults.{UnknownName, NameTwice, WriteToConst, ArrayInBlock, LoadInCompoundIndex, BarrierFlags, JumpOutsideLoop, then, when}
-use Rattle.texts.specs.Scope.{Meaning, VariableAt, ArrayAt, Scope, empty_scope, leave_block, meaning_of, may_declare}
+use Rattle.texts.specs.Scope.{Meaning, VariableAt, ArrayAt, Scope, empty_scope, leave_block, meaning_of, may_declare, may_name_kernel}
 use Rattle.texts.specs.Typing.{TypedTerm, typed}
-use Rattle.texts.specs.Elaboration.{Elaborated, elaborated, single, join, assigned, either, first_load, first_load_in, without_load, site_or, target_array, target_slot, assign_to, elaborate_assignment, elaborate_declaration, elaborate_first, flag_named, one_flag, barrier_of, Around, InKernel, InLoop, is_in_kernel, inside, innermost_loop, jump_to, elaborate_statement, elaborate_all, declare_parameter, declare_parameters, elaborate}
+use Rattle.texts.specs.Elaboration.{Elaborated, elaborated, single, join, assigned, either, first_load, first_load_in, without_load, site_or, target_array, target_slot, assign_to, elaborate_assignment, elaborate_declaration, elaborate_first, flag_named, one_flag, barrier_of, Around, InKernel, InLoop, is_in_kernel, inside, innermost_loop, jump_to, elaborate_statement, elaborate_all, declare_parameter, declare_parameters, elaborate_inside, elaborate}
 use Rattle.printer.specs.BareCore.{bare_term, bare_step, bare_steps, bare_core, bare_checked}
 use Rattle.printer.proofs.BareTerms.{same, bare_typed, bare-then, bare-found, bare-when, bare-bring, bare-infix, bare-type}
 
@@ -201,7 +201,11 @@ bare-declare_all : (scope : Scope) (ps : List Parameter) → declare_parameters 
 bare-declare_all scope [] = refl
 bare-declare_all scope (p ∷ ps) = bare-then same same _ _ _ _ (bare-declare scope p) (λ inner. bare-declare_all inner ps)
 
+bare-inside : (k : Kernel) → elaborate_inside (bare_kernel k) ≡ bare_checked bare_core (elaborate_inside k)
+unfolding elaborate_inside
+bare-inside k =
+    bare-then same bare_core _ _ _ _ (bare-declare_all empty_scope k.parameters) (λ outer. bare-then bare_elaborated bare_core _ _ _ _ (bare-elaborate_all InKernel outer k.body) (λ b. refl))
+
 pub bare-elaborate : (k : Kernel) → elaborate (bare_kernel k) ≡ bare_checked bare_core (elaborate k)
 unfolding elaborate
-bare-elaborate k =
-    bare-then same bare_core _ _ _ _ (bare-declare_all empty_scope k.parameters) (λ outer. bare-then bare_elaborated bare_core _ _ _ _ (bare-elaborate_all InKernel outer k.body) (λ b. refl))
+bare-elaborate k = bare-then same bare_core _ _ _ _ (bare-when same (may_name_kernel k.name) NameTwice k.name_site empty_scope) (λ outside. bare-inside k)

@@ -12,8 +12,8 @@ use Rattle.findings.specs.View.{finding as finding_seen}
 use Rattle.telling.specs.Refusals.{IsRefusalLine, refusal_line, place_seen}
 use Rattle.telling.specs.Refusing.{IsRefusedText, IsRefusedKernel, IsUnanswered}
 use Rattle.telling.specs.Proving.{IsProvedText, IsUnproved, proved_lines, found, findings_text}
-use Rattle.command_line.specs.Words.{HasWord, saved_as}
-use Rattle.semantics.specs.Launch.{Launch}
+use Rattle.command_line.specs.Words.{HasWord, AsksWorkers, saved_as}
+use Rattle.semantics.specs.Launch.{Launch, Kernel, Fits}
 use Rattle.semantics.specs.Conditions.{Conditions, Meets}
 use Rattle.launch.specs.Least.{probe}
 use Rattle.launch.specs.View.{conditions as conditions_seen}
@@ -31,16 +31,16 @@ use Rattle.telling.specs.declared.Verdict.TheVariants as verdicts
 check_line : (k c p line : List ℕ) → IsRefusedText k c p line → IsRefusalLine line
 check_line k c p line (e, r, h) = (checks.error_number e, place_seen (checks.error_place e), h)
 
-run_line : (k c p l line : List ℕ) → IsUnanswered k c p l line → IsRefusalLine line
-run_line k c p l line (inl h) = check_line k c p line h
-run_line k c p l line (inr (inl (e, kernel, conditions, s, r, h))) = (launches.error_number e, place_seen (checks.at_line (launches.error_place e)), h)
-run_line k c p l line (inr (inr (e, kernel, conditions, launch, workers, s, q, r, h))) = (runs.error_number e, place_seen (checks.at_line (runs.error_line e)), h)
+run_line : (workers : ℕ) (k c p l line : List ℕ) → IsUnanswered workers k c p l line → IsRefusalLine line
+run_line workers k c p l line (inl h) = check_line k c p line h
+run_line workers k c p l line (inr (inl (e, kernel, conditions, s, r, h))) = (launches.error_number e, place_seen (checks.at_line (launches.error_place e)), h)
+run_line workers k c p l line (inr (inr (e, kernel, conditions, launch, s, q, r, h))) = (runs.error_number e, place_seen (checks.at_line (runs.error_line e)), h)
 
 print_line : (k line : List ℕ) → IsRefusedKernel k line → IsRefusalLine line
 print_line k line (e, r, h) = (kernels.error_number e, place_seen (checks.at_place (kernels.error_place e)), h)
 
-search_text : (kernel conditions text : List ℕ) → IsUnproved kernel conditions text → IsRefusalText text
-search_text kernel conditions text (e, h) =
+search_text : (workers : ℕ) (kernel conditions text : List ℕ) → IsUnproved workers kernel conditions text → IsRefusalText text
+search_text workers kernel conditions text (e, h) =
     (refusal_line (searches.error_number e) (place_seen (searches.error_place e)), findings_text (map finding_seen (found e)), (searches.error_number e, place_seen (searches.error_place e), refl), h.lines)
 
 -- with nothing behind it
@@ -56,9 +56,9 @@ begun tells f text h =
 text_of : (given : List Read → Option Write → Type 0) (ws : List (List ℕ)) (text : List ℕ) → Refusal given ws text → IsRefusalText text
 text_of given ws text (own e g h) = alone text (check_line _ _ _ text h)
 text_of given ws text (checked k c p kernel conditions certificate w x y z g h) = alone text (check_line kernel conditions certificate text h)
-text_of given ws text (ran k c p l kernel conditions certificate launch w x y z u g h) = alone text (run_line kernel conditions certificate launch text h)
-text_of given ws text (proved k c kernel conditions saved w x y g h) = search_text kernel conditions text h.0
-text_of given ws text (explained k c kernel conditions w x y z g h) = begun (IsUnproved kernel conditions) (search_text kernel conditions) text h
+text_of given ws text (ran k c p l kernel conditions certificate launch workers w x y z u n g h) = alone text (run_line workers kernel conditions certificate launch text h)
+text_of given ws text (proved k c kernel conditions workers saved w x y n g h) = search_text workers kernel conditions text h.0
+text_of given ws text (explained k c kernel conditions w x y z g h) = begun (IsUnproved 1 kernel conditions) (search_text 1 kernel conditions) text h
 text_of given ws text (explained_check k c p kernel conditions certificate w x y z g h) =
     begun (IsRefusedText kernel conditions certificate) (λ line refusal. alone line (check_line kernel conditions certificate line refusal)) text h
 text_of given ws text (printed k kernel w x g h) = alone text (print_line kernel text h)
@@ -93,12 +93,12 @@ does contents gives before next after rs None h s = subst (λ f. Reads contents 
 does contents gives before next after rs (Some w) h s = (next, h, s)
 
 -- what is written where a certificate was found is told of a kernel that is safe
-told_of : (m : Conditions) (written : List ℕ) (o : Option Launch) → IfSome o (Meets m) → written ≡ proved_lines o → ((l : Launch) × Meets m l × (written ≡ accepted_line)) ⊎ (written ≡ accepted_line ++ no_launch_line)
-told_of m written (Some l) h e = inl (l, h, e)
-told_of m written None h e = inr e
+told_of : (k : Kernel) (m : Conditions) (written : List ℕ) (o : Option Launch) → IfSome o (λ l. Fits k l × Meets m l) → written ≡ proved_lines o → ((l : Launch) × Fits k l × Meets m l × (written ≡ accepted_line)) ⊎ (written ≡ accepted_line ++ no_launch_line)
+told_of k m written (Some l) h e = inl (l, h.0, h.1, e)
+told_of k m written None h e = inr e
 
 is_safe_text : (kernel conditions certificate written : List ℕ) → IsProvedText kernel conditions certificate written → IsSafeText kernel conditions written
-is_safe_text kernel conditions certificate written h = (h.0, conditions_seen h.1, h.2.safe, told_of (conditions_seen h.1) written (probe h.1) h.2.least h.2.text)
+is_safe_text kernel conditions certificate written h = (h.0, conditions_seen h.1, h.2.safe, told_of h.0.core (conditions_seen h.1) written (probe h.1) h.2.least h.2.text)
 
 pub is_explained : (kernel conditions : List ℕ) (v : Verdict) → Explains v kernel conditions → Explained v kernel conditions
 is_explained kernel conditions (verdicts.Done text) h = (is_safe_text kernel conditions h.0 text.items h.1, h)
@@ -106,17 +106,17 @@ is_explained kernel conditions (verdicts.Refused text) h = h
 is_explained kernel conditions verdicts.OutOfMemory h = tt
 
 -- a search of files whose answer was kept tells of it
-module _ {F : Type 0} (contents : F → List ℕ → Option (List ℕ)) (gives : F → List ℕ → ℕ → List ℕ → F → Type 0) (before next after : F) (ws : List (List ℕ)) (k c kernel conditions : List ℕ) (out : Option (List ℕ)) where
+module _ {F : Type 0} (contents : F → List ℕ → Option (List ℕ)) (gives : F → List ℕ → ℕ → List ℕ → F → Type 0) (before next after : F) (ws : List (List ℕ)) (k c kernel conditions : List ℕ) (workers : ℕ) (out : Option (List ℕ)) where
   abbrev Given : Type 0
   Given = Reads contents gives before next (kernel_read k kernel ∷ conditions_read c conditions ∷ [])
 
-  pub tells : (v : Verdict) → HasWord ws 0 (codes "prove") → HasWord ws 1 k → HasWord ws 2 c → out ≡ saved_as false ws → Given → Kept contents next after out kernel conditions v → Tells (Does contents gives before after) ws v
-  tells (verdicts.Done text) w x y q r h =
-      proved k c kernel conditions (saving out h.0) w x y (does contents gives before next after (kernel_read k kernel ∷ conditions_read c conditions ∷ []) (saving out h.0) r h.2) (is_safe_text kernel conditions h.0 text.items h.1, (h.0, h.1, ap (λ o. saving o h.0) q))
-  tells (verdicts.Refused line) w x y q r h =
-      proved k c kernel conditions None w x y (does contents gives before next after (kernel_read k kernel ∷ conditions_read c conditions ∷ []) None r h.1) (h.0, refl)
-  tells verdicts.OutOfMemory w x y q r h =
-      proved k c kernel conditions None w x y (does contents gives before next after (kernel_read k kernel ∷ conditions_read c conditions ∷ []) None r h) tt
+  pub tells : (v : Verdict) → HasWord ws 0 (codes "prove") → HasWord ws 1 k → HasWord ws 2 c → AsksWorkers ws workers → out ≡ saved_as false ws → Given → Kept contents next after out workers kernel conditions v → Tells (Does contents gives before after) ws v
+  tells (verdicts.Done text) w x y n q r h =
+      proved k c kernel conditions workers (saving out h.0) w x y n (does contents gives before next after (kernel_read k kernel ∷ conditions_read c conditions ∷ []) (saving out h.0) r h.2) (is_safe_text kernel conditions h.0 text.items h.1, (h.0, h.1, ap (λ o. saving o h.0) q))
+  tells (verdicts.Refused line) w x y n q r h =
+      proved k c kernel conditions workers None w x y n (does contents gives before next after (kernel_read k kernel ∷ conditions_read c conditions ∷ []) None r h.1) (h.0, refl)
+  tells verdicts.OutOfMemory w x y n q r h =
+      proved k c kernel conditions workers None w x y n (does contents gives before next after (kernel_read k kernel ∷ conditions_read c conditions ∷ []) None r h) tt
 
 -- what follows of each answer
 pub follows : {T E : Type 0} (r : Result T E) (P Q : T → Type 0) → ((t : T) → P t → Q t) → IfOk r P → IfOk r Q

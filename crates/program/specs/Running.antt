@@ -1,13 +1,13 @@
 -- What a run of the program reads and writes.
 use Rattle.std.specs.Prelude.{◌≡◌, ◌≢◌, ◌+◌, ◌++◌, ◌⊎◌, ℕ, List, [], ◌∷◌, false, Option, Some, None, IfSome, slice_get, take, codes}
 use Rattle.std.specs.Io.KnownBytes.{Appends, Keeps}
-use Rattle.semantics.specs.Launch.{Launch}
+use Rattle.semantics.specs.Launch.{Launch, Fits}
 use Rattle.semantics.specs.Conditions.{Conditions, Meets}
 use Rattle.reading.specs.Kernels.{Kernel}
 use Rattle.telling.specs.Telling.{IsSafe, IsAcceptedText, IsResultText, IsPrintedText, accepted_line}
 use Rattle.telling.specs.Proving.{no_launch_line}
 use Rattle.telling.specs.Refusals.{IsRefusalLine}
-use Rattle.command_line.specs.Words.{operands, HasWord, saved_as}
+use Rattle.command_line.specs.Words.{operands, HasWord, AsksWorkers, saved_as}
 use Rattle.program.specs.First.{first_kernel, first_conditions, first_certificate}
 
 -- a read of a file: its name, the limit of its text, and the bytes that it gave
@@ -68,17 +68,17 @@ HasNoWord ws n = slice_get (operands false ws) n ≡ None
 
 -- what is told of the texts that the words ask about: those in the program where there is no word, else those of the files that the
 -- words name, which were read in this order; `given` says of reads that they were made, and of a text that it was written behind them
-pub data Answers (given : List Read → Option Write → Type 0) (ws : List (List ℕ)) (checks : (kernel conditions certificate : List ℕ) → Type 0) (runs : (kernel conditions certificate launch : List ℕ) → Type 0)
-    (proves : (kernel conditions : List ℕ) → Option Write → Type 0) (explains : (kernel conditions : List ℕ) → Type 0) (explains_check : (kernel conditions certificate : List ℕ) → Type 0) (prints : (kernel : List ℕ) → Type 0) : Type 0 where
+pub data Answers (given : List Read → Option Write → Type 0) (ws : List (List ℕ)) (checks : (kernel conditions certificate : List ℕ) → Type 0) (runs : (workers : ℕ) → (kernel conditions certificate launch : List ℕ) → Type 0)
+    (proves : (workers : ℕ) → (kernel conditions : List ℕ) → Option Write → Type 0) (explains : (kernel conditions : List ℕ) → Type 0) (explains_check : (kernel conditions certificate : List ℕ) → Type 0) (prints : (kernel : List ℕ) → Type 0) : Type 0 where
   own : ws ≡ [] → given [] None → checks first_kernel first_conditions first_certificate → Answers given ws checks runs proves explains explains_check prints
   checked : (k c p kernel conditions certificate : List ℕ) → HasWord ws 0 (codes "check") → HasWord ws 1 k → HasWord ws 2 c → HasWord ws 3 p →
       given (kernel_read k kernel ∷ conditions_read c conditions ∷ certificate_read p certificate ∷ []) None → checks kernel conditions certificate →
       Answers given ws checks runs proves explains explains_check prints
-  ran : (k c p l kernel conditions certificate launch : List ℕ) → HasWord ws 0 (codes "run") → HasWord ws 1 k → HasWord ws 2 c → HasWord ws 3 p → HasWord ws 4 l →
-      given (kernel_read k kernel ∷ conditions_read c conditions ∷ certificate_read p certificate ∷ launch_read l launch ∷ []) None → runs kernel conditions certificate launch →
+  ran : (k c p l kernel conditions certificate launch : List ℕ) (workers : ℕ) → HasWord ws 0 (codes "run") → HasWord ws 1 k → HasWord ws 2 c → HasWord ws 3 p → HasWord ws 4 l → AsksWorkers ws workers →
+      given (kernel_read k kernel ∷ conditions_read c conditions ∷ certificate_read p certificate ∷ launch_read l launch ∷ []) None → runs workers kernel conditions certificate launch →
       Answers given ws checks runs proves explains explains_check prints
-  proved : (k c kernel conditions : List ℕ) (saved : Option Write) → HasWord ws 0 (codes "prove") → HasWord ws 1 k → HasWord ws 2 c →
-      given (kernel_read k kernel ∷ conditions_read c conditions ∷ []) saved → proves kernel conditions saved → Answers given ws checks runs proves explains explains_check prints
+  proved : (k c kernel conditions : List ℕ) (workers : ℕ) (saved : Option Write) → HasWord ws 0 (codes "prove") → HasWord ws 1 k → HasWord ws 2 c → AsksWorkers ws workers →
+      given (kernel_read k kernel ∷ conditions_read c conditions ∷ []) saved → proves workers kernel conditions saved → Answers given ws checks runs proves explains explains_check prints
   explained : (k c kernel conditions : List ℕ) → HasWord ws 0 (codes "explain") → HasWord ws 1 k → HasWord ws 2 c → HasNoWord ws 3 →
       given (kernel_read k kernel ∷ conditions_read c conditions ∷ []) None → explains kernel conditions → Answers given ws checks runs proves explains explains_check prints
   explained_check : (k c p kernel conditions certificate : List ℕ) → HasWord ws 0 (codes "explain") → HasWord ws 1 k → HasWord ws 2 c → HasWord ws 3 p →
@@ -86,10 +86,10 @@ pub data Answers (given : List Read → Option Write → Type 0) (ws : List (Lis
       Answers given ws checks runs proves explains explains_check prints
   printed : (k kernel : List ℕ) → HasWord ws 0 (codes "print") → HasWord ws 1 k → given (kernel_read k kernel ∷ []) None → prints kernel → Answers given ws checks runs proves explains explains_check prints
 
--- the headline holds at each launch that meets the conditions: `accepted` where some launch does, or else a line more
+-- the headline holds at each launch that meets the conditions: `accepted` where some launch of the kernel does, or else a line more
 abbrev pub IsSafeText : (kernel conditions written : List ℕ) → Type 0
 IsSafeText kernel conditions written =
-    (k : Kernel) × (c : Conditions) × IsSafe kernel conditions k c × (((l : Launch) × Meets c l × (written ≡ accepted_line)) ⊎ (written ≡ accepted_line ++ no_launch_line))
+    (k : Kernel) × (c : Conditions) × IsSafe kernel conditions k c × (((l : Launch) × Fits k.core l × Meets c l × (written ≡ accepted_line)) ⊎ (written ≡ accepted_line ++ no_launch_line))
 
 -- and what was found, a certificate, was written to the file behind `--out`, where there is one; `proof` says of it that it is one
 abbrev pub IsFound : (proof : (kernel conditions certificate written : List ℕ) → Type 0) (ws : List (List ℕ)) (kernel conditions written : List ℕ) → Option Write → Type 0
@@ -103,8 +103,8 @@ IsSought proof kernel conditions written = IsSafeText kernel conditions written 
 -- `accepted`, the buffers of a launch, or a canonical text
 abbrev pub Success : (given : List Read → Option Write → Type 0) (proof : (kernel conditions certificate written : List ℕ) → Type 0) (ws : List (List ℕ)) (written : List ℕ) → Type 0
 Success given proof ws written =
-    Answers given ws (λ kernel conditions certificate. IsAcceptedText kernel conditions written) (λ kernel conditions certificate launch. IsResultText kernel conditions launch written)
-    (λ kernel conditions saved. IsFound proof ws kernel conditions written saved) (λ kernel conditions. IsSought proof kernel conditions written)
+    Answers given ws (λ kernel conditions certificate. IsAcceptedText kernel conditions written) (λ workers kernel conditions certificate launch. IsResultText kernel conditions launch written)
+    (λ workers kernel conditions saved. IsFound proof ws kernel conditions written saved) (λ kernel conditions. IsSought proof kernel conditions written)
     (λ kernel conditions certificate. IsAcceptedText kernel conditions written) (λ kernel. IsPrintedText kernel written)
 
 -- the one file that may change: that which `prove` is asked to write

@@ -10,28 +10,28 @@ use Rattle.telling.specs.ProvingVerdicts.{Begins, ExplainsCheck}
 use Rattle.program.specs.Running.{Read, Write, Answers, Saves, saving, IsFound, IsSought}
 
 -- of a search: what was found is in the file that the words name, if they name one; a refusal writes none
-abbrev pub Finds : (ws : List (List ℕ)) → Verdict → (kernel conditions : List ℕ) → Option Write → Type 0
-Finds ws (verdicts.Done text) kernel conditions saved = IsFound IsProvedText ws kernel conditions text.items saved
-Finds ws (verdicts.Refused line) kernel conditions saved = IsUnproved kernel conditions (string_bytes line) × (saved ≡ None)
-Finds ws verdicts.OutOfMemory kernel conditions saved = Unit {0}
+abbrev pub Finds : (ws : List (List ℕ)) → Verdict → (workers : ℕ) → (kernel conditions : List ℕ) → Option Write → Type 0
+Finds ws (verdicts.Done text) workers kernel conditions saved = IsFound IsProvedText ws kernel conditions text.items saved
+Finds ws (verdicts.Refused line) workers kernel conditions saved = IsUnproved workers kernel conditions (string_bytes line) × (saved ≡ None)
+Finds ws verdicts.OutOfMemory workers kernel conditions saved = Unit {0}
 
 -- of a search whose refusal is explained
 abbrev pub Explained : Verdict → (kernel conditions : List ℕ) → Type 0
 Explained (verdicts.Done text) kernel conditions = IsSought IsProvedText kernel conditions text.items
-Explained (verdicts.Refused text) kernel conditions = Begins (IsUnproved kernel conditions) (string_bytes text)
+Explained (verdicts.Refused text) kernel conditions = Begins (IsUnproved 1 kernel conditions) (string_bytes text)
 Explained verdicts.OutOfMemory kernel conditions = Unit {0}
 
 -- of a search, where what is found is put into a file of this name
-abbrev pub Kept : {F : Type 0} → (contents : F → List ℕ → Option (List ℕ)) → (before after : F) → (out : Option (List ℕ)) → (kernel conditions : List ℕ) → Verdict → Type 0
-Kept contents before after out kernel conditions (verdicts.Done text) = (certificate : List ℕ) × IsProvedText kernel conditions certificate text.items × Saves contents before after (saving out certificate)
-Kept contents before after out kernel conditions (verdicts.Refused line) = IsUnproved kernel conditions (string_bytes line) × (after ≡ before)
-Kept contents before after out kernel conditions verdicts.OutOfMemory = after ≡ before
+abbrev pub Kept : {F : Type 0} → (contents : F → List ℕ → Option (List ℕ)) → (before after : F) → (out : Option (List ℕ)) → (workers : ℕ) → (kernel conditions : List ℕ) → Verdict → Type 0
+Kept contents before after out workers kernel conditions (verdicts.Done text) = (certificate : List ℕ) × IsProvedText kernel conditions certificate text.items × Saves contents before after (saving out certificate)
+Kept contents before after out workers kernel conditions (verdicts.Refused line) = IsUnproved workers kernel conditions (string_bytes line) × (after ≡ before)
+Kept contents before after out workers kernel conditions verdicts.OutOfMemory = after ≡ before
 
 -- of the texts that were asked about
 abbrev pub Tells : (given : List Read → Option Write → Type 0) (ws : List (List ℕ)) → Verdict → Type 0
 Tells given ws v =
-    Answers given ws (λ kernel conditions certificate. Checks v kernel conditions certificate) (λ kernel conditions certificate launch. Runs v kernel conditions certificate launch)
-    (λ kernel conditions saved. Finds ws v kernel conditions saved) (λ kernel conditions. Explained v kernel conditions)
+    Answers given ws (λ kernel conditions certificate. Checks v kernel conditions certificate) (λ workers kernel conditions certificate launch. Runs v workers kernel conditions certificate launch)
+    (λ workers kernel conditions saved. Finds ws v workers kernel conditions saved) (λ kernel conditions. Explained v kernel conditions)
     (λ kernel conditions certificate. ExplainsCheck v kernel conditions certificate) (λ kernel. Prints v kernel)
 
 -- the text is written, or a front of it, which is status 3

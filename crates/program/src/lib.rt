@@ -10,4 +10,4 @@ mod one_run;
 pub mod patience;
 mod writing;
 
-pub use one_run::tool;
+pub use one_run::{USAGE, tool};

@@ -5,7 +5,7 @@ ghost use Rattle.std.specs.Option.{option_map};
 ghost use Rattle.telling.specs.Verdicts.{Checks};
 ghost use Rattle.telling.specs.Proving.{IsProvedText};
 ghost use Rattle.telling.specs.ProvingVerdicts.{Proves};
-ghost use Rattle.command_line.specs.Words.{texts, HasWord, HasNames, HasSearch, HasSubject};
+ghost use Rattle.command_line.specs.Words.{texts, HasWord, HasNames, AsksWorkers, HasSearch, HasSubject};
 ghost use Rattle.program.specs.First.{first_kernel, first_conditions, first_certificate};
 ghost use Rattle.program.specs.Running.{IsOf, Reads, Does, IsPut, Saves, saving, kernel_read, conditions_read, certificate_read, HasNoWord, Success, IsOut, Output};
 ghost use Rattle.program.specs.Refusing.{Refusal};
@@ -24,7 +24,8 @@ use telling::{
     run_texts,
 };
 
-const USAGE: &[u8] = b"usage: kverify prove | check | explain | run | print\n";
+/// What is told of words that are no command line.
+pub const USAGE: &str = "usage: kverify prove | check | run | print\n";
 
 /// Why there is no verdict.
 #[derive(Clone, Copy)]
@@ -114,7 +115,7 @@ fn ran<'a, R: Threads + Wait + Sync, F: Files>(
     workers: u32,
     files: &mut F,
 ) -> Result<Verdict, Stop<'a>>
-    ensures verdict { (ws : List (List ℕ)) → HasWord ws 0 (codes "run") → HasNames ws names.entry → HasWord ws 4 launch.now → IfOk result (λ v. Tells (Does F.contents F.gives files.old files.new) ws v) }
+    ensures verdict { (ws : List (List ℕ)) → HasWord ws 0 (codes "run") → HasNames ws names.entry → HasWord ws 4 launch.now → AsksWorkers ws workers → IfOk result (λ v. Tells (Does F.contents F.gives files.old files.new) ws v) }
     ensures same { (n : List ℕ) → F.contents files.new n ≡ F.contents files.old n }
 {
     let found = texts_of(files, names)?;
@@ -151,7 +152,7 @@ fn kept<'a, F: Files>(
     out: Option<&'a str>,
     sought: Sought,
 ) -> Result<Verdict, Stop<'a>>
-    ensures verdict { (kernel conditions : List ℕ) → Proves sought kernel conditions → IfOk result (λ v. Kept F.contents files.old files.new (option_map (λ w. w.now) out.entry) kernel conditions v) }
+    ensures verdict { (workers : ℕ) (kernel conditions : List ℕ) → Proves sought workers kernel conditions → IfOk result (λ v. Kept F.contents files.old files.new (option_map (λ w. w.now) out.entry) workers kernel conditions v) }
     ensures others { (n : List ℕ) → option_map (λ w. w.now) out.entry ≢ Some n → F.contents files.new n ≡ F.contents files.old n }
 {
     match sought {
@@ -174,7 +175,7 @@ fn searched<'a, R: Threads + Wait + Sync, F: Files>(
     search: Search<'a>,
     files: &mut F,
 ) -> Result<Sought, Stop<'a>>
-    ensures reads { IfOk result (λ f. (kernel : List ℕ) × (conditions : List ℕ) × Reads F.contents F.gives files.old files.new (kernel_read search.entry.kernel.now kernel ∷ conditions_read search.entry.conditions.now conditions ∷ []) × Proves f kernel conditions) }
+    ensures reads { IfOk result (λ f. (kernel : List ℕ) × (conditions : List ℕ) × Reads F.contents F.gives files.old files.new (kernel_read search.entry.kernel.now kernel ∷ conditions_read search.entry.conditions.now conditions ∷ []) × Proves f search.entry.workers kernel conditions) }
     ensures same { (n : List ℕ) → F.contents files.new n ≡ F.contents files.old n }
 {
     let kernel = text_of(files, search.kernel, 65_536)?;
@@ -311,7 +312,7 @@ fn stopped<E: Write>(stop: Stop, err: &mut E) -> u8
     ensures { IsStopped result }
 {
     match stop {
-        Stop::Usage => warned(2, USAGE, err),
+        Stop::Usage => warned(2, USAGE.as_bytes(), err),
         Stop::Memory => warned(4, b"out of memory\n", err),
         Stop::File(name) => match writeln!(err, "file: {name}") {
             Ok(()) | Err(_) => 3,

@@ -1,10 +1,10 @@
 -- What an error of a search tells of texts.
-use Rattle.std.proofs.Common.{ℕ, List, subst}
-use Rattle.std.specs.Prelude.{Option, Some, None, IfSome, slice_index_or, Result, Ok, Err, IfErr}
+use Rattle.std.proofs.Common.{ℕ, List, sym, subst}
+use Rattle.std.specs.Prelude.{◌≡◌, Option, Some, None, IfSome, slice_index_or, Result, Ok, Err, IfOk, IfErr}
 use Rattle.semantics.specs.Conditions.{Conditions}
 use Rattle.semantics.specs.Launch.{Launch}
 use Rattle.semantics.specs.World.{Event}
-use Rattle.texts.specs.ConditionsReading.{meant}
+use Rattle.texts.specs.ConditionsReading.{Lined, meant}
 use Rattle.texts.specs.ConditionsText.{IsConditionsText}
 use Rattle.reading.specs.Kernels.{Kernel}
 use Rattle.reading.specs.Texts.{IsTextOf}
@@ -19,7 +19,13 @@ use Rattle.launch_text.proofs.LeastFits.{conditions_meant}
 use Rattle.findings.specs.Findings.{Finding}
 use Rattle.findings.specs.View.{finding as finding_seen}
 use Rattle.proof_search.specs.Findings.{IsWitness, IsTrue, IsTrueOf}
-use Rattle.proof_search.specs.Searching.{Means, TellsOf}
+use Rattle.arrivals.specs.Loops.{unmet}
+use Rattle.core_code.specs.View.{kernel as core_seen, site as site_seen}
+use Rattle.core_code.specs.declared.tree.Site.{Site}
+use Rattle.syntax.specs.Sites.{site_at}
+use Rattle.cert_check.specs.Refusing.{AreRead}
+use Rattle.cert_check.specs.declared.error.CheckError.TheVariants as checks
+use Rattle.proof_search.specs.Searching.{AreSearched, IsCount, IsNoCount, Ends, TellsOf}
 use Rattle.proof_search.specs.declared.error.VerifyError.{VerifyError}
 use Rattle.proof_search.specs.declared.error.VerifyError.TheVariants as errors
 
@@ -32,18 +38,33 @@ module _ (kernel conditions : List ℕ) (k : Kernel) (c : Conditions) (text : Is
   is_true_of : IsTrue k c f → IsTrueOf kernel conditions f
   is_true_of h = witnessed f.schedule h
 
-module _ (t : trees.Kernel × Core) (c : code.Conditions) (workers : ℕ) (kernel conditions : List ℕ) (text : IsTextOf kernel (kernel_seen t)) (said : IsConditionsText (tree_seen t.0).parameters conditions (meant (lined c))) where
+module _ (t : trees.Kernel × Core) (c : code.Conditions) (workers : ℕ) (kernel conditions : List ℕ) (text : IsTextOf kernel (kernel_seen t)) (said : IsConditionsText (tree_seen t.0).parameters conditions (meant (lined c))) (count : IsCount workers) (searched : AreSearched kernel conditions) where
   same : IsConditionsText (tree_seen t.0).parameters conditions (conditions_seen c)
   same = subst (IsConditionsText (tree_seen t.0).parameters conditions) (conditions_meant c) said
 
-  pub told : (e : VerifyError) → Means t c e → TellsOf e workers kernel conditions
-  told (errors.Check e) h = tt
+  told : (e : VerifyError) → Ends t c e → TellsOf e workers kernel conditions
+  told (errors.Check (checks.Kernel e)) h = absurd h
+  told (errors.Check (checks.Conditions e)) h = absurd h
+  told (errors.Check (checks.Missed site)) h = absurd h
+  told (errors.Check (checks.Certificate e)) h = absurd h
+  told (errors.Check (checks.ManyPaths site)) h = (count, searched)
+  told (errors.Check (checks.Show e)) h = (count, searched)
   told errors.Workers h = absurd h
-  told (errors.NotShown found) h = λ n d within. is_true_of kernel conditions (kernel_seen t) (conditions_seen c) text same (finding_seen (slice_index_or found.items n d)) (h n d within)
-  told errors.TooLong h = tt
+  told (errors.NotShown found) h = (count, searched, λ n d within. is_true_of kernel conditions (kernel_seen t) (conditions_seen c) text same (finding_seen (slice_index_or found.items n d)) (h n d within))
+  told errors.TooLong h = (count, searched)
   told errors.Memory h = tt
 
-module _ {T : Type 0} (t : trees.Kernel × Core) (c : code.Conditions) (kernel conditions : List ℕ) (text : IsTextOf kernel (kernel_seen t)) (said : IsConditionsText (tree_seen t.0).parameters conditions (meant (lined c))) where
-  pub all_told : (r : Result T VerifyError) → IfErr r (λ e. Means t c e) → IfErr r (λ e. (workers : ℕ) → TellsOf e workers kernel conditions)
+  pub all_told : {T : Type 0} → (r : Result T VerifyError) → IfErr r (Ends t c) → IfErr r (λ e. TellsOf e workers kernel conditions)
   all_told (Ok v) h = tt
-  all_told (Err e) h = λ workers. told t c workers kernel conditions text said e h
+  all_told (Err e) h = told e h
+
+pub counted : {T : Type 0} (r : Result T VerifyError) (workers : ℕ) → IsCount workers → IfOk r (λ v. IsCount workers)
+counted (Ok v) workers h = h
+counted (Err e) workers h = tt
+
+pub uncounted : (e : VerifyError) (workers : ℕ) (kernel conditions : List ℕ) → e ≡ errors.Workers → IsNoCount workers → AreSearched kernel conditions → TellsOf e workers kernel conditions
+uncounted e workers kernel conditions same count searched = subst (λ e. TellsOf e workers kernel conditions) (sym same) (count, searched)
+
+-- a loop that may miss its barrier
+pub none_placed : (t : trees.Kernel × Core) (found : Lined) (workers : ℕ) (kernel conditions : List ℕ) (loop : ℕ) (site : Site) → AreRead t found kernel conditions → unmet (core_seen t.1).body ≡ Some loop → site_seen site ≡ site_at (tree_seen t.0) (Some loop) → TellsOf (errors.Check (checks.Missed site)) workers kernel conditions
+none_placed t found workers kernel conditions loop site read missed at = (t, found, loop, read, missed, at)

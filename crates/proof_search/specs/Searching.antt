@@ -1,24 +1,54 @@
 -- What an error of a search tells.
-use Rattle.std.specs.Prelude.{◌≡◌, ◌<◌, ◌⊎◌, ℕ, List}
+use Rattle.std.specs.Prelude.{◌<◌, ◌≤◌, ◌⊎◌, ◌≡◌, ℕ, List, []}
+use Rattle.texts.specs.ConditionsReading.{Lined}
 use Rattle.syntax.specs.declared.tree.Kernel as trees
 use Rattle.core_code.specs.declared.tree.Core.{Core}
 use Rattle.launch.specs.declared.conditions.Conditions as code
+use Rattle.cert_check.specs.Refusing.{AreRead, AreMet, Refuses}
+use Rattle.cert_check.specs.declared.error.CheckError.{CheckError}
+use Rattle.cert_check.specs.declared.error.CheckError.TheVariants as checks
 use Rattle.proof_search.specs.Findings.{AreTrue, AreTrueOf}
 use Rattle.proof_search.specs.declared.error.VerifyError.{VerifyError}
 use Rattle.proof_search.specs.declared.error.VerifyError.TheVariants as errors
 
--- 70 is told of workers outside 1 to 64 alone, and what findings confirm is true of the texts; nothing else is promised of an error
+-- the kernel and the conditions are read, and each loop with a barrier meets one on each way through: what stands before a search
+abbrev pub AreSearched : (kernel conditions : List ℕ) → Type 0
+AreSearched kernel conditions = (typed : trees.Kernel × Core) × (found : Lined) × AreRead typed found kernel conditions × AreMet typed
+
+-- 1 to 64
+abbrev pub IsCount : (workers : ℕ) → Type 0
+IsCount workers = (1 ≤ workers) × (workers ≤ 64)
+
+abbrev pub IsNoCount : (workers : ℕ) → Type 0
+IsNoCount workers = (workers ≡ 0) ⊎ (64 < workers)
+
+-- of the two texts, and of a loop that misses its barrier, what the check tells of them, which looks at no certificate there; the others
+-- come behind these, and nothing is promised of what the search did not show
+abbrev pub RefusesTexts : CheckError → (workers : ℕ) → (kernel conditions : List ℕ) → Type 0
+RefusesTexts (checks.Kernel e) workers kernel conditions = Refuses (checks.Kernel e) kernel conditions []
+RefusesTexts (checks.Conditions e) workers kernel conditions = Refuses (checks.Conditions e) kernel conditions []
+RefusesTexts (checks.Missed site) workers kernel conditions = Refuses (checks.Missed site) kernel conditions []
+RefusesTexts (checks.Certificate e) workers kernel conditions = IsCount workers × AreSearched kernel conditions
+RefusesTexts (checks.ManyPaths site) workers kernel conditions = IsCount workers × AreSearched kernel conditions
+RefusesTexts (checks.Show e) workers kernel conditions = IsCount workers × AreSearched kernel conditions
+
+-- what findings confirm is true of the texts, and 70 is told of workers outside 1 to 64 alone, behind the refusals of the texts
 abbrev pub TellsOf : VerifyError → (workers : ℕ) → (kernel conditions : List ℕ) → Type 0
-TellsOf (errors.Check e) workers kernel conditions = Unit {0}
-TellsOf errors.Workers workers kernel conditions = (workers ≡ 0) ⊎ (64 < workers)
-TellsOf (errors.NotShown findings) workers kernel conditions = AreTrueOf kernel conditions findings.items
-TellsOf errors.TooLong workers kernel conditions = Unit {0}
+TellsOf (errors.Check e) workers kernel conditions = RefusesTexts e workers kernel conditions
+TellsOf errors.Workers workers kernel conditions = IsNoCount workers × AreSearched kernel conditions
+TellsOf (errors.NotShown findings) workers kernel conditions = IsCount workers × AreSearched kernel conditions × AreTrueOf kernel conditions findings.items
+TellsOf errors.TooLong workers kernel conditions = IsCount workers × AreSearched kernel conditions
 TellsOf errors.Memory workers kernel conditions = Unit {0}
 
--- of a kernel and conditions that are read
-abbrev pub Means : trees.Kernel × Core → code.Conditions → VerifyError → Type 0
-Means t c (errors.Check e) = Unit {0}
-Means t c errors.Workers = ⊥
-Means t c (errors.NotShown findings) = AreTrue t c findings.items
-Means t c errors.TooLong = Unit {0}
-Means t c errors.Memory = Unit {0}
+-- where the search of a kernel under conditions ends with nothing: it tells of no text
+abbrev pub Ends : trees.Kernel × Core → code.Conditions → VerifyError → Type 0
+Ends t c (errors.Check (checks.Kernel e)) = ⊥
+Ends t c (errors.Check (checks.Conditions e)) = ⊥
+Ends t c (errors.Check (checks.Missed site)) = ⊥
+Ends t c (errors.Check (checks.Certificate e)) = ⊥
+Ends t c (errors.Check (checks.ManyPaths site)) = Unit {0}
+Ends t c (errors.Check (checks.Show e)) = Unit {0}
+Ends t c errors.Workers = ⊥
+Ends t c (errors.NotShown findings) = AreTrue t c findings.items
+Ends t c errors.TooLong = Unit {0}
+Ends t c errors.Memory = Unit {0}

@@ -1,6 +1,6 @@
 //! The text of a certificate that is looked for.
 
-ghost use Rattle.std.specs.Prelude.{◌≡◌, ℕ, true, IfErr};
+ghost use Rattle.std.specs.Prelude.{◌≡◌, ℕ, List, true, IfOk, IfErr, MatchResult};
 ghost use Rattle.core_code.specs.View.{kernel as core_seen};
 ghost use Rattle.core_code.specs.declared.tree.Core.{Core};
 ghost use Rattle.syntax.specs.declared.tree.Kernel as trees;
@@ -9,7 +9,11 @@ ghost use Rattle.launch_text.specs.Fits.{IsOf};
 ghost use Rattle.launch_text.specs.View.{lined};
 ghost use Rattle.work_item.specs.Proper.{is_proper};
 ghost use Rattle.facts.specs.Launching.{are_sizes};
-ghost use Rattle.proof_search.specs.Searching.{Means, TellsOf};
+ghost use Rattle.places.specs.Answers.{IsRefused};
+ghost use Rattle.texts.specs.ConditionsReading.{Lined};
+ghost use Rattle.cert_check.specs.Refusing.{AreRead};
+ghost use Rattle.proof_search.specs.Searching.{IsCount, IsNoCount, Ends, TellsOf};
+ghost use Rattle.proof_search.specs.declared.error.VerifyError.TheVariants as errors;
 
 use crate::error::VerifyError;
 use crate::shortfall::findings_of;
@@ -22,7 +26,7 @@ use launch::conditions::Conditions;
 use launch_text::laws::what_is_read_of_conditions_is_their_text;
 use launch_text::read_conditions;
 use place_paths::FindError;
-use places::{PlaceError, places};
+use places::{Place, PlaceError, places};
 use reading::laws::{bytes_are_the_text_of_what_is_read, local_sizes_are_within_limits};
 use reading::read_kernel;
 use shown_kernels::proper::what_is_read_is_proper;
@@ -33,7 +37,7 @@ use types::typed::Typed;
 
 /// What is said where the places of a kernel cannot be walked to an end.
 fn unwalked(typed: &Typed, error: FindError) -> VerifyError
-    ensures { (t : trees.Kernel × Core) (c : code.Conditions) → Means t c result }
+    ensures { (t : trees.Kernel × Core) (c : code.Conditions) → Ends t c result }
 {
     match error {
         FindError::ManyPaths(statement) => {
@@ -53,7 +57,7 @@ fn lacking(
 ) -> VerifyError
     requires proper { is_proper (core_seen typed.now.1) ≡ true }
     requires of { IsOf (core_seen typed.now.1) (lined conditions.now) }
-    ensures { Means typed.now conditions.now result }
+    ensures { Ends typed.now conditions.now result }
 {
     match findings_of(alloc, typed, conditions, missing) {
         Ok(findings) => VerifyError::NotShown(findings),
@@ -65,7 +69,7 @@ fn lacking(
 fn unfound(alloc: Global, typed: &Typed, conditions: &Conditions, error: SearchError) -> VerifyError
     requires proper { is_proper (core_seen typed.now.1) ≡ true }
     requires of { IsOf (core_seen typed.now.1) (lined conditions.now) }
-    ensures { Means typed.now conditions.now result }
+    ensures { Ends typed.now conditions.now result }
 {
     match error {
         SearchError::NotShown(missing) => lacking(alloc, typed, conditions, missing.as_slice()),
@@ -76,7 +80,8 @@ fn unfound(alloc: Global, typed: &Typed, conditions: &Conditions, error: SearchE
 
 /// What is said where there are no places.
 fn unplaced(typed: &Typed, error: PlaceError) -> VerifyError
-    ensures { (t : trees.Kernel × Core) (c : code.Conditions) → Means t c result }
+    requires { IsRefused (core_seen typed.now.1).body error }
+    ensures { (found : Lined) (workers : ℕ) (kernel conditions : List ℕ) → AreRead typed.now found kernel conditions → TellsOf result workers kernel conditions }
 {
     match error {
         PlaceError::Missed(number) => {
@@ -86,9 +91,20 @@ fn unplaced(typed: &Typed, error: PlaceError) -> VerifyError
     }
 }
 
+/// There are 1 to 64 workers.
+fn counted(workers: u32) -> Result<(), VerifyError>
+    ensures { MatchResult result (λ _. IsCount workers) (λ e. (e ≡ errors.Workers) × IsNoCount workers) }
+{
+    if 1 <= workers && workers <= 64 {
+        Ok(())
+    } else {
+        Err(VerifyError::Workers)
+    }
+}
+
 /// A certificate's text, of at most so many bytes as are read.
 fn text_of(alloc: Global, certificate: &Certificate) -> Result<Vec<u8>, VerifyError>
-    ensures { IfErr result (λ e. (t : trees.Kernel × Core) (c : code.Conditions) → Means t c e) }
+    ensures { IfErr result (λ e. (t : trees.Kernel × Core) (c : code.Conditions) → Ends t c e) }
 {
     let Ok(text) = write(alloc, certificate) else {
         return Err(VerifyError::Memory);
@@ -105,21 +121,18 @@ fn searched<R: Threads + Sync>(
     alloc: Global,
     typed: &Typed,
     conditions: &Conditions,
+    places: &[Place<'_>],
     workers: u32,
 ) -> Result<Vec<u8>, VerifyError>
     requires sizes { are_sizes (core_seen typed.now.1).sizes ≡ true }
     requires proper { is_proper (core_seen typed.now.1) ≡ true }
     requires of { IsOf (core_seen typed.now.1) (lined conditions.now) }
-    ensures { IfErr result (Means typed.now conditions.now) }
+    ensures { IfErr result (Ends typed.now conditions.now) }
 {
-    let all = match places(alloc, typed.core()) {
-        Ok(all) => all,
-        Err(error) => return Err(unplaced(typed, error)),
-    };
     let subject = Subject {
         typed,
         conditions,
-        places: all.as_slice(),
+        places,
     };
     match search(rt, alloc, subject, workers) {
         Ok(certificate) => text_of(alloc, &certificate),
@@ -127,7 +140,8 @@ fn searched<R: Threads + Sync>(
     }
 }
 
-/// The text of a certificate for a kernel and launch conditions, each by its text.
+/// The text of a certificate for a kernel and launch conditions, each by its text. What is refused first, in this order: the kernel, the
+/// conditions, a loop whose barrier an iteration can miss, the number of workers; and then what the search finds.
 pub fn find_text<R: Threads + Sync>(
     rt: &R,
     alloc: Global,
@@ -135,7 +149,8 @@ pub fn find_text<R: Threads + Sync>(
     conditions: &[u8],
     workers: u32,
 ) -> Result<Vec<u8>, VerifyError>
-    ensures { IfErr result (λ e. (workers : ℕ) → TellsOf e workers kernel.now conditions.now) }
+    ensures workers { IfOk result (λ _. IsCount workers) }
+    ensures told { IfErr result (λ e. TellsOf e workers kernel.now conditions.now) }
 {
     bytes_are_the_text_of_what_is_read();
     what_is_read_of_conditions_is_their_text();
@@ -148,6 +163,14 @@ pub fn find_text<R: Threads + Sync>(
         Ok(conditions) => conditions,
         Err(error) => return Err(VerifyError::Check(CheckError::Conditions(error))),
     };
+    let all = match places(alloc, typed.core()) {
+        Ok(all) => all,
+        Err(error) => return Err(unplaced(&typed, error)),
+    };
+    match counted(workers) {
+        Ok(()) => {}
+        Err(error) => return Err(error),
+    }
     local_sizes_are_within_limits();
-    searched(rt, alloc, &typed, &conditions, workers)
+    searched(rt, alloc, &typed, &conditions, all.as_slice(), workers)
 }

@@ -8,5 +8,6 @@ pub mod OneLoop
 pub mod OneLoopRanked
 pub mod Ready
 pub mod Remaining
+pub mod Separated
 pub mod Short
 pub mod TermLoads

@@ -2,20 +2,22 @@
 use Rattle.std.proofs.Common.{◌≡◌, ℕ, ◌+◌, ◌≤◌, ◌<◌, ℤ, List, [], ◌∷◌, length, false, arith, refl}
 use Rattle.semantics.specs.Setup.{Setup, item_count}
 use Rattle.semantics.specs.Item.{Entry, Status, Running, Waiting, Ended, Stopped, Item, enter}
-use Rattle.semantics.specs.Ask.{front, passes, by_status, ask}
+use Rattle.semantics.specs.Ask.{Ask, Loads, Stores, Goes, Waits, Rests, front, passes, by_status, ask}
 use Rattle.semantics.specs.Solo.{moved, opening, after}
 use Rattle.loop_bounds.specs.Costs.{cost}
 use Rattle.loop_bounds.specs.Turns.{turns_of}
 use Rattle.loop_bounds.specs.declared.bound.LoopBound.{LoopBound}
+use Rattle.arrivals.specs.Points.{AreFormed}
 use Rattle.arrivals.specs.Shown.{Notes, Shown, IsSound, IsShort}
 use Rattle.arrivals.proofs.Controlled.{Separate}
 use Rattle.rankings.specs.Limits.{Limit, limits, turns_within}
 use Rattle.rankings.specs.Ranked.{RanksShown}
-use Rattle.rankings.specs.Within.{was_stopped}
+use Rattle.rankings.specs.Within.{was_stopped, AreWithin, AlwaysWithin}
 use Rattle.rankings.proofs.Bounded.{always_orderly}
 use Rattle.rankings.proofs.Listed.{limits-turns}
 use Rattle.rankings.proofs.Remaining.{remaining, behind, remaining-enter}
 use Rattle.rankings.proofs.Ready.{Ready, ready-body}
+use Rattle.rankings.proofs.Separated.{always_separate}
 use Rattle.rankings.proofs.Kept.{InFront, own_cost, Holds, Within, Keeps, Heeds, begins, act_keeps}
 
 module _ (s : Setup) (turns : ℕ → ℕ) (i most : ℕ) where
@@ -60,3 +62,22 @@ ranked_short s k limit sound known shown = short s k limit (λ n. turns_within (
 
 pub listed_short : (s : Setup) (k : Notes) (bounds : List LoopBound) → IsSound s → Shown s k → RanksShown s k (limits bounds) → IsShort s (cost (turns_of bounds) s.kernel.body)
 listed_short s k bounds sound known shown = short s k (limits bounds) (turns_of bounds) sound known shown (λ n. omega (arith, limits-turns bounds n))
+
+-- what a loop's turns are does not hang on the answer of a move
+heeds : (s : Setup) (turns : ℕ → ℕ) (i most : ℕ) (it : Item) (a : Ask) (z : ℤ) → (was_stopped (moved it a z).status ≡ false → AreWithin turns (moved it a z).left) → Heeds s turns i most it a
+heeds s turns i most it (Loads at kind site) z h = λ y. h
+heeds s turns i most it (Stores at site value next) z h = λ y. h
+heeds s turns i most it (Goes next) z h = λ y. h
+heeds s turns i most it (Waits next) z h = λ y. h
+heeds s turns i most it Rests z h = λ y. h
+
+-- a solo run with so many turns at each moment, whatever is shown of the kernel
+module _ (s : Setup) (turns : ℕ → ℕ) (formed : AreFormed s.kernel.body) (i : ℕ) where
+  counted : (ws : List ℤ) → AlwaysWithin turns s i ws → Within s turns i (cost turns s.kernel.body) (after s i ws)
+  unfolding opening
+  counted [] h = (ready-body turns s.kernel.body formed, begins s turns i (cost turns s.kernel.body) (enter s.kernel.body []) 0 (omega (arith, remaining-enter turns s.kernel.body [])))
+  counted (z ∷ ws) h = moves_keep s turns i (cost turns s.kernel.body) (after s i ws) z
+      (λ e. always_separate s i formed ws) (heeds s turns i (cost turns s.kernel.body) (after s i ws) (ask s i (after s i ws)) z h.0) (counted ws h.1)
+
+  pub steps_counted : (ws : List ℤ) → AlwaysWithin turns s i ws → (after s i ws).steps ≤ cost turns s.kernel.body
+  steps_counted ws h = let it = after s i ws in no_more s turns i (cost turns s.kernel.body) it.left (length it.answers) it.steps it.status (counted ws h).1

@@ -2,9 +2,9 @@
 use Rattle.std.proofs.Common.{◌≡◌, ℕ, List, Ok, Err, sym, ap, subst}
 use Rattle.semantics.specs.Launch as launch
 use Rattle.texts.specs.Surface as surface
-use Rattle.texts.specs.TypeFaults.{Checked, then}
-use Rattle.texts.specs.Elaboration.{elaborate, InKernel, elaborate_all, declare_parameters}
-use Rattle.texts.specs.Scope.{empty_scope}
+use Rattle.texts.specs.TypeFaults.{NameTwice, Checked, then, when}
+use Rattle.texts.specs.Elaboration.{elaborate_inside, elaborate, InKernel, elaborate_all, declare_parameters}
+use Rattle.texts.specs.Scope.{empty_scope, may_name_kernel}
 use Rattle.texts.specs.KernelLimits.{IsLocalSize}
 use Rattle.reading.specs.Kernels.{Kernel, read}
 use Rattle.reading.specs.Limits.{HasLocalSizes}
@@ -20,9 +20,10 @@ sizes-or d (Ok k) = k.sizes
 sizes-or d (Err e) = d
 
 core-sizes : (t : surface.Kernel) (k : launch.Kernel) → elaborate t ≡ Ok k → k.sizes ≡ t.sizes
-unfolding elaborate sizes-or
+unfolding elaborate elaborate_inside sizes-or
 core-sizes t k h =
-    let outer = then-took (declare_parameters empty_scope t.parameters) _ k h in
+    let named = then-took (when (may_name_kernel t.name) NameTwice t.name_site empty_scope) _ k h in
+    let outer = then-took (declare_parameters empty_scope t.parameters) _ k named.1 in
     let body = then-took (elaborate_all InKernel outer.0 t.body) _ k outer.1 in
     sym (ap (sizes-or t.sizes) body.1)
 

@@ -8,9 +8,9 @@ use Rattle.plain_kernels.specs.Kernels.{Alone, Times, Plus, TimesPlus, Number, B
 use Rattle.texts.specs.Signs.{signs}
 use Rattle.texts.specs.Reserved.{reserved_words}
 use Rattle.texts.specs.Limits.{within_limits}
-use Rattle.texts.specs.Scope.{reserved_names}
+use Rattle.texts.specs.Scope.{reserved_names, called_names, is_taken}
 use Rattle.texts.specs.Typing.{type_of, types_of, function_named, left_out_names, is_left_out}
-use Rattle.texts.specs.Elaboration.{elaborate_assignment, elaborate_declaration, elaborate_statement, elaborate_all, elaborate}
+use Rattle.texts.specs.Elaboration.{elaborate_assignment, elaborate_declaration, elaborate_statement, elaborate_all, elaborate_inside, elaborate}
 use Rattle.parser.specs.Expressions.{chain, ranked, more_arguments, arguments, inside, operand_reader, expression_reader}
 use Rattle.parser.specs.Heads.{ended}
 use Rattle.parser.specs.Kernels.{buffer_reader, value_reader, parameter_reader, more_parameters, parameters_reader, sizes_reader, attribute_reader, kernel_reader}
@@ -20,7 +20,7 @@ use Rattle.reading.specs.Kernels.{read}
 use Rattle.samples.specs.Stores.{stores, kernel_of}
 
 pub stores_read : read stores ≡ Ok (kernel_of (read stores))
-unfolding read signs reserved_words within_limits reserved_names type_of types_of function_named left_out_names is_left_out elaborate_assignment elaborate_declaration elaborate_statement elaborate_all elaborate chain ranked more_arguments arguments inside operand_reader expression_reader ended buffer_reader value_reader parameter_reader more_parameters parameters_reader sizes_reader attribute_reader kernel_reader parsed assigned_reader index_reader assignment_reader declaration_reader first_reader tested parts_reader head_reader items named array_reader statement_reader body_reader block_reader item_reader
+unfolding read signs reserved_words within_limits reserved_names called_names is_taken type_of types_of function_named left_out_names is_left_out elaborate_assignment elaborate_declaration elaborate_statement elaborate_all elaborate_inside elaborate chain ranked more_arguments arguments inside operand_reader expression_reader ended buffer_reader value_reader parameter_reader more_parameters parameters_reader sizes_reader attribute_reader kernel_reader parsed assigned_reader index_reader assignment_reader declaration_reader first_reader tested parts_reader head_reader items named array_reader statement_reader body_reader block_reader item_reader
 stores_read = refl
 
 -- the last index of each is below 2^32
@@ -31,7 +31,7 @@ abbrev pub found : Kernel
 found = (kernel_of (read stores)).core
 
 pub are_plain : ArePlain found.arguments found.sizes.x (pos 1024) found.body
-unfolding read signs reserved_words within_limits reserved_names type_of types_of function_named left_out_names is_left_out elaborate_assignment elaborate_declaration elaborate_statement elaborate_all elaborate chain ranked more_arguments arguments inside operand_reader expression_reader ended buffer_reader value_reader parameter_reader more_parameters parameters_reader sizes_reader attribute_reader kernel_reader parsed assigned_reader index_reader assignment_reader declaration_reader first_reader tested parts_reader head_reader items named array_reader statement_reader body_reader block_reader item_reader
+unfolding read signs reserved_words within_limits reserved_names called_names is_taken type_of types_of function_named left_out_names is_left_out elaborate_assignment elaborate_declaration elaborate_statement elaborate_all elaborate_inside elaborate chain ranked more_arguments arguments inside operand_reader expression_reader ended buffer_reader value_reader parameter_reader more_parameters parameters_reader sizes_reader attribute_reader kernel_reader parsed assigned_reader index_reader assignment_reader declaration_reader first_reader tested parts_reader head_reader items named array_reader statement_reader body_reader block_reader item_reader
 are_plain = (
   Plain _ _ _ _ 1 0 _ Alone (near 1 0 (omega arith) (omega arith)) (Number 1 refl),
   (

@@ -17,6 +17,6 @@ stores =
 abbrev pub kernel_of : Read → Kernel
 kernel_of (Ok k) = k
 kernel_of (Err e) = record {
-  tree = record { name = []; sizes = record { x = 1; y = 1; z = 1 }; parameters = []; body = surface.none };
+  tree = record { name = []; name_site = record { line = 0; column = 0 }; sizes = record { x = 1; y = 1; z = 1 }; parameters = []; body = surface.none };
   core = record { sizes = record { x = 1; y = 1; z = 1 }; arguments = []; variables = []; buffers = []; arrays = []; body = core.none };
 }

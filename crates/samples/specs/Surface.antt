@@ -18,7 +18,7 @@ statements [] = none
 statements (s ∷ ss) = one s (statements ss)
 
 abbrev pub kernel : List Parameter → List Statement → Kernel
-kernel parameters body = record { name = codes "k"; sizes = record { x = 2; y = 1; z = 1 }; parameters = parameters; body = statements body }
+kernel parameters body = record { name = codes "k"; name_site = at 1; sizes = record { x = 2; y = 1; z = 1 }; parameters = parameters; body = statements body }
 
 abbrev pub declare : ℕ → Kind → List ℕ → Expression → Statement
 declare n kind x e = Declare (record { number = n; site = at 1; kind = kind; name_site = at 2; name = x; value = e })
@@ -54,6 +54,22 @@ loaded_index = kernel (Buffer false Uint (at 0) (codes "a") ∷ []) (assign 1 (c
 -- { __local uint t[4]; }
 abbrev pub inner_array : Kernel
 inner_array = kernel [] (Block 1 (at 0) (statements (DeclareArray 2 (at 6) Uint (at 0) (codes "t") 4 ∷ [])) ∷ [])
+
+-- void NAME() { }
+abbrev pub named : List ℕ → Kernel
+named x = record { name = x; name_site = at 7; sizes = record { x = 2; y = 1; z = 1 }; parameters = []; body = none }
+
+-- uint _cl_abs = 1u;
+abbrev pub renamed : Kernel
+renamed = kernel [] (declare 1 Uint (codes "_cl_abs") (number 1) ∷ [])
+
+-- void k(uint k) { }
+abbrev pub hidden : Kernel
+hidden = kernel (Value Uint (at 0) (codes "k") ∷ []) []
+
+abbrev pub arguments_of : Checked launch.Kernel → List Kind
+arguments_of (Ok k) = k.arguments
+arguments_of (Err e) = []
 
 abbrev pub body_of : Checked launch.Kernel → core.Statements
 body_of (Ok k) = k.body

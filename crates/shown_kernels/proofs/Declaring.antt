@@ -7,10 +7,10 @@ use Rattle.semantics.specs.Core as core
 use Rattle.semantics.specs.Core.{Site}
 use Rattle.semantics.specs.Launch as launch
 use Rattle.texts.specs.Surface.{JumpWord, Return, Break, Continue, Statement, Declare, DeclareArray, Assign, If, While, For, Barrier, Jump, Block, Statements, none, one, Kernel}
-use Rattle.texts.specs.TypeFaults.{ArrayInBlock, JumpOutsideLoop, then, when, found}
-use Rattle.texts.specs.Scope.{Scope, empty_scope, leave_block, declare_array}
+use Rattle.texts.specs.TypeFaults.{NameTwice, ArrayInBlock, JumpOutsideLoop, then, when, found}
+use Rattle.texts.specs.Scope.{Scope, empty_scope, leave_block, may_name_kernel, declare_array}
 use Rattle.texts.specs.Typing.{type_of}
-use Rattle.texts.specs.Elaboration.{Elaborated, elaborated, single, join, elaborate_assignment, elaborate_first, barrier_of, Around, InKernel, InLoop, is_in_kernel, inside, innermost_loop, jump_to, elaborate_statement, elaborate_all, declare_parameters, elaborate}
+use Rattle.texts.specs.Elaboration.{Elaborated, elaborated, single, join, elaborate_assignment, elaborate_first, barrier_of, Around, InKernel, InLoop, is_in_kernel, inside, innermost_loop, jump_to, elaborate_statement, elaborate_all, declare_parameters, elaborate_inside, elaborate}
 use Rattle.shown_kernels.specs.Declared.{Declared, declared_by, Within, AllWithin}
 use Rattle.shown_kernels.proofs.Holding.{Holds, then-holds, then-any, held}
 use Rattle.shown_kernels.proofs.Numbering.{barrier-holds}
@@ -99,11 +99,11 @@ grown outer b h a c e f =
     record { slots = omega (arith, e, k); buffers = omega (arith, f, h.buffers); arrays = omega arith }
 
 kernel-within : (tree : Kernel) → Holds IsWithin (elaborate tree)
-unfolding elaborate
+unfolding elaborate elaborate_inside
 kernel-within tree =
-    then-holds AreSeen IsWithin (declare_parameters empty_scope tree.parameters) _ (parameters-declared empty_scope tree.parameters tt) (λ outer s.
+    then-any IsWithin (when (may_name_kernel tree.name) NameTwice tree.name_site empty_scope) _ (λ outside. then-holds AreSeen IsWithin (declare_parameters empty_scope tree.parameters) _ (parameters-declared empty_scope tree.parameters tt) (λ outer s.
     then-holds (Behind outer) IsWithin (elaborate_all InKernel outer tree.body) _ (all-within InKernel outer s tree.body) (λ b h.
-    all-grow (declared_in b.scope) _ (grown outer b h (length outer.slots + length (drop (length outer.slots) b.scope.slots)) (length outer.buffers) refl refl) b.statements h.within))
+    all-grow (declared_in b.scope) _ (grown outer b h (length outer.slots + length (drop (length outer.slots) b.scope.slots)) (length outer.buffers) refl refl) b.statements h.within)))
 
 pub elaborated-within : (tree : Kernel) (k : launch.Kernel) → elaborate tree ≡ Ok k → AllWithin (declared_by k) k.body
 elaborated-within tree k e = held IsWithin (elaborate tree) k e (kernel-within tree)

@@ -7,11 +7,11 @@ use Rattle.semantics.specs.Core.{Site}
 use Rattle.semantics.specs.Launch as launch
 use Rattle.texts.specs.Surface.{Arithmetic, LeftShift, RightShift, Comparison, LogicalAnd, LogicalOr, Expression, Number, Name, Element, Call, Prefix, Cast, Infix, Conditional, Declaration, Assignment, First, FirstDeclares, FirstAssigns, JumpWord, Return, Break, Continue, Statement, Declare, DeclareArray, Assign, If, While, For, Barrier, Jump, Block, Statements, none, one, Kernel, site_of}
 use Rattle.texts.specs.KernelLimits.{statements_in, statements_of}
-use Rattle.texts.specs.TypeFaults.{UnknownName, LoadInCompoundIndex, ArrayInBlock, BarrierFlags, then, when, found}
-use Rattle.texts.specs.Scope.{Meaning, Scope, empty_scope, meaning_of, leave_block, declare_variable, declare_array}
+use Rattle.texts.specs.TypeFaults.{UnknownName, NameTwice, LoadInCompoundIndex, ArrayInBlock, BarrierFlags, then, when, found}
+use Rattle.texts.specs.Scope.{Meaning, Scope, empty_scope, meaning_of, leave_block, may_name_kernel, declare_variable, declare_array}
 use Rattle.texts.specs.Spelling.{IsNumbered, AreNumbered, first_number}
 use Rattle.texts.specs.Typing.{typed, bring, type_of}
-use Rattle.texts.specs.Elaboration.{Elaborated, elaborated, single, join, assigned, first_load, without_load, site_or, target_array, target_slot, assign_to, elaborate_assignment, elaborate_declaration, elaborate_first, one_flag, barrier_of, Around, InKernel, InBlock, InLoop, is_in_kernel, inside, innermost_loop, jump_to, elaborate_statement, elaborate_all, declare_parameters, elaborate}
+use Rattle.texts.specs.Elaboration.{Elaborated, elaborated, single, join, assigned, first_load, without_load, site_or, target_array, target_slot, assign_to, elaborate_assignment, elaborate_declaration, elaborate_first, one_flag, barrier_of, Around, InKernel, InBlock, InLoop, is_in_kernel, inside, innermost_loop, jump_to, elaborate_statement, elaborate_all, declare_parameters, elaborate_inside, elaborate}
 use Rattle.lanes.specs.Order.{AllNumbered}
 use Rattle.shown_kernels.specs.Told.{AreTold}
 use Rattle.shown_kernels.proofs.Holding.{Holds, then-holds, then-any, when-holds, held}
@@ -154,10 +154,10 @@ abbrev IsFrom : (low high : ℕ) → launch.Kernel → Type 0
 IsFrom low high k = Ordered [] low high k.body
 
 kernel-ordered : (tree : Kernel) → AreNumbered 1 tree.body → Holds (IsFrom 1 (1 + statements_of tree.body)) (elaborate tree)
-unfolding elaborate
+unfolding elaborate elaborate_inside
 kernel-ordered tree h =
-    then-any (IsFrom 1 (1 + statements_of tree.body)) (declare_parameters empty_scope tree.parameters) _ (λ outer.
-    then-holds (AreFrom [] 1 (1 + statements_of tree.body)) (IsFrom 1 (1 + statements_of tree.body)) (elaborate_all InKernel outer tree.body) _ (all-ordered [] InKernel refl outer 1 tree.body h) (λ b q. q))
+    then-any (IsFrom 1 (1 + statements_of tree.body)) (when (may_name_kernel tree.name) NameTwice tree.name_site empty_scope) _ (λ outside. then-any (IsFrom 1 (1 + statements_of tree.body)) (declare_parameters empty_scope tree.parameters) _ (λ outer.
+    then-holds (AreFrom [] 1 (1 + statements_of tree.body)) (IsFrom 1 (1 + statements_of tree.body)) (elaborate_all InKernel outer tree.body) _ (all-ordered [] InKernel refl outer 1 tree.body h) (λ b q. q)))
 
 pub elaborated-ordered : (tree : Kernel) (k : launch.Kernel) → AreNumbered 1 tree.body → elaborate tree ≡ Ok k → Ordered [] 1 (1 + statements_of tree.body) k.body
 elaborated-ordered tree k h e = held (IsFrom 1 (1 + statements_of tree.body)) (elaborate tree) k e (kernel-ordered tree h)

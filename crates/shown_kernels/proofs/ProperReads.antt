@@ -5,8 +5,9 @@ use Rattle.std.proofs.lemmas.Bool.Decides.{nat_tests}
 use Rattle.semantics.specs.Launch.{Three, product}
 use Rattle.semantics.specs.Launch as launch
 use Rattle.texts.specs.Surface as surface
-use Rattle.texts.specs.Scope.{empty_scope}
-use Rattle.texts.specs.Elaboration.{InKernel, elaborate, elaborate_all, declare_parameters}
+use Rattle.texts.specs.TypeFaults.{NameTwice, when}
+use Rattle.texts.specs.Scope.{empty_scope, may_name_kernel}
+use Rattle.texts.specs.Elaboration.{InKernel, elaborate_inside, elaborate, elaborate_all, declare_parameters}
 use Rattle.texts.specs.KernelLimits.{IsLocalSize}
 use Rattle.reading.specs.Kernels.{Kernel, read}
 use Rattle.reading.proofs.Grammatical.{read-sound, read-tree}
@@ -26,10 +27,10 @@ above (suc a) (suc b) h k = omega arith
 
 -- elaboration keeps the sizes
 core-sizes : (t : surface.Kernel) → Holds (λ (k : launch.Kernel). k.sizes ≡ t.sizes) (elaborate t)
-unfolding elaborate
+unfolding elaborate elaborate_inside
 core-sizes t =
-    then-any (λ (k : launch.Kernel). k.sizes ≡ t.sizes) (declare_parameters empty_scope t.parameters) _ (λ outer.
-    then-any (λ (k : launch.Kernel). k.sizes ≡ t.sizes) (elaborate_all InKernel outer t.body) _ (λ b. refl))
+    then-any (λ (k : launch.Kernel). k.sizes ≡ t.sizes) (when (may_name_kernel t.name) NameTwice t.name_site empty_scope) _ (λ outside. then-any (λ (k : launch.Kernel). k.sizes ≡ t.sizes) (declare_parameters empty_scope t.parameters) _ (λ outer.
+    then-any (λ (k : launch.Kernel). k.sizes ≡ t.sizes) (elaborate_all InKernel outer t.body) _ (λ b. refl)))
 
 sizes-fit : (t : Three ℕ) → IsLocalSize t.x → IsLocalSize t.y → IsLocalSize t.z → t.x * t.y * t.z ≤ 1024 → are_sizes t ≡ true
 sizes-fit t x y z p =

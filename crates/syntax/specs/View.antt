@@ -107,6 +107,7 @@ parameter (parameters.Value k s name) = surface.Value (kind k) (site s) (string_
 abbrev pub kernel : Kernel → surface.Kernel
 kernel k = record {
   name = string_bytes k.name;
+  name_site = site k.name_site;
   sizes = record { x = slice_index k.sizes 0; y = slice_index k.sizes 1; z = slice_index k.sizes 2 };
   parameters = map parameter k.parameters.items;
   body = statements k.body.items;

@@ -189,10 +189,11 @@ pub enum Parameter {
     },
 }
 
-/// A kernel: its name, its work-group size in three dimensions, its parameters and its body.
+/// A kernel: its name with its site, its work-group size in three dimensions, its parameters and its body.
 #[derive(Drop)]
 pub struct Kernel {
     pub name: String,
+    pub name_site: Site,
     pub sizes: [u32; 3],
     pub parameters: Vec<Parameter>,
     pub body: Vec<Stmt>,

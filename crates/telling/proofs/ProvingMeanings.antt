@@ -1,38 +1,32 @@
 -- What the code's answers are in the promise.
-use Rattle.std.specs.Prelude.{ℕ, List}
-use Rattle.std.proofs.lemmas.List.Elements.{All-nil}
-use Rattle.semantics.specs.Conditions.{Conditions}
+use Rattle.std.proofs.Common.{◌≡◌, refl}
+use Rattle.std.specs.Prelude.{ℕ, List, Option, Some, None, IfSome}
+use Rattle.semantics.specs.Launch as launches
+use Rattle.semantics.specs.Launch.{Launch, Fits}
+use Rattle.semantics.specs.Conditions.{Conditions, Meets}
 use Rattle.syntax.specs.declared.tree.Kernel.{Kernel}
 use Rattle.core_code.specs.declared.tree.Core.{Core}
 use Rattle.reading.specs.Answers.{kernel_seen}
 use Rattle.cert_check.specs.Refusing.{IsPassed}
-use Rattle.findings.specs.View.{finding as finding_seen}
-use Rattle.proof_search.specs.Findings.{IsTrueOf, AreTrueOf}
-use Rattle.proof_search.specs.Searching.{TellsOf}
-use Rattle.proof_search.specs.declared.error.VerifyError.{VerifyError}
-use Rattle.proof_search.specs.declared.error.VerifyError.TheVariants as errors
 use Rattle.cert_check.specs.Numbers as checks
 use Rattle.cert_check.specs.Refusing.{Refuses}
 use Rattle.cert_check.specs.declared.error.CheckError.{CheckError}
 use Rattle.telling.specs.Refusing.{IsLineOf}
 use Rattle.telling.specs.declared.Verdict.{Verdict}
 use Rattle.telling.specs.declared.Verdict.TheVariants as verdicts
-use Rattle.telling.specs.Proving.{IsProof, IsUnproved, found}
+use Rattle.telling.specs.Proving.{IsProof, IsUnproved}
 use Rattle.telling.specs.ProvingVerdicts.{GoesOn, Explains, ExplainsCheck}
 
 pub is_proof : (t : Kernel × Core) (c : Conditions) (certificate : List ℕ) → IsPassed t c certificate → IsProof (kernel_seen t) c certificate
 is_proof t c certificate (met, cert, n, is, said, passes) = (met, cert, is, (n, said, passes))
 
--- what is told of an error is true of its findings
-pub are_true : (workers : ℕ) (kernel conditions : List ℕ) (e : VerifyError) → TellsOf e workers kernel conditions → AreTrueOf kernel conditions (found e)
-are_true workers kernel conditions (errors.Check e) h = All-nil (λ f. IsTrueOf kernel conditions (finding_seen f))
-are_true workers kernel conditions errors.Workers h = All-nil (λ f. IsTrueOf kernel conditions (finding_seen f))
-are_true workers kernel conditions (errors.NotShown findings) h = h
-are_true workers kernel conditions errors.TooLong h = All-nil (λ f. IsTrueOf kernel conditions (finding_seen f))
-are_true workers kernel conditions errors.Memory h = All-nil (λ f. IsTrueOf kernel conditions (finding_seen f))
+-- the launch at the least values is one of the kernel, and meets the conditions
+pub fits_and_meets : (k : launches.Kernel) (c : Conditions) (o : Option Launch) → ((l : Launch) → o ≡ Some l → Fits k l) → IfSome o (Meets c) → IfSome o (λ l. Fits k l × Meets c l)
+fits_and_meets k c (Some l) f h = (f l refl, h)
+fits_and_meets k c None f h = tt
 
 -- what goes on behind a refusal explains it
-pub explains : (kernel conditions told : List ℕ) (v : Verdict) → IsUnproved kernel conditions told → GoesOn told v → Explains v kernel conditions
+pub explains : (kernel conditions told : List ℕ) (v : Verdict) → IsUnproved 1 kernel conditions told → GoesOn told v → Explains v kernel conditions
 explains kernel conditions told (verdicts.Done text) r h = absurd h
 explains kernel conditions told (verdicts.Refused text) r h = (told, h.0, r, h.1)
 explains kernel conditions told verdicts.OutOfMemory r h = tt

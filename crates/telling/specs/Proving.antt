@@ -1,7 +1,7 @@
 -- What the program promises of a kernel for which it found a certificate.
 use Rattle.std.specs.Prelude.{◌≡◌, ℕ, List, [], ◌++◌, map, codes, Option, Some, None, IfSome, Ok}
 use Rattle.std.specs.List.{flat_map}
-use Rattle.semantics.specs.Launch.{Launch}
+use Rattle.semantics.specs.Launch.{Launch, Fits}
 use Rattle.semantics.specs.Conditions as meaning
 use Rattle.semantics.specs.Conditions.{Meets}
 use Rattle.texts.specs.Certificate.{Certificate}
@@ -16,7 +16,7 @@ use Rattle.findings.specs.Findings.{Finding}
 use Rattle.findings.specs.Wording.{finding_text}
 use Rattle.findings.specs.View.{finding as finding_seen}
 use Rattle.findings.specs.declared.finding.Finding as code
-use Rattle.proof_search.specs.Findings.{AreTrueOf}
+use Rattle.proof_search.specs.Searching.{TellsOf}
 use Rattle.proof_search.specs.Numbers.{error_number, error_place}
 use Rattle.proof_search.specs.declared.error.VerifyError.{VerifyError}
 use Rattle.proof_search.specs.declared.error.VerifyError.TheVariants as errors
@@ -36,12 +36,12 @@ abbrev pub proved_lines : Option Launch → List ℕ
 proved_lines (Some l) = accepted_line
 proved_lines None = accepted_line ++ no_launch_line
 
--- the headline holds at each launch that meets the conditions, and the check accepts this certificate; the launch at the least values meets
--- them, where there is one
+-- the headline holds at each launch that meets the conditions, and the check accepts this certificate; the launch at the least values is one
+-- of the kernel and meets them, where there is one
 pub record IsProved (kernel conditions certificate written : List ℕ) (k : Kernel) (c : Conditions) : Type 0 where
   pub safe : IsSafe kernel conditions k (conditions_seen c)
   pub proof : IsProof k (conditions_seen c) certificate
-  pub least : IfSome (probe c) (Meets (conditions_seen c))
+  pub least : IfSome (probe c) (λ l. Fits k.core l × Meets (conditions_seen c) l)
   pub text : written ≡ proved_lines (probe c)
 
 abbrev pub IsProvedText : (kernel conditions certificate written : List ℕ) → Type 0
@@ -59,11 +59,12 @@ found errors.Memory = []
 abbrev pub findings_text : List Finding → List ℕ
 findings_text fs = flat_map finding_text fs
 
--- the line has the number and the place of an error, and behind it stands a line for each of its findings; what these confirm is true of the
--- kernel and the conditions that the bytes say; nothing else is said of the kernel
-pub record IsShortfall (kernel conditions text : List ℕ) (e : VerifyError) : Type 0 where
+-- the line has the number and the place of an error, and behind it stands a line for each of its findings; a refusal of the two texts is true
+-- of them, 70 is told of such a number of workers, and what findings confirm is true of the kernel and the conditions that the bytes say;
+-- nothing else is said of the kernel
+pub record IsShortfall (workers : ℕ) (kernel conditions text : List ℕ) (e : VerifyError) : Type 0 where
   pub lines : text ≡ refusal_line (error_number e) (place_seen (error_place e)) ++ findings_text (map finding_seen (found e))
-  pub findings : AreTrueOf kernel conditions (found e)
+  pub tells : TellsOf e workers kernel conditions
 
-abbrev pub IsUnproved : (kernel conditions text : List ℕ) → Type 0
-IsUnproved kernel conditions text = (e : VerifyError) × IsShortfall kernel conditions text e
+abbrev pub IsUnproved : (workers : ℕ) → (kernel conditions text : List ℕ) → Type 0
+IsUnproved workers kernel conditions text = (e : VerifyError) × IsShortfall workers kernel conditions text e

@@ -9,10 +9,10 @@ use Rattle.telling.specs.Proving.{IsProvedText, IsUnproved}
 use Rattle.telling.specs.declared.proving.Sought.{Sought}
 use Rattle.telling.specs.declared.proving.Sought.TheVariants as answers
 
-abbrev pub Proves : Sought → (kernel conditions : List ℕ) → Type 0
-Proves (answers.Found text certificate) kernel conditions = IsProvedText kernel conditions certificate.items text.items
-Proves (answers.Refused text) kernel conditions = IsUnproved kernel conditions (string_bytes text)
-Proves answers.OutOfMemory kernel conditions = Unit {0}
+abbrev pub Proves : Sought → (workers : ℕ) → (kernel conditions : List ℕ) → Type 0
+Proves (answers.Found text certificate) workers kernel conditions = IsProvedText kernel conditions certificate.items text.items
+Proves (answers.Refused text) workers kernel conditions = IsUnproved workers kernel conditions (string_bytes text)
+Proves answers.OutOfMemory workers kernel conditions = Unit {0}
 
 -- a text that begins with what is told
 abbrev pub Begins : (tells : List ℕ → Type 0) (text : List ℕ) → Type 0
@@ -24,10 +24,10 @@ GoesOn told (verdicts.Done text) = ⊥
 GoesOn told (verdicts.Refused text) = (more : List ℕ) × (string_bytes text ≡ told ++ more)
 GoesOn told verdicts.OutOfMemory = Unit {0}
 
--- where a refusal of a search is explained: what `prove` tells comes first
+-- where a refusal of a search is explained: what `prove` tells, with one worker, comes first
 abbrev pub Explains : Verdict → (kernel conditions : List ℕ) → Type 0
 Explains (verdicts.Done text) kernel conditions = (certificate : List ℕ) × IsProvedText kernel conditions certificate text.items
-Explains (verdicts.Refused text) kernel conditions = Begins (IsUnproved kernel conditions) (string_bytes text)
+Explains (verdicts.Refused text) kernel conditions = Begins (IsUnproved 1 kernel conditions) (string_bytes text)
 Explains verdicts.OutOfMemory kernel conditions = Unit {0}
 
 -- where a refusal of a check is explained: what `check` tells comes first

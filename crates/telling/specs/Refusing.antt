@@ -40,12 +40,12 @@ IsUnreadText kernel conditions launch line =
     (e : LaunchTextError) × (k : Kernel) × (c : meaning.Conditions) × IsSafe kernel conditions k c × launches.Refuses e (launch_of k.tree.parameters launch)
     × IsLineOf (launches.error_number e) (at_line (launches.error_place e)) line
 
--- the launch is read, and is not run: the first condition that it does not meet, or the number of workers
-abbrev pub IsUnrunText : (kernel conditions launch line : List ℕ) → Type 0
-IsUnrunText kernel conditions launch line =
-    (e : RunError) × (k : Kernel) × (c : Conditions) × (l : Launch) × (workers : ℕ) × IsSafe kernel conditions k (conditions_seen c) × (launch_of k.tree.parameters launch ≡ Ok (reading.launch l))
+-- the launch is read, and is not run with so many workers: the first condition that it does not meet, or their number
+abbrev pub IsUnrunText : (workers : ℕ) → (kernel conditions launch line : List ℕ) → Type 0
+IsUnrunText workers kernel conditions launch line =
+    (e : RunError) × (k : Kernel) × (c : Conditions) × (l : Launch) × IsSafe kernel conditions k (conditions_seen c) × (launch_of k.tree.parameters launch ≡ Ok (reading.launch l))
     × Answers c (launch_seen l) workers (Err e) × IsLineOf (runs.error_number e) (at_line (runs.error_line e)) line
 
 -- one of these
-abbrev pub IsUnanswered : (kernel conditions certificate launch line : List ℕ) → Type 0
-IsUnanswered kernel conditions certificate launch line = IsRefusedText kernel conditions certificate line ⊎ (IsUnreadText kernel conditions launch line ⊎ IsUnrunText kernel conditions launch line)
+abbrev pub IsUnanswered : (workers : ℕ) → (kernel conditions certificate launch line : List ℕ) → Type 0
+IsUnanswered workers kernel conditions certificate launch line = IsRefusedText kernel conditions certificate line ⊎ (IsUnreadText kernel conditions launch line ⊎ IsUnrunText workers kernel conditions launch line)

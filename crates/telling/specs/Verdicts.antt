@@ -18,10 +18,10 @@ Checks (verdicts.Done text) kernel conditions certificate = IsAcceptedText kerne
 Checks (verdicts.Refused line) kernel conditions certificate = IsRefusedText kernel conditions certificate (string_bytes line)
 Checks verdicts.OutOfMemory kernel conditions certificate = Unit {0}
 
-abbrev pub Runs : Verdict → (kernel conditions certificate launch : List ℕ) → Type 0
-Runs (verdicts.Done text) kernel conditions certificate launch = IsResultText kernel conditions launch text.items
-Runs (verdicts.Refused line) kernel conditions certificate launch = IsUnanswered kernel conditions certificate launch (string_bytes line)
-Runs verdicts.OutOfMemory kernel conditions certificate launch = Unit {0}
+abbrev pub Runs : Verdict → (workers : ℕ) → (kernel conditions certificate launch : List ℕ) → Type 0
+Runs (verdicts.Done text) workers kernel conditions certificate launch = IsResultText kernel conditions launch text.items
+Runs (verdicts.Refused line) workers kernel conditions certificate launch = IsUnanswered workers kernel conditions certificate launch (string_bytes line)
+Runs verdicts.OutOfMemory workers kernel conditions certificate launch = Unit {0}
 
 abbrev pub Prints : Verdict → (kernel : List ℕ) → Type 0
 Prints (verdicts.Done text) kernel = IsPrintedText kernel text.items

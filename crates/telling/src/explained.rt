@@ -48,7 +48,7 @@ fn unfound(
     error: &VerifyError,
     over_budget: Option<&[u8]>,
 ) -> Verdict
-    ensures { (workers : ℕ) (k c : List ℕ) → TellsOf error.now workers k c → Explains result k c }
+    ensures { (k c : List ℕ) → TellsOf error.now 1 k c → Explains result k c }
 {
     let refused = Refused {
         number: error.number(),

@@ -118,7 +118,7 @@ pub fn run_texts<R: Threads + Wait + Sync>(
     launch: &[u8],
     workers: u32,
 ) -> Verdict
-    ensures { Runs result texts.entry.kernel.now texts.entry.conditions.now texts.entry.certificate.now launch.now }
+    ensures { Runs result workers texts.entry.kernel.now texts.entry.conditions.now texts.entry.certificate.now launch.now }
 {
     bytes_are_the_text_of_what_is_read();
     what_is_read_of_conditions_is_their_text();

@@ -15,7 +15,7 @@ use crate::refusal::Refusal;
 use diagnostics::{Finding, line};
 use launch::conditions::Conditions;
 use launch::probe::probe;
-use launch_text::laws::what_is_read_of_conditions_is_their_text;
+use launch_text::laws::{a_least_launch_fits, what_is_read_of_conditions_is_their_text};
 use reading::laws::bytes_are_the_text_of_what_is_read;
 use std::alloc::{AllocError, Global};
 use std::sync::Wait;
@@ -84,9 +84,8 @@ fn push_lines(alloc: Global, text: &mut String, findings: &[Finding]) -> Result<
 }
 
 /// What is said where no certificate is found.
-#[tactic(auto, using(crate::proofs::ProvingMeanings::are_true))]
 pub fn unproved(alloc: Global, error: &VerifyError) -> Sought
-    ensures { (workers : ℕ) (kernel conditions : List ℕ) → TellsOf error.now workers kernel conditions → Proves result kernel conditions }
+    ensures { (workers : ℕ) (kernel conditions : List ℕ) → TellsOf error.now workers kernel conditions → Proves result workers kernel conditions }
 {
     let refusal = Refusal {
         number: error.number(),
@@ -114,6 +113,7 @@ pub fn found<R: Threads + Wait + Sync>(
 {
     bytes_are_the_text_of_what_is_read();
     what_is_read_of_conditions_is_their_text();
+    a_least_launch_fits();
     let Verified {
         accepted,
         certificate,
@@ -138,7 +138,7 @@ pub fn prove_texts<R: Threads + Wait + Sync>(
     conditions: &[u8],
     workers: u32,
 ) -> Sought
-    ensures { Proves result kernel.now conditions.now }
+    ensures { Proves result workers kernel.now conditions.now }
 {
     match found(rt, alloc, kernel, conditions, workers) {
         Ok(

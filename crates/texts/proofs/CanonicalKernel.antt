@@ -347,8 +347,8 @@ pub record SaysKernel (room : ℕ) (k : Kernel) (ts : List Lexeme) : Type 0 wher
   pub relates : IsKernel room ts tree
   pub same : bare_kernel tree ≡ bare_kernel k
 
-made : List ℕ → Three ℕ → List Parameter → Statements → Kernel
-made x sizes ps body = record { name = x; sizes = sizes; parameters = ps; body = body }
+made : List ℕ → Site → Three ℕ → List Parameter → Statements → Kernel
+made x at sizes ps body = record { name = x; name_site = at; sizes = sizes; parameters = ps; body = body }
 
 ended_kernel : (k : Kernel) (room : ℕ) (a1 a2 a3 a4 a5 a6 a7 a8 a9 a10 a11 a12 a13 a14 a15 a16 a17 : Site) {ts : List Lexeme} (a18 : Site) (ps : List Parameter) {us : List Lexeme} (body : Statements) (next : ℕ) (rest : List Lexeme) →
     IsParameters ts ps (mark LeftBrace a18 ∷ us) → map bare_parameter ps ≡ map bare_parameter k.parameters → IsItems (suc (suc room)) 1 us body next rest → bare_statements body ≡ bare_statements k.body → Placed (token.End ∷ []) rest →
@@ -359,9 +359,9 @@ ended_kernel : (k : Kernel) (room : ℕ) (a1 a2 a3 a4 a5 a6 a7 a8 a9 a10 a11 a12
 unfolding made
 ended_kernel k room a1 a2 a3 a4 a5 a6 a7 a8 a9 a10 a11 a12 a13 a14 a15 a16 a17 a18 ps body next rest h alike g same (placed kind a19 over) =
     record {
-      tree = made k.name k.sizes ps body;
+      tree = made k.name a16 k.sizes ps body;
       relates = grammar.kernel (record { kind = Int; value = k.sizes.x }) (record { kind = Int; value = k.sizes.y }) (record { kind = Int; value = k.sizes.z }) k.name a1 a2 a3 a4 a5 a6 a7 a8 a9 a10 a11 a12 a13 a14 a15 a16 a17 a18 a19 h g;
-      same = ap (λ x. made k.name k.sizes x (bare_statements body)) alike ∙ ap (made k.name k.sizes (map bare_parameter k.parameters)) same;
+      same = ap (λ x. made k.name nowhere k.sizes x (bare_statements body)) alike ∙ ap (made k.name nowhere k.sizes (map bare_parameter k.parameters)) same;
     }
 
 opened_kernel : (k : Kernel) (room : ℕ) (a1 a2 a3 a4 a5 a6 a7 a8 a9 a10 a11 a12 a13 a14 a15 a16 a17 : Site) {ts : List Lexeme} (ps : List Parameter) (rest : List Lexeme) → AreNumbered 1 k.body → ArePrintableStatements k.body → AllOpenStatements (suc (suc room)) k.body →

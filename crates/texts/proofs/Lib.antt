@@ -12,6 +12,7 @@ pub mod DraftsRead
 pub mod CertificateRead
 pub mod FormsWritten
 pub mod ItemsWritten
+pub mod KernelNames
 pub mod CertificateWritten
 pub mod Endings
 pub mod Spellings

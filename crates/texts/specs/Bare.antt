@@ -56,4 +56,4 @@ bare_parameter (Buffer constant kind site x) = Buffer constant kind nowhere x
 bare_parameter (Value kind site x) = Value kind nowhere x
 
 abbrev pub bare_kernel : Kernel → Kernel
-bare_kernel k = record { name = k.name; sizes = k.sizes; parameters = map bare_parameter k.parameters; body = bare_statements k.body }
+bare_kernel k = record { name = k.name; name_site = nowhere; sizes = k.sizes; parameters = map bare_parameter k.parameters; body = bare_statements k.body }

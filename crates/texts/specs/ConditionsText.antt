@@ -98,7 +98,7 @@ pub data AreRequirementLines (ps : List Parameter) : List ℕ → List Requireme
       AreRequirementLines ps (requirement_text left right ++ lines) (r ∷ rs)
 
 -- these lines, one after another, and nothing else
-pub record IsConditionsText (ps : List Parameter) (text : List ℕ) (c : Conditions) : Type 0 where
+pub record AreConditionsLines (ps : List Parameter) (text : List ℕ) (c : Conditions) : Type 0 where
   pub argument_lines : List ℕ
   pub length_lines : List ℕ
   pub requirement_lines : List ℕ
@@ -113,3 +113,8 @@ pub record IsConditionsText (ps : List Parameter) (text : List ℕ) (c : Conditi
   pub requires : AreRequirementLines ps requirement_lines c.requires
   pub few_requires : length c.requires ≤ 16
   pub budget : (1 ≤ c.budget) × (c.budget ≤ 1000000000000)
+
+-- in at most 65,536 bytes
+pub record IsConditionsText (ps : List Parameter) (text : List ℕ) (c : Conditions) : Type 0 where
+  pub lines : AreConditionsLines ps text c
+  pub within_limit : length text ≤ 65536

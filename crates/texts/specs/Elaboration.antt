@@ -7,8 +7,8 @@ use Rattle.semantics.specs.Core as core
 use Rattle.semantics.specs.Core.{Site, Array}
 use Rattle.semantics.specs.Launch as launch
 use Rattle.texts.specs.Surface.{Arithmetic, LeftShift, RightShift, AssignSign, Plain, With, WithLeftShift, WithRightShift, Expression, Number, Name, Element, Call, Prefix, Cast, Infix, Conditional, Expressions, nothing, also, Declaration, Assignment, First, FirstDeclares, FirstAssigns, JumpWord, Return, Break, Continue, Statement, Declare, DeclareArray, Assign, If, While, For, Barrier, Jump, Block, Statements, none, one, Parameter, Buffer, Value, Kernel, site_of}
-use Rattle.texts.specs.TypeFaults.{UnknownName, WrongType, WriteToConst, ArrayInBlock, LoadInCompoundIndex, BarrierFlags, JumpOutsideLoop, Checked, refused, then, when, found}
-use Rattle.texts.specs.Scope.{Meaning, VariableAt, ArrayAt, Scope, empty_scope, leave_block, meaning_of, declare_variable, declare_buffer, declare_array}
+use Rattle.texts.specs.TypeFaults.{UnknownName, NameTwice, WrongType, WriteToConst, ArrayInBlock, LoadInCompoundIndex, BarrierFlags, JumpOutsideLoop, Checked, refused, then, when, found}
+use Rattle.texts.specs.Scope.{Meaning, VariableAt, ArrayAt, Scope, empty_scope, leave_block, meaning_of, may_name_kernel, declare_variable, declare_buffer, declare_array}
 use Rattle.texts.specs.Typing.{TypedTerm, typed, bring, infix_term, type_of}
 
 -- core statements, and the scope after them
@@ -177,9 +177,9 @@ abbrev pub declare_parameters : Scope → List Parameter → Checked Scope
 declare_parameters scope [] = Ok scope
 declare_parameters scope (p ∷ ps) = then (declare_parameter scope p) (λ inner. declare_parameters inner ps)
 
--- the elaborated kernel, or the first fault: a kernel is well typed where this is `Ok`
-unfoldable pub elaborate : Kernel → Checked launch.Kernel
-elaborate k =
+-- a kernel's parameters and its body: what is declared there may have the kernel's name, and hides it
+unfoldable pub elaborate_inside : Kernel → Checked launch.Kernel
+elaborate_inside k =
     then (declare_parameters empty_scope k.parameters) (λ outer. then (elaborate_all InKernel outer k.body) (λ b. Ok (record {
       sizes = k.sizes;
       buffers = outer.buffers;
@@ -188,3 +188,7 @@ elaborate k =
       variables = drop (length outer.slots) b.scope.slots;
       body = b.statements;
     })))
+
+-- the elaborated kernel, or the first fault: a kernel is well typed where this is `Ok`
+unfoldable pub elaborate : Kernel → Checked launch.Kernel
+elaborate k = then (when (may_name_kernel k.name) NameTwice k.name_site empty_scope) (λ outside. elaborate_inside k)

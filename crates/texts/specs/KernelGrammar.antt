@@ -112,4 +112,4 @@ pub data IsKernel : (room : ℕ) → List Lexeme → Kernel → Type 0 where
       (word words.Kernel at1 ∷ word words.Attribute at2 ∷ mark LeftParenthesis at3 ∷ mark LeftParenthesis at4 ∷ name (codes "reqd_work_group_size") at5
       ∷ mark LeftParenthesis at6 ∷ number x at7 ∷ mark Comma at8 ∷ number y at9 ∷ mark Comma at10 ∷ number z at11
       ∷ mark RightParenthesis at12 ∷ mark RightParenthesis at13 ∷ mark RightParenthesis at14 ∷ word words.Void at15 ∷ name f at16 ∷ mark LeftParenthesis at17 ∷ ts)
-      (record { name = f; sizes = record { x = x.value; y = y.value; z = z.value }; parameters = ps; body = body })
+      (record { name = f; name_site = at16; sizes = record { x = x.value; y = y.value; z = z.value }; parameters = ps; body = body })

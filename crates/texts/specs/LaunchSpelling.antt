@@ -47,7 +47,7 @@ pub data AreBufferLines : List Parameter → List ℕ → List (List ℤ) → Ty
       AreBufferLines (Buffer constant k site name ∷ ps) (contents_text name contents ++ lines) (zs ∷ buffers)
 
 -- these lines, one after another, and nothing else
-pub record IsLaunchText (ps : List Parameter) (text : List ℕ) (l : Launch) : Type 0 where
+pub record AreLaunchLines (ps : List Parameter) (text : List ℕ) (l : Launch) : Type 0 where
   pub argument_lines : List ℕ
   pub buffer_lines : List ℕ
   pub is_text : text ≡ codes "launch 1" ++ (line_feed ∷ (counts_text l.groups ++ (argument_lines ++ (buffer_lines ++ fill_text l.fill))))
@@ -58,3 +58,8 @@ pub record IsLaunchText (ps : List Parameter) (text : List ℕ) (l : Launch) : T
   pub buffers : AreBufferLines ps buffer_lines l.buffers
   pub few_words : sum_by length l.buffers ≤ 1048576
   pub fill : l.fill < 2 ^ 31
+
+-- in at most 4,194,304 bytes
+pub record IsLaunchText (ps : List Parameter) (text : List ℕ) (l : Launch) : Type 0 where
+  pub lines : AreLaunchLines ps text l
+  pub within_limit : length text ≤ 4194304

@@ -1,6 +1,6 @@
 -- Which names are visible, and what they stand for (C99 6.2.1). Ours: a visible name is not declared again, and a name is not visible
 -- in its own initialiser.
-use Rattle.std.specs.Prelude.{ℕ, List, [], ◌∷◌, ◌++◌, length, Bool, true, false, not, cond, ◌||◌, ◌&&◌, nat_eq, nat_le, Option, Some, None, is_some, bytes_eq, codes}
+use Rattle.std.specs.Prelude.{ℕ, List, [], ◌∷◌, ◌++◌, length, take, Bool, true, false, not, cond, ◌||◌, ◌&&◌, nat_eq, nat_le, Option, Some, None, is_some, bytes_eq, codes}
 use Rattle.semantics.specs.Word.{Kind}
 use Rattle.semantics.specs.Core.{Site, Array, Global, Local}
 use Rattle.semantics.specs.Launch.{LocalArray}
@@ -51,9 +51,31 @@ is_compilers [] = false
 is_compilers (a ∷ []) = false
 is_compilers (a ∷ b ∷ rest) = nat_eq a 95 && (nat_eq b 95 || (nat_le 65 b && nat_le b 90))
 
--- a declaration's name is not visible, not reserved and not the compiler's
+-- names that a compiler gives to OpenCL's built-in functions by macros, as `_cl_abs` to `abs` (ours): a kernel that declares both would have
+-- one variable for two
+abbrev pub is_renamed : List ℕ → Bool
+is_renamed name = bytes_eq (take 4 name) (codes "_cl_")
+
+-- names that no declaration may take, wherever it stands
+unfoldable pub is_taken : List ℕ → Bool
+is_taken name = is_one_of reserved_names name || (is_compilers name || is_renamed name)
+
+-- a declaration's name is not visible and not taken
 abbrev pub may_declare : Scope → List ℕ → Bool
-may_declare scope name = not (is_some (meaning_of scope.visible name) || (is_one_of reserved_names name || is_compilers name))
+may_declare scope name = not (is_some (meaning_of scope.visible name) || is_taken name)
+
+abbrev pub begins_underscored : List ℕ → Bool
+begins_underscored [] = false
+begins_underscored (a ∷ rest) = nat_eq a 95
+
+-- functions that a compiler calls on its own, for loops and rows of stores: a kernel of such a name would be called in their place
+unfoldable pub called_names : List (List ℕ)
+called_names = codes "memcpy" ∷ codes "memmove" ∷ codes "memset" ∷ codes "memcmp" ∷ codes "bcmp" ∷ []
+
+-- a kernel's own name is declared at file scope, where calls in its body see it (C99 6.2.1p4), where each name that begins with `_` belongs
+-- to the compiler, and where it has external linkage, as library functions have (C99 7.1.3)
+abbrev pub may_name_kernel : List ℕ → Bool
+may_name_kernel name = not (begins_underscored name || (is_one_of called_names name || is_taken name))
 
 abbrev pub bind : Scope → List ℕ → Meaning → Scope
 bind scope name meaning = record scope { visible = scope.visible ++ record { name = name; meaning = meaning } ∷ [] }

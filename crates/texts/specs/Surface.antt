@@ -95,6 +95,7 @@ pub data Parameter : Type 0 where
 
 pub record Kernel : Type 0 where
   pub name : List ℕ
+  pub name_site : Site
   pub sizes : Three ℕ
   pub parameters : List Parameter
   pub body : Statements

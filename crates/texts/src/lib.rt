@@ -6,4 +6,5 @@
 
 pub mod certificates;
 pub mod laws;
+pub mod naming;
 pub mod printing;

@@ -1,6 +1,6 @@
 -- Statements declare no more names than stand in them.
 use Rattle.std.proofs.Common.{◌≡◌, ℕ, ◌+◌, ◌≤◌, ◌<◌, Bool, true, false, not, List, [], ◌∷◌, ◌++◌, length, drop, get_or, Ok, Err, refl, ap, subst, arith, add-one, drop-cons}
-use Rattle.std.proofs.lemmas.List.{length-append}
+use Rattle.std.proofs.lemmas.List.{length-append, length-drop}
 use Rattle.semantics.specs.Core as core
 use Rattle.semantics.specs.Word.{Kind}
 use Rattle.texts.specs.Surface as surface
@@ -15,7 +15,9 @@ use Rattle.std.specs.Prelude.{Vec}
 use Rattle.std.specs.declared.alloc.Global.{Global}
 use Rattle.core_code.specs.declared.tree.Site.{Site}
 use Rattle.syntax.proofs.Rows.{seen_if, seen_while, seen_for, seen_block}
-use Rattle.syntax.specs.View.{statement as stmt, statements as stmts, first as first_of}
+use Rattle.std.specs.Prelude.{map}
+use Rattle.syntax.specs.View.{parameter, statement as stmt, statements as stmts, first as first_of}
+use Rattle.syntax.specs.declared.tree.Parameter.{Parameter}
 use Rattle.syntax.specs.declared.tree.Assignment.{Assignment}
 use Rattle.syntax.specs.declared.tree.Expr.{Expr}
 use Rattle.syntax.specs.declared.tree.First.{First}
@@ -143,6 +145,14 @@ parameters-grown sc (p ∷ ps) after q = by (declare_parameter sc p) refl q (λ 
     by : (x : Checked Scope) → declare_parameter sc p ≡ x → then x (λ inner. declare_parameters inner ps) ≡ Ok after → ((s : Scope) → declare_parameters s ps ≡ Ok after → declared after ≤ declared s + length ps) → declared after ≤ declared sc + length (p ∷ ps)
     by (Ok s) h e others = omega (arith, parameter-grown sc p s h, others s e)
     by (Err e) h k others = cc
+
+-- a parameter, and those behind it
+pub next-parameters : (ps : List Parameter) (i : ℕ) (p : Parameter) (sc after : Scope) → i < length ps → p ≡ get_or ps i p → declare_parameter sc (parameter p) ≡ Ok after
+    → declare_parameters after (map parameter (drop (i + 1) ps)) ≡ declare_parameters sc (map parameter (drop i ps))
+next-parameters ps i p sc after h e q = rw (add-one, drop-cons ps i p, ← e, q) refl
+
+pub fewer-parameters : (ps : List Parameter) (i : ℕ) (p : Parameter) → i < length ps → length (drop i ps) ≡ length (drop (i + 1) ps) + 1
+fewer-parameters ps i p h = omega (arith, length-drop i ps, length-drop (i + 1) ps, h)
 
 -- room for a statement, and for what follows it
 pub next-room : (ss : List Stmt) (i : ℕ) (s : Stmt) → i < length ss → s ≡ get_or ss i s → declared_by (stmts (drop i ss)) ≡ declared_in (stmt s) + declared_by (stmts (drop (i + 1) ss))

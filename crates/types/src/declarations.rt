@@ -50,11 +50,50 @@ fn is_compilers(name: &str) -> bool
     }
 }
 
-/// Whether a declaration may take the name: it is not visible, not reserved and not the compiler's.
+/// A name that a compiler gives to a built-in function by a macro.
+fn is_renamed(name: &str) -> bool
+    ensures { result ≡ scoping.is_renamed name.now }
+{
+    name.starts_with("_cl_")
+}
+
+/// A name that no declaration may take, wherever it stands.
+#[tactic(auto, unfolding(texts::specs::Scope::is_taken))]
+fn is_taken(name: &str) -> bool
+    ensures { result ≡ scoping.is_taken name.now }
+{
+    is_reserved(name) || is_compilers(name) || is_renamed(name)
+}
+
+fn begins_underscored(name: &str) -> bool
+    ensures { result ≡ scoping.begins_underscored name.now }
+{
+    match name.as_bytes() {
+        [first, ..] => *first == b'_',
+        [] => false,
+    }
+}
+
+/// A function that a compiler calls on its own.
+#[tactic(auto, unfolding(texts::specs::Scope::called_names))]
+fn is_called(name: &str) -> bool
+    ensures { result ≡ scoping.is_one_of scoping.called_names name.now }
+{
+    matches!(name, "memcpy" | "memmove" | "memset" | "memcmp" | "bcmp")
+}
+
+/// Whether a kernel may have the name, which is declared at file scope (C99 6.2.1p4).
+pub fn may_name_kernel(name: &str) -> bool
+    ensures { result ≡ scoping.may_name_kernel name.now }
+{
+    !begins_underscored(name) && !is_called(name) && !is_taken(name)
+}
+
+/// Whether a declaration may take the name: it is not visible and not taken.
 pub fn may_declare(scope: &Scope, name: &str) -> bool
     ensures { result ≡ scoping.may_declare (scope_seen scope.now) name.now }
 {
-    meaning_of(&scope.visible, name).is_none() && !is_reserved(name) && !is_compilers(name)
+    meaning_of(&scope.visible, name).is_none() && !is_taken(name)
 }
 
 impl<'a> Scope<'a> {

@@ -7,7 +7,8 @@ ghost use Rattle.syntax.specs.View.{kernel as tree_of};
 ghost use Rattle.core_code.specs.View.{kernel};
 ghost use Rattle.types.specs.Answers.{Gives};
 
-use crate::error::TypeError;
+use crate::declarations::may_name_kernel;
+use crate::error::{TypeError, TypeFault};
 use crate::jumps::Around;
 use crate::scope::Scope;
 use crate::statements::elaborate_all;
@@ -27,11 +28,11 @@ fn behind(kinds: &[Kind], first: usize) -> &[Kind]
     }
 }
 
-/// The core of a kernel, or its first broken rule: of its parameters, then of its statements.
-#[tactic(auto, unfolding(texts::specs::Elaboration::elaborate))]
-pub fn elaborate(alloc: Global, tree: &Kernel) -> Result<Core, TypeError>
+// The core of a kernel, or the first broken rule of its parameters, then of its statements.
+#[tactic(auto, unfolding(texts::specs::Elaboration::elaborate_inside))]
+fn elaborate_inside(alloc: Global, tree: &Kernel) -> Result<Core, TypeError>
     requires { HasFewNames (tree_of tree.now) }
-    ensures { Gives kernel result (elaboration.elaborate (tree_of tree.now)) }
+    ensures { Gives kernel result (elaboration.elaborate_inside (tree_of tree.now)) }
 {
     let mut scope = Scope {
         visible: Vec::new(alloc),
@@ -53,4 +54,19 @@ pub fn elaborate(alloc: Global, tree: &Kernel) -> Result<Core, TypeError>
         variables,
         body,
     })
+}
+
+/// The core of a kernel, or its first broken rule: of its name, of its parameters, then of its statements.
+#[tactic(auto, unfolding(texts::specs::Elaboration::elaborate))]
+pub fn elaborate(alloc: Global, tree: &Kernel) -> Result<Core, TypeError>
+    requires { HasFewNames (tree_of tree.now) }
+    ensures { Gives kernel result (elaboration.elaborate (tree_of tree.now)) }
+{
+    if !may_name_kernel(tree.name.as_str()) {
+        return Err(TypeError::At {
+            fault: TypeFault::NameTwice,
+            site: tree.name_site,
+        });
+    }
+    elaborate_inside(alloc, tree)
 }

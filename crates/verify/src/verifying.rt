@@ -1,10 +1,11 @@
 //! The search for a certificate, and its check.
 
 ghost use Rattle.std.specs.Prelude.{ℕ, List, IfOk, IfErr};
-ghost use Rattle.proof_search.specs.Searching.{TellsOf};
+ghost use Rattle.cert_check.specs.Refusing.{Refuses};
+ghost use Rattle.proof_search.specs.Searching.{AreSearched, IsCount, TellsOf};
 ghost use Rattle.verify.specs.Verifying.{IsVerified};
 
-use cert_check::error::CheckError;
+use cert_check::error::{CheckError, ShowError};
 use cert_check::{Accepted, check};
 use proof_search::{VerifyError, find_text};
 use std::alloc::Global;
@@ -18,21 +19,30 @@ pub struct Verified {
     pub certificate: Vec<u8>,
 }
 
-/// The number of what a certificate does not show.
-const LACKING: u8 = 52;
-
-/// What is said where a certificate is not enough.
-fn unproved(alloc: Global, error: CheckError) -> VerifyError
-    ensures { (workers : ℕ) (k c : List ℕ) → TellsOf result workers k c }
+/// What is said where a certificate does not show what it has to.
+fn unshown(alloc: Global, error: ShowError) -> VerifyError
+    ensures { (workers : ℕ) (k c : List ℕ) → IsCount workers → AreSearched k c → TellsOf result workers k c }
 {
-    if error.number() == LACKING {
-        return VerifyError::NotShown(Vec::new(alloc));
+    match error {
+        ShowError::NotShown(_) => VerifyError::NotShown(Vec::new(alloc)),
+        error => VerifyError::Check(CheckError::Show(error)),
     }
-    VerifyError::Check(error)
 }
 
-/// A kernel and launch conditions, each by its text: the kernel is accepted with the certificate that is found, as the check has it. That
-/// none is found says nothing of the kernel; but what a finding confirms, a launch that meets the conditions does.
+/// What is said where a certificate is not enough.
+#[tactic(auto, using(crate::proofs::Unproved::told))]
+fn unproved(alloc: Global, error: CheckError) -> VerifyError
+    ensures { (workers : ℕ) (k c p : List ℕ) → IsCount workers → Refuses error k c p → TellsOf result workers k c }
+{
+    match error {
+        CheckError::Show(error) => unshown(alloc, error),
+        error => VerifyError::Check(error),
+    }
+}
+
+/// A kernel and launch conditions, each by its text: the kernel is accepted with the certificate that is found, as the check has it. What
+/// is refused first, in this order: the kernel, the conditions, a loop whose barrier an iteration can miss, a number of workers outside 1
+/// to 64. That no certificate is found says nothing of the kernel; but what a finding confirms, a launch that meets the conditions does.
 pub fn verify<R: Threads + Wait + Sync>(
     rt: &R,
     alloc: Global,
@@ -41,11 +51,9 @@ pub fn verify<R: Threads + Wait + Sync>(
     workers: u32,
 ) -> Result<Verified, VerifyError>
     ensures verified { IfOk result (λ v. IsVerified kernel.now conditions.now v.certificate.items v.accepted) }
+    ensures workers { IfOk result (λ _. IsCount workers) }
     ensures told { IfErr result (λ e. TellsOf e workers kernel.now conditions.now) }
 {
-    if workers < 1 || workers > 64 {
-        return Err(VerifyError::Workers);
-    }
     let certificate = match find_text(rt, alloc, kernel, conditions, workers) {
         Ok(certificate) => certificate,
         Err(error) => return Err(error),

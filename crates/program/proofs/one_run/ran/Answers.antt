@@ -6,16 +6,16 @@ use Rattle.program.proofs.Verdicts.{reads-more}
 use Rattle.program.proofs.one_run.ran.Goals as goal
 
 pub returns-clause-verdict : goal.returns-clause-verdict
-returns-clause-verdict g c = λ ws command names last.
+returns-clause-verdict g c = λ ws command names last count.
     let found = c.in_ok-found.found in
     let launch = c.in_ok-launch.launch.items in
     let k = c.args.names.kernel.now in
     let o = c.args.names.conditions.now in
     let p = c.args.names.certificate.now in
     let three = kernel_read k found.kernel.items ∷ conditions_read o found.conditions.items ∷ certificate_read p found.certificate.items ∷ [] in
-    running.ran k o p c.args.launch.now found.kernel.items found.conditions.items found.certificate.items launch command names.kernel names.conditions names.certificate last
+    running.ran k o p c.args.launch.now found.kernel.items found.conditions.items found.certificate.items launch c.args.workers command names.kernel names.conditions names.certificate last count
     (reads-more g.F.Files.contents g.F.Files.gives c.args.files.now c.texts_of.new.files c.text_of.new.files three (launch_read c.args.launch.now launch) c.in_ok-found.ensures.reads c.in_ok-launch.ensures.given c.in_ok-launch.ensures.text)
-    (subst (λ t. Runs c.run_texts.result found.kernel.items found.conditions.items found.certificate.items t) c.deref.ensures.value
-    (subst (λ t. Runs c.run_texts.result found.kernel.items found.conditions.items t c.deref.result.now) c.texts.ensures.certificate
-    (subst (λ t. Runs c.run_texts.result found.kernel.items t c.texts.result.certificate.now c.deref.result.now) c.texts.ensures.conditions
-    (subst (λ t. Runs c.run_texts.result t c.texts.result.conditions.now c.texts.result.certificate.now c.deref.result.now) c.texts.ensures.kernel c.run_texts.ensures))))
+    (subst (λ t. Runs c.run_texts.result c.args.workers found.kernel.items found.conditions.items found.certificate.items t) c.deref.ensures.value
+    (subst (λ t. Runs c.run_texts.result c.args.workers found.kernel.items found.conditions.items t c.deref.result.now) c.texts.ensures.certificate
+    (subst (λ t. Runs c.run_texts.result c.args.workers found.kernel.items t c.texts.result.certificate.now c.deref.result.now) c.texts.ensures.conditions
+    (subst (λ t. Runs c.run_texts.result c.args.workers t c.texts.result.conditions.now c.texts.result.certificate.now c.deref.result.now) c.texts.ensures.kernel c.run_texts.ensures))))

@@ -4,7 +4,7 @@ use Rattle.syntax.specs.View.{kernel as tree_of}
 use Rattle.types.specs.Names.{scope_seen, all_seen}
 use Rattle.types.proofs.Kernels.{kernel-done, kinds-behind}
 use Rattle.types.proofs.Rooms.{parameters-grown}
-use Rattle.types.proofs.elaboration.elaborate.Goals as goal
+use Rattle.types.proofs.elaboration.elaborate_inside.Goals as goal
 
 pub returns : goal.returns
 returns c =

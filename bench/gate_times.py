@@ -5,6 +5,9 @@ usage: bench/gate_times.py > TABLE, at the top of the repository. The gate's own
 
 Each process of the prover is started through this very script, which notes what it took. The proof of a program has in it both of its
 builds; running the tests and the programs, and linking, are in the last row alone.
+
+A fixed loop of Python is run before and after. The last column has each crate's seconds divided by the mean of the two, so that machines
+can be compared, and hours of one machine.
 """
 import collections
 import contextlib
@@ -19,6 +22,11 @@ import time
 
 NOTES, PROVER = "GATE_TIMES_NOTES", "GATE_TIMES_PROVER"
 KINDS = ("proof", "tests", "edits")
+# The fixed loop, as a script has it at its top: in a function it takes less than half as long.
+LOOP = """x = 0
+for i in range(20_000_000):
+    x += i & 7
+"""
 
 
 def run_prover(words):
@@ -47,8 +55,14 @@ def parts_of_rt():
     return module
 
 
-def table(notes, edits):
-    """The rows of the table, the dearest crate first, and their sum."""
+def seconds_of_loop():
+    begun = time.process_time()
+    exec(compile(LOOP, "the fixed loop", "exec"), {})
+    return time.process_time() - begun
+
+
+def table(notes, edits, loop):
+    """The rows of the table, the dearest crate first, and their sum; `loop` is what the fixed loop took."""
     spent = collections.defaultdict(lambda: dict.fromkeys(KINDS, 0.0))
     for line in notes:
         crate, kind, seconds = line.split()
@@ -56,15 +70,22 @@ def table(notes, edits):
     rows = sorted(spent.items(), key=lambda it: -sum(it[1].values()))
     rows.append(("**all crates**", {kind: sum(it[kind] for it in spent.values()) for kind in KINDS}))
     edits["**all crates**"] = sum(edits.values())
-    yield "| Crate | Proof | Tests | Edits | Number of edits | Together |"
-    yield "|---|---|---|---|---|---|"
+    yield "| Crate | Proof | Tests | Edits | Number of edits | Together | In loops |"
+    yield "|---|---|---|---|---|---|---|"
     for crate, cost in rows:
         seconds = [f"{cost[it]:.0f}" if cost[it] else "" for it in KINDS]
-        yield f"| {crate} | {' | '.join(seconds)} | {edits[crate] or ''} | {sum(cost.values()):.0f} |"
+        together = sum(cost.values())
+        yield f"| {crate} | {' | '.join(seconds)} | {edits[crate] or ''} | {together:.0f} | {together / loop:.1f} |"
+
+
+def seconds_used():
+    """The processor seconds of this process and of all that it started and that ended."""
+    used = [resource.getrusage(it) for it in (resource.RUSAGE_SELF, resource.RUSAGE_CHILDREN)]
+    return sum(it.ru_utime + it.ru_stime for it in used)
 
 
 def main():
-    rt, edits, started = parts_of_rt(), collections.Counter(), time.monotonic()
+    rt, edits, before, started = parts_of_rt(), collections.Counter(), seconds_of_loop(), time.monotonic()
     for crate in os.listdir("crates"):
         folder = f"crates/{crate}/must-fail"
         edits[crate] = sum(it.endswith(".edit") for it in os.listdir(folder)) if os.path.isdir(folder) else 0
@@ -75,13 +96,13 @@ def main():
         open(notes, "wb").close()
         with contextlib.redirect_stdout(sys.stderr):
             status = rt.main(["ci"])
+        wall, whole, after = time.monotonic() - started, seconds_used() - before, seconds_of_loop()
+        loop = (before + after) / 2
         with open(notes, encoding="utf-8") as lines:
-            print(*table(lines, edits), sep="\n")
-    wall = time.monotonic() - started
-    used = [resource.getrusage(it) for it in (resource.RUSAGE_SELF, resource.RUSAGE_CHILDREN)]
-    whole = sum(it.ru_utime + it.ru_stime for it in used)
-    print(f"| **the whole run** | | | | | {whole:.0f} |\n")
+            print(*table(lines, edits, loop), sep="\n")
+    print(f"| **the whole run** | | | | | {whole:.0f} | {whole / loop:.1f} |\n")
     print(f"Processor seconds. The run took {wall / 60:.1f} minutes and ended with status {status}.")
+    print(f"The fixed loop took {before:.2f} s before and {after:.2f} s after it.")
     return status
 
 

@@ -1,11 +1,11 @@
 #!/usr/bin/env python3
 """What a reader has to believe: the definitions that a promise of the program rests on, with their lines.
 
-Begins at the names of a file of specs/ and follows each name that a definition uses to the definition behind it, through the `use`
-lines, as far as the repository goes; what stands in the library is not followed. Lines are those of definitions, without comments,
-blank lines and `use` lines.
+Begins at names, and follows each name that a definition uses to the definition behind it, through the `use` lines, as far as the repository
+goes; what stands in the library is not followed. Lines are those of definitions, without comments, blank lines and `use` lines.
 
-    bench/believed.py [CRATE/specs/FILE.antt [NAME ..]]
+    bench/believed.py                                    the whole contract of `program::tool`, and its parts, a line each
+    bench/believed.py CRATE/specs/FILE.antt [NAME ..]    from all names of a file, or from these, with the lines in each file
 """
 import pathlib
 import re
@@ -90,10 +90,10 @@ def load(path):
     return LOADED[path]
 
 
-def walk(start, names):
-    """The definitions reached, as a set of (file, name); and names of the code's own types."""
+def walk(begun):
+    """The definitions reached from these, as a set of (file, name); and names of the code's own types."""
     seen, code = set(), set()
-    todo = [(start, name) for name in names]
+    todo = list(begun)
     while todo:
         path, name = todo.pop()
         if (path, name) in seen or name not in load(path).definitions:
@@ -125,11 +125,52 @@ def walk(start, names):
     return seen, code
 
 
+def clauses_of(file, function):
+    """The definitions that the contract of a function names: those in its `ensures`, by the file's `ghost use` lines."""
+    lines = file.read_text().splitlines()
+    brought = Module.__new__(Module)
+    brought.definitions, brought.names, brought.modules = {}, {}, {}
+    for line in lines:
+        if line.startswith("ghost use "):
+            brought.bring(line.removeprefix("ghost use ").rstrip(";"))
+    begin = next(at for at, line in enumerate(lines) if line.startswith(f"pub fn {function}"))
+    end = next(at for at, line in enumerate(lines) if at > begin and line == "{")
+    words = {word for line in lines[begin:end] if line.lstrip().startswith("ensures") for word in NAME.findall(line)}
+    found = [brought.names[word] for word in sorted(words) if word in brought.names]
+    return [(path_of(module), name) for module, name in found if path_of(module)]
+
+
+def counted(begun):
+    """How many lines, definitions and files are reached from these, and how many names of the code's own types."""
+    seen, code = walk(begun)
+    return sum(len(load(path).definitions[name]) for path, name in seen), len(seen), len({path for path, _ in seen}), len(code)
+
+
+# Parts of the program's promise, and where each begins.
+PARTS = {
+    "`accepted`": ("telling/specs/Telling.antt", "IsAcceptedText"),
+    "the buffers of a run": ("telling/specs/Telling.antt", "IsResultText"),
+    "a canonical text": ("telling/specs/Telling.antt", "IsPrintedText"),
+    "a confirmed finding": ("proof_search/specs/Findings.antt", "IsTrueOf"),
+    "a refusal": ("program/specs/Refusing.antt", "Refusal"),
+}
+
+
+def tell_parts():
+    rows = {"the whole contract of `program::tool`": clauses_of(CRATES / "program/src/one_run.rt", "tool")}
+    rows.update({part: [(CRATES / file, name)] for part, (file, name) in PARTS.items()})
+    print("| Of | Lines | Definitions | Files | Names of the code's types |\n|---|---|---|---|---|")
+    for part, begun in rows.items():
+        print("| " + " | ".join([part, *(f"{it:,}" for it in counted(begun))]) + " |")
+
+
 def main():
-    arguments = sys.argv[1:] or ["program/specs/Running.antt"]
-    start = CRATES / arguments[0]
-    names = arguments[1:] or list(load(start).definitions)
-    seen, code = walk(start, names)
+    if not sys.argv[1:]:
+        tell_parts()
+        return
+    start = CRATES / sys.argv[1]
+    names = sys.argv[2:] or list(load(start).definitions)
+    seen, code = walk((start, name) for name in names)
     lines = {}
     for path, name in seen:
         where = str(path.relative_to(CRATES))

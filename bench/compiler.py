@@ -5,9 +5,10 @@
     compiler.py random SECONDS SEED      kernels made at random: expressions of all operators over words at the ends of their ranges, and
                                          loops, jumps and barriers over a local array
 
-A kernel that is not accepted is passed over, as is one whose buffers depend on what a local array begins with. The ids of a launch are
-`size_t` in OpenCL; where that has 64 bits they are made `uint` before the kernel's text, as the premises have it. Wants Debian's
-python3-pyopencl and pocl-opencl-icd, or another device of OpenCL. Build the program first: ./kverify
+A kernel that is not accepted is passed over, as is one whose buffers depend on what a local array begins with. The compiler is given
+exactly the bytes that were checked, and no `-D`. The ids of a launch are `size_t` in OpenCL, which may have 64 bits: the random kernels
+cast each, as the premises have it. Wants Debian's python3-pyopencl and pocl-opencl-icd, or another device of OpenCL. Build the program
+first: ./kverify build
 """
 import os
 import random
@@ -19,12 +20,13 @@ import time
 import warnings
 
 import numpy
-import pyopencl
+
+# read as the library is loaded: without it, it puts a line behind the kernel's text
+os.environ["PYOPENCL_NO_CACHE"] = "1"
+import pyopencl  # noqa: E402
 
 ROOT = os.path.dirname(os.path.dirname(os.path.abspath(__file__)))
 PROGRAM = os.environ.get("KVERIFY", os.path.join(ROOT, "crates", "kverify", "out", "kverify"))
-IDS = ("global_id", "local_id", "group_id", "global_size", "local_size", "num_groups")
-AS_UINT = "".join(f"#define get_{it}(d) ((uint)get_{it}(d))\n" for it in IDS)
 RANGES = {"uint": (0, 2**32 - 1), "int": (-(2**31), 2**31 - 1)}
 TYPES = {"uint": numpy.uint32, "int": numpy.int32}
 
@@ -62,12 +64,18 @@ class Device:
 
     def __init__(self):
         warnings.simplefilter("ignore")
+        # what the library would say to the compiler besides
+        pyopencl._DEFAULT_INCLUDE_OPTIONS.clear()
+        pyopencl._PLAT_BUILD_OPTIONS.clear()
         self.context = pyopencl.Context([pyopencl.get_platforms()[0].get_devices()[0]])
         self.queue = pyopencl.CommandQueue(self.context)
 
     def run(self, text, launch):
-        """The buffers behind a launch of the text's kernel."""
-        program = pyopencl.Program(self.context, AS_UINT + text).build(["-cl-std=CL1.2"])
+        """The buffers behind a launch of the text's kernel, or None where the compiler makes no program of it."""
+        try:
+            program = pyopencl.Program(self.context, text).build(["-cl-std=CL1.2"])
+        except pyopencl.RuntimeError:
+            return None
         head = re.search(r"reqd_work_group_size\s*\(\s*(\w+)\s*,\s*(\w+)\s*,\s*(\w+)\s*\)[^(]*\(([^)]*)\)", text)
         sizes = [int(it.rstrip("uU"), 0) for it in head.groups()[:3]]
         memory, arguments = {}, []
@@ -121,7 +129,10 @@ def compare(device, text, conditions, launches):
                     return "not run"
             if wanted[0] != wanted[1]:
                 return "depends on what local arrays begin with"
-            if device.run(text, launch) != wanted[0]:
+            made = device.run(text, launch)
+            if made is None:
+                return "no program of it"
+            if made != wanted[0]:
                 return "NOT THE SAME"
     return "the same"
 
@@ -241,7 +252,7 @@ def some_words(dice, kind, count):
 
 def expressions(dice):
     """The body of a kernel of expressions."""
-    names = [Term(it, "uint") for it in ("u[g]", "v[g]", "n", "g", "get_local_id(0)")] + [Term(it, "int") for it in ("s[g]", "m")]
+    names = [Term(it, "uint") for it in ("u[g]", "v[g]", "n", "g", "(uint)get_local_id(0)")] + [Term(it, "int") for it in ("s[g]", "m")]
     terms, lines = Terms(dice, names), []
     for number in range(dice.randint(0, 3)):
         kind = dice.choice(["int", "uint"])
@@ -263,7 +274,7 @@ def turns(dice, size):
     own = f"for (uint i = 0u; i < {dice.randint(1, 9)}u; i += 1u) {{ x = x * 1664525u + i; if ({test}) {jump}; o[g] ^= x; }}"
     halving = f"uint k = {dice.randint(1, 40)}u; while (k > 0u) {{ x += k ^ l; k = k >> 1; if (k == l) break; }}"
     steps = [f"x ^= t[(l + {dice.randint(0, size)}u) & {size - 1}u];", own, halving, "if (l > 1u) x = x + v[g]; else x = x ^ 3u;"]
-    lines = ["uint l = get_local_id(0);", "uint x = u[g];", "t[l] = x;", "barrier(CLK_LOCAL_MEM_FENCE);", steps[0]]
+    lines = ["uint l = (uint)get_local_id(0);", "uint x = u[g];", "t[l] = x;", "barrier(CLK_LOCAL_MEM_FENCE);", steps[0]]
     fence = "barrier(CLK_LOCAL_MEM_FENCE | CLK_GLOBAL_MEM_FENCE);"
     lines += [f"for (uint r = 0u; r < {dice.randint(1, 4)}u; r += 1u) {{", fence, "t[l] = x;", fence, dice.choice(steps), "}"]
     lines += [dice.choice(["if (x < n) return;", "if (m < 0) return;", ""]), "o[g] += x;", "p[g] = (int)(x >> 1);"]
@@ -275,7 +286,7 @@ def random_kernel(dice):
     size, groups = dice.choice([1, 2, 4, 8]), dice.choice([1, 2, 3])
     kinds = {"u": "uint", "v": "uint", "s": "int", "o": "uint", "p": "int"}
     parameters = [f"__global {kind} *{name}" for name, kind in kinds.items()] + ["int m", "uint n"]
-    body = [f"__local uint t[{size}];", "uint g = get_global_id(0);"]
+    body = [f"__local uint t[{size}];", "uint g = (uint)get_global_id(0);"]
     body += expressions(dice) if dice.random() < 0.5 else turns(dice, size)
     text = f"__kernel __attribute__((reqd_work_group_size({size}, 1, 1)))\nvoid k({', '.join(parameters)}) {{\n" + "\n".join(body) + "\n}\n"
     lengths = "".join(f"length {name} >= {size}*groups.0\n" for name in kinds)

@@ -1,7 +1,7 @@
 #!/usr/bin/env python3
 """Measures how long a launch text of 4 MB with 1,048,576 words takes to read, and in how much memory.
 
-Build the program first: ./kverify at the top. A launch is read whole before the conditions are looked at: this one has a buffer that is
+Build the program first: ./kverify build at the top. A launch is read whole before the conditions are looked at: this one has a buffer that is
 shorter than they ask, so nothing is run.
 """
 import os

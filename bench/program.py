@@ -1,7 +1,7 @@
 #!/usr/bin/env python3
 """Measures the program: the run of a fill of 1,048,576 elements, and the check of a kernel of 180 stores (65,520 obligations).
 
-Build it first: ./kverify
+Build it first: ./kverify build
 """
 import os
 import subprocess

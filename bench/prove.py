@@ -1,9 +1,11 @@
 #!/usr/bin/env python3
 """Proves the kernels of a folder and prints a table: kernel, what it is, verdict and first finding, milliseconds, certificate.
 
-    prove.py KERNELS [WORKERS] [NAME ..]    NAME.cl with NAME.cond, and NAME.expect, which begins with safe or unsafe KIND; all, or these names
+    prove.py KERNELS [WORKERS] [NAME ..]    NAME.cl with NAME.conditions, and a table in README.md that says which are safe, as bench/kernels;
+                                            or with NAME.cond, and NAME.expect, which begins with safe or unsafe KIND; all, or these names
 
-Each certificate is given to `check`, which has to accept it. A finding has to have the kind of an unsafe kernel. Build the program first: cd crates/kverify && rt run
+Each certificate is given to `check`, which has to accept it. A finding has to have the kind of an unsafe kernel. Build the program first:
+./kverify build
 """
 import os
 import re
@@ -30,6 +32,21 @@ def said(words):
     return lines, 1000 * (time.monotonic() - started)
 
 
+# What the table of a folder calls a fault, as findings name it.
+KINDS = {"index": "F3", "overflow": "F2", "division": "F1"}
+
+
+def expected(place, name):
+    """What a kernel is: safe, or unsafe with the kind of what goes wrong."""
+    if os.path.exists(f"{place}/{name}.expect"):
+        with open(f"{place}/{name}.expect", encoding="utf-8") as it:
+            return " ".join(it.readline().split())
+    with open(f"{place}/README.md", encoding="utf-8") as it:
+        cells = next(line.split("|") for line in it if line.startswith(f"| `{name}` |"))
+    word = cells[4].split(":")[0].strip()
+    return "safe" if cells[2].strip() == "safe" else f"unsafe {KINDS.get(word, word)}"
+
+
 def is_told(kind, lines):
     """Whether a refusal tells the kind of an unsafe kernel: its budget, or a finding."""
     what = kind.split(" ")[1]
@@ -40,14 +57,14 @@ def is_told(kind, lines):
 
 def row(folder, place, name, workers):
     """One kernel's row: the safe ones are to be accepted, and their certificates checked."""
-    files = [f"{place}/{name}.cl", f"{place}/{name}.cond"]
+    conditions = f"{place}/{name}.conditions"
+    files = [f"{place}/{name}.cl", conditions if os.path.exists(conditions) else f"{place}/{name}.cond"]
     out = f"{folder}/certificate.txt"
     if os.path.exists(out):
         os.remove(out)
     told, taken = said(["prove", *files, "--workers", workers, "--out", out])
     line = told[0]
-    with open(f"{place}/{name}.expect", encoding="utf-8") as it:
-        kind = " ".join(it.readline().split())
+    kind = expected(place, name)
     lines = size = entries = 0
     if line == "accepted":
         with open(out, encoding="utf-8") as it:

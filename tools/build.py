@@ -6,13 +6,9 @@ usage: tools/build.py PROGRAM, at the top of the repository; `../kverify build` 
 Each crate is proved from nothing, by the parts of `rt` that `rt ci` is made of, without tests and edits. A library stays in the folder
 out/rlib/proved of its crate, beside a sum of all that it was proved from, and what no change reaches is not proved again. So a run that was
 broken off is taken up by the next one. `rt run` in the program's folder makes the same program, one crate after another.
-
-The kit does not document those parts of `rt`: where a later kit has others, this says so.
 """
 import functools
 import hashlib
-import importlib.machinery
-import importlib.util
 import os
 import re
 import shutil
@@ -22,21 +18,7 @@ import tempfile
 import threading
 import time
 
-# What is used of `rt`.
-PARTS = ("rtlib", "KIT", "Crate", "handles_of", "need", "processors", "in_lanes")
-
-
-def parts_of_rt():
-    """The script `rt` as a module."""
-    file = os.path.realpath(shutil.which("rt") or sys.exit("kverify: rt, the command of the kit, is not on the PATH"))
-    loader = importlib.machinery.SourceFileLoader("rt", file)
-    module = importlib.util.module_from_spec(importlib.util.spec_from_loader("rt", loader))
-    loader.exec_module(module)
-    missing = [it for it in PARTS if not hasattr(module, it)]
-    if missing:
-        sys.exit(f"kverify: this kit's rt has no {', '.join(missing)}: tools/ does not fit it. rt run in crates/kverify proves the program")
-    return module
-
+from rt_parts import parts_of_rt
 
 rt = parts_of_rt()
 # Lines of the prover that say what it read and what is proved.

@@ -1,4 +1,4 @@
-//! Section: Runs and program. Promises nothing; it holds tests of crates of other sections, and nothing stands on it.
+//! Section: Tests. Promises nothing; it holds tests of crates of other sections, and nothing stands on it.
 //!
 //! The tests of `words`, `lines`, `linear`, `cut_proof`, `domain`, `loop_bounds`, `board`, `houdini` and `write_log`, so that none of
 //! these is proved twice.

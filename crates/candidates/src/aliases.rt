@@ -1,7 +1,7 @@
 //! Quotients of one form by one number are one symbol.
 
 use crate::sums::plus_symbol;
-use candidate_lines::{copied, family, is_same};
+use guesses::{copied, family, is_same};
 use linear::{Form, Symbol};
 use std::alloc::{AllocError, Global};
 

@@ -2,7 +2,7 @@
 
 use crate::gathering::Gathering;
 use crate::reach::Reach;
-use candidate_lines::{try_difference, try_multiple};
+use guesses::{try_difference, try_multiple};
 use linear::Form;
 use std::alloc::AllocError;
 

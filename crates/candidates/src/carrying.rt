@@ -2,7 +2,7 @@
 
 use crate::gathering::Gathering;
 use crate::naming::Naming;
-use candidate_lines::{Leaf, Sight, one_of, variable};
+use guesses::{Leaf, Sight, one_of, variable};
 use linear::Form;
 use std::alloc::AllocError;
 

@@ -2,7 +2,7 @@
 
 use crate::reach::one_value;
 use crate::single_values::{Given, has_slot, settled};
-use candidate_lines::{Leaf, Sight, divisor_of, is_same, one_of, try_difference, variable};
+use guesses::{Leaf, Sight, divisor_of, is_same, one_of, try_difference, variable};
 use linear::Form;
 use std::alloc::{AllocError, Global};
 

@@ -6,7 +6,7 @@ use crate::gathering::Gathering;
 use crate::single_values::Given;
 use crate::stride_lines::first_ways;
 use crate::turns::{Counter, Turns};
-use candidate_lines::{Leaf, family, index_of, is_global, try_difference, try_multiple, variable};
+use guesses::{Leaf, family, index_of, is_global, try_difference, try_multiple, variable};
 use linear::{Form, Symbol};
 use std::alloc::{AllocError, Global};
 

@@ -1,6 +1,6 @@
 //! Facts that are worth a guess at a place.
 
-use candidate_lines::{
+use guesses::{
     Candidate, Line, Sight, at_anchor, family, index_of, is_global, is_same, reduced, turns,
     variable,
 };

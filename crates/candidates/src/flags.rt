@@ -5,7 +5,7 @@ use crate::gathering::Gathering;
 use crate::naming::Naming;
 use crate::reach::{Reach, reach_of};
 use crate::sums::plus_symbol;
-use candidate_lines::{Leaf, argument, at_anchor, family, group, length, one_of, plus, variable};
+use guesses::{Leaf, argument, at_anchor, family, group, length, one_of, plus, variable};
 use linear::{Form, Symbol};
 use std::alloc::AllocError;
 

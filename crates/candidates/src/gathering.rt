@@ -2,7 +2,7 @@
 
 use crate::fact_lines::fact_at;
 use crate::shelf::Shelf;
-use candidate_lines::{Candidate, Line, Sight, reduced, try_difference, try_multiple};
+use guesses::{Candidate, Line, Sight, reduced, try_difference, try_multiple};
 use linear::Form;
 use std::alloc::{AllocError, Global};
 

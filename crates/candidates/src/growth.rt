@@ -8,7 +8,7 @@ use crate::nests::tell_nest;
 use crate::single_values::Given;
 use crate::stride_lines::first_ways;
 use crate::turns::{Counter, Turns};
-use candidate_lines::Leaf;
+use guesses::Leaf;
 use std::alloc::AllocError;
 
 /// How far a variable goes from what it began with.

@@ -5,7 +5,7 @@ use crate::gathering::Gathering;
 use crate::names::Except;
 use crate::naming::Naming;
 use crate::single_values::{Given, has_slot};
-use candidate_lines::{Leaf, Line, Sight, one_of, turns, variable};
+use guesses::{Leaf, Line, Sight, one_of, turns, variable};
 use linear::{Form, Symbol};
 use std::alloc::AllocError;
 

@@ -1,4 +1,4 @@
-//! Section: Search. Promises nothing: what the walks of a kernel's places tell a search; stands on `candidate_lines`.
+//! Section: Search. Promises nothing: what the walks of a kernel's places tell a search; stands on `guesses`.
 //!
 //! The paths of a walk that takes each claim as shown tell what may hold at the places that they reach: values of variables there, what
 //! their tests say, what held where they begin, and how variables step from turn to turn.

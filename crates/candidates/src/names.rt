@@ -2,7 +2,7 @@
 
 use crate::fact_lines::is_anchored;
 use crate::sums::{plus_symbol, plus_times};
-use candidate_lines::{is_global, one_of, try_difference, try_multiple};
+use guesses::{is_global, one_of, try_difference, try_multiple};
 use linear::{Form, Symbol, Term};
 use std::alloc::{AllocError, Global};
 

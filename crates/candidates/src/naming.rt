@@ -3,7 +3,7 @@
 use crate::aliases::Aliases;
 use crate::names::{Except, Name, Named, Names};
 use crate::sums::plus_symbol;
-use candidate_lines::{
+use guesses::{
     Leaf, Sight, at_anchor, copied, family, is_global, try_difference, try_multiple, turns,
     variable,
 };

@@ -6,7 +6,7 @@ use crate::gathering::Gathering;
 use crate::reach::Reach;
 use crate::stride_lines::first_ways;
 use crate::turns::{Counter, Turns};
-use candidate_lines::{try_multiple, try_sum};
+use guesses::{try_multiple, try_sum};
 use linear::Form;
 use std::alloc::{AllocError, Global};
 

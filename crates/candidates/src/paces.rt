@@ -4,7 +4,7 @@
 use crate::courses::{Course, Courses, grown};
 use crate::gathering::Gathering;
 use crate::stride_lines::first_ways;
-use candidate_lines::{Leaf, try_difference, try_multiple};
+use guesses::{Leaf, try_difference, try_multiple};
 use linear::Form;
 use std::alloc::AllocError;
 

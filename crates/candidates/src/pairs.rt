@@ -3,7 +3,7 @@
 use crate::names::Except;
 use crate::naming::Naming;
 use crate::sums::plus_times;
-use candidate_lines::{divisor_of, try_multiple};
+use guesses::{divisor_of, try_multiple};
 use linear::{Form, Symbol, Term};
 use std::alloc::{AllocError, Global};
 

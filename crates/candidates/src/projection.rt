@@ -3,7 +3,7 @@
 use crate::names::Except;
 use crate::naming::{Naming, Value};
 use crate::sums::{plus_symbol, plus_times};
-use candidate_lines::{divisor_of, is_global, try_multiple};
+use guesses::{divisor_of, is_global, try_multiple};
 use linear::{Form, Term};
 use std::alloc::{AllocError, Global};
 

@@ -1,6 +1,6 @@
 //! Between which values a form lies, as far as single facts say.
 
-use candidate_lines::{common_divisor, one_of, plus, try_difference, try_sum};
+use guesses::{common_divisor, one_of, plus, try_difference, try_sum};
 use linear::Form;
 use std::alloc::{AllocError, Global};
 

@@ -1,6 +1,6 @@
 //! Candidates without repeats, in the order in which they are found.
 
-use candidate_lines::{Candidate, Line, Sight};
+use guesses::{Candidate, Line, Sight};
 use linear::Form;
 use std::alloc::{AllocError, Global};
 

@@ -1,7 +1,7 @@
 //! Variables that have one value over ids and arguments wherever they get one.
 
 use crate::fact_lines::{is_all_global, slot_of};
-use candidate_lines::{Leaf, Sight, copied, is_same, variable};
+use guesses::{Leaf, Sight, copied, is_same, variable};
 use linear::{Form, LinearError, Symbol, Term};
 use std::alloc::{AllocError, Global};
 

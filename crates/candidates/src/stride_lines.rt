@@ -4,7 +4,7 @@ use crate::courses::{Course, Courses, Pair};
 use crate::fact_lines::sees;
 use crate::gathering::Gathering;
 use crate::single_values::has_slot;
-use candidate_lines::{Line, Sight, copied, one_of, try_difference, try_multiple, variable};
+use guesses::{Line, Sight, copied, one_of, try_difference, try_multiple, variable};
 use linear::Form;
 use std::alloc::{AllocError, Global};
 

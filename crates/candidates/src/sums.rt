@@ -1,6 +1,6 @@
 //! Sums with so many times a form or a symbol; a number that is too large means that there is none.
 
-use candidate_lines::{one_of, try_multiple, try_sum};
+use guesses::{one_of, try_multiple, try_sum};
 use linear::{Form, Symbol};
 use std::alloc::{AllocError, Global};
 

@@ -13,7 +13,7 @@ use crate::single_values::{Given, given_values};
 use crate::stride_lines::{all_strides, tell_strides};
 use crate::turns::sure_steps;
 use crate::weakening::tell_weaker;
-use candidate_lines::{Candidate, Leaf, Sight};
+use guesses::{Candidate, Leaf, Sight};
 use linear::Form;
 use std::alloc::{AllocError, Global};
 

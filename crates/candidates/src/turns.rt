@@ -3,7 +3,7 @@
 use crate::courses::grown;
 use crate::reach::{Reach, reach_of};
 use crate::single_values::{Given, settled};
-use candidate_lines::{Leaf, Sight, one_of, try_difference, variable};
+use guesses::{Leaf, Sight, one_of, try_difference, variable};
 use linear::Form;
 use std::alloc::{AllocError, Global};
 

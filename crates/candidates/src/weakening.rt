@@ -4,7 +4,7 @@
 use crate::gathering::Gathering;
 use crate::reach::{Facts, least_of, reach_in};
 use crate::sums::{plus_symbol, plus_times};
-use candidate_lines::{Leaf, Sight, family, index_of, is_global, one_of, plus, variable};
+use guesses::{Leaf, Sight, family, index_of, is_global, one_of, plus, variable};
 use linear::{Form, Symbol, Term};
 use std::alloc::{AllocError, Global};
 

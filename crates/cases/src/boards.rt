@@ -1,6 +1,6 @@
 // 512 candidates with 128 obligations each, settled. An obligation of a candidate has one set, which has the next candidate alone. Of
 // `stand` the last candidate rests on the first one, so all are left; of `fall` it has no set, so none is, and a pass finds one or two of
-// them. `bench/settle.py` measures it.
+// them. `bench/measure/settle.py` measures it.
 
 use houdini::settle;
 use std::alloc::Global;

@@ -1,6 +1,6 @@
-// Lists of facts, for each of which a derivation is looked for, among those that were found before too. With a second word, a number, each list is searched so often, and of each are told the
-// lines of its derivation, its largest weight, the least nanoseconds, and those with all facts but the last prepared.
-// `bench/cut_search.py` measures it.
+// Lists of facts, for each of which a derivation is looked for, among those that were found before too. With a second word, a number, each
+// list is searched so often, and of each are told the lines of its derivation, its largest weight, the least nanoseconds, and those with
+// all facts but the last prepared. `bench/measure/cut_search.py` measures it.
 //
 // A line of a file is `kernel NAME`, `fact CONSTANT`, then each term as `COEFFICIENT SYMBOL`, or `search`, then each run of facts as
 // `FIRST LAST`. Facts are counted from 1 in each kernel.

@@ -1,4 +1,4 @@
-//! Section: Runs and program. Promises nothing: it holds the tests of texts, and what `bench/` measures; stands on `program` and below.
+//! Section: Tests. Promises nothing: it holds the tests of texts, and what `bench/` measures; stands on `program` and below.
 //!
 //! `cases FILE..` reads files of cases and runs the program on each, over files in memory; it says of each file how many cases are as
 //! told, shows those that are not, and ends with status 1 if there is one. `replay KERNEL LAUNCH SCHEDULE` replays a schedule,

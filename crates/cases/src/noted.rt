@@ -1,10 +1,10 @@
 // The places of kernels, and what certificates say of them.
 
 use certificate::Certificate;
+use certificate_notes::notes_of;
 use core_code::tree::Statement;
 use loop_bounds::{Bound, cost, turns};
-use place_names::notes_of;
-use place_obligations::{Lines, Notes};
+use obligations::{Lines, Notes};
 use places::{Place, Point, places};
 use std::alloc::{AllocError, Global};
 use syntax::site_at;

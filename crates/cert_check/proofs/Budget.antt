@@ -5,9 +5,9 @@ use Rattle.semantics.specs.Core.{Statements}
 use Rattle.loop_bounds.specs.Costs.{cost}
 use Rattle.loop_bounds.specs.Turns.{turns_of}
 use Rattle.loop_bounds.specs.declared.bound.LoopBound.{LoopBound}
-use Rattle.place_obligations.specs.Limits.{turns_at}
-use Rattle.place_obligations.specs.View.{seen}
-use Rattle.place_obligations.specs.declared.notes.Notes.{Notes}
+use Rattle.obligations.specs.Limits.{turns_at}
+use Rattle.obligations.specs.View.{seen}
+use Rattle.obligations.specs.declared.notes.Notes.{Notes}
 
 pub same_cost : (n : Notes) (bounds : List LoopBound) (entries : List Bool) (body : Statements) → bounds ≡ n.rankings.items → ((m : ℕ) → turns_at (seen n entries) m ≡ turns_of n.rankings.items m)
     → cost (turns_of bounds) body ≡ cost (turns_at (seen n entries)) body

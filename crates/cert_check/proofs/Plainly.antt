@@ -13,12 +13,12 @@ use Rattle.core_code.specs.View.{kernel as core_seen}
 use Rattle.core_code.specs.declared.tree.Core.{Core}
 use Rattle.arrivals.specs.Loops.{unmet}
 use Rattle.facts.specs.declared.error.WalkError.TheVariants as walks
-use Rattle.obligations.specs.Trees.{Obligation, leaves}
-use Rattle.place_obligations.specs.Notes.{Notes}
-use Rattle.place_obligations.specs.Listing.{Planted, all_trees}
-use Rattle.place_obligations.specs.Fitting.{forms_fit}
-use Rattle.place_obligations.specs.Shown.{obligations}
-use Rattle.place_paths.specs.Unfound.{IsFirstOfMany}
+use Rattle.walk_trees.specs.Trees.{Obligation, leaves}
+use Rattle.obligations.specs.Notes.{Notes}
+use Rattle.obligations.specs.Listing.{Planted, all_trees}
+use Rattle.obligations.specs.Fitting.{forms_fit}
+use Rattle.obligations.specs.Shown.{obligations}
+use Rattle.walk.specs.Unfound.{IsFirstOfMany}
 use Rattle.plain_kernels.specs.Domains.{domain}
 use Rattle.plain_kernels.specs.Claims.{is_range}
 use Rattle.plain_kernels.specs.Kernels.{HasLimits, IsPlain, has_signed}
@@ -62,7 +62,6 @@ module _ (laws : Laws) (k : semantics.Kernel) (tree : surface.Kernel) (c : Condi
   tells_plain (shows.ManyPaths s) h = h
   tells_plain (shows.Walk walks.TooMany) h = h
   tells_plain (shows.Walk walks.TooLarge) (n, said, h) = false≢true (sym h ∙ laws.fit k c (with_entries cert.entries n) limits plain)
-  tells_plain (shows.Walk walks.Outside) (n, said, h) = h
   tells_plain (shows.Walk walks.Memory) h = tt
   tells_plain shows.OverBudget (n, said, h) = (n, said, h.1)
   tells_plain shows.Memory h = tt

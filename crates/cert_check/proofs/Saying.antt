@@ -6,13 +6,13 @@ use Rattle.semantics.specs.Launch.{Kernel}
 use Rattle.texts.specs.Certificate.{Certificate}
 use Rattle.texts.specs.Surface as surface
 use Rattle.arrivals.specs.Places.{Place, places}
-use Rattle.place_obligations.specs.Notes as notes
-use Rattle.place_obligations.specs.View.{seen}
-use Rattle.place_obligations.specs.declared.notes.Notes.{Notes}
-use Rattle.place_names.specs.Noted.{noted}
-use Rattle.place_names.specs.Noting.{notes_by, Agrees}
-use Rattle.place_names.specs.NotesView as views
-use Rattle.place_names.proofs.Agreeing.{seen-agrees}
+use Rattle.obligations.specs.Notes as notes
+use Rattle.obligations.specs.View.{seen}
+use Rattle.obligations.specs.declared.notes.Notes.{Notes}
+use Rattle.certificate_notes.specs.Noted.{noted}
+use Rattle.certificate_notes.specs.Noting.{notes_by, Agrees}
+use Rattle.certificate_notes.specs.NotesView as views
+use Rattle.certificate_notes.proofs.Agreeing.{seen-agrees}
 use Rattle.cert_check.specs.Refusing.{IsSaid}
 
 -- what is the same wherever it is asked is the same

@@ -7,11 +7,11 @@ use Rattle.semantics.specs.Conditions.{Conditions}
 use Rattle.texts.specs.Certificate.{Certificate, Entry}
 use Rattle.texts.specs.Surface as surface
 use Rattle.arrivals.specs.Places.{Place, places}
-use Rattle.obligations.specs.Shown.{IsShown}
-use Rattle.place_obligations.specs.Notes.{Notes}
-use Rattle.place_obligations.specs.Telling.{TellsOfItems}
-use Rattle.place_obligations.specs.Limits.{AreLimits}
-use Rattle.place_names.specs.Noting.{lacks}
+use Rattle.walk_trees.specs.Shown.{IsShown}
+use Rattle.obligations.specs.Notes.{Notes}
+use Rattle.obligations.specs.Telling.{TellsOfItems}
+use Rattle.obligations.specs.Limits.{AreLimits}
+use Rattle.certificate_notes.specs.Noting.{lacks}
 use Rattle.plain_kernels.specs.Domains.{domain}
 use Rattle.entry_check.specs.Lacking.{PassesOf, TellsOf, TellsOwing, owing, steps_of, with_entries}
 use Rattle.entry_check.specs.declared.error.ShowError.{ShowError}

@@ -13,13 +13,13 @@ use Rattle.core_code.specs.declared.tree.Core.{Core}
 use Rattle.certificate.specs.Certificates.{Says}
 use Rattle.launch_text.specs.declared.error.LaunchTextError.TheVariants as launches
 use Rattle.arrivals.specs.Loops.{unmet}
-use Rattle.obligations.specs.Shown.{IsShown}
-use Rattle.place_obligations.specs.Notes.{Notes}
-use Rattle.place_obligations.specs.Telling.{TellsOfItems}
-use Rattle.place_obligations.specs.Limits.{AreLimits}
-use Rattle.place_obligations.specs.Listing.{all_trees}
-use Rattle.place_obligations.specs.Shown.{obligations}
-use Rattle.place_paths.specs.Unfound.{IsFirstOfMany}
+use Rattle.walk_trees.specs.Shown.{IsShown}
+use Rattle.obligations.specs.Notes.{Notes}
+use Rattle.obligations.specs.Telling.{TellsOfItems}
+use Rattle.obligations.specs.Limits.{AreLimits}
+use Rattle.obligations.specs.Listing.{all_trees}
+use Rattle.obligations.specs.Shown.{obligations}
+use Rattle.walk.specs.Unfound.{IsFirstOfMany}
 use Rattle.syntax.specs.Sites.{site_at}
 use Rattle.plain_kernels.specs.Domains.{domain}
 use Rattle.entry_check.specs.Lacking.{PassesOf, steps_of, with_entries}

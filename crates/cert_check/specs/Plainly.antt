@@ -10,7 +10,7 @@ use Rattle.syntax.specs.View.{kernel as tree_seen}
 use Rattle.syntax.specs.declared.tree.Kernel.{Kernel}
 use Rattle.core_code.specs.View.{kernel as core_seen}
 use Rattle.core_code.specs.declared.tree.Core.{Core}
-use Rattle.obligations.specs.Trees.{Obligation}
+use Rattle.walk_trees.specs.Trees.{Obligation}
 use Rattle.facts.specs.declared.error.WalkError.TheVariants as walks
 use Rattle.plain_kernels.specs.Domains.{domain}
 use Rattle.plain_kernels.specs.Claims.{is_range}
@@ -18,8 +18,8 @@ use Rattle.plain_kernels.specs.Kernels.{IsPlain, has_signed}
 use Rattle.entry_check.specs.Entries.{has_entry, is_refuted, is_past}
 use Rattle.entry_check.specs.Lacking.{IsNumbered, owing, steps_of}
 use Rattle.arrivals.specs.Places.{places}
-use Rattle.place_obligations.specs.Notes.{Notes}
-use Rattle.place_names.specs.Noting.{lacks}
+use Rattle.obligations.specs.Notes.{Notes}
+use Rattle.certificate_notes.specs.Noting.{lacks}
 use Rattle.cert_check.specs.Refusing.{AreRead, IsSaid}
 use Rattle.cert_check.specs.declared.accepted.Accepted.{Accepted}
 use Rattle.cert_check.specs.declared.error.CheckError.{CheckError}
@@ -43,7 +43,6 @@ TellsPlain k tree c cert (shows.NotShown (suc m)) = (n : Notes) × IsSaid k tree
 TellsPlain k tree c cert (shows.ManyPaths s) = ⊥
 TellsPlain k tree c cert (shows.Walk walks.TooMany) = (n : Notes) × IsSaid k tree cert n × (65536 < length (owing domain k c n cert.entries))
 TellsPlain k tree c cert (shows.Walk walks.TooLarge) = ⊥
-TellsPlain k tree c cert (shows.Walk walks.Outside) = ⊥
 TellsPlain k tree c cert (shows.Walk walks.Memory) = Unit {0}
 TellsPlain k tree c cert shows.OverBudget = (n : Notes) × IsSaid k tree cert n × (c.budget < steps_of k n)
 TellsPlain k tree c cert shows.Memory = Unit {0}

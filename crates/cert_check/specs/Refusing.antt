@@ -19,11 +19,11 @@ use Rattle.plain_kernels.specs.Domains.{domain}
 use Rattle.arrivals.specs.Loops.{unmet}
 use Rattle.arrivals.specs.Places.{places}
 use Rattle.core_code.specs.View.{site as site_seen}
-use Rattle.place_obligations.specs.Notes.{Notes}
-use Rattle.place_obligations.specs.Listing.{all_trees}
-use Rattle.place_names.specs.Noted.{Noted, noted}
-use Rattle.place_names.specs.Noting.{lacks, notes_by}
-use Rattle.place_paths.specs.Unfound.{IsFirstOfMany}
+use Rattle.obligations.specs.Notes.{Notes}
+use Rattle.obligations.specs.Listing.{all_trees}
+use Rattle.certificate_notes.specs.Noted.{Noted, noted}
+use Rattle.certificate_notes.specs.Noting.{lacks, notes_by}
+use Rattle.walk.specs.Unfound.{IsFirstOfMany}
 use Rattle.syntax.specs.Sites.{site_at}
 use Rattle.entry_check.specs.Lacking.{PassesOf, TellsOf, with_entries}
 use Rattle.cert_check.specs.declared.accepted.Accepted.{Accepted}

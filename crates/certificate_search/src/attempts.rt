@@ -8,16 +8,16 @@ use crate::missing::Missing;
 use crate::needed::needed_only;
 use crate::picking::{MOST, Picked, pick, unrefuted, without_spare};
 use crate::rounds::{push_all, settle};
-use candidate_lines::{Candidate, Ranking, Sight};
 use candidates::guess_told;
 use certificate::Certificate;
 use cut_search::Memory;
 use guess_walk::{Names, Subject, certificate_of};
-use kernel_guesses::guess_plainly;
-use place_paths::FindError;
+use guesses::{Candidate, Ranking, Sight};
 use solo_runs::{Observed, observe, told_by_runs};
 use std::alloc::{AllocError, Global};
 use std::thread::Threads;
+use text_guesses::guess_plainly;
+use walk::FindError;
 
 /// How often guesses are settled: those that fell with others, and those for which there was no room, up to eleven times more.
 const CHANCES: u32 = 12;

@@ -1,20 +1,20 @@
 //! What the guesses of a walk rest on.
 
 ghost use Rattle.std.specs.Prelude.{◌≤◌, ◌<◌, length};
-ghost use Rattle.place_pairs.specs.Listed.{listed};
+ghost use Rattle.two_thread.specs.Listed.{listed};
 ghost use Rattle.plain_kernels.specs.Domains.{domain};
 
 use crate::table::Demand;
 use crate::used::{Ground, used_guesses};
-use candidate_lines::{Candidate, Line, copied};
 use cut_proof::Derivation;
 use cut_search::{Answer, Memory, Point};
 use guess_walk::{both_sides, reached};
+use guesses::{Candidate, Line, copied};
 use linear::{Form, Symbol};
-use path_walk::{Claim, Goal, Stop};
-use place_pairs::{About, Manner, Part, Place};
-use place_paths::FindError;
+use path_steps::{Claim, Goal, Stop};
 use std::alloc::{AllocError, Global};
+use two_thread::{About, Manner, Part, Place};
+use walk::FindError;
 
 /// Points at which all is so that is known at the end of a path, or of two, and a guess was not.
 #[derive(Drop)]

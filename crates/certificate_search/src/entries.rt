@@ -1,20 +1,20 @@
 //! What shows each obligation.
 
 ghost use Rattle.std.specs.Prelude.{◌≤◌, ◌<◌, length};
-ghost use Rattle.place_pairs.specs.Listed.{listed};
+ghost use Rattle.two_thread.specs.Listed.{listed};
 ghost use Rattle.plain_kernels.specs.Domains.{domain};
 
 use crate::used::{Ground, used_guesses};
-use candidate_lines::{Candidate, Line, copied};
 use certificate::tree::{Entry, EntrySort};
 use cut_proof::Derivation;
 use cut_search::{Answer, Memory};
 use guess_walk::{Names, Shown, both_sides, reached, steps_of};
+use guesses::{Candidate, Line, copied};
 use linear::Form;
-use path_walk::{Goal, Sort};
-use place_pairs::{Manner, Part, Place};
-use place_paths::FindError;
+use path_steps::{Goal, Sort};
 use std::alloc::{AllocError, Global};
+use two_thread::{Manner, Part, Place};
+use walk::FindError;
 
 /// An entry, with the guesses that its derivation uses.
 #[derive(Drop)]

@@ -2,8 +2,8 @@
 
 use crate::missing::Missing;
 use crate::rounds::SettlingError;
-use place_paths::FindError;
 use std::alloc::AllocError;
+use walk::FindError;
 
 /// Something stays unshown in the best attempt, or guesses have no text, or the walk of a kernel's places comes to no end that can be
 /// listed, or there are too many workers or none.

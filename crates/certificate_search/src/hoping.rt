@@ -1,16 +1,16 @@
 //! A hopeful walk, and what it tells.
 
 use crate::limits::UNLIMITED;
-use candidate_lines::{Leaf, Ranking, Sight, copied};
 use cut_search::Memory;
 use facts::copy_all;
 use guess_walk::{
     Begun, Names, Resolved, Subject, Trust, Walked, begun_of, certificate_of, leaves_of, resolve,
     sights_of,
 };
+use guesses::{Leaf, Ranking, Sight, copied};
 use linear::Form;
-use place_paths::FindError;
 use std::alloc::{AllocError, Global};
+use walk::FindError;
 use words::Kind;
 
 /// The places of a kernel, the ends of the paths of a hopeful walk, what all know of a launch and an item, and which slots are unsigned.

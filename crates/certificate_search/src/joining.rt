@@ -4,15 +4,15 @@ use crate::demands::target_of;
 use crate::entries::{Made, Outcome, entry_of};
 use crate::missing::{Mark, Missing, missing_of};
 use crate::used::Ground;
-use candidate_lines::{Candidate, Ranking, Sight};
 use certificate::Certificate;
 use certificate::tree::Entry;
 use cut_search::Memory;
 use guess_walk::{
     LineTable, Names, Resolved, Subject, Trust, begun_of, certificate_of, places_of_paths, resolve,
 };
-use place_paths::FindError;
+use guesses::{Candidate, Ranking, Sight};
 use std::alloc::{AllocError, Global};
+use walk::FindError;
 
 /// What a certificate is put together of.
 #[derive(Clone, Copy)]

@@ -1,4 +1,4 @@
-//! Section: Search. Promises nothing: a certificate for a kernel under conditions, searched; stands on `candidates`, `kernel_guesses`,
+//! Section: Search. Promises nothing: a certificate for a kernel under conditions, searched; stands on `candidates`, `text_guesses`,
 //! `solo_runs`, `guess_walk` and `houdini`.
 //!
 //! Guesses that the walks of the kernel tell are filtered by runs, settled, and put together to a certificate. To settle them, each

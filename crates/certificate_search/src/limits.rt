@@ -1,17 +1,17 @@
 //! What a loop's form is at most where it opens.
 
 ghost use Rattle.std.specs.Prelude.{◌≤◌, ◌<◌, length};
-ghost use Rattle.place_pairs.specs.Listed.{listed};
+ghost use Rattle.two_thread.specs.Listed.{listed};
 ghost use Rattle.plain_kernels.specs.Domains.{domain};
 
-use candidate_lines::{Ranking, copied, plus};
 use cut_search::{Answer, Memory};
 use guess_walk::Elements;
+use guesses::{Ranking, copied, plus};
 use linear::{Form, Symbol};
-use path_walk::{Goal, Sort};
-use place_pairs::{Manner, Obligations, Part};
-use place_paths::FindError;
+use path_steps::{Goal, Sort};
 use std::alloc::Global;
+use two_thread::{Manner, Obligations, Part};
+use walk::FindError;
 
 /// A limit that no opening of a loop passes by half: walks that look for the least ones have it in the place of them.
 pub const UNLIMITED: i64 = 1 << 48;

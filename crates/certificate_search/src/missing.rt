@@ -1,13 +1,13 @@
 //! What is not shown, and where the kernel asks for it.
 
 ghost use Rattle.std.specs.Prelude.{◌≤◌, ◌<◌, length};
-ghost use Rattle.place_pairs.specs.Listed.{listed};
+ghost use Rattle.two_thread.specs.Listed.{listed};
 ghost use Rattle.plain_kernels.specs.Domains.{domain};
 
 use crate::used::Ground;
 use core_code::tree::Site;
-use path_walk::{Sort, Spot, Stop};
-use place_pairs::{Part, Place};
+use path_steps::{Sort, Spot, Stop};
+use two_thread::{Part, Place};
 
 /// What an obligation is about: an access, an operator or an index by its site; a barrier or a loop by its statement's number; an end.
 #[derive(Clone, Copy)]

@@ -1,7 +1,7 @@
 //! Guesses that something needs.
 
 use crate::joining::Use;
-use candidate_lines::Candidate;
+use guesses::Candidate;
 use std::alloc::{AllocError, Global};
 
 /// Takes in the guesses that an entry uses; whether there was a new one.

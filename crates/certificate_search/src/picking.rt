@@ -1,7 +1,7 @@
 //! Which guesses are settled: at most 512 at a time.
 
-use candidate_lines::{Candidate, Line};
 use guess_walk::may_be_said;
+use guesses::{Candidate, Line};
 use linear::Form;
 use solo_runs::Observed;
 use std::alloc::{AllocError, Global};

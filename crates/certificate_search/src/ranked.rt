@@ -1,10 +1,10 @@
 //! How each loop may end, and which way is tried.
 
-use candidate_lines::{Descent, Ranking, copied};
-use kernel_guesses::Options;
+use guesses::{Descent, Ranking, copied};
 use linear::Form;
 use solo_runs::Observed;
 use std::alloc::{AllocError, Global};
+use text_guesses::Options;
 
 /// A ranking once more.
 fn again(alloc: Global, ranking: &Ranking) -> Result<Ranking, AllocError> {

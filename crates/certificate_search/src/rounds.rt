@@ -3,16 +3,16 @@
 use crate::demands::demands_of;
 use crate::table::{BoardError, Demand, greatest};
 use crate::used::Ground;
-use candidate_lines::{Candidate, Ranking, Sight};
 use cut_search::Memory;
 use guess_walk::{
     Begun, LineTable, Names, Resolved, Subject, Trust, begun_of, certificate_of, places_of_paths,
     resolve,
 };
-use place_paths::FindError;
+use guesses::{Candidate, Ranking, Sight};
 use std::alloc::{AllocError, Global};
 use std::thread::Threads;
 use supports::Set;
+use walk::FindError;
 
 /// Guesses that stand, with the last walk, and those that fell for no other reason than that one fell on which their derivation rests.
 /// Another derivation may show them: where a false guess contradicts a path, all is derived from it there.

@@ -9,10 +9,10 @@ use candidates::guess_told;
 use certificate::Certificate;
 use cut_search::Memory;
 use guess_walk::{Names, Subject, names_of};
-use kernel_guesses::{Options, guess_rankings};
 use solo_runs::observe;
 use std::alloc::{AllocError, Global};
 use std::thread::Threads;
+use text_guesses::{Options, guess_rankings};
 
 /// The ways in which loops may end, whether runs refute all of some loop, and whether there is a place but the entry to guess at.
 #[derive(Drop)]

@@ -1,11 +1,11 @@
 //! Which guesses a derivation uses.
 
-use candidate_lines::{Sight, family, index_of};
 use cut_proof::{Derivation, Line};
 use guess_walk::{Begun, Elements, LineTable, PlaceLines, is_place};
+use guesses::{Sight, family, index_of};
 use linear::Form;
-use place_pairs::{Obligations, Part, Place};
 use std::alloc::{AllocError, Global};
+use two_thread::{Obligations, Part, Place};
 
 /// Where the facts of an obligation come from: how many the launch has, then the first item's and the second one's, each with the guesses
 /// of its place and how many facts stand where the place begins, and the guesses at the anchor.

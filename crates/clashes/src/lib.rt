@@ -1,4 +1,4 @@
-//! Section: Runs and program. Promises the first data race of a history, exactly as defined; stands on `work_item`.
+//! Section: Replays. Promises the first data race of a history, exactly as defined; stands on `work_item`.
 //!
 //! Accesses, and the first two that clash, found as the accesses come: of each element the last store and the loads since.
 #![tactic(auto)]

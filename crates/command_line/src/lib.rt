@@ -1,4 +1,4 @@
-//! Section: Runs and program. Promises which words name which files; stands on `clap`.
+//! Section: Program. Promises which words name which files; stands on `clap`.
 //!
 //! The command line. `clap` says whether the words are one; the files are the words that are no option, in their order.
 #![tactic(auto)]
@@ -12,7 +12,7 @@ use clap::error::{Error, ErrorKind};
 use clap::{Arg, ArgAction, Command};
 use std::alloc::{AllocError, Global};
 
-/// What the words ask for; a name is that of a file.
+/// A command, with the names of the files that it is asked of.
 #[derive(Clone, Copy)]
 pub enum Line<'a> {
     /// The check of the texts that stand in the program.
@@ -27,7 +27,7 @@ pub enum Line<'a> {
     Explain(Subject<'a>),
     /// The canonical text of a file's kernel.
     Print(&'a str),
-    /// No command line.
+    /// The words are no command line.
     Usage,
 }
 
@@ -39,7 +39,7 @@ pub struct Names<'a> {
     pub certificate: &'a str,
 }
 
-/// What a certificate is looked for: the files of a kernel and its conditions, and the file to write, where one is named.
+/// What `prove` is asked of: the files of a kernel and its conditions, the file to write, where one is named, and how many workers.
 #[derive(Clone, Copy)]
 pub struct Search<'a> {
     pub kernel: &'a str,
@@ -48,7 +48,7 @@ pub struct Search<'a> {
     pub workers: u32,
 }
 
-/// What a refusal is explained of: the files of a kernel and its conditions, and that of a certificate, where one is named.
+/// What `explain` is asked of: the files of a kernel and its conditions, and that of a certificate, where one is named.
 #[derive(Clone, Copy)]
 pub struct Subject<'a> {
     pub kernel: &'a str,
@@ -221,7 +221,7 @@ fn workers_in(alloc: Global, words: &[String]) -> Result<Option<u32>, AllocError
     number_of(alloc, workers_word(words))
 }
 
-/// What `check` is asked for.
+/// `check` of the three files that the words name, or no command line where they name fewer.
 fn check_of<'a>(words: &'a [String]) -> Line<'a>
     requires { HasWord (texts words.now) 0 (codes "check") }
     ensures { Asks (texts words.now) result }
@@ -232,7 +232,7 @@ fn check_of<'a>(words: &'a [String]) -> Line<'a>
     }
 }
 
-/// What `run` is asked for.
+/// `run` of the four files that the words name, or no command line where they name fewer.
 fn run_of<'a>(words: &'a [String], workers: u32) -> Line<'a>
     requires command { HasWord (texts words.now) 0 (codes "run") }
     requires workers { AsksWorkers (texts words.now) workers }
@@ -248,7 +248,7 @@ fn run_of<'a>(words: &'a [String], workers: u32) -> Line<'a>
     }
 }
 
-/// What `prove` is asked for.
+/// `prove` of the two files that the words name, or no command line where they name fewer.
 fn prove_of<'a>(words: &'a [String], workers: u32) -> Line<'a>
     requires command { HasWord (texts words.now) 0 (codes "prove") }
     requires workers { AsksWorkers (texts words.now) workers }
@@ -276,7 +276,7 @@ fn subject_of<'a>(words: &'a [String]) -> Option<Subject<'a>>
     })
 }
 
-/// What `explain` is asked for.
+/// `explain` of the two or three files that the words name, or no command line where they name fewer.
 fn explain_of<'a>(words: &'a [String]) -> Line<'a>
     requires { HasWord (texts words.now) 0 (codes "explain") }
     ensures { Asks (texts words.now) result }
@@ -287,7 +287,7 @@ fn explain_of<'a>(words: &'a [String]) -> Line<'a>
     }
 }
 
-/// What `print` is asked for.
+/// `print` of the file that the words name, or no command line where they name none.
 fn print_of<'a>(words: &'a [String]) -> Line<'a>
     requires { HasWord (texts words.now) 0 (codes "print") }
     ensures { Asks (texts words.now) result }
@@ -298,7 +298,7 @@ fn print_of<'a>(words: &'a [String]) -> Line<'a>
     }
 }
 
-/// What the words ask for, by their command.
+/// The command line of words of which the first is a command; any other first word makes no command line.
 fn asked<'a>(words: &'a [String], workers: u32) -> Line<'a>
     requires { AsksWorkers (texts words.now) workers }
     ensures { Asks (texts words.now) result }
@@ -313,7 +313,7 @@ fn asked<'a>(words: &'a [String], workers: u32) -> Line<'a>
     }
 }
 
-/// What the words ask for. The first is the command.
+/// The command line that the words are, options left out; the first word is the command. An error is want of memory.
 pub fn read_line<'a>(alloc: Global, words: &'a [String]) -> Result<Line<'a>, AllocError>
     ensures { IfOk result (λ line. Asks (texts words.now) line) }
 {

@@ -1,7 +1,7 @@
 //! Quotients for a form that a number is to divide.
 
 use crate::equalities::Equalities;
-use candidate_lines::{is_same, new_symbol, one_of, try_difference, try_sum};
+use guesses::{is_same, new_symbol, one_of, try_difference, try_sum};
 use linear::Form;
 use std::alloc::{AllocError, Global};
 

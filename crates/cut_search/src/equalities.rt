@@ -1,7 +1,7 @@
 //! Equalities that a list of facts holds: two facts, one of which is the other with all signs turned.
 
 use crate::hashes::{hash_of_opposite, hashes_of};
-use candidate_lines::{copied, family, is_launch, one_of, try_multiple, try_sum};
+use guesses::{copied, family, is_launch, one_of, try_multiple, try_sum};
 use linear::{Form, LinearError, Symbol};
 use std::alloc::{AllocError, Global};
 

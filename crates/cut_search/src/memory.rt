@@ -9,8 +9,8 @@ use crate::found::Found;
 use crate::hashes::{first_place, hash_of_list, hashes_of};
 use crate::point::meets;
 use crate::searching::search;
-use candidate_lines::copied;
 use cut_proof::{Derivation, refutes};
+use guesses::copied;
 use linear::Form;
 use std::alloc::{AllocError, Global};
 

@@ -1,4 +1,4 @@
-//! Section: Runs and program. Promises that a schedule replayed is a run of the definitions, and that such a run shows what it confirms;
+//! Section: Replays. Promises that a schedule replayed is a run of the definitions, and that such a run shows what it confirms;
 //! stands on `findings` and `machine`.
 //!
 //! Schedules, replayed: event after event, up to the first that is not possible. Findings that the replay of a launch confirms; one that it

@@ -2,8 +2,8 @@
 use Rattle.std.proofs.Common.{◌≡◌, ℕ, zero, suc, ◌+◌, ◌<◌, ◌≤◌, List, length, get_or, refl, sym, ap, subst, ◌⊎◌, inl, inr, arith}
 use Rattle.std.specs.List.{All}
 use Rattle.std.proofs.lemmas.List.Elements.{All-from_get_or}
-use Rattle.obligations.specs.Trees.{Obligation}
-use Rattle.obligations.specs.Shown.{IsShown}
+use Rattle.walk_trees.specs.Trees.{Obligation}
+use Rattle.walk_trees.specs.Shown.{IsShown}
 
 latest : (i k : ℕ) → k < i + 1 → (k < i) ⊎ (k ≡ i)
 latest zero zero h = inr refl

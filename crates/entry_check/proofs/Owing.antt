@@ -8,19 +8,19 @@ use Rattle.domain.specs.declared.Domain.{Ghosts}
 use Rattle.texts.specs.Certificate.{Entry}
 use Rattle.facts.specs.declared.error.WalkError.{WalkError}
 use Rattle.facts.specs.declared.error.WalkError.TheVariants as walks
-use Rattle.place_obligations.specs.View.{seen}
-use Rattle.place_obligations.specs.declared.notes.Notes as code
-use Rattle.place_obligations.specs.Notes.{Notes}
-use Rattle.place_obligations.specs.Listing.{all_trees}
-use Rattle.place_obligations.specs.Fitting.{forms_fit}
-use Rattle.place_obligations.specs.Shown.{obligations}
-use Rattle.place_pairs.specs.Listed.{listed}
-use Rattle.place_pairs.specs.Refusals.{DoNotFit}
-use Rattle.place_pairs.specs.declared.numbered.Obligations.{Obligations}
-use Rattle.place_pairs.proofs.Listing.{listed_length}
-use Rattle.place_paths.specs.Unfound.{HaveFewPaths, IsUnfound, IsUnlisted}
-use Rattle.place_paths.specs.declared.error.FindError.{FindError}
-use Rattle.place_paths.specs.declared.error.FindError.TheVariants as finds
+use Rattle.obligations.specs.View.{seen}
+use Rattle.obligations.specs.declared.notes.Notes as code
+use Rattle.obligations.specs.Notes.{Notes}
+use Rattle.obligations.specs.Listing.{all_trees}
+use Rattle.obligations.specs.Fitting.{forms_fit}
+use Rattle.obligations.specs.Shown.{obligations}
+use Rattle.two_thread.specs.Listed.{listed}
+use Rattle.two_thread.specs.Refusals.{DoNotFit}
+use Rattle.two_thread.specs.declared.numbered.Obligations.{Obligations}
+use Rattle.two_thread.proofs.Listing.{listed_length}
+use Rattle.walk.specs.Unfound.{HaveFewPaths, IsUnfound, IsUnlisted}
+use Rattle.walk.specs.declared.error.FindError.{FindError}
+use Rattle.walk.specs.declared.error.FindError.TheVariants as finds
 use Rattle.entry_check.specs.Entries.{has_entry}
 use Rattle.entry_check.specs.Lacking.{AreListed, TellsOwing, with_entries}
 use Rattle.entry_check.specs.Numbers.{show_of}
@@ -45,7 +45,6 @@ module _ {E : Type 0} (g : Ghosts E) (k : Kernel) (c : Conditions) where
   pub unfit_unlisted : (n : Notes) (fit : Bool) → fit ≡ true → (e : WalkError) → DoNotFit fit e → IsUnlisted g k c n e
   unfit_unlisted n fit f walks.TooMany u = absurd u
   unfit_unlisted n fit f walks.TooLarge u = absurd cc
-  unfit_unlisted n fit f walks.Outside u = u
   unfit_unlisted n fit f walks.Memory u = tt
 
   pub told_unfound : (es : List Entry) (n : Notes) (e : FindError) → IsUnfound g k c (with_entries es n) e → TellsOwing g k c n es (show_of e)

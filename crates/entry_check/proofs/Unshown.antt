@@ -8,8 +8,8 @@ use Rattle.linear.specs.Forms.{forms}
 use Rattle.linear.specs.declared.form.Form.{Form}
 use Rattle.facts.specs.Symbols.{Fact}
 use Rattle.facts.specs.declared.error.WalkError.{WalkError}
-use Rattle.obligations.specs.Trees.{Obligation}
-use Rattle.obligations.specs.Shown.{IsShown, IsRefuted}
+use Rattle.walk_trees.specs.Trees.{Obligation}
+use Rattle.walk_trees.specs.Shown.{IsShown, IsRefuted}
 use Rattle.entry_check.specs.Entries.{manner_of, facts_for}
 use Rattle.entry_check.specs.Lacking.{AllPass, IsNumbered, IsStopped, Passes, TellsBy, Lacks}
 use Rattle.entry_check.specs.declared.error.ShowError.{ShowError}

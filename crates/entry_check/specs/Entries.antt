@@ -6,8 +6,8 @@ use Rattle.texts.specs.Certificate.{Entry, EntrySort, Show, Positive, Negative, 
 use Rattle.cut_proof.specs.Derivations as derivations
 use Rattle.cut_proof.specs.Derivations.{Forms, Line, refutes_of}
 use Rattle.facts.specs.Symbols.{Fact}
-use Rattle.obligations.specs.Trees.{Obligation, Manner, Plainly, ByPositive, ByNegative, ByQuotient, facts_by}
-use Rattle.place_pairs.specs.Quotients.{is_second_claim}
+use Rattle.walk_trees.specs.Trees.{Obligation, Manner, Plainly, ByPositive, ByNegative, ByQuotient, facts_by}
+use Rattle.two_thread.specs.Quotients.{is_second_claim}
 
 -- a number of a line or a fact; one that is none, or has over 32 bits, is 0, which names nothing
 abbrev pub line_number : ℤ → ℕ

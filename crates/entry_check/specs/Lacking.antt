@@ -6,13 +6,13 @@ use Rattle.domain.specs.declared.Domain.{Ghosts}
 use Rattle.texts.specs.Certificate.{Entry}
 use Rattle.facts.specs.Symbols.{Fact}
 use Rattle.facts.specs.declared.error.WalkError.{WalkError}
-use Rattle.obligations.specs.Trees.{Obligation}
-use Rattle.place_obligations.specs.Notes.{Notes}
-use Rattle.place_obligations.specs.Limits.{turns_at}
-use Rattle.place_obligations.specs.Listing.{all_trees}
-use Rattle.place_obligations.specs.Fitting.{forms_fit}
-use Rattle.place_obligations.specs.Shown.{obligations}
-use Rattle.place_paths.specs.Unfound.{HaveFewPaths, IsFirstOfMany, IsUnlisted}
+use Rattle.walk_trees.specs.Trees.{Obligation}
+use Rattle.obligations.specs.Notes.{Notes}
+use Rattle.obligations.specs.Limits.{turns_at}
+use Rattle.obligations.specs.Listing.{all_trees}
+use Rattle.obligations.specs.Fitting.{forms_fit}
+use Rattle.obligations.specs.Shown.{obligations}
+use Rattle.walk.specs.Unfound.{HaveFewPaths, IsFirstOfMany, IsUnlisted}
 use Rattle.loop_bounds.specs.Costs.{cost}
 use Rattle.entry_check.specs.Entries.{has_entry, is_refuted, is_past}
 use Rattle.entry_check.specs.declared.error.ShowError.{ShowError}

@@ -3,8 +3,8 @@ use Rattle.std.specs.Prelude.{ℕ, Option, Some, None}
 use Rattle.facts.specs.Numbers as walk_numbers
 use Rattle.facts.specs.declared.error.WalkError.{WalkError}
 use Rattle.facts.specs.declared.error.WalkError.TheVariants as walks
-use Rattle.place_paths.specs.declared.error.FindError.{FindError}
-use Rattle.place_paths.specs.declared.error.FindError.TheVariants as finds
+use Rattle.walk.specs.declared.error.FindError.{FindError}
+use Rattle.walk.specs.declared.error.FindError.TheVariants as finds
 use Rattle.entry_check.specs.declared.error.Place.{Place}
 use Rattle.entry_check.specs.declared.error.Place.TheVariants.{At, Number}
 use Rattle.entry_check.specs.declared.error.ShowError.{ShowError}
@@ -21,7 +21,6 @@ show_number shows.Memory = 90
 abbrev pub walk_place : WalkError → Option Place
 walk_place walks.TooMany = Some (At 1 1)
 walk_place walks.TooLarge = None
-walk_place walks.Outside = Some (Number 0)
 walk_place walks.Memory = None
 
 -- what is not shown, to the number of an obligation, or 0; where a statement has too many paths the source tells where it is

@@ -6,14 +6,14 @@ ghost use Rattle.linear.specs.Forms.{forms};
 ghost use Rattle.certificate.specs.View.{scaled as scaled_seen, step as step_seen, entry as entry_seen, sort as sort_seen};
 ghost use Rattle.cut_proof.specs.View.{line as line_seen};
 ghost use Rattle.cut_proof.specs.Derivations.{refutes_of};
-ghost use Rattle.place_pairs.specs.Goals.{manner as manner_seen};
+ghost use Rattle.two_thread.specs.Goals.{manner as manner_seen};
 ghost use Rattle.entry_check.specs.Entries as entries;
 
 use certificate::tree::{Entry, EntrySort, Scaled, Step};
 use cut_proof::{Derivation, Line, refutes};
 use linear::Form;
-use place_pairs::Manner;
 use std::alloc::{AllocError, Global};
+use two_thread::Manner;
 
 /// A number of a line or a fact; one that is none, or too large to be one, is 0, which names nothing.
 fn line_number(number: i64) -> u32

@@ -4,9 +4,9 @@ ghost use Rattle.std.specs.Prelude.{◌≡◌};
 ghost use Rattle.entry_check.specs.Numbers as numbers;
 
 use facts::WalkError;
-use place_paths::FindError;
 use std::alloc::{AllocError, AllocFailed};
 use thiserror::Error;
+use walk::FindError;
 
 /// Where a refusal points: a place of the kernel's text; or a number, that of a line or of an obligation.
 #[derive(Clone, Copy, Debug, PartialEq, Eq)]
@@ -38,7 +38,6 @@ fn walk_place(error: &WalkError) -> Option<Place>
 {
     match error {
         WalkError::TooMany => Some(Place::At { line: 1, column: 1 }),
-        WalkError::Outside => Some(Place::Number(0)),
         WalkError::TooLarge | WalkError::Memory => None,
     }
 }

@@ -1,4 +1,4 @@
-//! Section: Gate. Promises that all obligations are shown, or names the first that is not; stands on `place_paths` and
+//! Section: Gate. Promises that all obligations are shown, or names the first that is not; stands on `walk` and
 //! `certificate`.
 //!
 //! The obligations of a kernel one by one, each settled by the domain or refuted by its entry in a certificate.

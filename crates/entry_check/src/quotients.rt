@@ -4,16 +4,16 @@ ghost use Rattle.std.specs.Prelude.{◌≡◌, ◌≤◌, ◌<◌, ◌-◌, pos,
 ghost use Rattle.facts.specs.Symbols.{constant};
 ghost use Rattle.linear.specs.Forms.{form as form_seen};
 ghost use Rattle.linear.specs.Terms.{terms as terms_seen};
-ghost use Rattle.place_obligations.specs.View.{quotient_of as quotient_specs};
-ghost use Rattle.place_pairs.specs.Listed.{listed, nth_obligation};
+ghost use Rattle.obligations.specs.View.{quotient_of as quotient_specs};
+ghost use Rattle.two_thread.specs.Listed.{listed, nth_obligation};
 ghost use Rattle.entry_check.specs.Entries as entries;
 
+use arrival_claims::quotient_of;
 use domain::Domain;
 use linear::{Form, Term};
-use place_claims::quotient_of;
-use place_obligations::{Notes, Quotient};
-use place_pairs::Obligations;
+use obligations::{Notes, Quotient};
 use std::alloc::Global;
+use two_thread::Obligations;
 
 /// The terms are the same.
 fn same_terms(left: &[Term], right: &[Term]) -> bool

@@ -1,12 +1,12 @@
 //! The entry of an obligation, and whether it refutes it.
 
 ghost use Rattle.std.specs.Prelude.{◌≡◌, ◌≤◌, ◌<◌, ◌&&◌, IfOk, IsTrue, MatchResult, length};
-ghost use Rattle.obligations.specs.Shown.{IsShown};
+ghost use Rattle.walk_trees.specs.Shown.{IsShown};
 ghost use Rattle.certificate.specs.View.{entry as entry_seen};
-ghost use Rattle.place_obligations.specs.View.{quotient_of as quotient_specs};
-ghost use Rattle.place_pairs.specs.Goals.{maybe_forms};
-ghost use Rattle.place_pairs.specs.Listed.{listed, nth_obligation, made_fit};
-ghost use Rattle.place_pairs.specs.Refusals.{DoNotFit};
+ghost use Rattle.obligations.specs.View.{quotient_of as quotient_specs};
+ghost use Rattle.two_thread.specs.Goals.{maybe_forms};
+ghost use Rattle.two_thread.specs.Listed.{listed, nth_obligation, made_fit};
+ghost use Rattle.two_thread.specs.Refusals.{DoNotFit};
 ghost use Rattle.entry_check.specs.Entries as entries;
 
 use crate::derivations::{is_refuted, manner_of};
@@ -15,9 +15,9 @@ use certificate::tree::Entry;
 use domain::Domain;
 use facts::WalkError;
 use linear::Form;
-use place_obligations::Notes;
-use place_pairs::Obligations;
+use obligations::Notes;
 use std::alloc::Global;
+use two_thread::Obligations;
 
 /// The facts that an entry is to refute; none where it does not fit the obligation.
 fn facts_for<D: Domain>(

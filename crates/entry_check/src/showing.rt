@@ -6,11 +6,11 @@ ghost use Rattle.arrivals.specs.Places as meaning;
 ghost use Rattle.core_code.specs.View.{kernel as core_seen};
 ghost use Rattle.launch.specs.View.{conditions as conditions_seen};
 ghost use Rattle.facts.specs.Launching.{are_sizes};
-ghost use Rattle.obligations.specs.Shown.{IsShown};
-ghost use Rattle.place_obligations.specs.View.{seen, quotient_of as quotient_specs};
-ghost use Rattle.place_obligations.specs.Telling.{TellsOfItems};
-ghost use Rattle.place_pairs.specs.Listed.{listed, nth_obligation, made_fit};
-ghost use Rattle.place_pairs.specs.Refusals.{DoNotFit};
+ghost use Rattle.walk_trees.specs.Shown.{IsShown};
+ghost use Rattle.obligations.specs.View.{seen, quotient_of as quotient_specs};
+ghost use Rattle.obligations.specs.Telling.{TellsOfItems};
+ghost use Rattle.two_thread.specs.Listed.{listed, nth_obligation, made_fit};
+ghost use Rattle.two_thread.specs.Refusals.{DoNotFit};
 ghost use Rattle.places.specs.View.{place as place_seen};
 ghost use Rattle.certificate.specs.View.{entry as entry_seen};
 ghost use Rattle.entry_check.specs.Entries.{IsTable, is_past};
@@ -23,11 +23,11 @@ use certificate::tree::Entry;
 use core_code::tree::Core;
 use domain::Domain;
 use launch::conditions::Conditions;
-use place_obligations::Notes;
-use place_pairs::Obligations;
-use place_paths::find;
+use obligations::Notes;
 use places::Place;
 use std::alloc::Global;
+use two_thread::Obligations;
+use walk::find;
 
 /// An obligation is settled, or refuted by its entry, or is not needed and has no entry.
 fn show_one<D: Domain>(

@@ -1,4 +1,4 @@
-//! Section: Runs and program. Promises the result by rounds of an accepted kernel; stands on `cert_check` and `group_workers`.
+//! Section: Runs. Promises the result by rounds of an accepted kernel; stands on `cert_check` and `group_workers`.
 //!
 //! Accepted kernels, run: the kernel is lowered to lane code once, and work-group by work-group that is done by workers on threads, all
 //! items of a group together. What a run answers is the result by rounds, and so what every interleaving of all work-items leads to,

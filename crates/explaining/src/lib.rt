@@ -1,4 +1,4 @@
-//! Section: Runs and program. Promises no more than that a text stays in front of its explanation; stands on `machine` and `findings`.
+//! Section: Answers. Promises no more than that a text stays in front of its explanation; stands on `machine` and `findings`.
 //!
 //! What a refusal means, in plain words: of findings where they are in the source, and of a confirmed one who comes there, with which
 //! values and by which schedule; of one that is only possible, on which values it depends of which little is known. Nothing is proved of

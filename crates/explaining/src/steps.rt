@@ -2,9 +2,9 @@
 
 use crate::paragraph::push_paragraph;
 use crate::source::push_site;
+use certificate_notes::notes_of;
 use core_code::tree::Core;
 use loop_bounds::{LoopBound, cost, turns};
-use place_names::notes_of;
 use places::places;
 use std::alloc::{AllocError, Global};
 use syntax::site_at;

@@ -9,6 +9,3 @@ pub mod Members
 pub mod Worlds
 pub mod Launched
 pub mod Fitting
-pub mod Twins
-pub mod TwinElements
-pub mod TwinFacts

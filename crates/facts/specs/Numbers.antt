@@ -7,5 +7,4 @@ use Rattle.facts.specs.declared.error.WalkError.TheVariants as walks
 abbrev pub error_number : WalkError → ℕ
 error_number walks.TooMany = 53
 error_number walks.TooLarge = 54
-error_number walks.Outside = 52
 error_number walks.Memory = 90

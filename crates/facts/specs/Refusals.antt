@@ -13,5 +13,4 @@ IsMemory e = e ≡ errors.Memory
 abbrev pub IsUnfit : WalkError → Fact → Type 0
 IsUnfit errors.TooMany f = ⊥
 IsUnfit errors.TooLarge f = fits f ≡ false
-IsUnfit errors.Outside f = ⊥
 IsUnfit errors.Memory f = Unit {0}

@@ -13,8 +13,6 @@ pub enum WalkError {
     TooMany,
     #[error("54")]
     TooLarge,
-    #[error("52 0")]
-    Outside,
     #[error("out of memory")]
     Memory,
 }
@@ -29,7 +27,6 @@ impl WalkError {
         match self {
             WalkError::TooMany => 53,
             WalkError::TooLarge => 54,
-            WalkError::Outside => 52,
             WalkError::Memory => 90,
         }
     }

@@ -1,4 +1,4 @@
-//! Section: Runs and program. Promises buffers with the logs of all groups in their order; stands on `lane_groups`.
+//! Section: Runs. Promises buffers with the logs of all groups in their order; stands on `lane_groups`.
 //!
 //! The groups of a launch, run by workers that steal from one another.
 //!

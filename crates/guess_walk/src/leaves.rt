@@ -3,15 +3,15 @@
 use crate::sights::is_place;
 use crate::subject::Subject;
 use crate::walking::{Elements, Walked};
-use candidate_lines::{Leaf, Sight, at_anchor, copied, one_of, turns};
 use facts::{WalkError, copy_all};
+use guesses::{Leaf, Sight, at_anchor, copied, one_of, turns};
 use linear::Form;
-use path_walk::{Arrived, Choice, Path, Ranked, Stop, Value};
-use place_obligations::Notes;
-use place_pairs::Tagged;
-use place_paths::FindError;
-use place_walk::root_of;
+use obligations::Notes;
+use path_steps::{Arrived, Choice, Path, Ranked, Stop, Value};
+use path_walk::root_of;
 use std::alloc::{AllocError, Global};
+use two_thread::Tagged;
+use walk::FindError;
 
 /// What is known where the paths of a place begin: how many facts, and the values of the variables.
 #[derive(Drop)]

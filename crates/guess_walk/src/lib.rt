@@ -1,5 +1,5 @@
-//! Section: Search. Promises nothing: a kernel's places, walked with guesses in the place of what a certificate says; stands on
-//! `place_paths`, `place_names` and `cut_search`.
+//! Section: Search. Promises nothing: a kernel's places, walked with candidates in the place of what a certificate says; stands on
+//! `walk`, `certificate_notes` and `cut_search`.
 //!
 //! The walks are those of the check. A range of an unsigned value is taken as shown as long as the search shows it, or, of a hopeful walk,
 //! as long as its numbers are small. What a search found is written down here: symbols get the names that a certificate has for them, and

@@ -1,6 +1,6 @@
 //! Which guesses stand where among the facts of a place.
 
-use candidate_lines::{Candidate, Line, Sight};
+use guesses::{Candidate, Line, Sight};
 use std::alloc::{AllocError, Global};
 
 /// The guesses of one place by their numbers: those on which items agree with their slots, facts, and congruences.

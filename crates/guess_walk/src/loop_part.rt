@@ -2,8 +2,8 @@
 
 use crate::kernel_names::Names;
 use crate::said::may_stand;
-use candidate_lines::{Descent, Ranking};
 use certificate::tree;
+use guesses::{Descent, Ranking};
 use std::alloc::{AllocError, Global};
 
 /// How each turn makes the form less, where the format has it.

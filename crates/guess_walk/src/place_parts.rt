@@ -2,9 +2,9 @@
 
 use crate::kernel_names::Names;
 use crate::said::is_due;
-use candidate_lines::{Candidate, Line};
 use certificate::order::spot_is_before;
 use certificate::tree::{Anchor, Congruence, Place, Spot};
+use guesses::{Candidate, Line};
 use linear::Form;
 use std::alloc::{AllocError, Global};
 

@@ -1,8 +1,8 @@
 //! Forms in names where no place narrows what a name means.
 
 use crate::kernel_names::Names;
-use candidate_lines::{family, index_of};
 use certificate::tree;
+use guesses::{family, index_of};
 use linear::{Form, Symbol};
 use std::alloc::{AllocError, Global};
 

@@ -1,9 +1,9 @@
 //! Congruences, shown from both sides with one quotient.
 
-use candidate_lines::{plus, try_difference, try_multiple};
 use cut_proof::Derivation;
 use cut_search::{Answer, Memory, Point, quotients};
 use facts::copy_all;
+use guesses::{plus, try_difference, try_multiple};
 use linear::Form;
 use std::alloc::{AllocError, Global};
 

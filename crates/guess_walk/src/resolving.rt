@@ -1,7 +1,7 @@
 //! Which ranges of unsigned values are taken as shown.
 
 ghost use Rattle.std.specs.Prelude.{◌≤◌, ◌<◌, length};
-ghost use Rattle.place_pairs.specs.Listed.{listed};
+ghost use Rattle.two_thread.specs.Listed.{listed};
 ghost use Rattle.plain_kernels.specs.Domains.{domain};
 
 use crate::subject::Subject;
@@ -9,10 +9,10 @@ use crate::walking::{Elements, Walked, walk};
 use certificate::Certificate;
 use cut_search::{Answer, Memory};
 use linear::Form;
-use path_walk::Sort;
-use place_pairs::{Manner, Obligations, Part};
-use place_paths::FindError;
+use path_steps::Sort;
 use std::alloc::Global;
+use two_thread::{Manner, Obligations, Part};
+use walk::FindError;
 use words::Kind;
 
 /// When a range is taken as shown: where its numbers are small, or where the search shows it.

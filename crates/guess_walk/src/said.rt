@@ -1,6 +1,6 @@
 //! What may be said where.
 
-use candidate_lines::{Candidate, Line, family};
+use guesses::{Candidate, Line, family};
 use linear::Form;
 
 /// No symbol is new, and none is of the anchor where one stands at an anchor itself or in a loop's test.

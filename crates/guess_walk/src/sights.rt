@@ -1,10 +1,10 @@
 //! What may be said where.
 
 use crate::subject::Subject;
-use candidate_lines::Sight;
 use core_code::tree::Statement;
-use place_obligations::{Notes, Visible};
-use place_walk::number_of;
+use guesses::Sight;
+use obligations::{Notes, Visible};
+use path_walk::number_of;
 use places::{Place, Point};
 use std::alloc::{AllocError, Global};
 

@@ -1,9 +1,9 @@
 //! The names of symbols, and forms in names.
 
 use crate::kernel_names::Names;
-use candidate_lines::{family, index_of};
 use certificate::spelling::push_name;
 use certificate::tree::{self, Dimension, Name};
+use guesses::{family, index_of};
 use linear::{Form, Symbol};
 use std::alloc::{AllocError, Global};
 use std::cmp::Ordering;

@@ -4,18 +4,18 @@ use crate::kernel_names::Names;
 use crate::loop_part::bound_of;
 use crate::place_parts::places_of;
 use crate::subject::Subject;
-use candidate_lines::{Candidate, Ranking};
 use certificate::Certificate;
 use certificate::tree::{Bound, Entry};
+use certificate_notes::{NamesError, notes_of};
 use domain::congruence::Congruence;
 use domain::interval::Interval;
 use domain::product::Product;
-use place_names::{NamesError, notes_of};
-use place_obligations::Notes;
-use place_pairs::Obligations;
-use place_paths::{FindError, find};
+use guesses::{Candidate, Ranking};
+use obligations::Notes;
 use places::{PlaceError, places};
 use std::alloc::{AllocError, Global};
+use two_thread::Obligations;
+use walk::{FindError, find};
 
 /// What the check knows of numbers.
 pub type Elements = Product<Interval, Congruence>;

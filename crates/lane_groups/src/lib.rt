@@ -1,4 +1,4 @@
-//! Section: Runs and program. Promises what a work-group's lane code stores, exactly as defined, and that of a pair-safe kernel its rounds
+//! Section: Runs. Promises what a work-group's lane code stores, exactly as defined, and that of a pair-safe kernel its rounds
 //! store the same; stands on `lane_words` and `write_log`.
 //!
 //! The work-items of a group as lanes: registers, masks, memory and stores. Each instruction is done for all items at once, as the machine

@@ -1,178 +1,92 @@
--- Two items at their accesses of one element contradict what is shown of the pair.
-use Rattle.std.proofs.Common.{◌≡◌, ◌≢◌, ℕ, ◌<◌, Bool, true, false, ◌&&◌, ◌||◌, nat_eq, List, [], ◌∷◌, None, ◌++◌, arith, refl, sym, ap, subst, ◌∙◌, inl, inr, eq-eqb, lt-ltb}
-use Rattle.std.specs.Prelude.{ℤ, pos, ◌<ℤ◌, ◌⊎◌}
+-- Two items of a group that have come to two stops, alike at their anchor: what is owed of them is so.
+use Rattle.std.proofs.Common.{◌≡◌, ℕ, ◌<◌, Bool, true, false, ◌&&◌, nat_eq, cond, List, [], ◌∷◌, Option, Some, None, slice_index_or, arith, refl, sym, ap, ap₂, subst, ◌∙◌, inl, inr, eqb-true}
 use Rattle.std.specs.List.{All}
-use Rattle.std.proofs.lemmas.Int.{ints, by_lt_z}
 use Rattle.std.proofs.lemmas.Bool.{and_from}
-use Rattle.std.proofs.lemmas.List.Elements.{All-append, All-cons, All-nil}
-use Rattle.semantics.specs.Setup.{Setup, along, group_of, item_count, local_id, group_id, place}
-use Rattle.semantics.specs.Linear.{value_of, IsMet}
-use Rattle.facts.specs.Symbols as symbols
-use Rattle.facts.specs.Symbols.{Side, First, Second, Symbol, ArgumentOf, Length, Local, Group, New, Variable, AtAnchor, Turns, number, symbol_of, Fact, constant, once, minus, equals}
-use Rattle.facts.specs.Launching.{launch_facts, known, count_range}
-use Rattle.facts.proofs.Integers.{lt_true}
-use Rattle.facts.proofs.Naming.{symbol_of-number}
-use Rattle.facts.proofs.Values.{value-minus, value-constant, value-once, met_equals}
-use Rattle.facts.proofs.Members.{by_number, zero_lacks}
-use Rattle.facts.proofs.Worlds.{Walked, Root, setup_of, View, meaning, Agrees}
-use Rattle.facts.proofs.Launched.{each_dimension-all, local-below, group_id-below, count_in, launch_known}
-use Rattle.obligations.specs.Held.{element_with}
-use Rattle.obligations.specs.Trees.{Target, Access, Manner, Plainly, ByPositive, ByNegative, ByQuotient, added, with_facts}
-use Rattle.obligations.specs.Tests.{below}
-use Rattle.obligations.specs.Covered.{is_global}
-use Rattle.obligations.specs.Seconds.{second, second_form, second_forms, element_of_two}
-use Rattle.obligations.specs.Pairs.{Scope, Within, Across, Order, Below, Above, Pair, id, order_fact, same_group, scope_facts, pair_facts, is_apart, pair_obligation, differs, two_orders, all_orders, is_buffer, conflict, with_one}
-use Rattle.obligations.specs.Shown.{IsShown, IsRefuted}
-use Rattle.obligations.proofs.Each.{Each, each-dimension, each-where}
-use Rattle.obligations.proofs.Seconds.{second-groups, second-given, second-length, second-local, second-group, second-new, second-variable, second-at_anchor, second-turns, second-value, second-met}
-use Rattle.obligations.proofs.Made.{Made}
-use Rattle.obligations.proofs.TwoElements.{two-has}
+use Rattle.std.proofs.lemmas.Bool.Decides.{nat_tests}
+use Rattle.semantics.specs.Word.{Word, zero_word}
+use Rattle.semantics.specs.Setup.{group_of, item_count}
+use Rattle.facts.specs.Launching.{launch_facts, known}
+use Rattle.facts.proofs.Worlds.{Walked, Root, setup_of}
+use Rattle.arrivals.specs.Trees.{Stop, AtBarrier, AtHead, AtEnd, Turns}
+use Rattle.arrivals.specs.Places.{same_numbers}
+use Rattle.arrivals.specs.Paths.{Same}
+use Rattle.arrivals.specs.Shown.{Owed, Nothing, Agreement, Never, same_turns, owed}
+use Rattle.arrivals.proofs.Meetings.{same-sym}
+use Rattle.walk_trees.specs.Trees.{Ended}
+use Rattle.walk_trees.specs.Shown.{IsShown}
+use Rattle.walk_trees.proofs.Each.{each-all}
+use Rattle.obligations.specs.Notes.{Notes}
+use Rattle.obligations.specs.Listing.{Of}
+use Rattle.obligations.specs.Meetings.{same_anchor, same_at, is_rest, owed_obligations, meetings}
+use Rattle.obligations.proofs.Nodes.{Reached, at_anchor}
+use Rattle.obligations.proofs.Couples.{Couple}
+use Rattle.obligations.proofs.MeetingLists.{Owes, where-true, meetings-has}
+use Rattle.obligations.proofs.Crossed.{same_anchor-equal, alike-moved}
+use Rattle.obligations.proofs.Agreeing.{IsOwed, Stopped, as-owed}
 
-below-met : (v : ℕ → ℤ) (s r : Symbol) → v (number s) <ℤ v (number r) → IsMet v (below (once s) (once r))
-below-met v s r h = omega (arith, ints, h, value-minus v (minus (once r) (once s)) (constant (pos 1)), value-minus v (once r) (once s), value-constant v (pos 1), value-once v s, value-once v r)
+nat_eq-sym : (n m : ℕ) → nat_eq n m ≡ nat_eq m n
+nat_eq-sym n m = grind (arith, nat_tests)
 
--- one of two is a store
-one_stored : (a b : Bool) → (a ≡ true) ⊎ (b ≡ true) → (a || b) ≡ true
-one_stored true b h = refl
-one_stored false true h = refl
-one_stored false false (inl e) = e
-one_stored false false (inr e) = e
+same_numbers-sym : (a b : List ℕ) → same_numbers a b ≡ same_numbers b a
+same_numbers-sym [] [] = refl
+same_numbers-sym [] (m ∷ ms) = refl
+same_numbers-sym (n ∷ ns) [] = refl
+same_numbers-sym (n ∷ ns) (m ∷ ms) = ap₂ (λ a b. a && b) (nat_eq-sym n m) (same_numbers-sym ns ms)
 
--- facts that hold refute no pair
-refuted : (v : ℕ → ℤ) (facts : List Fact) → All (IsMet v) facts → (n : Manner) → IsRefuted (with_facts facts (added n None)) → ⊥
-refuted v facts h Plainly e = e v (All-append (IsMet v) facts [] h (All-nil (IsMet v)))
-refuted v facts h ByPositive e = e
-refuted v facts h ByNegative e = e
-refuted v facts h ByQuotient e = e
+same_turns-sym : (a b : Turns) → same_turns a b ≡ same_turns b a
+same_turns-sym None None = refl
+same_turns-sym None (Some l) = refl
+same_turns-sym (Some l) None = refl
+same_turns-sym (Some l) (Some m) = same_numbers-sym l m
 
-module _ {E : Type 0} (w : Walked E) (i j : ℕ) (hi : i < item_count (setup_of w)) (hj : j < item_count (setup_of w)) (root other : Root) (all more : List (Access E)) (t u : Bool) (b x : ℕ) (p : Made (record { walked = w; item = i; place = hi; root = root }) all t b x) (q : Made (record { walked = w; item = j; place = hj; root = other }) more u b x) (stored : (t ≡ true) ⊎ (u ≡ true)) where
-  abbrev one : View E
-  one = record { walked = w; item = i; place = hi; root = root }
+-- what is owed is the same, one way round or the other
+owed-sym : (a b : Stop) (t u : Turns) → owed a b (same_turns t u) ≡ owed b a (same_turns u t)
+owed-sym (AtBarrier n) (AtBarrier m) t u = by (nat_eq n m) refl ∙ ap₂ (λ x y. cond (x && y) (Agreement m) Never) (nat_eq-sym n m) (same_turns-sym t u)
+  where
+    by : (x : Bool) → nat_eq n m ≡ x → cond (nat_eq n m && same_turns t u) (Agreement n) Never ≡ cond (nat_eq n m && same_turns t u) (Agreement m) Never
+    by true e = ap (λ k. cond (nat_eq n m && same_turns t u) (Agreement k) Never) (eqb-true n m e)
+    by false e = ap (λ x. cond (x && same_turns t u) (Agreement n) Never) e ∙ sym (ap (λ x. cond (x && same_turns t u) (Agreement m) Never) e)
+owed-sym (AtBarrier n) (AtHead m again) t u = refl
+owed-sym (AtBarrier n) AtEnd t u = refl
+owed-sym (AtHead n again) (AtBarrier m) t u = refl
+owed-sym (AtHead n again) (AtHead m also) t u = refl
+owed-sym (AtHead n again) AtEnd t u = refl
+owed-sym AtEnd (AtBarrier m) t u = refl
+owed-sym AtEnd (AtHead m again) t u = refl
+owed-sym AtEnd AtEnd t u = refl
 
-  abbrev two : View E
-  two = record { walked = w; item = j; place = hj; root = other }
+is_owed-sym : (n : Notes) (here there : List Word) (o : Owed) → IsOwed n here there o → IsOwed n there here o
+is_owed-sym n here there Nothing h = tt
+is_owed-sym n here there (Agreement b) h = same-sym (n.same b) here there h
+is_owed-sym n here there Never h = h
 
-  abbrev s : Setup
-  s = setup_of w
+owed-at : (a a' b b' : Stop) (t t' u u' : Turns) → a ≡ a' → b ≡ b' → t ≡ t' → u ≡ u' → owed a b (same_turns t u) ≡ owed a' b' (same_turns t' u')
+owed-at a a' b b' t t' u u' e f g h = ap₂ (λ x y. owed x y (same_turns t u)) e f ∙ ap₂ (λ x y. owed a' b' (same_turns x y)) g h
 
-  -- the numbers of both
-  abbrev m : Symbol → ℤ
-  m = meaning s i j root other p.news q.news
+-- in the order of the list
+module _ {E : Type 0} (w : Walked E) (n : Notes) (i j : ℕ) (hi : i < item_count (setup_of w)) (hj : j < item_count (setup_of w)) (r q : Root) (all : List (Of (Ended E))) (A : Option ℕ) (h k : Bool) (stop stop' : Stop) (turns turns' : Turns) (here there : List Word) (p : Reached (record { walked = w; item = i; place = hi; root = r }) all A h stop turns here) (o : Reached (record { walked = w; item = j; place = hj; root = q }) all A k stop' turns' there) where
+  abbrev couple : Couple E
+  couple = record { walked = w; i = i; j = j; first = hi; second = hj; root = r; other = q; news = p.news; more = o.news }
 
-  abbrev v : ℕ → ℤ
-  v = by_number m
+  abbrev stopped : Stopped couple here there
+  stopped = record { here = p.node; there = o.node; fit = p.fit; other_fit = o.fit; known = p.known; other_known = o.known; forms = p.forms; other_forms = o.forms }
 
-  first-agrees : Agrees one p.news v
-  first-agrees = record {
-    groups = λ d. ap m (symbol_of-number (symbols.Groups d));
-    given = λ n. ap m (symbol_of-number (ArgumentOf n));
-    lengths = λ n. ap m (symbol_of-number (Length n));
-    local = λ d. ap m (symbol_of-number (Local First d));
-    group = λ d. ap m (symbol_of-number (Group First d));
-    variable = λ x. ap m (symbol_of-number (Variable First x));
-    at_anchor = λ x. ap m (symbol_of-number (AtAnchor First x));
-    turns = λ k. ap m (symbol_of-number (Turns First k));
-    new = λ k h. ap m (symbol_of-number (New First k));
-  }
+  listed : is_rest stop' ≡ true → group_of (setup_of w) i ≡ group_of (setup_of w) j → Same (same_at n A) (at_anchor h r) (at_anchor k q) → ((b : ℕ) → owed stop stop' (same_turns turns turns') ≡ Agreement b → (x : ℕ) → (slice_index_or here x zero_word).kind ≡ (slice_index_or there x zero_word).kind) → Owes IsShown w.domain (known w.domain w.kernel.sizes w.conditions) (launch_facts w.conditions) n p.node o.node → IsOwed n here there (owed stop stop' (same_turns turns turns'))
+  listed rest group alike kinds shown =
+      let own = owed p.node.it.arrived.stop o.node.it.arrived.stop (same_turns p.node.it.arrived.turns o.node.it.arrived.turns) in
+      let both = owed_obligations w.domain (known w.domain w.kernel.sizes w.conditions) (launch_facts w.conditions) n p.node o.node own in
+      let alike_there = alike-moved n (λ b. at_anchor b r) (λ b. at_anchor b q) p.node.anchor A p.node.is_head h o.node.is_head k p.anchor p.head o.head alike in
+      let may = and_from (same_anchor p.node.anchor o.node.anchor) (is_rest o.node.it.arrived.stop) (same_anchor-equal p.node.anchor o.node.anchor (p.anchor ∙ sym o.anchor)) (ap is_rest o.stopped ∙ rest) in
+      let same = owed-at p.node.it.arrived.stop stop o.node.it.arrived.stop stop' p.node.it.arrived.turns turns o.node.it.arrived.turns turns' p.stopped o.stopped p.turned o.turned in
+      subst (IsOwed n here there) (owed-at p.node.it.arrived.stop stop o.node.it.arrived.stop stop' p.node.it.arrived.turns turns o.node.it.arrived.turns turns' p.stopped o.stopped p.turned o.turned)
+      (as-owed couple n here there stopped group alike_there own (λ b e. kinds b (sym same ∙ e)) (where-true IsShown w.domain (known w.domain w.kernel.sizes w.conditions) (launch_facts w.conditions) n (same_anchor p.node.anchor o.node.anchor && is_rest o.node.it.arrived.stop) both may shown))
 
-  copy-is : (r : ℕ) (a : Symbol) → second r ≡ number a → v (second r) ≡ m a
-  copy-is r a k = ap v k ∙ ap m (symbol_of-number a)
-
-  second-agrees : Agrees two q.news (λ n. v (second n))
-  second-agrees = record {
-    groups = λ d. copy-is (number (symbols.Groups d)) (symbols.Groups d) (second-groups d);
-    given = λ n. copy-is (number (ArgumentOf n)) (ArgumentOf n) (second-given n);
-    lengths = λ n. copy-is (number (Length n)) (Length n) (second-length n);
-    local = λ d. copy-is (number (Local First d)) (Local Second d) (second-local d);
-    group = λ d. copy-is (number (Group First d)) (Group Second d) (second-group d);
-    variable = λ x. copy-is (number (Variable First x)) (Variable Second x) (second-variable x);
-    at_anchor = λ x. copy-is (number (AtAnchor First x)) (AtAnchor Second x) (second-at_anchor x);
-    turns = λ k. copy-is (number (Turns First k)) (Turns Second k) (second-turns k);
-    new = λ k h. copy-is (number (New First k)) (New Second k) (second-new k);
-  }
-
-  abbrev there : Fact
-  there = second_form q.node.index
-
-  first-index : value_of v p.node.index ≡ pos x
-  first-index = p.index v first-agrees
-
-  second-index : value_of v there ≡ pos x
-  second-index = second-value v q.node.index ∙ q.index (λ n. v (second n)) second-agrees
-
-  -- the facts of the pair hold
-  abbrev pair : Scope → ℕ → Order → Pair E
-  pair sc d o = record { first = p.node; second = q.node; scope = sc; dimension = d; order = o }
-
-  pair-met : (sc : Scope) (d : ℕ) (o : Order) → All (IsMet v) (scope_facts sc) → IsMet v (order_fact o (once (id sc First d)) (once (id sc Second d))) → All (IsMet v) (pair_facts (launch_facts w.conditions) (pair sc d o))
-  pair-met sc d o hs ho =
-      let launch = launch_facts w.conditions in
-      let order = order_fact o (once (id sc First d)) (once (id sc Second d)) in
-      let same = equals p.node.index there in
-      All-append (IsMet v) launch (p.node.facts ++ (second_forms q.node.facts ++ (scope_facts sc ++ (order ∷ same)))) (launch_known one p.news v first-agrees)
-      (All-append (IsMet v) p.node.facts (second_forms q.node.facts ++ (scope_facts sc ++ (order ∷ same))) (p.known v first-agrees)
-      (All-append (IsMet v) (second_forms q.node.facts) (scope_facts sc ++ (order ∷ same)) (second-met v q.node.facts (q.known (λ n. v (second n)) second-agrees))
-      (All-append (IsMet v) (scope_facts sc) (order ∷ same) hs (All-cons (IsMet v) order same ho (met_equals v p.node.index there (first-index ∙ sym second-index))))))
-
-  not-apart : (sc : Scope) (d : ℕ) (o : Order) → is_apart w.domain (known w.domain w.kernel.sizes w.conditions) (pair sc d o) ≡ true → ⊥
-  not-apart sc d o h =
-      let k = known w.domain w.kernel.sizes w.conditions in
-      let f = minus p.node.index there in
-      let e = element_with w.domain (element_of_two w.domain k p.node.held q.node.held) f in
-      let z : value_of v f ≡ pos 0 = omega (arith, ints, value-minus v p.node.index there, first-index, second-index) in
-      zero_lacks w.domain w.lawful e h (subst (λ y. w.domain.has e y ≡ true) z (two-has w i j hi hj root other p.node.held q.node.held p.news q.news p.fit q.fit f))
-
-  abbrev IsPairShown : Pair E → Type 0
-  IsPairShown r = IsShown (pair_obligation w.domain (known w.domain w.kernel.sizes w.conditions) (launch_facts w.conditions) r)
-
-  fails : (sc : Scope) (d : ℕ) (o : Order) → IsPairShown (pair sc d o) → All (IsMet v) (scope_facts sc) → IsMet v (order_fact o (once (id sc First d)) (once (id sc Second d))) → ⊥
-  fails sc d o h hs ho = elim (h refl) [ inl e ↦ not-apart sc d o e | inr e ↦ refuted v (pair_facts (launch_facts w.conditions) (pair sc d o)) (pair-met sc d o hs ho) e.0 e.1 ]
-
-  two-fail : (sc : Scope) (d : ℕ) (k : Bool) → k ≡ true → Each IsPairShown (two_orders k p.node q.node sc d) → All (IsMet v) (scope_facts sc) → v (number (id sc First d)) ≢ v (number (id sc Second d)) → ⊥
-  two-fail sc d false e h hs n = cc
-  two-fail sc d true e h hs n =
-      let f = id sc First d in
-      let g = id sc Second d in
-      by_lt_z (v (number f)) (v (number g))
-      (λ l. fails sc d Below h.0 hs (below-met v f g l))
-      (λ l. fails sc d Above h.1.0 hs (below-met v g f (omega (arith, ints, l, n))))
-
-  conflicts : conflict b p.node q.node ≡ true
-  conflicts =
-      let here = λ (r : Target). and_from (is_global r.array.space) (nat_eq r.array.number b) in
-      let e : is_buffer p.node.target b ≡ true = here p.node.target (ap is_global p.space) (eq-eqb p.node.target.array.number b p.buffer) in
-      let f : is_buffer q.node.target b ≡ true = here q.node.target (ap is_global q.space) (eq-eqb q.node.target.array.number b q.buffer) in
-      and_from (is_buffer p.node.target b) (is_buffer q.node.target b && (p.node.target.is_store || q.node.target.is_store)) e
-      (and_from (is_buffer q.node.target b) (p.node.target.is_store || q.node.target.is_store) f (one_stored p.node.target.is_store q.node.target.is_store (stored_there stored)))
-    where
-      stored_there : (t ≡ true) ⊎ (u ≡ true) → (p.node.target.is_store ≡ true) ⊎ (q.node.target.is_store ≡ true)
-      stored_there (inl h) = inl (p.store ∙ h)
-      stored_there (inr h) = inr (q.store ∙ h)
-
-  orders-fail : (sc : Scope) (d : ℕ) → d < 3 → differs w.kernel.sizes w.conditions sc d ≡ true → Each IsPairShown (with_one w.kernel.sizes w.conditions sc b p.node q.node) → All (IsMet v) (scope_facts sc) → v (number (id sc First d)) ≢ v (number (id sc Second d)) → ⊥
-  orders-fail sc d l k h hs n =
-      let a = each-where IsPairShown (conflict b p.node q.node) (all_orders w.kernel.sizes w.conditions sc p.node q.node) conflicts h in
-      two-fail sc d (differs w.kernel.sizes w.conditions sc d) k (each-dimension IsPairShown (λ d. two_orders (differs w.kernel.sizes w.conditions sc d) p.node q.node sc d) d l a) hs n
-
-  -- two items of one group, with a local id that differs
-  pub not-within : group_of s i ≡ group_of s j → (d : ℕ) → d < 3 → local_id s i d ≢ local_id s j d → Each IsPairShown (with_one w.kernel.sizes w.conditions Within b p.node q.node) → ⊥
-  not-within g d l n h =
-      let li = local-below s i hi d l in
-      let lj = local-below s j hj d l in
-      let first = ap m (symbol_of-number (Local First d)) in
-      let second = ap m (symbol_of-number (Local Second d)) in
-      orders-fail Within d l (lt-ltb 1 (along w.kernel.sizes d 1) (omega (arith, li, lj, n))) h
-      (each_dimension-all (IsMet v) same_group (λ d' l'. met_equals v (once (Group First d')) (once (Group Second d'))
-      (value-once v (Group First d') ∙ ap m (symbol_of-number (Group First d')) ∙ ap (λ a. pos (along (place w.launch.groups a) d' 0)) g ∙ sym (value-once v (Group Second d') ∙ ap m (symbol_of-number (Group Second d'))))))
-      (λ e. n (let f : pos (local_id s i d) ≡ pos (local_id s j d) = sym first ∙ e ∙ second in omega (arith, ints, f)))
-
-  -- two items of two groups, with a group id that differs
-  pub not-across : (d : ℕ) → d < 3 → group_id s i d ≢ group_id s j d → Each IsPairShown (with_one w.kernel.sizes w.conditions Across b p.node q.node) → ⊥
-  not-across d l n h =
-      let gi = group_id-below s i hi d l in
-      let gj = group_id-below s j hj d l in
-      let most = (count_in w.conditions w.launch w.meets d l).1 in
-      let first = ap m (symbol_of-number (Group First d)) in
-      let second = ap m (symbol_of-number (Group Second d)) in
-      orders-fail Across d l (lt_true (pos 1) (count_range w.conditions d).high (omega (arith, ints, gi, gj, n, most))) h (All-nil (IsMet v))
-      (λ e. n (let f : pos (group_id s i d) ≡ pos (group_id s j d) = sym first ∙ e ∙ second in omega (arith, ints, f)))
+-- where variables are to be alike, with equal kinds
+pub met : {E : Type 0} (w : Walked E) (n : Notes) (i j : ℕ) (hi : i < item_count (setup_of w)) (hj : j < item_count (setup_of w)) (r q : Root) (all : List (Of (Ended E))) → All IsShown (meetings w.domain (known w.domain w.kernel.sizes w.conditions) (launch_facts w.conditions) n all) → (A : Option ℕ) (h k : Bool) (stop stop' : Stop) (turns turns' : Turns) (here there : List Word) → Reached (record { walked = w; item = i; place = hi; root = r }) all A h stop turns here → Reached (record { walked = w; item = j; place = hj; root = q }) all A k stop' turns' there → is_rest stop ≡ true → is_rest stop' ≡ true → group_of (setup_of w) i ≡ group_of (setup_of w) j → Same (same_at n A) (at_anchor h r) (at_anchor k q) → ((b : ℕ) → owed stop stop' (same_turns turns turns') ≡ Agreement b → (x : ℕ) → (slice_index_or here x zero_word).kind ≡ (slice_index_or there x zero_word).kind) → IsOwed n here there (owed stop stop' (same_turns turns turns'))
+met w n i j hi hj r q all shown A h k stop stop' turns turns' here there p o rest rest' group alike kinds = elim (meetings-has IsShown w.domain (known w.domain w.kernel.sizes w.conditions) (launch_facts w.conditions) n all (each-all IsShown (meetings w.domain (known w.domain w.kernel.sizes w.conditions) (launch_facts w.conditions) n all) shown) p.node o.node (ap is_rest p.stopped ∙ rest) (ap is_rest o.stopped ∙ rest') p.here o.here) [
+  | inl l ↦ listed w n i j hi hj r q all A h k stop stop' turns turns' here there p o rest' group alike kinds l
+  | inr l ↦
+      is_owed-sym n there here (owed stop stop' (same_turns turns turns'))
+      (subst (IsOwed n there here) (owed-sym stop' stop turns' turns)
+      (listed w n j i hj hi q r all A k h stop' stop turns' turns there here o p rest (sym group) (same-sym (same_at n A) (at_anchor h r) (at_anchor k q) alike) (λ b e x. sym (kinds b (owed-sym stop stop' turns turns' ∙ e) x)) l))
+]

@@ -1,61 +1,43 @@
--- Whether all forms that are made to show what there is to show are of i64.
-use Rattle.std.specs.Prelude.{ℕ, suc, List, [], ◌∷◌, Bool, true, ◌&&◌}
+-- Whether all forms that are made to show what there is to show, place by place, are of i64.
+use Rattle.std.specs.Prelude.{List, [], ◌∷◌, Bool, true, ◌&&◌, Option, Some, None}
 use Rattle.semantics.specs.Launch.{Kernel}
 use Rattle.semantics.specs.Conditions.{Conditions}
-use Rattle.linear.specs.Exact.{fits}
 use Rattle.domain.specs.declared.Domain.{Ghosts}
-use Rattle.facts.specs.Symbols.{Fact, minus, denial}
-use Rattle.obligations.specs.Trees.{Goal, AtLeastZero, Either, Replaced, Divided, Tree, Leaf, Dead, Claim, Know, Touch, Fork, after}
-use Rattle.obligations.specs.Statements.{setting, tree}
-use Rattle.obligations.specs.Pairs.{Pair, second_index}
-use Rattle.obligations.specs.Shown.{pairs}
+use Rattle.facts.specs.Launching.{launch_facts, known}
+use Rattle.walk_trees.specs.Trees.{Goal, Obligation}
+use Rattle.walk_trees.specs.Fitting.{all_fit, goal_fits, denials_fit, tree_fits, tree_denials_fit, differences_fit}
+use Rattle.obligations.specs.Notes.{Notes}
+use Rattle.obligations.specs.Listing.{Planted, all_trees, accesses_of, ends_in}
+use Rattle.obligations.specs.Meetings.{meetings}
+use Rattle.obligations.specs.Crossings.{Crossing, second_index, crossings}
 
-abbrev pub all_fit : List Fact → Bool
-all_fit [] = true
-all_fit (f ∷ fs) = fits f && all_fit fs
+-- of a place what is known there, and its tree with what denies its claims
+abbrev pub planted_fits : {E : Type 0} → Planted E → Bool
+planted_fits p = all_fit p.facts && (tree_fits p.claims p.tree && tree_denials_fit p.claims p.tree)
 
-abbrev pub goal_fits : Goal → Bool
-goal_fits (AtLeastZero f) = fits f
-goal_fits (Either p n) = fits p && fits n
-goal_fits (Replaced made f) = all_fit made && fits f
-goal_fits (Divided made f) = all_fit made && fits f
+abbrev pub trees_fit : {E : Type 0} → List (Planted E) → Bool
+trees_fit [] = true
+trees_fit (p ∷ ps) = planted_fits p && trees_fit ps
 
--- what denies a goal, whichever way it is shown
-abbrev pub denials_fit : Goal → Bool
-denials_fit (AtLeastZero f) = fits (denial f)
-denials_fit (Either p n) = fits (denial p) && fits (denial n)
-denials_fit (Replaced made f) = fits (denial f)
-denials_fit (Divided made f) = fits (denial f)
+-- of two ends what each goal says, and what denies it: of a variable that is to be alike both differences, a goal each
+abbrev pub is_fit_goal : Option Goal → Bool
+is_fit_goal None = true
+is_fit_goal (Some g) = goal_fits g && denials_fit g
 
--- of a tree in front of which n claims stand: its facts, its goals and the indexes of its accesses
-abbrev pub tree_fits : {E : Type 0} → ℕ → Tree E → Bool
-tree_fits n (Leaf e) = true
-tree_fits n Dead = true
-tree_fits n (Claim o needed settled g rest) = goal_fits g && tree_fits (suc n) rest
-tree_fits n (Know f rest) = fits f && tree_fits n rest
-tree_fits n (Touch t i h rest) = fits i && tree_fits n rest
-tree_fits n (Fork first second) = tree_fits n first && tree_fits (after n first) (second (after n first))
+abbrev pub goals_fit : List Obligation → Bool
+goals_fit [] = true
+goals_fit (o ∷ os) = is_fit_goal o.goal && goals_fit os
 
--- what denies its claims
-abbrev pub tree_denials_fit : {E : Type 0} → ℕ → Tree E → Bool
-tree_denials_fit n (Leaf e) = true
-tree_denials_fit n Dead = true
-tree_denials_fit n (Claim o needed settled g rest) = denials_fit g && tree_denials_fit (suc n) rest
-tree_denials_fit n (Know f rest) = tree_denials_fit n rest
-tree_denials_fit n (Touch t i h rest) = tree_denials_fit n rest
-tree_denials_fit n (Fork first second) = tree_denials_fit n first && tree_denials_fit (after n first) (second (after n first))
+-- of two accesses both differences of their indexes
+abbrev pub crossing_fits : {E : Type 0} → Crossing E → Bool
+crossing_fits x = differences_fit x.first.it.index (second_index x)
 
--- both differences of a pair's indexes
-abbrev pub differences_fit : Fact → Fact → Bool
-differences_fit f g = fits (minus f g) && fits (minus g f)
+abbrev pub crossings_fit : {E : Type 0} → List (Crossing E) → Bool
+crossings_fit [] = true
+crossings_fit (x ∷ xs) = crossing_fits x && crossings_fit xs
 
-abbrev pub pair_fits : {E : Type 0} → Pair E → Bool
-pair_fits p = differences_fit p.first.index (second_index p)
-
-abbrev pub pairs_fit : {E : Type 0} → List (Pair E) → Bool
-pairs_fit [] = true
-pairs_fit (p ∷ ps) = pair_fits p && pairs_fit ps
-
-abbrev pub forms_fit : {E : Type 0} → Ghosts E → Kernel → Conditions → (has_entry : ℕ → Bool) → Bool
-forms_fit g k c has_entry =
-    tree_fits 0 (tree (setting g k c has_entry) k) && (tree_denials_fit 0 (tree (setting g k c has_entry) k) && pairs_fit (pairs g k c has_entry))
+abbrev pub forms_fit : {E : Type 0} → Ghosts E → Kernel → Conditions → Notes → Bool
+forms_fit g k c n =
+    trees_fit (all_trees g k c n)
+    && (goals_fit (meetings g (known g k.sizes c) (launch_facts c) n (ends_in (all_trees g k c n)))
+    && crossings_fit (crossings k c (accesses_of (all_trees g k c n))))

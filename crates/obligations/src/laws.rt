@@ -5,20 +5,34 @@ ghost use Rattle.std.specs.List.{All};
 ghost use Rattle.semantics.specs.Launch.{Kernel, Launch, Fits};
 ghost use Rattle.semantics.specs.Conditions.{Conditions, Meets};
 ghost use Rattle.semantics.specs.Safety.{IsPairSafe};
-ghost use Rattle.arrivals.specs.Shown.{IsShort};
-ghost use Rattle.obligations.specs.Covered.{is_covered};
-ghost use Rattle.obligations.specs.Seconds.{are_own_accesses};
-ghost use Rattle.obligations.specs.Shown.{obligations, item_accesses, IsShown};
+ghost use Rattle.facts.specs.Launching.{are_sizes};
+ghost use Rattle.arrivals.specs.Shown.{IsSound, IsShort};
+ghost use Rattle.walk_trees.specs.Shown.{IsShown};
+ghost use Rattle.obligations.specs.Notes.{Notes};
+ghost use Rattle.obligations.specs.Telling.{TellsOfItems};
+ghost use Rattle.obligations.specs.Listing.{all_trees, accesses_of, ends_in};
+ghost use Rattle.obligations.specs.Owning.{all_own_accesses, all_own_ends};
+ghost use Rattle.obligations.specs.Shown.{obligations};
+ghost use Rattle.loop_bounds.specs.Costs.{cost};
+ghost use Rattle.obligations.specs.Limits.{turns_at, AreLimits};
 
 use domain::Domain;
 
-/// Where all that is to be shown of a covered kernel is shown, it is pair-safe at each launch that meets the conditions, with any bound
-/// of its steps.
-pub fn what_is_shown_is_pair_safe<D: Domain>()
-    ensures { (k : Kernel) (c : Conditions) (has_entry : ℕ → Bool) (l : Launch) (bound : ℕ) → is_covered k ≡ true → All IsShown (obligations D.Domain k c has_entry) → Fits k l → Meets c l → IsShort (record { kernel = k; launch = l }) bound → IsPairSafe (record { kernel = k; launch = l }) bound }
+/// Where all that is to be shown of a kernel is shown, whatever is said of its places and loops, the kernel is pair-safe at each launch
+/// that meets the conditions, with any bound of its steps: loops, barriers, local arrays and exits included.
+pub fn what_is_shown_by_places_is_pair_safe<D: Domain>()
+    ensures { (k : Kernel) (c : Conditions) (n : Notes) (l : Launch) (bound : ℕ) → are_sizes k.sizes ≡ true → TellsOfItems n → All IsShown (obligations D.Domain k c n) → Fits k l → Meets c l → IsSound (record { kernel = k; launch = l }) → IsShort (record { kernel = k; launch = l }) bound → IsPairSafe (record { kernel = k; launch = l }) bound }
 {}
 
-/// The accesses that an item makes, and what is known before them, have symbols of the launch and of the first item alone.
-pub fn accesses_have_own_symbols<D: Domain>()
-    ensures { (k : Kernel) (c : Conditions) (has_entry : ℕ → Bool) → are_own_accesses (item_accesses D.Domain k c has_entry) ≡ true }
+/// Where the limits of rankings are limits, no item passes the cost of the kernel's body with as many turns as its loops have at most; so
+/// no bound of steps has to be known.
+pub fn what_is_shown_by_places_is_safe_within_its_cost<D: Domain>()
+    ensures { (k : Kernel) (c : Conditions) (n : Notes) (l : Launch) → are_sizes k.sizes ≡ true → TellsOfItems n → AreLimits n → All IsShown (obligations D.Domain k c n) → Fits k l → Meets c l → IsSound (record { kernel = k; launch = l }) → IsPairSafe (record { kernel = k; launch = l }) (cost (turns_at n) k.body) }
+{}
+
+/// Where what is said of places is of one item, all accesses and all ends of the trees of places, and what is known before them, have
+/// symbols of the launch and of the first item alone.
+pub fn trees_have_own_symbols<D: Domain>()
+    ensures accesses { (k : Kernel) (c : Conditions) (n : Notes) → TellsOfItems n → all_own_accesses (accesses_of (all_trees D.Domain k c n)) ≡ true }
+    ensures ends { (k : Kernel) (c : Conditions) (n : Notes) → TellsOfItems n → all_own_ends (ends_in (all_trees D.Domain k c n)) ≡ true }
 {}

@@ -1,96 +1,86 @@
-//! Quotients and remainders.
+//! Quotients, and what they leave.
 
-ghost use Rattle.std.specs.Prelude.{◌≡◌, ◌<ℤ◌, ◌-ℤ◌, pos, IfOk, MatchResult};
-ghost use Rattle.linear.specs.Exact.{multiple};
+ghost use Rattle.std.specs.Prelude.{◌<ℤ◌, pos, MatchResult};
 ghost use Rattle.linear.specs.Forms.{form as form_seen};
-ghost use Rattle.linear.specs.Sizes.{size};
 ghost use Rattle.words.specs.View.{kind as kind_seen};
-ghost use Rattle.facts.specs.Symbols.{constant, minus};
-ghost use Rattle.facts.specs.Refusals.{IsMemory, IsUnfit};
-ghost use Rattle.obligations.specs.Walks as walks;
-ghost use Rattle.obligations.specs.Operators as operators;
-ghost use Rattle.path_walk.specs.Paths.{with_fact};
-ghost use Rattle.path_walk.specs.Leads.{Leads, LeadsTwo};
-ghost use Rattle.path_walk.specs.Refusals.{Stops, StopsTwo};
-ghost use Rattle.path_walk.specs.View.{followed, setting as seen};
+ghost use Rattle.semantics.specs.Word.{Divide};
+ghost use Rattle.walk_trees.specs.Operators as operators;
+ghost use Rattle.path_steps.specs.Leads.{Leads};
+ghost use Rattle.path_steps.specs.Refusals.{Stops};
+ghost use Rattle.path_steps.specs.View.{followed, setting as seen, value as value_seen};
+ghost use Rattle.path_walk.specs.OperatorSteps.{quotient_alone, left_alone, divided_here};
 
-use crate::path::Path;
-use crate::ranges::{any_of, invent};
-use crate::setting::Setting;
-use crate::tests::{copied, difference};
+use crate::cases::is_exact;
 use domain::Domain;
-use facts::{WalkError, number_less};
+use facts::WalkError;
 use linear::Form;
+use path_steps::{Path, Setting, Value, claim_divisor, element_at, invent, quotient};
 use std::alloc::Global;
 use words::Kind;
 
-/// A number of times a small form: it is made, but for memory.
-fn times(alloc: Global, number: i64, of: &Form) -> Result<Form, WalkError>
-    requires above { pos 0 <ℤ number }
-    requires small { size (form_seen of.now) ≡ 1 }
-    ensures { MatchResult result (λ f. form_seen f ≡ multiple number (form_seen of.now)) IsMemory }
-{
-    let form = of.times(alloc, number)?;
-    Ok(form)
-}
-
-/// What a quotient leaves of a form.
-fn left_over(alloc: Global, of: &Form, number: i64, quotient: &Form) -> Result<Form, WalkError>
-    requires above { pos 0 <ℤ number }
-    requires small { size (form_seen quotient.now) ≡ 1 }
-    ensures { MatchResult result (λ f. form_seen f ≡ operators.left_over (form_seen of.now) number (form_seen quotient.now)) (λ e. IsUnfit e (operators.left_over (form_seen of.now) number (form_seen quotient.now))) }
-{
-    let part = times(alloc, number, quotient)?;
-    difference(alloc, of, &part)
-}
-
-/// What is left is at least 0.
-fn know_left<D: Copy>(
-    alloc: Global,
-    path: &mut Path<D>,
-    of: &Form,
-    number: i64,
-    quotient: &Form,
-) -> Result<Form, WalkError>
-    requires above { pos 0 <ℤ number }
-    requires small { size (form_seen quotient.now) ≡ 1 }
-    ensures left { IfOk result (λ f. form_seen f ≡ operators.left_over (form_seen of.now) number (form_seen quotient.now)) }
-    ensures known { MatchResult result (λ _. followed path.new ≡ with_fact (followed path.old) (operators.left_over (form_seen of.now) number (form_seen quotient.now))) (λ e. IsUnfit e (operators.left_over (form_seen of.now) number (form_seen quotient.now))) }
-{
-    let left = left_over(alloc, of, number, quotient)?;
-    path.know(copied(alloc, &left)?)?;
-    Ok(left)
-}
-
-/// What is left is below the number.
-fn know_under<D: Copy>(
-    alloc: Global,
-    path: &mut Path<D>,
-    number: i64,
-    left: &Form,
-) -> Result<(), WalkError>
-    requires { pos 0 <ℤ number }
-    ensures { MatchResult result (λ _. followed path.new ≡ with_fact (followed path.old) (minus (constant (number -ℤ pos 1)) (form_seen left.now))) (λ e. IsUnfit e (minus (constant (number -ℤ pos 1)) (form_seen left.now))) }
-{
-    let fact = number_less(alloc, number - 1, left)?;
-    path.know(fact)?;
-    Ok(())
-}
-
-/// A form that is at least 0 by a number above 0: the quotient, a new symbol, and what it leaves.
-pub fn quotient<D: Domain>(
+/// The quotient of a form that is at least 0 by a number above 0.
+pub fn quotient_alone<D: Domain>(
     alloc: Global,
     setting: &Setting<D>,
     path: &mut Path<D>,
     kind: Kind,
     of: &Form,
     number: i64,
-) -> Result<(Form, Form), WalkError>
+) -> Result<Form, WalkError>
     requires { pos 0 <ℤ number }
-    ensures { MatchResult result (λ v. LeadsTwo (followed path.old) (followed path.new) (operators.quotient (seen D.Domain setting.now) (kind_seen kind) (form_seen of.now) number) (form_seen v.0) (form_seen v.1)) (λ e. StopsTwo ⊥ (followed path.old) e (operators.quotient (seen D.Domain setting.now) (kind_seen kind) (form_seen of.now) number)) }
+    ensures { MatchResult result (λ f. Leads (followed path.old) (followed path.new) (quotient_alone (seen D.Domain setting.now) (kind_seen kind) (form_seen of.now) number) (form_seen f)) (λ e. Stops ⊥ (followed path.old) e (quotient_alone (seen D.Domain setting.now) (kind_seen kind) (form_seen of.now) number)) }
 {
-    let quotient = invent(alloc, setting, path, any_of(kind))?;
-    let left = know_left(alloc, path, of, number, &quotient)?;
-    know_under(alloc, path, number, &left)?;
-    Ok((quotient, left))
+    let parts = quotient(alloc, setting, path, kind, of, number)?;
+    Ok(parts.0)
+}
+
+/// What is left of a form that is at least 0 by a number above 0.
+pub fn left_alone<D: Domain>(
+    alloc: Global,
+    setting: &Setting<D>,
+    path: &mut Path<D>,
+    kind: Kind,
+    of: &Form,
+    number: i64,
+) -> Result<Form, WalkError>
+    requires { pos 0 <ℤ number }
+    ensures { MatchResult result (λ f. Leads (followed path.old) (followed path.new) (left_alone (seen D.Domain setting.now) (kind_seen kind) (form_seen of.now) number) (form_seen f)) (λ e. Stops ⊥ (followed path.old) e (left_alone (seen D.Domain setting.now) (kind_seen kind) (form_seen of.now) number)) }
+{
+    let parts = quotient(alloc, setting, path, kind, of, number)?;
+    Ok(parts.1)
+}
+
+/// A quotient: exact, or a new symbol with what the domain tells of it.
+fn divided<D: Domain>(
+    alloc: Global,
+    setting: &Setting<D>,
+    path: &mut Path<D>,
+    kind: Kind,
+    dividend: &Form,
+    divisor: &Form,
+) -> Result<Form, WalkError>
+    ensures { MatchResult result (λ f. Leads (followed path.old) (followed path.new) (divided_here (seen D.Domain setting.now) (kind_seen kind) (form_seen dividend.now) (form_seen divisor.now)) (form_seen f)) (λ e. Stops ⊥ (followed path.old) e (divided_here (seen D.Domain setting.now) (kind_seen kind) (form_seen dividend.now) (form_seen divisor.now))) }
+{
+    if is_exact(setting, path, dividend, divisor) {
+        let number = divisor.constant_part();
+        return quotient_alone(alloc, setting, path, kind, dividend, number);
+    }
+    let element = element_at(setting, path, dividend).div(element_at(setting, path, divisor));
+    invent(alloc, setting, path, element)
+}
+
+/// A quotient, behind the claims of its divisor.
+pub fn divide<D: Domain>(
+    alloc: Global,
+    setting: &Setting<D>,
+    path: &mut Path<D>,
+    kind: Kind,
+    left: &Form,
+    right: &Form,
+) -> Result<Value, WalkError>
+    ensures { MatchResult result (λ v. Leads (followed path.old) (followed path.new) (operators.binary (seen D.Domain setting.now) Divide (kind_seen kind) (form_seen left.now) (form_seen right.now)) (value_seen v)) (λ e. Stops ⊥ (followed path.old) e (operators.binary (seen D.Domain setting.now) Divide (kind_seen kind) (form_seen left.now) (form_seen right.now))) }
+{
+    claim_divisor(alloc, setting, path, kind, left, right)?;
+    let form = divided(alloc, setting, path, kind, left, right)?;
+    Ok(Value { kind, form })
 }

@@ -1,40 +1,44 @@
-//! Section: Walks. Promises exactly what one work-item finds along a path of its walk; stands on `core_code`, `facts` and `obligations`.
+//! Section: Walks. Promises exactly what is known of an item where a place's tree begins, and what one work-item finds along a path from
+//! there to its end; stands on `path_steps`, `places` and `arrival_claims`.
 //!
-//! The steps of one work-item's walk along a kernel with choices, one path at a time: what is to be shown on the way, what is known
-//! there, the accesses, and where it stops. A step's contract holds whatever goes on (`specs/Leads.antt`), and each error says what is
-//! true of all that is found along the path (`specs/Refusals.antt`, `specs/Halts.antt`). The laws say of all paths in turn that they list
-//! the tree.
+//! The walk of a place along one path. Of a term the operands come from left to right, then the operator at its own site; a choice walks
+//! what it evaluates. Operands were brought to the kind of their operator before, and terms are lawful: of elaborated kernels all are.
+//! Claims are as `arrival_claims` has them. What is left at a place stands from the outermost to the innermost; a path goes through it from
+//! the innermost.
+//!
+//! Each contract is that of a step of `path_steps`, of the walk that the definitions have; it holds whatever goes on, and each error says
+//! what is true of all that is found along the path. Statements tell how they are left (`specs/Flows.antt`).
 #![tactic(auto)]
 
-mod accesses;
+mod barriers;
+mod cases;
+mod course;
 mod dividing;
-mod divisors;
-mod ending;
-mod exact;
-mod halt;
-mod held;
-mod ids;
-pub mod laws;
-mod narrowing;
-mod path;
-mod ranges;
-mod setting;
-mod steps;
-mod tests;
+mod ends;
+mod family;
+mod flow;
+mod fronts;
+mod heads;
+mod holding;
+mod known;
+mod lawful;
+mod loops;
+mod masks;
+mod operands;
+mod operators;
+mod powers;
+mod products;
+mod remainders;
+mod rests;
+mod root;
+mod said;
+mod shifts;
+mod slots;
+mod statements;
+mod terms;
+mod variables;
+mod walking;
 
-pub use accesses::{access, load};
-pub use dividing::quotient;
-pub use divisors::claim_divisor;
-pub use exact::{
-    ranged_complement, ranged_difference, ranged_negation, ranged_product, ranged_sum,
-};
-pub use halt::Halt;
-pub use held::{element_at, element_from, settles};
-pub use ids::id_form;
-pub use path::{
-    Access, Arrived, Choice, Claim, Goal, Invented, Narrowed, Path, Ranked, Sort, Spot, Stop,
-    Target, Value,
-};
-pub use ranges::{any_of, both_brought, brought, invent, unknown};
-pub use setting::Setting;
-pub use tests::{is_number, split, split_number};
+pub use fronts::number_of;
+pub use root::root_of;
+pub use walking::walk_place;

@@ -10,13 +10,13 @@ use Rattle.facts.specs.Symbols.{Length, constant, once, minus}
 use Rattle.arrivals.specs.Points.{join}
 use Rattle.arrivals.specs.Places.{own_place}
 use Rattle.arrivals.specs.Symbolic.{courses}
-use Rattle.obligations.specs.Trees.{Tree}
-use Rattle.obligations.specs.Walks.{Setting, State, claimed_once, stand, at_site}
-use Rattle.obligations.specs.Terms.{access}
-use Rattle.obligations.specs.Statements.{setting, spot_of}
-use Rattle.place_obligations.specs.Notes.{Notes}
-use Rattle.place_obligations.specs.Roots.{root_state}
-use Rattle.place_obligations.specs.Walking.{Placed, placed, course, is_lawful, refused, tree_of}
+use Rattle.walk_trees.specs.Trees.{Tree}
+use Rattle.walk_trees.specs.Walks.{Setting, State, claimed_once, stand, at_site}
+use Rattle.walk_trees.specs.Terms.{access}
+use Rattle.walk_trees.specs.Statements.{setting, spot_of}
+use Rattle.obligations.specs.Notes.{Notes}
+use Rattle.obligations.specs.Roots.{root_state}
+use Rattle.obligations.specs.Walking.{Placed, placed, course, is_lawful, refused, tree_of}
 use Rattle.plain_kernels.specs.Domains.{domain}
 use Rattle.plain_kernels.specs.Claims.{ranges, claims}
 use Rattle.plain_kernels.specs.Kernels.{is_signed, has_signed, Plain, ArePlain, last_index}

@@ -7,7 +7,7 @@ use Rattle.semantics.specs.Core.{Space, Term}
 use Rattle.semantics.specs.Launch.{Kernel}
 use Rattle.semantics.specs.Conditions.{Conditions}
 use Rattle.facts.specs.Launching.{are_sizes}
-use Rattle.obligations.specs.Covered.{covers_term}
+use Rattle.walk_trees.specs.Covered.{covers_term}
 use Rattle.plain_kernels.specs.Kernels.{IsPlainValue, Number, BroughtNumber, Parameter, BroughtParameter, IsPlainIndex, Alone, Times, Plus, TimesPlus, HasLimits}
 
 -- whatever arrays may be loaded: they load none

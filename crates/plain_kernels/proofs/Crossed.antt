@@ -9,13 +9,13 @@ use Rattle.linear.specs.Exact.{fits}
 use Rattle.linear.specs.Sizes.{terms_size}
 use Rattle.linear.proofs.Sizes.{size_difference, fits_small}
 use Rattle.facts.specs.Symbols.{Fact, minus}
-use Rattle.obligations.specs.Trees.{Access}
-use Rattle.obligations.specs.Seconds.{second_terms, second_form}
-use Rattle.obligations.specs.Pairs.{Scope, Within, Across, differs, where_so}
-use Rattle.obligations.proofs.Each.{Each}
-use Rattle.place_obligations.specs.Listing.{Of, Planted, of_place}
-use Rattle.place_obligations.specs.Crossings.{Crossing, second_index, two_orders, all_orders, conflict, may_meet, with_one, with_each, array, crossings_in, crossings_of, crossings_from, is_fenced, crossings}
-use Rattle.place_obligations.specs.Fitting.{crossing_fits, crossings_fit}
+use Rattle.walk_trees.specs.Trees.{Access}
+use Rattle.walk_trees.specs.Seconds.{second_terms, second_form}
+use Rattle.walk_trees.specs.Pairs.{Scope, Within, Across, differs, where_so}
+use Rattle.walk_trees.proofs.Each.{Each}
+use Rattle.obligations.specs.Listing.{Of, Planted, of_place}
+use Rattle.obligations.specs.Crossings.{Crossing, second_index, two_orders, all_orders, conflict, may_meet, with_one, with_each, array, crossings_in, crossings_of, crossings_from, is_fenced, crossings}
+use Rattle.obligations.specs.Fitting.{crossing_fits, crossings_fit}
 use Rattle.plain_kernels.proofs.Trees.{IsSmall}
 use Rattle.plain_kernels.proofs.Fitting.{IsSmallAccess, two}
 

@@ -5,10 +5,10 @@ use Rattle.linear.specs.Exact.{fits}
 use Rattle.linear.proofs.Sizes.{size_difference, fits_small}
 use Rattle.facts.specs.Symbols.{Fact, constant, denial}
 use Rattle.arrivals.specs.Trees.{AtEnd}
-use Rattle.obligations.specs.Trees as trees
-use Rattle.obligations.specs.Trees.{Goal, AtLeastZero, Either, Replaced, Divided, Tree, Leaf, Dead, Claim, Know, Touch, Fork, leaves, Obligation, Access, Ended}
-use Rattle.obligations.proofs.Each.{Each}
-use Rattle.obligations.specs.Fitting.{goal_fits, tree_fits, denials_fit, tree_denials_fit}
+use Rattle.walk_trees.specs.Trees as trees
+use Rattle.walk_trees.specs.Trees.{Goal, AtLeastZero, Either, Replaced, Divided, Tree, Leaf, Dead, Claim, Know, Touch, Fork, leaves, Obligation, Access, Ended}
+use Rattle.walk_trees.proofs.Each.{Each}
+use Rattle.walk_trees.specs.Fitting.{goal_fits, tree_fits, denials_fit, tree_denials_fit}
 use Rattle.plain_kernels.specs.Forks.{has_fork}
 use Rattle.plain_kernels.proofs.Trees.{IsSmall, IsSmallGoal, IsRight, IsTame}
 

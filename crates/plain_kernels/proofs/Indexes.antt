@@ -12,10 +12,10 @@ use Rattle.facts.specs.Symbols.{First, Symbol, Local, Group, number, symbol_of, 
 use Rattle.facts.specs.Elements.{Known, Elements, element}
 use Rattle.facts.specs.Launching.{known, below}
 use Rattle.facts.proofs.Naming.{symbol_of-number}
-use Rattle.obligations.specs.Held.{Held, latest, element_held}
-use Rattle.obligations.specs.Walks.{Setting, State, element_of, settles, low_end}
-use Rattle.obligations.specs.Terms.{id_form}
-use Rattle.obligations.specs.Statements.{setting, opening_values}
+use Rattle.walk_trees.specs.Held.{Held, latest, element_held}
+use Rattle.walk_trees.specs.Walks.{Setting, State, element_of, settles, low_end}
+use Rattle.walk_trees.specs.Terms.{id_form}
+use Rattle.walk_trees.specs.Statements.{setting, opening_values}
 use Rattle.domain.specs.Ends.{all, at_least, at_most}
 use Rattle.plain_kernels.specs.Domains.{domain}
 use Rattle.plain_kernels.proofs.Ends.{EndsIn, IsEnd, Scales, counts, one-number}

@@ -13,13 +13,13 @@ use Rattle.facts.specs.Elements.{Known}
 use Rattle.facts.specs.Launching.{id_facts}
 use Rattle.arrivals.specs.Trees.{Stop, AtEnd}
 use Rattle.arrivals.specs.Shown.{owed, same_turns}
-use Rattle.obligations.specs.Trees.{Ended, Obligation}
-use Rattle.obligations.specs.Fitting.{all_fit}
-use Rattle.obligations.proofs.Each.{Each}
-use Rattle.place_obligations.specs.Notes.{Notes}
-use Rattle.place_obligations.specs.Roots.{root_facts}
-use Rattle.place_obligations.specs.Listing.{Of}
-use Rattle.place_obligations.specs.Meetings.{is_rest, owed_obligations, meetings}
+use Rattle.walk_trees.specs.Trees.{Ended, Obligation}
+use Rattle.walk_trees.specs.Fitting.{all_fit}
+use Rattle.walk_trees.proofs.Each.{Each}
+use Rattle.obligations.specs.Notes.{Notes}
+use Rattle.obligations.specs.Roots.{root_facts}
+use Rattle.obligations.specs.Listing.{Of}
+use Rattle.obligations.specs.Meetings.{is_rest, owed_obligations, meetings}
 use Rattle.plain_kernels.specs.Kernels.{HasLimits}
 use Rattle.plain_kernels.proofs.Trees.{most, less, IsSmall}
 use Rattle.plain_kernels.proofs.Fitting.{two, small-fits}

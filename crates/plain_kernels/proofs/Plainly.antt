@@ -8,16 +8,16 @@ use Rattle.semantics.specs.Conditions.{Conditions}
 use Rattle.facts.specs.Launching.{launch_facts, known}
 use Rattle.arrivals.specs.Loops.{unmet}
 use Rattle.arrivals.specs.Places.{own_place}
-use Rattle.obligations.specs.Trees as trees
-use Rattle.obligations.specs.Trees.{Tree, Obligation, Access, Ended, leaves}
-use Rattle.obligations.proofs.Each.{Each}
-use Rattle.place_obligations.specs.Notes.{Notes}
-use Rattle.place_obligations.specs.Walking.{tree_of}
-use Rattle.place_obligations.specs.Listing.{Planted, planted, planted_from, all_trees, of_place, claims_of, accesses_of, ends_in}
-use Rattle.place_obligations.specs.Meetings.{meetings}
-use Rattle.place_obligations.specs.Crossings.{crossings, crossing_obligation}
-use Rattle.place_obligations.specs.Fitting.{planted_fits, trees_fit, goals_fit, crossings_fit, forms_fit}
-use Rattle.place_obligations.specs.Shown.{obligations}
+use Rattle.walk_trees.specs.Trees as trees
+use Rattle.walk_trees.specs.Trees.{Tree, Obligation, Access, Ended, leaves}
+use Rattle.walk_trees.proofs.Each.{Each}
+use Rattle.obligations.specs.Notes.{Notes}
+use Rattle.obligations.specs.Walking.{tree_of}
+use Rattle.obligations.specs.Listing.{Planted, planted, planted_from, all_trees, of_place, claims_of, accesses_of, ends_in}
+use Rattle.obligations.specs.Meetings.{meetings}
+use Rattle.obligations.specs.Crossings.{crossings, crossing_obligation}
+use Rattle.obligations.specs.Fitting.{planted_fits, trees_fit, goals_fit, crossings_fit, forms_fit}
+use Rattle.obligations.specs.Shown.{obligations}
 use Rattle.plain_kernels.specs.Domains.{domain}
 use Rattle.plain_kernels.specs.Claims.{claims, marked, is_range}
 use Rattle.plain_kernels.specs.Kernels.{has_signed, IsPlain, HasLimits}

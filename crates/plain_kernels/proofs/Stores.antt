@@ -11,13 +11,13 @@ use Rattle.linear.specs.Exact.{put, multiple, sum}
 use Rattle.linear.specs.Sizes.{size}
 use Rattle.linear.proofs.Sizes.{size-put}
 use Rattle.facts.specs.Symbols.{ArgumentOf, Fact, constant, once}
-use Rattle.obligations.specs.Held.{with_new}
-use Rattle.obligations.specs.Trees.{Tree}
-use Rattle.obligations.specs.Values.{Value, value}
-use Rattle.obligations.specs.Walks.{Setting, State, newest, holding, any_of, Onward, settles, claimed_once, at_site, ranged, kept_or_new, brought, brought_from, both_brought}
-use Rattle.obligations.specs.Operators.{binary}
-use Rattle.obligations.specs.Terms.{no_value, variable, id_form, walk}
-use Rattle.obligations.specs.Statements.{setting, argument_values, zero_value}
+use Rattle.walk_trees.specs.Held.{with_new}
+use Rattle.walk_trees.specs.Trees.{Tree}
+use Rattle.walk_trees.specs.Values.{Value, value}
+use Rattle.walk_trees.specs.Walks.{Setting, State, newest, holding, any_of, Onward, settles, claimed_once, at_site, ranged, kept_or_new, brought, brought_from, both_brought}
+use Rattle.walk_trees.specs.Operators.{binary}
+use Rattle.walk_trees.specs.Terms.{no_value, variable, id_form, walk}
+use Rattle.walk_trees.specs.Statements.{setting, argument_values, zero_value}
 use Rattle.plain_kernels.specs.Domains.{domain}
 use Rattle.plain_kernels.specs.Claims.{brings, ranges}
 use Rattle.plain_kernels.specs.Kernels.{is_int, is_signed, IsPlainValue, Number, BroughtNumber, Parameter, BroughtParameter, IsPlainIndex, Alone, Times, Plus, TimesPlus}

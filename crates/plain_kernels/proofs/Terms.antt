@@ -12,7 +12,7 @@ use Rattle.domain.specs.Products.{mul-le_pos}
 use Rattle.domain.specs.Both.{larger}
 use Rattle.domain.specs.declared.product.Product.{Product}
 use Rattle.facts.specs.Elements.{is_from_zero}
-use Rattle.obligations.specs.Held.{terms_with}
+use Rattle.walk_trees.specs.Held.{terms_with}
 use Rattle.plain_kernels.specs.Domains.{domain}
 use Rattle.plain_kernels.proofs.Ends.{EndsIn, EndIn, IsEnd, Scales, wider, adds, multiplies, one-number}
 

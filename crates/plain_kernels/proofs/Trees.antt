@@ -6,9 +6,9 @@ use Rattle.semantics.specs.Word.{Uint}
 use Rattle.linear.proofs.Sizes.{size_difference}
 use Rattle.facts.specs.Symbols.{Fact, minus}
 use Rattle.arrivals.specs.Trees.{AtEnd}
-use Rattle.obligations.specs.Trees.{OfRange, Goal, AtLeastZero, Either, Replaced, Divided, Tree, Leaf, Dead, Claim, Know, Touch, Fork}
-use Rattle.obligations.specs.Values.{value}
-use Rattle.obligations.specs.Walks.{demand, Setting, State, Onward, settles, claimed_once, ranged, kept_or_new, in_range, is_kept, low_end, high_end}
+use Rattle.walk_trees.specs.Trees.{OfRange, Goal, AtLeastZero, Either, Replaced, Divided, Tree, Leaf, Dead, Claim, Know, Touch, Fork}
+use Rattle.walk_trees.specs.Values.{value}
+use Rattle.walk_trees.specs.Walks.{demand, Setting, State, Onward, settles, claimed_once, ranged, kept_or_new, in_range, is_kept, low_end, high_end}
 use Rattle.linear.specs.Sizes.{size}
 
 -- forms that are small: no sum of a few of them leaves i64

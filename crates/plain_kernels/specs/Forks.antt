@@ -1,6 +1,6 @@
 -- Whether a tree of what an item does forks.
 use Rattle.std.specs.Prelude.{Bool, true, false}
-use Rattle.obligations.specs.Trees.{Tree, Leaf, Dead, Claim, Know, Touch, Fork}
+use Rattle.walk_trees.specs.Trees.{Tree, Leaf, Dead, Claim, Know, Touch, Fork}
 
 -- there is a test
 abbrev pub has_fork : {E : Type 0} → Tree E → Bool

@@ -1,6 +1,7 @@
 -- What is written of the texts that were asked about.
 use Rattle.std.proofs.Common.{◌≡◌, ℕ, List, [], ◌∷◌, ◌++◌, map, false, inl, inr, refl, sym, ap, ◌∙◌, subst, append_assoc}
-use Rattle.std.specs.Prelude.{◌⊎◌, Option, Some, None, Result, Ok, Err, IfSome, IfOk, codes}
+use Rattle.std.specs.Prelude.{◌⊎◌, Option, Some, None, Result, Ok, Err, IfSome, IfOk, Vec, String}
+use Rattle.std.specs.declared.alloc.Global.{Global}
 use Rattle.std.specs.String.{string_bytes}
 use Rattle.reading.specs.Answers as kernels
 use Rattle.launch_text.specs.Answers as launches
@@ -12,7 +13,6 @@ use Rattle.findings.specs.View.{finding as finding_seen}
 use Rattle.telling.specs.Refusals.{IsRefusalLine, refusal_line, place_seen}
 use Rattle.telling.specs.Refusing.{IsRefusedText, IsRefusedKernel, IsUnanswered}
 use Rattle.telling.specs.Proving.{IsProvedText, IsUnproved, proved_lines, found, findings_text}
-use Rattle.command_line.specs.Words.{HasWord, AsksWorkers, saved_as}
 use Rattle.semantics.specs.Launch.{Launch, Kernel, Fits}
 use Rattle.semantics.specs.Conditions.{Conditions, Meets}
 use Rattle.launch.specs.Least.{probe}
@@ -20,10 +20,10 @@ use Rattle.launch.specs.View.{conditions as conditions_seen}
 use Rattle.telling.specs.Telling.{accepted_line}
 use Rattle.telling.specs.Proving.{no_launch_line}
 use Rattle.telling.specs.ProvingVerdicts.{Begins, Explains}
-use Rattle.program.specs.Running.{kernel_read, conditions_read, saving, IsSafeText}
-use Rattle.program.specs.Running.{Read, Write, IsOf, Reads, Does, Saves, IsRefusalText, own, checked, ran, proved, explained, explained_check, printed, Success, Output, done, refused, silent, torn}
-use Rattle.program.specs.Refusing.{Refusal}
-use Rattle.program.specs.Verdicts.{Tells, Kept, Explained, IsTold, IsWritten}
+use Rattle.program.specs.Running.{kernel_read, conditions_read, saving, Request, CheckOwn, Check, Run, Prove, Explain, ExplainCheck, Print, Texts, Asks, Answered, IsSafeText, Fulfils}
+use Rattle.program.specs.Running.{Read, Write, IsOf, Reads, Does, Saves, IsRefusalText, Success, Output, done, refused, silent, torn}
+use Rattle.program.specs.Refusing.{Refuses, Refusal}
+use Rattle.program.specs.Verdicts.{IsAnsweredBy, Tells, Finds, Kept, Explained, IsTold, IsWritten}
 use Rattle.telling.specs.declared.Verdict.{Verdict}
 use Rattle.telling.specs.declared.Verdict.TheVariants as verdicts
 
@@ -53,31 +53,54 @@ begun tells f text h =
     let r = f h.0 h.2 in
     (r.0, r.1 ++ h.1, r.2, h.3 ∙ ap (λ t. t ++ h.1) r.3 ∙ append_assoc r.0 r.1 h.1)
 
-text_of : (given : List Read → Option Write → Type 0) (ws : List (List ℕ)) (text : List ℕ) → Refusal given ws text → IsRefusalText text
-text_of given ws text (own e g h) = alone text (check_line _ _ _ text h)
-text_of given ws text (checked k c p kernel conditions certificate w x y z g h) = alone text (check_line kernel conditions certificate text h)
-text_of given ws text (ran k c p l kernel conditions certificate launch workers w x y z u n g h) = alone text (run_line workers kernel conditions certificate launch text h)
-text_of given ws text (proved k c kernel conditions workers saved w x y n g h) = search_text workers kernel conditions text h.0
-text_of given ws text (explained k c kernel conditions w x y z g h) = begun (IsUnproved 1 kernel conditions) (search_text 1 kernel conditions) text h
-text_of given ws text (explained_check k c p kernel conditions certificate w x y z g h) =
-    begun (IsRefusedText kernel conditions certificate) (λ line refusal. alone line (check_line kernel conditions certificate line refusal)) text h
-text_of given ws text (printed k kernel w x g h) = alone text (print_line kernel text h)
+text_of : (r : Request) (t : Texts) (saved : Option Write) (text : List ℕ) → Refuses r t saved text → IsRefusalText text
+text_of CheckOwn t saved text h = alone text (check_line _ _ _ text h)
+text_of (Check k c p) t saved text h = alone text (check_line t.kernel t.conditions t.certificate text h)
+text_of (Run k c p l workers) t saved text h = alone text (run_line workers t.kernel t.conditions t.certificate t.launch text h)
+text_of (Prove k c workers out) t saved text h = search_text workers t.kernel t.conditions text h.0
+text_of (Explain k c) t saved text h = begun (IsUnproved 1 t.kernel t.conditions) (search_text 1 t.kernel t.conditions) text h
+text_of (ExplainCheck k c p) t saved text h =
+    begun (IsRefusedText t.kernel t.conditions t.certificate) (λ line refusal. alone line (check_line t.kernel t.conditions t.certificate line refusal)) text h
+text_of (Print k) t saved text h = alone text (print_line t.kernel text h)
+
+-- what a verdict tells fulfils the request, or refuses it
+fulfils : (text : Vec ℕ Global) (r : Request) (t : Texts) (saved : Option Write) → IsAnsweredBy (verdicts.Done text) r t saved → Fulfils IsProvedText r t saved text.items
+fulfils text CheckOwn t saved h = h
+fulfils text (Check k c p) t saved h = h
+fulfils text (Run k c p l workers) t saved h = h
+fulfils text (Prove k c workers out) t saved h = h
+fulfils text (Explain k c) t saved h = h
+fulfils text (ExplainCheck k c p) t saved h = h
+fulfils text (Print k) t saved h = h
+
+refuses : (line : String Global) (r : Request) (t : Texts) (saved : Option Write) → IsAnsweredBy (verdicts.Refused line) r t saved → Refuses r t saved (string_bytes line)
+refuses line CheckOwn t saved h = h
+refuses line (Check k c p) t saved h = h
+refuses line (Run k c p l workers) t saved h = h
+refuses line (Prove k c workers out) t saved h = h
+refuses line (Explain k c) t saved h = h
+refuses line (ExplainCheck k c p) t saved h = h
+refuses line (Print k) t saved h = h
 
 module _ (given : List Read → Option Write → Type 0) (ws : List (List ℕ)) (old new : Option (List ℕ)) (status : ℕ) where
   abbrev Gained : Type 0
   Gained = Output (Success given IsProvedText ws) (Refusal given ws) old new status
+
+  -- the same request, of which more is told
+  told_by : (P Q : Request → Texts → Option Write → Type 0) → ((r : Request) (t : Texts) (saved : Option Write) → P r t saved → Q r t saved) → Answered given ws P → Answered given ws Q
+  told_by P Q f a = record { request = a.request; texts = a.texts; saved = a.saved; asked = a.asked; done = a.done; may_write = a.may_write; is_told = f a.request a.texts a.saved a.is_told }
 
   of_text : (text : List ℕ) → Success given IsProvedText ws text → IsWritten text old new 0 status → Gained
   of_text text s (inl h) = done h.0 text s h.1
   of_text text s (inr h) = torn h.0 text h.1.0 (inl s) h.1.1
 
   of_line : (line : List ℕ) → Refusal given ws line → IsWritten line old new 1 status → Gained
-  of_line line s (inl h) = refused h.0 line (text_of given ws line s) s h.1
+  of_line line s (inl h) = refused h.0 line (text_of s.request s.texts s.saved line s.is_told) s h.1
   of_line line s (inr h) = torn h.0 line h.1.0 (inr s) h.1.1
 
   pub output_of : (v : Verdict) → Tells given ws v → IsTold v old new status → Output (Success given IsProvedText ws) (Refusal given ws) old new status
-  output_of (verdicts.Done text) s h = of_text text.items s h
-  output_of (verdicts.Refused line) s h = of_line (string_bytes line) s h
+  output_of (verdicts.Done text) s h = of_text text.items (told_by (IsAnsweredBy (verdicts.Done text)) (λ r t saved. Fulfils IsProvedText r t saved text.items) (fulfils text) s) h
+  output_of (verdicts.Refused line) s h = of_line (string_bytes line) (told_by (IsAnsweredBy (verdicts.Refused line)) (λ r t saved. Refuses r t saved (string_bytes line)) (refuses line) s) h
   output_of verdicts.OutOfMemory s h = silent (inr (inr h.0)) h.1
 
 -- one read more
@@ -110,13 +133,18 @@ module _ {F : Type 0} (contents : F → List ℕ → Option (List ℕ)) (gives :
   abbrev Given : Type 0
   Given = Reads contents gives before next (kernel_read k kernel ∷ conditions_read c conditions ∷ [])
 
-  pub tells : (v : Verdict) → HasWord ws 0 (codes "prove") → HasWord ws 1 k → HasWord ws 2 c → AsksWorkers ws workers → out ≡ saved_as false ws → Given → Kept contents next after out workers kernel conditions v → Tells (Does contents gives before after) ws v
-  tells (verdicts.Done text) w x y n q r h =
-      proved k c kernel conditions workers (saving out h.0) w x y n (does contents gives before next after (kernel_read k kernel ∷ conditions_read c conditions ∷ []) (saving out h.0) r h.2) (is_safe_text kernel conditions h.0 text.items h.1, (h.0, h.1, ap (λ o. saving o h.0) q))
-  tells (verdicts.Refused line) w x y n q r h =
-      proved k c kernel conditions workers None w x y n (does contents gives before next after (kernel_read k kernel ∷ conditions_read c conditions ∷ []) None r h.1) (h.0, refl)
-  tells verdicts.OutOfMemory w x y n q r h =
-      proved k c kernel conditions workers None w x y n (does contents gives before next after (kernel_read k kernel ∷ conditions_read c conditions ∷ []) None r h) tt
+  abbrev of_search : Texts
+  of_search = record { kernel = kernel; conditions = conditions; certificate = []; launch = [] }
+
+  -- with this file written, or none
+  asked_of : (v : Verdict) (saved : Option Write) → Asks ws (Prove k c workers out) → Given → Saves contents next after saved → Finds out v workers kernel conditions saved → Tells (Does contents gives before after) ws v
+  asked_of v saved w r s h =
+      record { request = Prove k c workers out; texts = of_search; saved = saved; asked = w; done = does contents gives before next after (kernel_read k kernel ∷ conditions_read c conditions ∷ []) saved r s; may_write = tt; is_told = h }
+
+  pub tells : (v : Verdict) → Asks ws (Prove k c workers out) → Given → Kept contents next after out workers kernel conditions v → Tells (Does contents gives before after) ws v
+  tells (verdicts.Done text) w r h = asked_of (verdicts.Done text) (saving out h.0) w r h.2 (is_safe_text kernel conditions h.0 text.items h.1, (h.0, h.1, refl))
+  tells (verdicts.Refused line) w r h = asked_of (verdicts.Refused line) None w r h.1 (h.0, refl)
+  tells verdicts.OutOfMemory w r h = asked_of verdicts.OutOfMemory None w r h tt
 
 -- what follows of each answer
 pub follows : {T E : Type 0} (r : Result T E) (P Q : T → Type 0) → ((t : T) → P t → Q t) → IfOk r P → IfOk r Q

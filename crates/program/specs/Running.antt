@@ -8,7 +8,7 @@ use Rattle.telling.specs.Telling.{IsSafe, IsAcceptedText, IsResultText, IsPrinte
 use Rattle.telling.specs.Proving.{no_launch_line}
 use Rattle.telling.specs.Refusals.{IsRefusalLine}
 use Rattle.command_line.specs.Words.{operands, HasWord, AsksWorkers, saved_as}
-use Rattle.program.specs.First.{first_kernel, first_conditions, first_certificate}
+use Rattle.program.specs.First.{first_kernel, first_conditions}
 
 -- a read of a file: its name, the limit of its text, and the bytes that it gave
 pub record Read : Type 0 where
@@ -62,29 +62,67 @@ certificate_read name bytes = record { name = name; limit = 16777216; bytes = by
 abbrev pub launch_read : (name bytes : List ℕ) → Read
 launch_read name bytes = record { name = name; limit = 4194304; bytes = bytes }
 
+-- what the words ask of it: a check of the texts that stand in the program, or a check, a run, a search, an explanation or a canonical text
+-- of files, each by its name
+pub data Request : Type 0 where
+  CheckOwn : Request
+  Check : (kernel conditions certificate : List ℕ) → Request
+  Run : (kernel conditions certificate launch : List ℕ) (workers : ℕ) → Request
+  Prove : (kernel conditions : List ℕ) (workers : ℕ) (out : Option (List ℕ)) → Request
+  Explain : (kernel conditions : List ℕ) → Request
+  ExplainCheck : (kernel conditions certificate : List ℕ) → Request
+  Print : (kernel : List ℕ) → Request
+
 -- there is no n-th word that is no option, from 0
 abbrev pub HasNoWord : List (List ℕ) → ℕ → Type 0
 HasNoWord ws n = slice_get (operands false ws) n ≡ None
 
--- what is told of the texts that the words ask about: those in the program where there is no word, else those of the files that the
--- words name, which were read in this order; `given` says of reads that they were made, and of a text that it was written behind them
-pub data Answers (given : List Read → Option Write → Type 0) (ws : List (List ℕ)) (checks : (kernel conditions certificate : List ℕ) → Type 0) (runs : (workers : ℕ) → (kernel conditions certificate launch : List ℕ) → Type 0)
-    (proves : (workers : ℕ) → (kernel conditions : List ℕ) → Option Write → Type 0) (explains : (kernel conditions : List ℕ) → Type 0) (explains_check : (kernel conditions certificate : List ℕ) → Type 0) (prints : (kernel : List ℕ) → Type 0) : Type 0 where
-  own : ws ≡ [] → given [] None → checks first_kernel first_conditions first_certificate → Answers given ws checks runs proves explains explains_check prints
-  checked : (k c p kernel conditions certificate : List ℕ) → HasWord ws 0 (codes "check") → HasWord ws 1 k → HasWord ws 2 c → HasWord ws 3 p →
-      given (kernel_read k kernel ∷ conditions_read c conditions ∷ certificate_read p certificate ∷ []) None → checks kernel conditions certificate →
-      Answers given ws checks runs proves explains explains_check prints
-  ran : (k c p l kernel conditions certificate launch : List ℕ) (workers : ℕ) → HasWord ws 0 (codes "run") → HasWord ws 1 k → HasWord ws 2 c → HasWord ws 3 p → HasWord ws 4 l → AsksWorkers ws workers →
-      given (kernel_read k kernel ∷ conditions_read c conditions ∷ certificate_read p certificate ∷ launch_read l launch ∷ []) None → runs workers kernel conditions certificate launch →
-      Answers given ws checks runs proves explains explains_check prints
-  proved : (k c kernel conditions : List ℕ) (workers : ℕ) (saved : Option Write) → HasWord ws 0 (codes "prove") → HasWord ws 1 k → HasWord ws 2 c → AsksWorkers ws workers →
-      given (kernel_read k kernel ∷ conditions_read c conditions ∷ []) saved → proves workers kernel conditions saved → Answers given ws checks runs proves explains explains_check prints
-  explained : (k c kernel conditions : List ℕ) → HasWord ws 0 (codes "explain") → HasWord ws 1 k → HasWord ws 2 c → HasNoWord ws 3 →
-      given (kernel_read k kernel ∷ conditions_read c conditions ∷ []) None → explains kernel conditions → Answers given ws checks runs proves explains explains_check prints
-  explained_check : (k c p kernel conditions certificate : List ℕ) → HasWord ws 0 (codes "explain") → HasWord ws 1 k → HasWord ws 2 c → HasWord ws 3 p →
-      given (kernel_read k kernel ∷ conditions_read c conditions ∷ certificate_read p certificate ∷ []) None → explains_check kernel conditions certificate →
-      Answers given ws checks runs proves explains explains_check prints
-  printed : (k kernel : List ℕ) → HasWord ws 0 (codes "print") → HasWord ws 1 k → given (kernel_read k kernel ∷ []) None → prints kernel → Answers given ws checks runs proves explains explains_check prints
+-- which words ask for it, options left out
+abbrev pub Asks : List (List ℕ) → Request → Type 0
+Asks ws CheckOwn = ws ≡ []
+Asks ws (Check k c p) = HasWord ws 0 (codes "check") × HasWord ws 1 k × HasWord ws 2 c × HasWord ws 3 p
+Asks ws (Run k c p l workers) = HasWord ws 0 (codes "run") × HasWord ws 1 k × HasWord ws 2 c × HasWord ws 3 p × HasWord ws 4 l × AsksWorkers ws workers
+Asks ws (Prove k c workers out) = HasWord ws 0 (codes "prove") × HasWord ws 1 k × HasWord ws 2 c × AsksWorkers ws workers × (out ≡ saved_as false ws)
+Asks ws (Explain k c) = HasWord ws 0 (codes "explain") × HasWord ws 1 k × HasWord ws 2 c × HasNoWord ws 3
+Asks ws (ExplainCheck k c p) = HasWord ws 0 (codes "explain") × HasWord ws 1 k × HasWord ws 2 c × HasWord ws 3 p
+Asks ws (Print k) = HasWord ws 0 (codes "print") × HasWord ws 1 k
+
+-- what was read of files; a text that the request does not name is any
+pub record Texts : Type 0 where
+  pub kernel : List ℕ
+  pub conditions : List ℕ
+  pub certificate : List ℕ
+  pub launch : List ℕ
+
+-- the reads that gave it, in this order
+abbrev pub reads : Request → Texts → List Read
+reads CheckOwn t = []
+reads (Check k c p) t = kernel_read k t.kernel ∷ conditions_read c t.conditions ∷ certificate_read p t.certificate ∷ []
+reads (Run k c p l workers) t = kernel_read k t.kernel ∷ conditions_read c t.conditions ∷ certificate_read p t.certificate ∷ launch_read l t.launch ∷ []
+reads (Prove k c workers out) t = kernel_read k t.kernel ∷ conditions_read c t.conditions ∷ []
+reads (Explain k c) t = kernel_read k t.kernel ∷ conditions_read c t.conditions ∷ []
+reads (ExplainCheck k c p) t = kernel_read k t.kernel ∷ conditions_read c t.conditions ∷ certificate_read p t.certificate ∷ []
+reads (Print k) t = kernel_read k t.kernel ∷ []
+
+-- a search alone may write a file
+abbrev pub MayWrite : Request → Option Write → Type 0
+MayWrite CheckOwn saved = saved ≡ None
+MayWrite (Check k c p) saved = saved ≡ None
+MayWrite (Run k c p l workers) saved = saved ≡ None
+MayWrite (Prove k c workers out) saved = Unit {0}
+MayWrite (Explain k c) saved = saved ≡ None
+MayWrite (ExplainCheck k c p) saved = saved ≡ None
+MayWrite (Print k) saved = saved ≡ None
+
+-- the words ask for a request, its reads were made, and a text was written behind them where there is one (`given`), and this is told of it
+pub record Answered (given : List Read → Option Write → Type 0) (ws : List (List ℕ)) (told : Request → Texts → Option Write → Type 0) : Type 0 where
+  pub request : Request
+  pub texts : Texts
+  pub saved : Option Write
+  pub asked : Asks ws request
+  pub done : given (reads request texts) saved
+  pub may_write : MayWrite request saved
+  pub is_told : told request texts saved
 
 -- the headline holds at each launch that meets the conditions: `accepted` where some launch of the kernel does, or else a line more
 abbrev pub IsSafeText : (kernel conditions written : List ℕ) → Type 0
@@ -92,20 +130,26 @@ IsSafeText kernel conditions written =
     (k : Kernel) × (c : Conditions) × IsSafe kernel conditions k c × (((l : Launch) × Fits k.core l × Meets c l × (written ≡ accepted_line)) ⊎ (written ≡ accepted_line ++ no_launch_line))
 
 -- and what was found, a certificate, was written to the file behind `--out`, where there is one; `proof` says of it that it is one
-abbrev pub IsFound : (proof : (kernel conditions certificate written : List ℕ) → Type 0) (ws : List (List ℕ)) (kernel conditions written : List ℕ) → Option Write → Type 0
-IsFound proof ws kernel conditions written saved =
-    IsSafeText kernel conditions written × ((certificate : List ℕ) × proof kernel conditions certificate written × (saved ≡ saving (saved_as false ws) certificate))
+abbrev pub IsFound : (proof : (kernel conditions certificate written : List ℕ) → Type 0) (out : Option (List ℕ)) (kernel conditions written : List ℕ) → Option Write → Type 0
+IsFound proof out kernel conditions written saved =
+    IsSafeText kernel conditions written × ((certificate : List ℕ) × proof kernel conditions certificate written × (saved ≡ saving out certificate))
 
 -- the same where no file is written
 abbrev pub IsSought : (proof : (kernel conditions certificate written : List ℕ) → Type 0) (kernel conditions written : List ℕ) → Type 0
 IsSought proof kernel conditions written = IsSafeText kernel conditions written × ((certificate : List ℕ) × proof kernel conditions certificate written)
 
--- `accepted`, the buffers of a launch, or a canonical text
+-- what fulfils a request: `accepted`, the buffers of a launch, or a canonical text
+abbrev pub Fulfils : (proof : (kernel conditions certificate written : List ℕ) → Type 0) → Request → Texts → Option Write → (written : List ℕ) → Type 0
+Fulfils proof CheckOwn t saved written = IsAcceptedText first_kernel first_conditions written
+Fulfils proof (Check k c p) t saved written = IsAcceptedText t.kernel t.conditions written
+Fulfils proof (Run k c p l workers) t saved written = IsResultText t.kernel t.conditions t.launch written
+Fulfils proof (Prove k c workers out) t saved written = IsFound proof out t.kernel t.conditions written saved
+Fulfils proof (Explain k c) t saved written = IsSought proof t.kernel t.conditions written
+Fulfils proof (ExplainCheck k c p) t saved written = IsAcceptedText t.kernel t.conditions written
+Fulfils proof (Print k) t saved written = IsPrintedText t.kernel written
+
 abbrev pub Success : (given : List Read → Option Write → Type 0) (proof : (kernel conditions certificate written : List ℕ) → Type 0) (ws : List (List ℕ)) (written : List ℕ) → Type 0
-Success given proof ws written =
-    Answers given ws (λ kernel conditions certificate. IsAcceptedText kernel conditions written) (λ workers kernel conditions certificate launch. IsResultText kernel conditions launch written)
-    (λ workers kernel conditions saved. IsFound proof ws kernel conditions written saved) (λ kernel conditions. IsSought proof kernel conditions written)
-    (λ kernel conditions certificate. IsAcceptedText kernel conditions written) (λ kernel. IsPrintedText kernel written)
+Success given proof ws written = Answered given ws (λ request texts saved. Fulfils proof request texts saved written)
 
 -- the one file that may change: that which `prove` is asked to write
 abbrev pub IsOut : (ws : List (List ℕ)) (name : List ℕ) → Type 0

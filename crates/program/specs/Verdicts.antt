@@ -7,13 +7,14 @@ use Rattle.telling.specs.Proving.{IsProvedText, IsUnproved}
 use Rattle.telling.specs.declared.Verdict.{Verdict}
 use Rattle.telling.specs.declared.Verdict.TheVariants as verdicts
 use Rattle.telling.specs.ProvingVerdicts.{Begins, ExplainsCheck}
-use Rattle.program.specs.Running.{Read, Write, Answers, Saves, saving, IsFound, IsSought}
+use Rattle.program.specs.First.{first_kernel, first_conditions, first_certificate}
+use Rattle.program.specs.Running.{Read, Write, Request, CheckOwn, Check, Run, Prove, Explain, ExplainCheck, Print, Texts, Answered, Saves, saving, IsFound, IsSought}
 
 -- of a search: what was found is in the file that the words name, if they name one; a refusal writes none
-abbrev pub Finds : (ws : List (List ℕ)) → Verdict → (workers : ℕ) → (kernel conditions : List ℕ) → Option Write → Type 0
-Finds ws (verdicts.Done text) workers kernel conditions saved = IsFound IsProvedText ws kernel conditions text.items saved
-Finds ws (verdicts.Refused line) workers kernel conditions saved = IsUnproved workers kernel conditions (string_bytes line) × (saved ≡ None)
-Finds ws verdicts.OutOfMemory workers kernel conditions saved = Unit {0}
+abbrev pub Finds : (out : Option (List ℕ)) → Verdict → (workers : ℕ) → (kernel conditions : List ℕ) → Option Write → Type 0
+Finds out (verdicts.Done text) workers kernel conditions saved = IsFound IsProvedText out kernel conditions text.items saved
+Finds out (verdicts.Refused line) workers kernel conditions saved = IsUnproved workers kernel conditions (string_bytes line) × (saved ≡ None)
+Finds out verdicts.OutOfMemory workers kernel conditions saved = Unit {0}
 
 -- of a search whose refusal is explained
 abbrev pub Explained : Verdict → (kernel conditions : List ℕ) → Type 0
@@ -27,12 +28,18 @@ Kept contents before after out workers kernel conditions (verdicts.Done text) = 
 Kept contents before after out workers kernel conditions (verdicts.Refused line) = IsUnproved workers kernel conditions (string_bytes line) × (after ≡ before)
 Kept contents before after out workers kernel conditions verdicts.OutOfMemory = after ≡ before
 
--- of the texts that were asked about
+-- of a request and the texts that it is about
+abbrev pub IsAnsweredBy : Verdict → Request → Texts → Option Write → Type 0
+IsAnsweredBy v CheckOwn t saved = Checks v first_kernel first_conditions first_certificate
+IsAnsweredBy v (Check k c p) t saved = Checks v t.kernel t.conditions t.certificate
+IsAnsweredBy v (Run k c p l workers) t saved = Runs v workers t.kernel t.conditions t.certificate t.launch
+IsAnsweredBy v (Prove k c workers out) t saved = Finds out v workers t.kernel t.conditions saved
+IsAnsweredBy v (Explain k c) t saved = Explained v t.kernel t.conditions
+IsAnsweredBy v (ExplainCheck k c p) t saved = ExplainsCheck v t.kernel t.conditions t.certificate
+IsAnsweredBy v (Print k) t saved = Prints v t.kernel
+
 abbrev pub Tells : (given : List Read → Option Write → Type 0) (ws : List (List ℕ)) → Verdict → Type 0
-Tells given ws v =
-    Answers given ws (λ kernel conditions certificate. Checks v kernel conditions certificate) (λ workers kernel conditions certificate launch. Runs v workers kernel conditions certificate launch)
-    (λ workers kernel conditions saved. Finds ws v workers kernel conditions saved) (λ kernel conditions. Explained v kernel conditions)
-    (λ kernel conditions certificate. ExplainsCheck v kernel conditions certificate) (λ kernel. Prints v kernel)
+Tells given ws v = Answered given ws (λ request texts saved. IsAnsweredBy v request texts saved)
 
 -- the text is written, or a front of it, which is status 3
 abbrev pub IsWritten : (text : List ℕ) (old new : Option (List ℕ)) (done status : ℕ) → Type 0

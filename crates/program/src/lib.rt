@@ -1,4 +1,4 @@
-//! Section: Runs and program. Promises a status, and what stands behind a status of 0; stands on `telling` and `command_line`.
+//! Section: Program. Promises a status, and what stands behind a status of 0; stands on `telling` and `command_line`.
 //!
 //! The program over any files and writers: what it reads, what it answers and its status.
 #![tactic(auto)]

@@ -24,7 +24,7 @@ use telling::{
     run_texts,
 };
 
-/// What is told of words that are no command line.
+/// The line on the standard error where words are no command line.
 pub const USAGE: &str = "usage: kverify prove | check | run | print\n";
 
 /// Why there is no verdict.
@@ -36,7 +36,7 @@ enum Stop<'a> {
     Usage,
 }
 
-/// What the files of a kernel, its conditions and its certificate have.
+/// The texts of a kernel, its conditions and its certificate, as their files have them.
 #[derive(Drop)]
 struct Found {
     kernel: Vec<u8>,
@@ -146,7 +146,7 @@ fn saved<'a, F: Files>(files: &mut F, out: Option<&'a str>, text: &[u8]) -> Resu
     }
 }
 
-/// What was found is put into a file before it is told.
+/// Writes a certificate that was found to the file that the words name, if they do; only then anything is told of it.
 fn kept<'a, F: Files>(
     files: &mut F,
     out: Option<&'a str>,
@@ -168,7 +168,7 @@ fn kept<'a, F: Files>(
     }
 }
 
-/// What is found of files.
+/// Reads a kernel and its conditions, and searches a certificate. An error is a file that cannot be read.
 fn searched<'a, R: Threads + Wait + Sync, F: Files>(
     rt: &R,
     alloc: Global,
@@ -320,7 +320,8 @@ fn stopped<E: Write>(stop: Stop, err: &mut E) -> u8
     }
 }
 
-/// Tells a verdict.
+/// Writes a verdict's text or line to the output, or that memory ran out to the other writer, and gives the status: 0, 1 or 4; 3 where
+/// the output fails.
 fn told<O: Write, E: Write>(verdict: Verdict, out: &mut O, err: &mut E) -> u8
     ensures { IsTold verdict (O.contents out.old) (O.contents out.new) result }
 {

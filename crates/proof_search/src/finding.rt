@@ -25,7 +25,6 @@ use guess_walk::Subject;
 use launch::conditions::Conditions;
 use launch_text::laws::what_is_read_of_conditions_is_their_text;
 use launch_text::read_conditions;
-use place_paths::FindError;
 use places::{Place, PlaceError, places};
 use reading::laws::{bytes_are_the_text_of_what_is_read, local_sizes_are_within_limits};
 use reading::read_kernel;
@@ -34,8 +33,9 @@ use std::alloc::Global;
 use std::thread::Threads;
 use syntax::site_at;
 use types::typed::Typed;
+use walk::FindError;
 
-/// What is said where the places of a kernel cannot be walked to an end.
+/// The refusal of a kernel whose places cannot be walked to an end.
 fn unwalked(typed: &Typed, error: FindError) -> VerifyError
     ensures { (t : trees.Kernel × Core) (c : code.Conditions) → Ends t c result }
 {
@@ -48,7 +48,7 @@ fn unwalked(typed: &Typed, error: FindError) -> VerifyError
     }
 }
 
-/// What is said of what is not shown.
+/// The refusal by 60, with findings of the obligations that are not shown.
 fn lacking(
     alloc: Global,
     typed: &Typed,
@@ -65,7 +65,7 @@ fn lacking(
     }
 }
 
-/// What is said where nothing is found.
+/// The refusal where the search finds no certificate.
 fn unfound(alloc: Global, typed: &Typed, conditions: &Conditions, error: SearchError) -> VerifyError
     requires proper { is_proper (core_seen typed.now.1) ≡ true }
     requires of { IsOf (core_seen typed.now.1) (lined conditions.now) }
@@ -78,7 +78,7 @@ fn unfound(alloc: Global, typed: &Typed, conditions: &Conditions, error: SearchE
     }
 }
 
-/// What is said where there are no places.
+/// The refusal by 55: a loop with a barrier can miss it; or want of memory.
 fn unplaced(typed: &Typed, error: PlaceError) -> VerifyError
     requires { IsRefused (core_seen typed.now.1).body error }
     ensures { (found : Lined) (workers : ℕ) (kernel conditions : List ℕ) → AreRead typed.now found kernel conditions → TellsOf result workers kernel conditions }

@@ -1,4 +1,4 @@
-//! Section: Search. Promises that what its findings confirm is true, and nothing of what it finds; stands on `certificate_search` and
+//! Section: Answers. Promises that what its findings confirm is true, and nothing of what it finds; stands on `certificate_search` and
 //! `diagnostics`.
 //!
 //! The bytes of a kernel and of its conditions to the text of a certificate, which nothing believes until it is checked, or to what is not

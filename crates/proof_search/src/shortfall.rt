@@ -1,4 +1,4 @@
-//! What is told where nothing is found.
+//! The findings of a search that came to nothing.
 
 ghost use Rattle.std.specs.Prelude.{◌≡◌, true, None, IfOk, IfSome, OnOk};
 ghost use Rattle.core_code.specs.View.{kernel as core_seen};
@@ -18,7 +18,7 @@ use diagnostics::{Finding, Spot, confirm, possible};
 use launch::conditions::Conditions;
 use launch::probe::probe;
 use launch_text::laws::a_least_launch_fits;
-use path_walk::Sort;
+use path_steps::Sort;
 use std::alloc::{AllocError, Global};
 use syntax::site_at;
 use types::typed::Typed;
@@ -27,8 +27,8 @@ use words::{Fault, Kind};
 /// How many findings are told at most.
 const MOST: usize = 16;
 
-/// What may be wrong where such an obligation is not shown. That a value of `uint` was not wrapped round, and that a guess holds, the
-/// kernel does not ask for.
+/// The kind of finding that an obligation of this sort leaves where it is not shown. None of those that a safe kernel may fail: that a
+/// value of `uint` was not wrapped round, and that a guess holds.
 fn kind_of(sort: Sort) -> Option<diagnostics::Kind> {
     match sort {
         Sort::OfRange(Kind::Int) | Sort::OfQuotient => {
@@ -43,7 +43,7 @@ fn kind_of(sort: Sort) -> Option<diagnostics::Kind> {
     }
 }
 
-/// Where it is.
+/// The place in the source that a mark stands for.
 fn spot_of(typed: &Typed, mark: Mark) -> Spot {
     match mark {
         Mark::Store(site) => Spot::Store(site),
@@ -55,7 +55,7 @@ fn spot_of(typed: &Typed, mark: Mark) -> Spot {
     }
 }
 
-/// What may be wrong where this is not shown.
+/// The possible finding of an obligation that is not shown, if it leaves one.
 fn suspected(alloc: Global, typed: &Typed, missing: Missing) -> Result<Option<Finding>, AllocError>
     ensures { IfOk result (λ found. IfSome found (λ f. (finding_seen f).schedule ≡ None)) }
 {
@@ -82,7 +82,7 @@ fn push_new(all: &mut Vec<Finding>, finding: Finding) -> Result<(), AllocError>
     Ok(())
 }
 
-/// What a replay of the launch at the least values confirms.
+/// The finding that a replay of the launch at the least values confirms, if there is such a launch and it shows one.
 fn confirmed(
     alloc: Global,
     typed: &Typed,
@@ -100,7 +100,7 @@ fn confirmed(
     }
 }
 
-/// What a replay confirms, alone in a list.
+/// A list of the finding that a replay confirms, or an empty one.
 fn replayed(
     alloc: Global,
     typed: &Typed,
@@ -117,7 +117,7 @@ fn replayed(
     Ok(all)
 }
 
-/// What may be wrong where this is not shown, behind what is there.
+/// Adds the possible finding of an obligation that is not shown to the list.
 fn push_suspect(
     alloc: Global,
     typed: &Typed,
@@ -132,7 +132,7 @@ fn push_suspect(
     }
 }
 
-/// What is not shown, behind what a replay confirms.
+/// Adds the possible findings of all obligations that are not shown to the list, in their order.
 fn push_suspects(
     alloc: Global,
     typed: &Typed,
@@ -147,7 +147,8 @@ fn push_suspects(
     Ok(())
 }
 
-/// What is not shown as findings: what a replay confirms comes first, in the place of its like.
+/// The findings of obligations that are not shown, at most 16: the one that a replay confirms first, in the place of its like, then those
+/// that are only possible. An error is want of memory.
 pub fn findings_of(
     alloc: Global,
     typed: &Typed,

@@ -6,9 +6,9 @@ use Rattle.loop_bounds.specs.declared.bound.Bound.TheVariants as bounds
 use Rattle.loop_bounds.specs.declared.bound.LoopBound.{LoopBound}
 use Rattle.rankings.specs.Limits.{limit_of, limits, AreFitting}
 use Rattle.rankings.proofs.Listed.{limits-turns, limits-are}
-use Rattle.place_obligations.specs.Limits.{limit, turns_at, AreLimits}
-use Rattle.place_obligations.specs.declared.notes.Notes.{Notes}
-use Rattle.place_obligations.specs.View.{ranking, ranking_of, seen}
+use Rattle.obligations.specs.Limits.{limit, turns_at, AreLimits}
+use Rattle.obligations.specs.declared.notes.Notes.{Notes}
+use Rattle.obligations.specs.View.{ranking, ranking_of, seen}
 
 one_limit : (b : Bound) → limit (ranking b).bound ≡ limit_of b
 one_limit (bounds.Down f step m) = refl

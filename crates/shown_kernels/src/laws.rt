@@ -8,18 +8,18 @@ ghost use Rattle.semantics.specs.Headline.{Headline};
 ghost use Rattle.semantics.specs.Safety.{IsPairSafe};
 ghost use Rattle.arrivals.specs.Loops.{unmet};
 ghost use Rattle.loop_bounds.specs.Costs.{cost};
-ghost use Rattle.obligations.specs.Shown.{IsShown};
-ghost use Rattle.place_obligations.specs.Notes.{Notes};
-ghost use Rattle.place_obligations.specs.Telling.{TellsOfItems};
-ghost use Rattle.place_obligations.specs.Limits.{turns_at, AreLimits};
-ghost use Rattle.place_obligations.specs.Shown.{obligations};
+ghost use Rattle.walk_trees.specs.Shown.{IsShown};
+ghost use Rattle.obligations.specs.Notes.{Notes};
+ghost use Rattle.obligations.specs.Telling.{TellsOfItems};
+ghost use Rattle.obligations.specs.Limits.{turns_at, AreLimits};
+ghost use Rattle.obligations.specs.Shown.{obligations};
 ghost use Rattle.reading.specs.Kernels.{Kernel, read};
 
 use crate::proper::what_is_read_is_proper;
 pub use crate::ranked::{noted_rankings_are_limits, noted_rankings_have_their_turns};
 use crate::sound::what_is_read_is_sound_where_barriers_are_met;
 use domain::Domain;
-use place_obligations::laws::what_is_shown_by_places_is_safe_within_its_cost;
+use obligations::laws::what_is_shown_by_places_is_safe_within_its_cost;
 use reduction::headline;
 
 /// A kernel that is read of bytes, each of whose loops with a barrier meets one on each way through, and of which all is shown under

@@ -1,4 +1,4 @@
-//! Section: Work-items. Promises the headline of each kernel that is read and of which all is shown; stands on `place_obligations`,
+//! Section: Work-items. Promises the headline of each kernel that is read and of which all is shown; stands on `obligations`,
 //! `reading`, `work_item` and `reduction`.
 //!
 //! `proper`: each literal of a kernel that is read is a number of its kind, shifts are of `uint` and by at most 31, and a group has 1 to

@@ -5,12 +5,12 @@ ghost use Rattle.linear.specs.Exact.{fits_i64};
 ghost use Rattle.loop_bounds.specs.Falling.{most};
 ghost use Rattle.loop_bounds.specs.Turns.{turns_of};
 ghost use Rattle.rankings.specs.Limits.{AreFitting};
-ghost use Rattle.place_obligations.specs.declared.notes.Notes.{Notes};
-ghost use Rattle.place_obligations.specs.View.{seen};
-ghost use Rattle.place_obligations.specs.Limits.{turns_at, AreLimits};
+ghost use Rattle.obligations.specs.declared.notes.Notes.{Notes};
+ghost use Rattle.obligations.specs.View.{seen};
+ghost use Rattle.obligations.specs.Limits.{turns_at, AreLimits};
 
 use loop_bounds::{Bound, LoopBound};
-use place_obligations::Notes;
+use obligations::Notes;
 
 /// What is noted of rankings has the turns of its bounds, and is limits where their numbers are of 64 bits.
 pub fn noted_rankings_have_their_turns()

@@ -3,7 +3,7 @@
 use crate::basis::Basis;
 use crate::modular::{nearest, product, residue};
 use crate::seen::State;
-use candidate_lines::{is_global, one_of, try_multiple, try_sum, value_in};
+use guesses::{is_global, one_of, try_multiple, try_sum, value_in};
 use linear::{Form, Symbol};
 use std::alloc::{AllocError, Global};
 

@@ -1,4 +1,4 @@
-//! Section: Search. Promises nothing: runs that refute guesses; stands on `core_code`, `launch` and `candidate_lines`.
+//! Section: Search. Promises nothing: runs that refute candidates; stands on `core_code`, `launch` and `guesses`.
 //!
 //! A few work-items run alone, to their end where that is not too far, with random words for what they load. What is false in a state that
 //! was seen need not be tried; what holds in all of them may be tried. The numbers only look random: each run of the program sees the same

@@ -1,8 +1,6 @@
 //! What was seen of places and of tests, and what that refutes.
 
-use candidate_lines::{
-    Candidate, Descent, Line, Ranking, Sight, family, index_of, value_in, variable,
-};
+use guesses::{Candidate, Descent, Line, Ranking, Sight, family, index_of, value_in, variable};
 use linear::{Form, Symbol};
 use std::alloc::{AllocError, Global};
 

@@ -3,8 +3,8 @@
 use crate::item::{Item, Triple, along, value_of};
 use crate::random::Random;
 use crate::seen::{Arrival, Observed, value_at};
-use candidate_lines::{Ranking, Sight, argument, at_anchor, group, groups, local, turns, variable};
 use core_code::tree::{Core, Statement, Term};
+use guesses::{Ranking, Sight, argument, at_anchor, group, groups, local, turns, variable};
 use linear::Symbol;
 use std::alloc::{AllocError, Global};
 use words::Word;

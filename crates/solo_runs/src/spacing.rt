@@ -1,7 +1,7 @@
 //! Numbers that divide a form in all states that were seen at a place.
 
 use crate::seen::State;
-use candidate_lines::{divisor_of, value_in};
+use guesses::{divisor_of, value_in};
 use linear::Form;
 
 /// What is known of the values of a form.

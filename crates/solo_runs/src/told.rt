@@ -3,11 +3,11 @@
 use crate::equalities::equalities;
 use crate::seen::{Observed, State};
 use crate::spacing::{divisor_at, power_in};
-use candidate_lines::{
+use core_code::tree::Core;
+use guesses::{
     Candidate, Line, Sight, copied, group, local, one_of, try_difference, try_multiple, try_sum,
     variable,
 };
-use core_code::tree::Core;
 use linear::Form;
 use std::alloc::{AllocError, Global};
 

@@ -1,4 +1,4 @@
-//! What is told where a refusal is explained.
+//! Refusals, told and explained.
 
 ghost use Rattle.std.specs.Prelude.{◌≡◌, ℕ, List};
 ghost use Rattle.std.specs.String.{string_bytes};
@@ -23,7 +23,7 @@ use verify::VerifyError;
 /// The number of steps that pass the budget.
 const OVER_BUDGET: u8 = 56;
 
-/// What a refusal means, behind what is told of it.
+/// Writes what a refusal means behind the lines that tell it.
 fn going_on(
     alloc: Global,
     kernel: &[u8],
@@ -40,7 +40,7 @@ fn going_on(
     }
 }
 
-/// What is said where no certificate is found, or one of which the steps pass the budget.
+/// Tells and explains that no certificate was found, or that the steps of the one that was found pass the budget.
 fn unfound(
     alloc: Global,
     kernel: &[u8],
@@ -93,7 +93,7 @@ pub fn explain_texts<R: Threads + Wait + Sync>(
     }
 }
 
-/// What is said where a kernel is not accepted.
+/// Tells and explains why `check` refuses.
 fn unaccepted(alloc: Global, texts: Texts, error: &CheckError) -> Verdict
     ensures { (k c p : List ℕ) → Refuses error.now k c p → ExplainsCheck result k c p }
 {

@@ -1,4 +1,4 @@
-//! Section: Runs and program. Promises that `accepted` is told only of what is, and of a refusal that what its findings confirm is true;
+//! Section: Answers. Promises that `accepted` is told only of what is, and of a refusal that what its findings confirm is true;
 //! stands on `cert_check`, `executor` and `verify`.
 //!
 //! What the program says of texts: it checks them, runs an accepted kernel, prints a kernel's canonical text, or looks for a certificate,
@@ -35,7 +35,7 @@ use std::sync::Wait;
 use std::thread::Threads;
 use words::Open;
 
-/// What the program answers of texts: what it writes, or the line that refuses them.
+/// The program's answer to texts: the text that it writes, or the line that refuses them.
 #[derive(Drop)]
 pub enum Verdict {
     Done(Vec<u8>),
@@ -71,21 +71,21 @@ fn line_of(line: Option<u32>) -> Option<Place>
     }
 }
 
-/// What is said where a kernel is not accepted.
+/// The refusal by `check`, as a line of its number and place.
 fn unaccepted(alloc: Global, error: &CheckError) -> Verdict
     ensures { IsRefusal (checks.error_number error.now) (checks.error_place error.now) result }
 {
     refused(alloc, error.number(), error.place())
 }
 
-/// What is said where a launch is not read.
+/// The refusal of a launch text, as a line of its number and place.
 fn unread(alloc: Global, error: &LaunchTextError) -> Verdict
     ensures { IsRefusal (launches.error_number error.now) (at_line (launches.error_place error.now)) result }
 {
     refused(alloc, error.number(), line_of(error.place()))
 }
 
-/// What is said where a launch is not run.
+/// The refusal of a launch that was read, as a line of its number and place.
 fn not_run(alloc: Global, error: &RunError) -> Verdict
     ensures { IsRefusal (runs.error_number error.now) (at_line (runs.error_line error.now)) result }
 {

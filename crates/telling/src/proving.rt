@@ -1,4 +1,4 @@
-//! What is told where a certificate is looked for.
+//! The answers of `prove`: that a kernel is proved, with its certificate, or a refusal with its findings.
 
 ghost use Rattle.std.specs.Prelude.{◌≡◌, ◌++◌, ℕ, List, map, IfOk, IfErr, OnOk, IfSome};
 ghost use Rattle.std.specs.String.{string_bytes};
@@ -22,10 +22,10 @@ use std::sync::Wait;
 use std::thread::Threads;
 use verify::{Verified, VerifyError, verify};
 
-/// What the program answers where it looks for a certificate.
+/// The program's answer where it searches a certificate.
 #[derive(Drop)]
 pub enum Sought {
-    /// What is written, and the certificate's text.
+    /// Proved: the text that is written, and the certificate's.
     Found {
         written: Vec<u8>,
         certificate: Vec<u8>,
@@ -35,14 +35,15 @@ pub enum Sought {
     OutOfMemory,
 }
 
-/// What is written of a kernel that is proved, and its certificate's text.
+/// A kernel that is proved: the text that is written of it, and its certificate's.
 #[derive(Drop)]
 pub struct Proved {
     pub written: Vec<u8>,
     pub certificate: Vec<u8>,
 }
 
-/// What is written of a kernel that is proved under conditions.
+/// The lines that are written of a proved kernel: `accepted`, and one more where the launch at the least values does not meet the
+/// conditions. An error is want of memory.
 fn lines(alloc: Global, conditions: &Conditions) -> Result<Vec<u8>, AllocError>
     ensures text { IfOk result (λ v. v.items ≡ proved_lines (least.probe conditions.now)) }
     ensures least { IfOk result (λ _. IfSome (least.probe conditions.now) (Meets (conditions_seen conditions.now))) }
@@ -83,7 +84,7 @@ fn push_lines(alloc: Global, text: &mut String, findings: &[Finding]) -> Result<
     Ok(())
 }
 
-/// What is said where no certificate is found.
+/// The refusal where no certificate is found: a line of its number and place, and one for each finding.
 pub fn unproved(alloc: Global, error: &VerifyError) -> Sought
     ensures { (workers : ℕ) (kernel conditions : List ℕ) → TellsOf error.now workers kernel conditions → Proves result workers kernel conditions }
 {

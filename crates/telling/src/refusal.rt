@@ -1,4 +1,4 @@
-//! What is told of a refusal.
+//! The lines of refusals: a number and a place.
 
 ghost use Rattle.std.specs.Prelude.{◌≡◌, IfOk, IfSome};
 ghost use Rattle.std.specs.String.{string_bytes};

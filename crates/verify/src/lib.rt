@@ -1,4 +1,4 @@
-//! Section: Runs and program. Promises what `check` promises, with a certificate that was found; stands on `cert_check` and
+//! Section: Answers. Promises what `check` promises, with a certificate that was found; stands on `cert_check` and
 //! `proof_search`.
 //!
 //! Kernels, proved: a certificate is looked for, and what is found is checked as any other.

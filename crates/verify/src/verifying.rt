@@ -19,7 +19,7 @@ pub struct Verified {
     pub certificate: Vec<u8>,
 }
 
-/// What is said where a certificate does not show what it has to.
+/// The error of `prove` where a certificate that was found does not show what it has to: no findings stand in it.
 fn unshown(alloc: Global, error: ShowError) -> VerifyError
     ensures { (workers : ℕ) (k c : List ℕ) → IsCount workers → AreSearched k c → TellsOf result workers k c }
 {
@@ -29,7 +29,7 @@ fn unshown(alloc: Global, error: ShowError) -> VerifyError
     }
 }
 
-/// What is said where a certificate is not enough.
+/// The error of `prove` where `check` refuses the certificate that was found.
 #[tactic(auto, using(crate::proofs::Unproved::told))]
 fn unproved(alloc: Global, error: CheckError) -> VerifyError
     ensures { (workers : ℕ) (k c p : List ℕ) → IsCount workers → Refuses error k c p → TellsOf result workers k c }

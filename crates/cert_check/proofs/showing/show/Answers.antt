@@ -7,11 +7,11 @@ use Rattle.launch.specs.View.{conditions}
 use Rattle.facts.specs.Launching.{are_sizes}
 use Rattle.arrivals.specs.Places.{places}
 use Rattle.places.specs.View.{place}
-use Rattle.place_obligations.specs.View.{seen}
-use Rattle.place_obligations.specs.Telling.{TellsOfItems}
-use Rattle.place_names.specs.Noted.{noted}
-use Rattle.place_names.specs.Noting.{lacks}
-use Rattle.place_names.specs.NotesView as views
+use Rattle.obligations.specs.View.{seen}
+use Rattle.obligations.specs.Telling.{TellsOfItems}
+use Rattle.certificate_notes.specs.Noted.{noted}
+use Rattle.certificate_notes.specs.Noting.{lacks}
+use Rattle.certificate_notes.specs.NotesView as views
 use Rattle.plain_kernels.specs.Domains.{domain}
 use Rattle.certificate.specs.Certificates.{certificate}
 use Rattle.certificate.specs.View.{entry}

@@ -2,7 +2,7 @@ use Rattle.std.proofs.Common.{◌≤◌, [], map}
 use Rattle.core_code.specs.View.{kernel}
 use Rattle.launch.specs.View.{conditions}
 use Rattle.certificate.specs.View.{entry}
-use Rattle.place_obligations.specs.View.{seen}
+use Rattle.obligations.specs.View.{seen}
 use Rattle.entry_check.specs.Lacking.{steps_of}
 use Rattle.cert_check.proofs.Unshown.{all_is_shown, few_steps}
 use Rattle.cert_check.proofs.showing.show_noted.Goals as goal

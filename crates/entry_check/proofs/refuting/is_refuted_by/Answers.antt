@@ -3,8 +3,8 @@ use Rattle.std.specs.Prelude.{IsTrue}
 use Rattle.semantics.specs.Linear.{IsImpossible}
 use Rattle.linear.specs.Forms.{forms}
 use Rattle.certificate.specs.View.{entry}
-use Rattle.place_pairs.specs.Goals.{maybe_forms}
-use Rattle.place_pairs.specs.Listed.{listed, nth_obligation}
+use Rattle.two_thread.specs.Goals.{maybe_forms}
+use Rattle.two_thread.specs.Listed.{listed, nth_obligation}
 use Rattle.entry_check.specs.Entries.{facts_for}
 use Rattle.entry_check.proofs.Unshown.{shown_by}
 use Rattle.entry_check.proofs.refuting.is_refuted_by.Goals as goal

@@ -4,13 +4,13 @@ use Rattle.certificate.specs.View.{entry}
 use Rattle.core_code.specs.View.{kernel}
 use Rattle.launch.specs.View.{conditions}
 use Rattle.facts.proofs.Unmade.{passed}
-use Rattle.obligations.specs.Shown.{IsShown}
-use Rattle.place_obligations.specs.View.{seen, quotient_of}
-use Rattle.place_obligations.specs.Shown.{obligations}
-use Rattle.place_pairs.specs.Listed.{listed, made_fit}
-use Rattle.place_pairs.specs.Refusals.{DoNotFit}
-use Rattle.place_paths.specs.Unfound.{IsFirstOfMany, IsUnfound, IsUnlisted}
-use Rattle.place_obligations.specs.Listing.{all_trees}
+use Rattle.walk_trees.specs.Shown.{IsShown}
+use Rattle.obligations.specs.View.{seen, quotient_of}
+use Rattle.obligations.specs.Shown.{obligations}
+use Rattle.two_thread.specs.Listed.{listed, made_fit}
+use Rattle.two_thread.specs.Refusals.{DoNotFit}
+use Rattle.walk.specs.Unfound.{IsFirstOfMany, IsUnfound, IsUnlisted}
+use Rattle.obligations.specs.Listing.{all_trees}
 use Rattle.entry_check.specs.Lacking.{AreListed, ArePassed, Lacks, LacksOf, TellsBy, TellsOwing, owing, with_entries}
 use Rattle.entry_check.specs.Numbers.{show_of}
 use Rattle.entry_check.proofs.Owing.{are_listed, same_notes, told_unfound, unfit_unlisted}

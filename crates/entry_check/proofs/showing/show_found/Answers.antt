@@ -1,10 +1,10 @@
 use Rattle.std.proofs.Common.{rules, arith, ◌≡◌, ℕ, ◌≤◌, ◌<◌, ◌+◌, ◌-◌, length, map, get_or, ap, sym, subst, ◌∙◌}
 use Rattle.std.specs.Prelude.{Option}
 use Rattle.certificate.specs.View.{entry}
-use Rattle.place_obligations.specs.View.{quotient_of}
-use Rattle.place_pairs.specs.Listed.{listed, nth_obligation, no_obligation, made_fit}
-use Rattle.place_pairs.specs.Refusals.{DoNotFit}
-use Rattle.obligations.specs.Shown.{IsShown}
+use Rattle.obligations.specs.View.{quotient_of}
+use Rattle.two_thread.specs.Listed.{listed, nth_obligation, no_obligation, made_fit}
+use Rattle.two_thread.specs.Refusals.{DoNotFit}
+use Rattle.walk_trees.specs.Shown.{IsShown}
 use Rattle.facts.proofs.Unmade.{passed}
 use Rattle.entry_check.specs.Entries.{is_past}
 use Rattle.entry_check.specs.Lacking.{IsStopped, Lacks, TellsBy, Passes}

@@ -1,8 +1,8 @@
 use Rattle.std.proofs.Common.{◌<◌, ℕ, ◌+◌, get_or, map}
 use Rattle.certificate.specs.View.{entry}
-use Rattle.place_obligations.specs.View.{quotient_of}
-use Rattle.place_pairs.specs.Listed.{listed, no_obligation}
-use Rattle.obligations.specs.Shown.{IsShown}
+use Rattle.obligations.specs.View.{quotient_of}
+use Rattle.two_thread.specs.Listed.{listed, no_obligation}
+use Rattle.walk_trees.specs.Shown.{IsShown}
 use Rattle.entry_check.specs.Lacking.{Passes}
 use Rattle.entry_check.proofs.showing.show_found.Given as goal
 

@@ -1,4 +1,5 @@
-use Rattle.std.proofs.Common.{subst}
+use Rattle.std.proofs.Common.{[], refl, subst}
+use Rattle.std.specs.Prelude.{None}
 use Rattle.telling.specs.ProvingVerdicts.{ExplainsCheck}
 use Rattle.program.specs.Running as running
 use Rattle.program.proofs.one_run.explained_check.Goals as goal
@@ -6,8 +7,14 @@ use Rattle.program.proofs.one_run.explained_check.Goals as goal
 pub returns-clause-verdict : goal.returns-clause-verdict
 returns-clause-verdict g c = λ ws command names.
     let found = c.in_ok-found.found in
-    running.explained_check c.args.names.kernel.now c.args.names.conditions.now c.args.names.certificate.now found.kernel.items found.conditions.items found.certificate.items
-    command names.kernel names.conditions names.certificate c.in_ok-found.ensures.reads
-    (subst (λ t. ExplainsCheck c.explain_check.result found.kernel.items found.conditions.items t) c.texts.ensures.certificate
-    (subst (λ t. ExplainsCheck c.explain_check.result found.kernel.items t c.texts.result.certificate.now) c.texts.ensures.conditions
-    (subst (λ t. ExplainsCheck c.explain_check.result t c.texts.result.conditions.now c.texts.result.certificate.now) c.texts.ensures.kernel c.explain_check.ensures)))
+    record {
+      request = running.ExplainCheck c.args.names.kernel.now c.args.names.conditions.now c.args.names.certificate.now;
+      texts = record { kernel = found.kernel.items; conditions = found.conditions.items; certificate = found.certificate.items; launch = [] };
+      saved = None;
+      asked = (command, names.kernel, names.conditions, names.certificate);
+      done = c.in_ok-found.ensures.reads;
+      may_write = refl;
+      is_told = (subst (λ t. ExplainsCheck c.explain_check.result found.kernel.items found.conditions.items t) c.texts.ensures.certificate
+          (subst (λ t. ExplainsCheck c.explain_check.result found.kernel.items t c.texts.result.certificate.now) c.texts.ensures.conditions
+          (subst (λ t. ExplainsCheck c.explain_check.result t c.texts.result.conditions.now c.texts.result.certificate.now) c.texts.ensures.kernel c.explain_check.ensures)));
+    }

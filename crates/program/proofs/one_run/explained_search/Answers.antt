@@ -1,4 +1,5 @@
-use Rattle.std.proofs.Common.{refl, subst}
+use Rattle.std.proofs.Common.{[], refl, subst}
+use Rattle.std.specs.Prelude.{None}
 use Rattle.telling.specs.ProvingVerdicts.{Explains}
 use Rattle.program.specs.Running as running
 use Rattle.program.proofs.Verdicts.{is_explained}
@@ -8,6 +9,12 @@ pub returns-clause-verdict : goal.returns-clause-verdict
 returns-clause-verdict g c = λ ws command kernel conditions none.
     let k = c.in_ok-kernel.kernel.items in
     let o = c.in_ok-conditions.conditions.items in
-    running.explained c.args.subject.kernel.now c.args.subject.conditions.now k o command kernel conditions none
-    (c.text_of.new.files, c.in_ok-kernel.ensures.given, c.in_ok-kernel.ensures.text, (c.text_of-2.new.files, c.in_ok-conditions.ensures.given, c.in_ok-conditions.ensures.text, refl))
-    (is_explained k o c.explain_texts.result (subst (λ t. Explains c.explain_texts.result k t) c.deref-2.ensures.value (subst (λ t. Explains c.explain_texts.result t c.deref-2.result.now) c.deref.ensures.value c.explain_texts.ensures)))
+    record {
+      request = running.Explain c.args.subject.kernel.now c.args.subject.conditions.now;
+      texts = record { kernel = k; conditions = o; certificate = []; launch = [] };
+      saved = None;
+      asked = (command, kernel, conditions, none);
+      done = (c.text_of.new.files, c.in_ok-kernel.ensures.given, c.in_ok-kernel.ensures.text, (c.text_of-2.new.files, c.in_ok-conditions.ensures.given, c.in_ok-conditions.ensures.text, refl));
+      may_write = refl;
+      is_told = (is_explained k o c.explain_texts.result (subst (λ t. Explains c.explain_texts.result k t) c.deref-2.ensures.value (subst (λ t. Explains c.explain_texts.result t c.deref-2.result.now) c.deref.ensures.value c.explain_texts.ensures)));
+    }

@@ -1,4 +1,5 @@
-use Rattle.std.proofs.Common.{refl, subst}
+use Rattle.std.proofs.Common.{[], refl, subst}
+use Rattle.std.specs.Prelude.{None}
 use Rattle.telling.specs.Verdicts.{Prints}
 use Rattle.program.specs.Running as running
 use Rattle.program.proofs.one_run.printed.Goals as goal
@@ -6,6 +7,12 @@ use Rattle.program.proofs.one_run.printed.Goals as goal
 pub returns-clause-verdict : goal.returns-clause-verdict
 returns-clause-verdict g c = λ ws command name.
     let text = c.in_ok-text.text.items in
-    running.printed c.args.kernel.now text command name
-    (c.text_of.new.files, c.in_ok-text.ensures.given, c.in_ok-text.ensures.text, refl)
-    (subst (λ t. Prints c.print_text.result t) c.deref.ensures.value c.print_text.ensures)
+    record {
+      request = running.Print c.args.kernel.now;
+      texts = record { kernel = text; conditions = []; certificate = []; launch = [] };
+      saved = None;
+      asked = (command, name);
+      done = (c.text_of.new.files, c.in_ok-text.ensures.given, c.in_ok-text.ensures.text, refl);
+      may_write = refl;
+      is_told = (subst (λ t. Prints c.print_text.result t) c.deref.ensures.value c.print_text.ensures);
+    }

@@ -14,7 +14,7 @@ returns-clause-verdict g c = λ ws command search.
     let after = c.kept.new.files in
     let out = option_map (λ w. w.now) s.out in
     follows c.kept.result (Kept g.F.Files.contents next after out s.workers f.0 f.1) (Tells (Does g.F.Files.contents g.F.Files.gives before after) ws)
-    (λ v h. tells g.F.Files.contents g.F.Files.gives before next after ws s.kernel.now s.conditions.now f.0 f.1 s.workers out v command search.kernel search.conditions search.workers search.out f.2 h)
+    (λ v h. tells g.F.Files.contents g.F.Files.gives before next after ws s.kernel.now s.conditions.now f.0 f.1 s.workers out v (command, search.kernel, search.conditions, search.workers, search.out) f.2 h)
     (c.kept.ensures.verdict s.workers f.0 f.1 f.3)
 
 pub returns-clause-others : goal.returns-clause-others

@@ -1,7 +1,7 @@
 use Rattle.std.proofs.Common.{refl}
 use Rattle.semantics.specs.Setup.{Setup}
 use Rattle.loop_bounds.specs.Costs.{cost}
-use Rattle.place_obligations.specs.Limits.{turns_at}
+use Rattle.obligations.specs.Limits.{turns_at}
 use Rattle.shown_kernels.proofs.Sizes.{sizes}
 use Rattle.shown_kernels.proofs.laws.what_is_read_and_shown_has_the_headline.Goals as goal
 

@@ -1,0 +1,42 @@
+//! Why there are no notes.
+
+ghost use Rattle.std.specs.Prelude.{◌≡◌};
+
+use std::alloc::{AllocError, AllocFailed};
+use thiserror::Error;
+
+/// Why it was not told what a certificate says.
+#[derive(Error, Debug, Drop)]
+pub enum NamesError {
+    #[error("90")]
+    Memory,
+}
+
+impl NamesError {
+    /// The number that it is printed under.
+    pub fn number(&self) -> u8
+        ensures { result ≡ 90 }
+    {
+        90
+    }
+}
+
+impl From<AllocError> for NamesError {
+    ghost use Rattle.certificate_notes.specs.declared.error.NamesError.TheVariants.{Memory};
+
+    ghost from_gives = { λ _ e. e ≡ Memory };
+
+    fn from(_: AllocError) -> NamesError {
+        NamesError::Memory
+    }
+}
+
+impl<T: Drop> From<AllocFailed<T>> for NamesError {
+    ghost use Rattle.certificate_notes.specs.declared.error.NamesError.TheVariants.{Memory};
+
+    ghost from_gives = { λ _ e. e ≡ Memory };
+
+    fn from(_: AllocFailed<T>) -> NamesError {
+        NamesError::Memory
+    }
+}

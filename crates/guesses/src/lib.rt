@@ -1,0 +1,22 @@
+//! Section: Search. Promises nothing: the candidates of a search, facts of places and loops that nobody has shown; stands on `linear`.
+//!
+//! Candidates, and what there is to do with the forms in them. Nobody believes them: the check decides.
+#![tactic(auto)]
+
+mod candidate;
+mod forms;
+mod leaf;
+mod ranking;
+mod symbols;
+
+pub use candidate::{Candidate, Line};
+pub use forms::{
+    common_divisor, copied, divisor_of, is_same, one_of, plus, reduced, try_difference,
+    try_multiple, try_sum, value_in,
+};
+pub use leaf::{Leaf, Sight};
+pub use ranking::{Descent, Ranking};
+pub use symbols::{
+    argument, at_anchor, family, group, groups, index_of, is_global, is_launch, length, local,
+    new_symbol, turns, variable,
+};

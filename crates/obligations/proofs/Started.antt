@@ -1,0 +1,124 @@
+-- An item of which a place's lines hold stands before the place's tree.
+use Rattle.std.proofs.Common.{◌≡◌, ℕ, ◌+◌, ◌<◌, true, List, [], ◌++◌, Option, Some, None, arith, refl, sym, subst}
+use Rattle.std.specs.Prelude.{ℤ}
+use Rattle.std.specs.List.{All}
+use Rattle.std.proofs.lemmas.List.Elements.{All-append, All-nil}
+use Rattle.semantics.specs.Word.{in_kind}
+use Rattle.semantics.specs.Launch.{Kernel}
+use Rattle.semantics.specs.Setup.{item_count}
+use Rattle.semantics.specs.Solo.{opening}
+use Rattle.semantics.specs.Linear.{IsMet}
+use Rattle.facts.specs.Symbols.{First, Variable, AtAnchor, Turns, number}
+use Rattle.facts.specs.Launching.{launch_facts, item_facts}
+use Rattle.facts.proofs.Members.{by_number}
+use Rattle.facts.proofs.Launched.{launch_known, item_known}
+use Rattle.facts.proofs.Worlds.{Walked, View, setup_of, Agrees, variable_at}
+use Rattle.arrivals.specs.Paths.{Held}
+use Rattle.walk_trees.specs.Trees.{Tree, accesses, ends, claims}
+use Rattle.walk_trees.specs.Shown.{IsShown}
+use Rattle.walk_trees.proofs.SameWords.{same_words-is}
+use Rattle.walk_trees.proofs.Holding.{IsHeld}
+use Rattle.walk_trees.proofs.Opening.{opening_forms}
+use Rattle.walk_trees.proofs.Ranges.{form_once}
+use Rattle.walk_trees.proofs.TermSound.{AreForms, forms_kept}
+use Rattle.walk_trees.proofs.Fronts.{Stood}
+use Rattle.obligations.specs.Notes.{Notes}
+use Rattle.obligations.specs.Listing.{is_some}
+use Rattle.obligations.specs.Telling.{TellsOfItems, all_tell, congruences_tell}
+use Rattle.obligations.specs.Roots.{kinds, kind_of, tops, narrowed_from, facts_at, congruences_at, congruence_facts, range_facts, root_facts, root_held, root_values, root_state}
+use Rattle.obligations.proofs.PlaceLines.{root_at, Holds}
+use Rattle.obligations.proofs.Rooted.{word-right, held_tops, held_from, all_ends-met, facts-met, fewer, quotients, quotients-length, congruences-met, root_forms}
+
+-- with what is said of its places; its arrays are of both spaces
+abbrev pub over : {E : Type 0} → Walked E → Notes → Walked E
+over w n = record {
+  domain = w.domain;
+  lawful = w.lawful;
+  kernel = w.kernel;
+  conditions = w.conditions;
+  has_entry = n.has_entry;
+  spaces = λ sp. true;
+  launch = w.launch;
+  sized = w.sized;
+  fits = w.fits;
+  meets = w.meets;
+}
+
+abbrev pub view : {E : Type 0} (w : Walked E) (n : Notes) (i : ℕ) → i < item_count (setup_of w) → (from here : Held) → View E
+view w n i h from here = record { walked = over w n; item = i; place = h; root = root_at from here }
+
+module _ {E : Type 0} (w : Walked E) (n : Notes) (tell : TellsOfItems n) (i : ℕ) (h : i < item_count (setup_of w)) (from here : Held) where
+  abbrev c : View E
+  c = view w n i h from here
+
+  abbrev k : Kernel
+  k = w.kernel
+
+  told-facts : (a b : Option ℕ) → all_tell (is_some b) (facts_at n a b) ≡ true
+  told-facts None None = refl
+  told-facts None (Some m) = tell.facts None (Some m)
+  told-facts (Some b) m = tell.facts (Some b) m
+
+  told-congruences : (a b : Option ℕ) → congruences_tell (is_some b) (congruences_at n a b) ≡ true
+  told-congruences None None = refl
+  told-congruences None (Some m) = tell.congruences None (Some m)
+  told-congruences (Some b) m = tell.congruences (Some b) m
+
+  module _ (words : (x : ℕ) → in_kind (kind_of k x) (variable_at here.variables x) ≡ true) (before : (x : ℕ) → in_kind (kind_of k x) (variable_at from.variables x) ≡ true) where
+    here-right : (news : List ℤ) (v : ℕ → ℤ) → Agrees c news v → (x : ℕ) → in_kind (kind_of k x) (v (number (Variable First x))) ≡ true
+    here-right news v a x = subst (λ z. in_kind (kind_of k x) z ≡ true) (sym (a.variable x)) (words x)
+
+    from-right : (news : List ℤ) (v : ℕ → ℤ) → Agrees c news v → (x : ℕ) → in_kind (kind_of k x) (v (number (AtAnchor First x))) ≡ true
+    from-right news v a x = subst (λ z. in_kind (kind_of k x) z ≡ true) (sym (a.at_anchor x)) (before x)
+
+    ranges-met : (a b : Option ℕ) (news : List ℤ) (v : ℕ → ℤ) → Agrees c news v → All (IsMet v) (range_facts k n a b)
+    ranges-met None None news v g = All-nil (IsMet v)
+    ranges-met (Some m) None news v g = all_ends-met c v (Variable First) (here-right news v g) (n.visible (Some m))
+    ranges-met None (Some l) news v g = All-append (IsMet v) _ _ (all_ends-met c v (Variable First) (here-right news v g) (n.visible (Some l))) (all_ends-met c v (AtAnchor First) (from-right news v g) (n.visible None))
+    ranges-met (Some m) (Some l) news v g = All-append (IsMet v) _ _ (all_ends-met c v (Variable First) (here-right news v g) (n.visible (Some l))) (all_ends-met c v (AtAnchor First) (from-right news v g) (n.visible (Some m)))
+
+    -- the domain knows the kinds of variables
+    first_held : {A : Type 0} (xs : List A) (news : List ℤ) → IsHeld c news (record { news = tops w.domain xs; narrowed = narrowed_from w.domain (Variable First) 0 (kinds k) })
+    first_held xs news = held_from c (Variable First) news (tops w.domain xs) [] 0 (kinds k) (λ m u x l. let e : x ≡ 0 + x = omega arith in subst (λ j. in_kind (kind_of k x) (by_number m (number (Variable First j))) ≡ true) e (here-right news (by_number m) u.agrees x)) (held_tops c xs news)
+
+    both_held : {A : Type 0} (xs : List A) (news : List ℤ) → IsHeld c news (record { news = tops w.domain xs; narrowed = narrowed_from w.domain (Variable First) 0 (kinds k) ++ narrowed_from w.domain (AtAnchor First) 0 (kinds k) })
+    both_held xs news = held_from c (AtAnchor First) news (tops w.domain xs) (narrowed_from w.domain (Variable First) 0 (kinds k)) 0 (kinds k) (λ m u x l. let e : x ≡ 0 + x = omega arith in subst (λ j. in_kind (kind_of k x) (by_number m (number (AtAnchor First j))) ≡ true) e (from-right news (by_number m) u.agrees x)) (first_held xs news)
+
+    root-fits : (a b : Option ℕ) (news : List ℤ) → IsHeld c news (root_held w.domain k n a b)
+    root-fits None None news = held_tops c (congruences_at n None None) news
+    root-fits (Some m) None news = first_held (congruences_at n (Some m) None) news
+    root-fits None (Some l) news = both_held (congruences_at n None (Some l)) news
+    root-fits (Some m) (Some l) news = both_held (congruences_at n (Some m) (Some l)) news
+
+  -- what variables are where the path begins
+  pub forms : (a b : Option ℕ) → Holds (setup_of w) n a b i from here → (news : List ℤ) → AreForms c news here.variables (root_values k a b)
+  forms None None o news = subst (λ ws. AreForms c news ws (root_values k None None)) (sym (same_words-is here.variables (opening (setup_of w) i).variables o.opens)) (forms_kept c (λ v g. fewer c news v g) (opening_forms c))
+  forms None (Some l) o news = root_forms c news o.words
+  forms (Some m) b o news = root_forms c news o.words
+
+  pub started : (a b : Option ℕ) → Holds (setup_of w) n a b i from here → (count : ℕ) (tree : Tree E) → All IsShown (claims (launch_facts w.conditions) (root_facts k n a b) count tree) →
+      Stood c (launch_facts w.conditions) (accesses (root_facts k n a b) count tree) (ends (root_facts k n a b) count tree) tree (root_state w.domain k n count a b) here.variables here.ranks
+  started a b o count tree shown =
+      let cs = congruences_at n a b in
+      let news = quotients c cs o.congruences in
+      let words = word-right c here.variables o.words in
+      let before = word-right c from.variables o.before in
+      record {
+        facts = root_facts k n a b;
+        count = count;
+        news = news;
+        stands = record {
+          fit = root-fits words before a b news;
+          counted = quotients-length c cs o.congruences;
+          launched = launch_known c news;
+          known = λ v g. All-append (IsMet v) (item_facts k.sizes First) _ (item_known c news v g)
+              (All-append (IsMet v) (range_facts k n a b) _ (ranges-met words before a b news v g)
+              (All-append (IsMet v) (facts_at n a b) (congruence_facts 0 cs) (facts-met c (is_some b) news v g (facts_at n a b) (told-facts a b) o.facts)
+              (congruences-met c (is_some b) v cs (told-congruences a b) o.congruences g)));
+          shown = shown;
+        };
+        forms = forms a b o news;
+        ranked = λ m. form_once c news (Turns First m) (here.ranks m) (λ v g. g.turns m);
+        touched = λ x e. e;
+        ended = λ x e. e;
+      }

@@ -1,0 +1,126 @@
+-- The walk of a place: what an item meets from there to the next places.
+use Rattle.std.specs.Prelude.{ℕ, ◌+◌, ◌%◌, ◌==◌, ℤ, pos, negsuc, Bool, true, false, ◌&&◌, cond, List, [], ◌∷◌, ◌++◌, Option, Some, None}
+use Rattle.std.specs.Int.RustNames.{unsigned_abs}
+use Rattle.semantics.specs.Core.{Term, Statement, Set, Store, If, Loop, Barrier, Return, Break, Continue}
+use Rattle.semantics.specs.Launch.{Kernel}
+use Rattle.semantics.specs.Conditions.{Conditions}
+use Rattle.semantics.specs.Linear.{Weighted}
+use Rattle.domain.specs.declared.Domain.{Ghosts}
+use Rattle.linear.specs.Exact.{multiple}
+use Rattle.facts.specs.Symbols.{Fact, constant, minus}
+use Rattle.arrivals.specs.Trees.{Stop, AtBarrier, AtHead, AtEnd, Turns}
+use Rattle.arrivals.specs.Places.{Place}
+use Rattle.arrivals.specs.Symbolic.{Terms, sketch}
+use Rattle.walk_trees.specs.Covered.{covers_term}
+use Rattle.walk_trees.specs.Trees.{OfRanking, OfFact, OfCongruence, AtLeastZero, Replaced, Divided, Tree, Leaf, Dead}
+use Rattle.walk_trees.specs.Values.{Value}
+use Rattle.walk_trees.specs.Walks.{Setting, State, settles, claim, stand, with_rank, rank_form, arrived}
+use Rattle.walk_trees.specs.Terms.{walk, access, chosen}
+use Rattle.walk_trees.specs.Statements.{spot_of, setting, assigned}
+use Rattle.obligations.specs.Notes.{Congruence, Notes, number_at, most, fallen, fallen_by}
+use Rattle.obligations.specs.Replacing.{Replacement, replaced, made, replacement}
+use Rattle.obligations.specs.Roots.{kinds, are_slots, facts_at, congruences_at, anchor_forms, root_state}
+
+-- the walk of a kernel's terms, what is said of its places, and the place it is of
+pub record Placed (E : Type 0) : Type 1 where
+  pub setting : Setting E
+  pub kernel : Kernel
+  pub notes : Notes
+  pub anchor : Option ℕ
+  pub head : Option ℕ
+
+-- the path's own terms
+abbrev pub on_path : {E : Type 0} → Placed E → State E → Replacement
+on_path w st = replacement st.variables (anchor_forms w.kernel w.anchor w.head) st.ranks
+
+-- what is said holds where the path comes
+abbrev pub claim_replaced : {E : Type 0} → Placed E → (made : List Fact) → Fact → State E → (State E → Tree E) → Tree E
+claim_replaced w made f st go = claim OfFact true (settles w.setting st f) (Replaced made f) st go
+
+abbrev pub claim_facts : {E : Type 0} → Placed E → List Fact → State E → (State E → Tree E) → Tree E
+claim_facts w [] st go = go st
+claim_facts w (f ∷ fs) st go = claim_replaced w (made (on_path w st) f) (replaced (on_path w st) f) st (λ st'. claim_facts w fs st' go)
+
+-- a number divides a form term by term
+abbrev pub divides : ℕ → ℤ → Bool
+divides m z = unsigned_abs z % m == 0
+
+abbrev pub divides_terms : ℕ → List (Weighted ℕ) → Bool
+divides_terms m [] = true
+divides_terms m (t ∷ ts) = divides m t.coefficient && divides_terms m ts
+
+abbrev pub divides_form : ℕ → Fact → Bool
+divides_form m f = divides_terms m f.terms && divides m f.constant
+
+-- two claims: the form is the modulus times the quotient that the first one's entry names
+abbrev pub claim_quotient : {E : Type 0} → Placed E → (made : List Fact) → ℕ → Fact → (quotient : Fact) → State E → (State E → Tree E) → Tree E
+claim_quotient w made m f q st go =
+    claim OfCongruence true (divides_form m f) (Divided (made ++ multiple (pos m) q ∷ []) (minus f (multiple (pos m) q))) st (λ st1.
+    claim OfCongruence true (divides_form m f) (Divided [] (minus (multiple (pos m) q) f)) st1 go)
+
+abbrev pub claim_congruences : {E : Type 0} → Placed E → List Congruence → State E → (State E → Tree E) → Tree E
+claim_congruences w [] st go = go st
+claim_congruences w (c ∷ cs) st go =
+    claim_quotient w (made (on_path w st) c.form) c.modulus (replaced (on_path w st) c.form) (w.notes.quotient (st.claims + 1)) st (λ st'. claim_congruences w cs st' go)
+
+-- what is walked on from a term has numbers of its kind and shifts of at most 31, and where a place is reached variables have their kinds
+-- and parameters that nothing assigns their arguments. Elaborated kernels are so; of others nothing is shown
+abbrev pub is_lawful : Term → Bool
+is_lawful e = covers_term (λ sp. true) e
+
+abbrev pub refused : {E : Type 0} → State E → Tree E
+refused st = claim OfFact true false (AtLeastZero (constant (negsuc 0))) st (λ st'. Dead)
+
+-- a place is reached
+abbrev pub arrive_at : {E : Type 0} → Placed E → (anchor head : Option ℕ) → Stop → Turns → State E → Tree E
+arrive_at w a h stop turns st =
+    cond (are_slots w.kernel 0 (kinds w.kernel) st.variables) (claim_facts w (facts_at w.notes a h) st (λ st1. claim_congruences w (congruences_at w.notes a h) st1 (λ st2. Leaf (arrived stop turns st2)))) (refused st)
+
+abbrev pub stops : {E : Type 0} → Placed E → Stop → Turns → State E → Tree E
+stops w (AtBarrier n) turns st = arrive_at w (Some n) None (AtBarrier n) turns st
+stops w (AtHead n again) turns st = arrive_at w w.anchor (Some n) (AtHead n again) turns st
+stops w AtEnd turns st = Leaf (arrived AtEnd turns st)
+
+-- a loop's ranking on the path
+abbrev pub rank_on : {E : Type 0} → Placed E → ℕ → State E → Fact
+rank_on w n st = replaced (on_path w st) (w.notes.ranking n).form
+
+abbrev pub claim_rank : {E : Type 0} → Placed E → ℕ → (extra : List Fact) → Fact → State E → (State E → Tree E) → Tree E
+claim_rank w n extra f st go = claim OfRanking true (settles w.setting st f) (Replaced (made (on_path w st) (w.notes.ranking n).form ++ extra) f) st go
+
+-- where a loop opens its ranking is at most what is said; after a turn it has fallen
+abbrev pub arrive : {E : Type 0} → Placed E → ℕ → (again : Bool) → State E → (State E → Tree E) → Tree E
+arrive w n false st go = claim_rank w n [] (minus (constant (most (w.notes.ranking n).bound)) (rank_on w n st)) (stand (spot_of n) st) go
+arrive w n true st go = claim_rank w n (fallen_by (w.notes.ranking n).bound (rank_form st.ranks n) (rank_on w n st) ∷ []) (fallen (w.notes.ranking n).bound (rank_form st.ranks n) (rank_on w n st)) (stand (spot_of n) st) go
+
+-- where its test was true its ranking is above 0
+abbrev pub enter : {E : Type 0} → Placed E → ℕ → State E → (State E → Tree E) → Tree E
+enter w n st go = claim_rank w n [] (minus (rank_on w n st) (constant (pos 1))) (stand (spot_of n) st) (λ st'. go (with_rank n (rank_on w n st) st'))
+
+abbrev pub store : {E : Type 0} → Placed E → Statement → Value → State E → (State E → Tree E) → Tree E
+store w (Store n a site i e) x st go = access w.setting true a site x.form st go
+store w (Set n y e) x st go = go st
+store w (If n e t f) x st go = go st
+store w (Loop n e b u) x st go = go st
+store w (Barrier n l g) x st go = go st
+store w (Return n) x st go = go st
+store w (Break n k) x st go = go st
+store w (Continue n k) x st go = go st
+
+abbrev pub course : {E : Type 0} → Placed E → Terms (Tree E) (State E) Value
+course w = record {
+  value = λ n e st go. cond (is_lawful e) ((walk w.setting e).value (stand (spot_of n) st) go) (refused st);
+  test = λ n e st taken skipped. cond (is_lawful e) ((walk w.setting e).test (stand (spot_of n) st) (λ b st'. chosen b (taken st') (skipped st'))) (refused st);
+  set = λ st x f. assigned x f st;
+  arrive = λ n again st go. arrive w n again st go;
+  enter = λ n st go. enter w n st go;
+  store = λ a x st go. store w a x st go;
+  stops = λ stop turns st. stops w stop turns st;
+}
+
+abbrev pub placed : {E : Type 0} → Ghosts E → Kernel → Conditions → Notes → Place → Placed E
+placed g k c n p = record { setting = setting g k c n.has_entry; kernel = k; notes = n; anchor = number_at p.anchor; head = number_at p.head }
+
+-- the tree of a place, with so many claims before it
+abbrev pub tree_of : {E : Type 0} → Ghosts E → Kernel → Conditions → Notes → (claims : ℕ) → Place → Tree E
+tree_of g k c n claims p = sketch (course (placed g k c n p)) k.body p (root_state g k n claims (number_at p.anchor) (number_at p.head))

@@ -1,0 +1,12 @@
+pub mod Moves
+pub mod Endings
+pub mod Leading
+pub mod Refusing
+pub mod Testing
+pub mod PastEnds
+pub mod Exactly
+pub mod Quotients
+pub mod Accessing
+pub mod Turning
+pub mod Collecting
+pub mod Listing

@@ -1,0 +1,65 @@
+-- Quotients: a new symbol, and what it leaves.
+use Rattle.std.proofs.Common.{◌≡◌, ◌<◌, ◌^◌, ◌*◌, true, sym, ap, subst, ◌∙◌, arith}
+use Rattle.std.specs.Prelude.{ℤ, pos, negsuc, ◌<ℤ◌, ◌-ℤ◌, unsigned_abs}
+use Rattle.std.proofs.lemmas.Int.{ints}
+use Rattle.std.proofs.lemmas.Bool.Decides.{nat_tests}
+use Rattle.semantics.specs.Word.{Kind}
+use Rattle.linear.specs.Exact.{fits_i64, multiple}
+use Rattle.linear.specs.Sizes.{size}
+use Rattle.linear.proofs.Sizes.{size_multiple}
+use Rattle.facts.specs.Symbols.{Fact, constant, minus}
+use Rattle.facts.specs.Refusals.{IsUnfit}
+use Rattle.facts.specs.declared.error.WalkError.{WalkError}
+use Rattle.walk_trees.specs.Trees.{Tree, Know}
+use Rattle.walk_trees.specs.Walks as walks
+use Rattle.walk_trees.specs.Walks.{Setting, State}
+use Rattle.walk_trees.specs.Operators as operators
+use Rattle.walk_trees.specs.Operators.{left_over}
+use Rattle.path_steps.specs.Paths.{Followed, collect, with_fact}
+use Rattle.path_steps.specs.Leads.{Leads, LeadsTwo}
+use Rattle.path_steps.specs.Refusals.{Stops, StopsTwo}
+use Rattle.path_steps.proofs.Refusing.{unfit_fact, refused_from}
+use Rattle.path_steps.proofs.Leading.{knows}
+
+small_number : (n : ℤ) → pos 0 <ℤ n → fits_i64 n ≡ true → unsigned_abs n < 2 ^ 63
+small_number (pos n) h k = grind (arith, nat_tests)
+small_number (negsuc n) h k = absurd (omega (arith, ints, h))
+
+pub small_times : (n : ℤ) (f : Fact) → pos 0 <ℤ n → fits_i64 n ≡ true → size f ≡ 1 → size (multiple n f) < 2 ^ 63
+small_times n f h k d = let e = size_multiple n f ∙ ap (λ m. unsigned_abs n * m) d in omega (arith, e, small_number n h k)
+
+module _ {E : Type 0} (s : Setting E) (k : Kind) (x : Fact) (c : ℤ) where
+  -- the facts of a quotient
+  pub two_facts : (q left : Fact) (m n o : Followed E) → left ≡ left_over x c q → n ≡ with_fact m (left_over x c q) → o ≡ with_fact n (minus (constant (c -ℤ pos 1)) left) → (rest : Tree E) →
+      collect m.found (Know (left_over x c q) (Know (minus (constant (c -ℤ pos 1)) (left_over x c q)) rest)) ≡ collect o.found rest
+  two_facts q left m n o d e f rest =
+      knows (left_over x c q) m n e (Know (minus (constant (c -ℤ pos 1)) (left_over x c q)) rest)
+      ∙ knows (minus (constant (c -ℤ pos 1)) (left_over x c q)) n o (f ∙ ap (λ y. with_fact n (minus (constant (c -ℤ pos 1)) y)) d) rest
+
+  pub quotient_leads : (element : E) (q left : Fact) (l m n o : Followed E) → element ≡ walks.any_of s.domain k → Leads l m (walks.invent s element) q → left ≡ left_over x c q → n ≡ with_fact m (left_over x c q) → o ≡ with_fact n (minus (constant (c -ℤ pos 1)) left) →
+      LeadsTwo l o (operators.quotient s k x c) q left
+  quotient_leads element q left l m n o a h d e f go =
+      let on : Fact → State E → Tree E = λ p st. Know (left_over x c p) (Know (minus (constant (c -ℤ pos 1)) (left_over x c p)) (go p (left_over x c p) st)) in
+      ap (λ y. collect l.found (walks.invent s y l.state on)) (sym a)
+      ∙ h on ∙ two_facts q left m n o d e f (go q (left_over x c q) m.state)
+      ∙ (λ i. collect o.found (go q (sym d i) (same i)))
+    where
+      same : m.state ≡ o.state
+      same = ap (λ (u : Followed E). u.state) (sym e) ∙ ap (λ (u : Followed E). u.state) (sym f)
+
+  pub quotient_new_stops : (element : E) (l : Followed E) (e : WalkError) → element ≡ walks.any_of s.domain k → Stops ⊥ l e (walks.invent s element) → StopsTwo ⊥ l e (operators.quotient s k x c)
+  quotient_new_stops element l e a h go =
+      let on : Fact → State E → Tree E = λ p st. Know (left_over x c p) (Know (minus (constant (c -ℤ pos 1)) (left_over x c p)) (go p (left_over x c p) st)) in
+      refused_from ⊥ e _ _ (ap (λ y. collect l.found (walks.invent s y l.state on)) (sym a)) (h on)
+
+  pub quotient_left_stops : (element : E) (q : Fact) (l m : Followed E) (e : WalkError) → element ≡ walks.any_of s.domain k → Leads l m (walks.invent s element) q → IsUnfit e (left_over x c q) → StopsTwo ⊥ l e (operators.quotient s k x c)
+  quotient_left_stops element q l m e a h u go =
+      let on : Fact → State E → Tree E = λ p st. Know (left_over x c p) (Know (minus (constant (c -ℤ pos 1)) (left_over x c p)) (go p (left_over x c p) st)) in
+      refused_from ⊥ e _ _ (ap (λ y. collect l.found (walks.invent s y l.state on)) (sym a) ∙ h on)
+      (unfit_fact e m.found (left_over x c q) (Know (minus (constant (c -ℤ pos 1)) (left_over x c q)) (go q (left_over x c q) m.state)) u)
+
+  pub quotient_under_stops : (element : E) (q left : Fact) (l m n : Followed E) (e : WalkError) → element ≡ walks.any_of s.domain k → Leads l m (walks.invent s element) q → left ≡ left_over x c q → n ≡ with_fact m (left_over x c q) → IsUnfit e (minus (constant (c -ℤ pos 1)) left) → StopsTwo ⊥ l e (operators.quotient s k x c)
+  quotient_under_stops element q left l m n e a h d t u go =
+      let on : Fact → State E → Tree E = λ p st. Know (left_over x c p) (Know (minus (constant (c -ℤ pos 1)) (left_over x c p)) (go p (left_over x c p) st)) in
+      refused_from ⊥ e _ _ (ap (λ y. collect l.found (walks.invent s y l.state on)) (sym a) ∙ h on ∙ knows (left_over x c q) m n t (Know (minus (constant (c -ℤ pos 1)) (left_over x c q)) (go q (left_over x c q) m.state)))
+      (unfit_fact e n.found (minus (constant (c -ℤ pos 1)) (left_over x c q)) (go q (left_over x c q) m.state) (subst (λ y. IsUnfit e (minus (constant (c -ℤ pos 1)) y)) d u))

@@ -1,0 +1,10 @@
+pub mod Paths
+pub mod Leads
+pub mod Before
+pub mod Turns
+pub mod Without
+pub mod View
+pub mod Refusals
+pub mod Halts
+pub mod Sides
+pub mod Divisors

@@ -1,0 +1,138 @@
+//! Sums, differences, products and multiples: exact, and then in the range of their kind.
+
+ghost use Rattle.std.specs.Prelude.{◌≡◌, pos, negsuc, MatchResult};
+ghost use Rattle.linear.specs.Exact.{sum, multiple};
+ghost use Rattle.linear.specs.Forms.{form as form_seen};
+ghost use Rattle.semantics.specs.Word.{Multiply};
+ghost use Rattle.words.specs.View.{kind as kind_seen};
+ghost use Rattle.facts.specs.Symbols.{minus};
+ghost use Rattle.facts.specs.Refusals.{IsUnfit};
+ghost use Rattle.walk_trees.specs.Walks as walks;
+ghost use Rattle.walk_trees.specs.Operators as operators;
+ghost use Rattle.path_steps.specs.Leads.{Leads};
+ghost use Rattle.path_steps.specs.Refusals.{Stops, StopsAtForm};
+ghost use Rattle.path_steps.specs.View.{followed, setting as seen, value as value_seen};
+
+use crate::held::element_at;
+use crate::path::{Path, Value};
+use crate::ranges::{invent, ranged};
+use crate::setting::Setting;
+use crate::tests::{difference, is_number, negated};
+use domain::Domain;
+use facts::{WalkError, number_less};
+use linear::Form;
+use std::alloc::Global;
+use words::Kind;
+
+/// The sum of two forms.
+fn total(alloc: Global, left: &Form, right: &Form) -> Result<Form, WalkError>
+    ensures { MatchResult result (λ f. form_seen f ≡ sum (form_seen left.now) (form_seen right.now)) (λ e. IsUnfit e (sum (form_seen left.now) (form_seen right.now))) }
+{
+    let form = left.add(alloc, right)?;
+    Ok(form)
+}
+
+/// A sum in its kind.
+pub fn ranged_sum<D: Domain>(
+    alloc: Global,
+    setting: &Setting<D>,
+    path: &mut Path<D>,
+    kind: Kind,
+    left: &Form,
+    right: &Form,
+) -> Result<Value, WalkError>
+    ensures { MatchResult result (λ v. Leads (followed path.old) (followed path.new) (walks.ranged (seen D.Domain setting.now) (kind_seen kind) (sum (form_seen left.now) (form_seen right.now))) (value_seen v)) (λ e. Stops ⊥ (followed path.old) e (walks.ranged (seen D.Domain setting.now) (kind_seen kind) (sum (form_seen left.now) (form_seen right.now)))) }
+{
+    let form = total(alloc, left, right)?;
+    ranged(alloc, setting, path, kind, form)
+}
+
+/// A difference in its kind.
+pub fn ranged_difference<D: Domain>(
+    alloc: Global,
+    setting: &Setting<D>,
+    path: &mut Path<D>,
+    kind: Kind,
+    left: &Form,
+    right: &Form,
+) -> Result<Value, WalkError>
+    ensures { MatchResult result (λ v. Leads (followed path.old) (followed path.new) (walks.ranged (seen D.Domain setting.now) (kind_seen kind) (minus (form_seen left.now) (form_seen right.now))) (value_seen v)) (λ e. Stops ⊥ (followed path.old) e (walks.ranged (seen D.Domain setting.now) (kind_seen kind) (minus (form_seen left.now) (form_seen right.now)))) }
+{
+    let form = difference(alloc, left, right)?;
+    ranged(alloc, setting, path, kind, form)
+}
+
+/// A negation in its kind.
+pub fn ranged_negation<D: Domain>(
+    alloc: Global,
+    setting: &Setting<D>,
+    path: &mut Path<D>,
+    kind: Kind,
+    of: &Form,
+) -> Result<Value, WalkError>
+    ensures { MatchResult result (λ v. Leads (followed path.old) (followed path.new) (walks.ranged (seen D.Domain setting.now) (kind_seen kind) (multiple (negsuc 0) (form_seen of.now))) (value_seen v)) (λ e. Stops ⊥ (followed path.old) e (walks.ranged (seen D.Domain setting.now) (kind_seen kind) (multiple (negsuc 0) (form_seen of.now)))) }
+{
+    let form = negated(alloc, of)?;
+    ranged(alloc, setting, path, kind, form)
+}
+
+/// All bits turned round: the greatest number of a `uint` less a form, or -1 less it.
+fn complement(alloc: Global, kind: Kind, of: &Form) -> Result<Form, WalkError>
+    ensures { MatchResult result (λ f. form_seen f ≡ operators.complement (kind_seen kind) (form_seen of.now)) (λ e. IsUnfit e (operators.complement (kind_seen kind) (form_seen of.now))) }
+{
+    match kind {
+        Kind::Int => number_less(alloc, -1, of),
+        Kind::Uint => number_less(alloc, 4_294_967_295, of),
+    }
+}
+
+/// A complement in its kind.
+pub fn ranged_complement<D: Domain>(
+    alloc: Global,
+    setting: &Setting<D>,
+    path: &mut Path<D>,
+    kind: Kind,
+    of: &Form,
+) -> Result<Value, WalkError>
+    ensures { MatchResult result (λ v. Leads (followed path.old) (followed path.new) (walks.ranged (seen D.Domain setting.now) (kind_seen kind) (operators.complement (kind_seen kind) (form_seen of.now))) (value_seen v)) (λ e. Stops ⊥ (followed path.old) e (walks.ranged (seen D.Domain setting.now) (kind_seen kind) (operators.complement (kind_seen kind) (form_seen of.now)))) }
+{
+    let form = complement(alloc, kind, of)?;
+    ranged(alloc, setting, path, kind, form)
+}
+
+/// By a constant form exactly, else a new symbol.
+fn product<D: Domain>(
+    alloc: Global,
+    setting: &Setting<D>,
+    path: &mut Path<D>,
+    left: &Form,
+    right: &Form,
+) -> Result<Form, WalkError>
+    ensures { MatchResult result (λ f. Leads (followed path.old) (followed path.new) (operators.product (seen D.Domain setting.now) (form_seen left.now).terms (form_seen right.now).terms (form_seen left.now) (form_seen right.now)) (form_seen f)) (λ e. StopsAtForm ⊥ (seen D.Domain setting.now) (followed path.old) e (operators.product (seen D.Domain setting.now) (form_seen left.now).terms (form_seen right.now).terms (form_seen left.now) (form_seen right.now))) }
+{
+    if is_number(right) {
+        let form = left.times(alloc, right.constant_part())?;
+        return Ok(form);
+    }
+    if is_number(left) {
+        let form = right.times(alloc, left.constant_part())?;
+        return Ok(form);
+    }
+    let element = element_at(setting, path, left).mul(element_at(setting, path, right));
+    invent(alloc, setting, path, element)
+}
+
+/// A product in its kind.
+pub fn ranged_product<D: Domain>(
+    alloc: Global,
+    setting: &Setting<D>,
+    path: &mut Path<D>,
+    kind: Kind,
+    left: &Form,
+    right: &Form,
+) -> Result<Value, WalkError>
+    ensures { MatchResult result (λ v. Leads (followed path.old) (followed path.new) (operators.binary (seen D.Domain setting.now) Multiply (kind_seen kind) (form_seen left.now) (form_seen right.now)) (value_seen v)) (λ e. Stops ⊥ (followed path.old) e (operators.binary (seen D.Domain setting.now) Multiply (kind_seen kind) (form_seen left.now) (form_seen right.now))) }
+{
+    let form = product(alloc, setting, path, left, right)?;
+    ranged(alloc, setting, path, kind, form)
+}

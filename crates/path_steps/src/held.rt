@@ -1,0 +1,140 @@
+//! What the domain holds on a path.
+
+ghost use Rattle.std.specs.Prelude.{◌≡◌, ◌&&◌, [], map, MatchResult};
+ghost use Rattle.std.specs.Prelude.{neg_ℤ, pos};
+ghost use Rattle.linear.specs.Forms.{form as form_seen};
+ghost use Rattle.linear.specs.Terms.{term as term_seen};
+ghost use Rattle.facts.specs.Symbols.{symbol_of};
+ghost use Rattle.facts.specs.Elements as elements;
+ghost use Rattle.facts.specs.Refusals.{IsMemory};
+ghost use Rattle.facts.specs.View.{known_seen, elements_seen};
+ghost use Rattle.walk_trees.specs.Held as held;
+ghost use Rattle.path_steps.specs.Paths.{with_held};
+ghost use Rattle.path_steps.specs.Without.{element_without};
+ghost use Rattle.path_steps.specs.View.{followed, held_seen, invented_seen, narrowed_seen};
+
+use crate::path::{Invented, Narrowed, Path};
+use crate::setting::Setting;
+use domain::Domain;
+use facts::{Known, WalkError};
+use linear::{Form, Symbol, Term};
+
+/// The element at an index, and past the end all numbers.
+fn nth<D: Domain>(of: &[D], index: u64) -> D
+    ensures { result ≡ elements.nth D.Domain of.now index }
+{
+    match of.get(index as usize) {
+        Some(element) => *element,
+        None => D::top(),
+    }
+}
+
+/// The same of the elements of new symbols.
+fn nth_new<D: Domain>(of: &[Invented<D>], index: u64) -> D
+    ensures { result ≡ elements.nth D.Domain (map invented_seen of.now) index }
+{
+    match of.get(index as usize) {
+        Some(new) => new.element,
+        None => D::top(),
+    }
+}
+
+#[tactic(auto, unfolding(facts::specs::Symbols::symbol_of), using(facts::proofs::Families::families))]
+/// A symbol's element beforehand, with those of the new symbols.
+fn known_element<D: Domain>(known: &Known<D>, news: &[Invented<D>], symbol: Symbol) -> D
+    ensures { result ≡ elements.element D.Domain (elements_seen known.now (map invented_seen news.now) []) (symbol_of symbol.number) }
+{
+    let index = symbol.number / 16;
+    match symbol.number % 16 {
+        0 => nth(known.counts.as_slice(), index),
+        1 => nth(known.arguments.as_slice(), index),
+        2 => nth(known.lengths.as_slice(), index),
+        3 | 9 => nth(known.locals.as_slice(), index),
+        4 | 10 => nth(known.groups.as_slice(), index),
+        5 => nth_new(news, index),
+        _ => D::top(),
+    }
+}
+
+/// The latest element of a symbol, or what was found before.
+fn latest<D: Domain>(found: D, narrowed: &[Narrowed<D>], symbol: Symbol) -> D
+    ensures { result ≡ held.latest found (map narrowed_seen narrowed.now) symbol.number }
+{
+    let mut element = found;
+    for one in narrowed {
+        if one.symbol.number == symbol.number {
+            element = one.element;
+        }
+    }
+    element
+}
+
+#[tactic(auto, unfolding(crate::specs::View::followed))]
+/// A symbol's element on the path.
+pub fn element_held<D: Domain>(setting: &Setting<D>, path: &Path<D>, symbol: Symbol) -> D
+    ensures { result ≡ held.element_held D.Domain (known_seen setting.now.known) (followed path.now).state.held symbol.number }
+{
+    let found = known_element(&setting.known, path.news.as_slice(), symbol);
+    latest(found, path.narrowed.as_slice(), symbol)
+}
+
+/// The element of a sum with one more term.
+fn with_term<D: Domain>(setting: &Setting<D>, path: &Path<D>, so_far: D, term: Term) -> D
+    ensures { result ≡ D.add_of so_far (D.mul_of (D.number_of (term_seen term).coefficient) (held.element_held D.Domain (known_seen setting.now.known) (followed path.now).state.held (term_seen term).symbol)) }
+{
+    let factor = D::of(term.coefficient);
+    so_far.add(factor.mul(element_held(setting, path, term.symbol)))
+}
+
+/// A form's element on the path, by its constant and then its terms in their order.
+pub fn element_at<D: Domain>(setting: &Setting<D>, path: &Path<D>, form: &Form) -> D
+    ensures { result ≡ held.element_at D.Domain (known_seen setting.now.known) (followed path.now).state.held (form_seen form.now) }
+{
+    let mut so_far = D::of(form.constant_part());
+    for term in form.terms() {
+        so_far = with_term(setting, path, so_far, *term);
+    }
+    so_far
+}
+
+/// The same without the term of a symbol.
+pub fn element_without<D: Domain>(
+    setting: &Setting<D>,
+    path: &Path<D>,
+    form: &Form,
+    symbol: Symbol,
+) -> D
+    ensures { result ≡ element_without D.Domain (known_seen setting.now.known) (followed path.now).state.held symbol.number (form_seen form.now) }
+{
+    let mut so_far = D::of(form.constant_part());
+    for term in form.terms() {
+        if term.symbol.number == symbol.number {
+            continue;
+        }
+        so_far = with_term(setting, path, so_far, *term);
+    }
+    so_far
+}
+
+/// The domain alone tells that a form is at least 0.
+pub fn settles<D: Domain>(setting: &Setting<D>, path: &Path<D>, form: &Form) -> bool
+    ensures { result ≡ held.is_settled_at D.Domain (known_seen setting.now.known) (followed path.now).state.held (form_seen form.now) }
+{
+    match element_at(setting, path, form).bounds().low {
+        Some(low) => low >= 0,
+        None => false,
+    }
+}
+
+/// A symbol's element, by the elements of new symbols and by what was narrowed.
+pub fn element_from<D: Domain>(
+    known: &Known<D>,
+    news: &[Invented<D>],
+    narrowed: &[Narrowed<D>],
+    symbol: Symbol,
+) -> D
+    ensures { result ≡ held.element_held D.Domain (known_seen known.now) (held_seen news.now narrowed.now) symbol.number }
+{
+    let found = known_element(known, news, symbol);
+    latest(found, narrowed, symbol)
+}

@@ -1,0 +1,71 @@
+//! The forms of work-item functions.
+
+ghost use Rattle.std.specs.Prelude.{◌≡◌, ◌<◌, MatchResult};
+ghost use Rattle.linear.specs.Forms.{form as form_seen};
+ghost use Rattle.core_code.specs.View.{function as function_seen};
+ghost use Rattle.facts.specs.Refusals.{IsMemory};
+ghost use Rattle.walk_trees.specs.Terms as terms;
+ghost use Rattle.path_steps.specs.View.{setting as seen};
+
+use crate::setting::Setting;
+use core_code::tree::Function;
+use domain::Domain;
+use facts::{Side, WalkError, once_group, once_groups, once_local};
+use linear::Form;
+use std::alloc::Global;
+
+/// What a work-item function gives in a dimension below the third.
+fn id_inside<D: Domain>(
+    alloc: Global,
+    setting: &Setting<D>,
+    function: Function,
+    dimension: u32,
+) -> Result<Form, WalkError>
+    requires { dimension < 3 }
+    ensures { MatchResult result (λ f. form_seen f ≡ terms.id_inside (seen D.Domain setting.now) (function_seen function) dimension) IsMemory }
+{
+    let size = setting.sizes[dimension as usize];
+    match function {
+        Function::GlobalId => {
+            let begin = once_group(alloc, Side::First, dimension)?.times(alloc, size as i64)?;
+            let form = begin.add(alloc, &once_local(alloc, Side::First, dimension)?)?;
+            Ok(form)
+        }
+        Function::LocalId => once_local(alloc, Side::First, dimension),
+        Function::GroupId => once_group(alloc, Side::First, dimension),
+        Function::GlobalSize => {
+            let form = once_groups(alloc, dimension)?.times(alloc, size as i64)?;
+            Ok(form)
+        }
+        Function::LocalSize => Ok(Form::constant(alloc, size as i64)),
+        Function::NumGroups => once_groups(alloc, dimension),
+    }
+}
+
+/// What a work-item function gives past the third dimension.
+fn id_outside(alloc: Global, function: Function) -> Form
+    ensures { form_seen result ≡ terms.id_outside (function_seen function) }
+{
+    match function {
+        Function::GlobalId | Function::LocalId | Function::GroupId => Form::constant(alloc, 0),
+        Function::GlobalSize | Function::LocalSize | Function::NumGroups => {
+            Form::constant(alloc, 1)
+        }
+    }
+}
+
+/// What a work-item function gives.
+pub fn id_form<D: Domain>(
+    alloc: Global,
+    setting: &Setting<D>,
+    function: Function,
+    dimension: u32,
+) -> Result<Form, WalkError>
+    ensures { MatchResult result (λ f. form_seen f ≡ terms.id_form (seen D.Domain setting.now) (function_seen function) dimension) IsMemory }
+{
+    if dimension < 3 {
+        id_inside(alloc, setting, function, dimension)
+    } else {
+        Ok(id_outside(alloc, function))
+    }
+}

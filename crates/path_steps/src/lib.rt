@@ -1,0 +1,40 @@
+//! Section: Walks. Promises exactly what one work-item finds along a path of its walk; stands on `core_code`, `facts` and `walk_trees`.
+//!
+//! The steps of one work-item's walk along a kernel with choices, one path at a time: what is to be shown on the way, what is known
+//! there, the accesses, and where it stops. A step's contract holds whatever goes on (`specs/Leads.antt`), and each error says what is
+//! true of all that is found along the path (`specs/Refusals.antt`, `specs/Halts.antt`). The laws say of all paths in turn that they list
+//! the tree.
+#![tactic(auto)]
+
+mod accesses;
+mod dividing;
+mod divisors;
+mod ending;
+mod exact;
+mod halt;
+mod held;
+mod ids;
+pub mod laws;
+mod narrowing;
+mod path;
+mod ranges;
+mod setting;
+mod steps;
+mod tests;
+
+pub use accesses::{access, load};
+pub use dividing::quotient;
+pub use divisors::claim_divisor;
+pub use exact::{
+    ranged_complement, ranged_difference, ranged_negation, ranged_product, ranged_sum,
+};
+pub use halt::Halt;
+pub use held::{element_at, element_from, settles};
+pub use ids::id_form;
+pub use path::{
+    Access, Arrived, Choice, Claim, Goal, Invented, Narrowed, Path, Ranked, Sort, Spot, Stop,
+    Target, Value,
+};
+pub use ranges::{any_of, both_brought, brought, invent, unknown};
+pub use setting::Setting;
+pub use tests::{is_number, split, split_number};

@@ -1,0 +1,308 @@
+//! Tests: each way begins with the facts of its outcome.
+
+ghost use Rattle.std.specs.Prelude.{◌≡◌, ◌&&◌, pos, negsuc, int_lt, MatchResult};
+ghost use Rattle.linear.specs.Exact.{fits_i64, multiple};
+ghost use Rattle.linear.specs.Forms.{form as form_seen};
+ghost use Rattle.semantics.specs.Word.{Equal, Unequal};
+ghost use Rattle.core_code.specs.View.{relation as relation_seen};
+ghost use Rattle.facts.specs.Symbols.{constant, minus};
+ghost use Rattle.facts.specs.Refusals.{IsMemory, IsUnfit};
+ghost use Rattle.walk_trees.specs.Walks as walks;
+ghost use Rattle.walk_trees.specs.Tests as tests;
+ghost use Rattle.path_steps.specs.Leads.{Steps, Leads};
+ghost use Rattle.path_steps.specs.Halts.{HaltsAtStep, Halts};
+ghost use Rattle.path_steps.specs.Sides.{side, split_sides};
+ghost use Rattle.path_steps.specs.View.{followed, setting as seen};
+
+use crate::halt::Halt;
+use crate::narrowing::narrow;
+use crate::path::Path;
+use crate::setting::Setting;
+use core_code::tree::Relation;
+use domain::Domain;
+use facts::{WalkError, less_number, number_less};
+use linear::Form;
+use std::alloc::Global;
+
+/// A form without terms.
+pub fn is_number(form: &Form) -> bool
+    ensures { result ≡ walks.is_number (form_seen form.now) }
+{
+    form.terms().is_empty()
+}
+
+/// A number of 64 bits is below 0.
+fn is_negative(number: i64) -> bool
+    ensures { result ≡ (fits_i64 number && int_lt number (pos 0)) }
+{
+    number < 0
+}
+
+/// No item goes on where the form would have to be at least 0.
+fn is_dead(form: &Form) -> bool
+    ensures { result ≡ walks.is_dead (form_seen form.now) }
+{
+    is_number(form) && is_negative(form.constant_part())
+}
+
+/// A fact of a test, which narrows.
+fn know_test<D: Domain>(setting: &Setting<D>, path: &mut Path<D>, fact: Form) -> Result<(), Halt>
+    ensures { MatchResult result (λ _. Steps (followed path.old) (followed path.new) (walks.know_test (seen D.Domain setting.now) (form_seen fact))) (λ h. HaltsAtStep ⊥ (followed path.old) (followed path.new) h (walks.know_test (seen D.Domain setting.now) (form_seen fact))) }
+{
+    if is_dead(&fact) {
+        return Err(Halt::Dead);
+    }
+    narrow(setting, path, &fact)?;
+    path.know(fact)?;
+    Ok(())
+}
+
+/// One form less another.
+pub fn difference(alloc: Global, left: &Form, right: &Form) -> Result<Form, WalkError>
+    ensures { MatchResult result (λ f. form_seen f ≡ minus (form_seen left.now) (form_seen right.now)) (λ e. IsUnfit e (minus (form_seen left.now) (form_seen right.now))) }
+{
+    let form = left.sub(alloc, right)?;
+    Ok(form)
+}
+
+/// A form is below another: the difference less 1, in the order in which no number on the way leaves 64 bits.
+fn below(alloc: Global, left: &Form, right: &Form) -> Result<Form, WalkError>
+    ensures { MatchResult result (λ f. form_seen f ≡ tests.below (form_seen left.now) (form_seen right.now)) (λ e. IsUnfit e (tests.below (form_seen left.now) (form_seen right.now))) }
+{
+    if is_negative(right.constant_part()) {
+        let form = difference(alloc, right, left)?;
+        return less_number(alloc, &form, 1);
+    }
+    let most = less_number(alloc, right, 1)?;
+    difference(alloc, &most, left)
+}
+
+/// What holds on a way of a comparison.
+fn side_fact(
+    alloc: Global,
+    relation: Relation,
+    first: bool,
+    left: &Form,
+    right: &Form,
+) -> Result<Form, WalkError>
+    ensures { MatchResult result (λ f. form_seen f ≡ side (relation_seen relation) first (form_seen left.now) (form_seen right.now)) (λ e. IsUnfit e (side (relation_seen relation) first (form_seen left.now) (form_seen right.now))) }
+{
+    match (relation, first) {
+        (Relation::Less, true) | (Relation::AtLeast, false) => below(alloc, left, right),
+        (Relation::AtMost, false) | (Relation::More, true) => below(alloc, right, left),
+        (Relation::Less, false) | (Relation::AtLeast, true) => difference(alloc, left, right),
+        (Relation::AtMost, true) | (Relation::More, false) => difference(alloc, right, left),
+        (Relation::Equal | Relation::Unequal, true) => below(alloc, left, right),
+        (Relation::Equal | Relation::Unequal, false) => below(alloc, right, left),
+    }
+}
+
+/// The fact of a way of a comparison.
+fn know_side<D: Domain>(
+    alloc: Global,
+    setting: &Setting<D>,
+    path: &mut Path<D>,
+    relation: Relation,
+    first: bool,
+    left: &Form,
+    right: &Form,
+) -> Result<(), Halt>
+    ensures { MatchResult result (λ _. Steps (followed path.old) (followed path.new) (walks.know_test (seen D.Domain setting.now) (side (relation_seen relation) first (form_seen left.now) (form_seen right.now)))) (λ h. HaltsAtStep ⊥ (followed path.old) (followed path.new) h (walks.know_test (seen D.Domain setting.now) (side (relation_seen relation) first (form_seen left.now) (form_seen right.now)))) }
+{
+    let fact = side_fact(alloc, relation, first, left, right)?;
+    know_test(setting, path, fact)
+}
+
+/// Two facts of a test: the forms are equal.
+fn know_equal<D: Domain>(
+    alloc: Global,
+    setting: &Setting<D>,
+    path: &mut Path<D>,
+    left: &Form,
+    right: &Form,
+) -> Result<(), Halt>
+    ensures { MatchResult result (λ _. Steps (followed path.old) (followed path.new) (walks.know_two (seen D.Domain setting.now) (minus (form_seen left.now) (form_seen right.now)) (minus (form_seen right.now) (form_seen left.now)))) (λ h. HaltsAtStep ⊥ (followed path.old) (followed path.new) h (walks.know_two (seen D.Domain setting.now) (minus (form_seen left.now) (form_seen right.now)) (minus (form_seen right.now) (form_seen left.now)))) }
+{
+    know_side(alloc, setting, path, Relation::AtLeast, true, left, right)?;
+    know_side(alloc, setting, path, Relation::AtLeast, true, right, left)
+}
+
+/// The two ways of a relation, one form below the other on one of them.
+fn split_sides<D: Domain>(
+    alloc: Global,
+    setting: &Setting<D>,
+    path: &mut Path<D>,
+    relation: Relation,
+    left: &Form,
+    right: &Form,
+) -> Result<bool, Halt>
+    ensures { MatchResult result (λ b. Leads (followed path.old) (followed path.new) (split_sides (seen D.Domain setting.now) (relation_seen relation) (form_seen left.now) (form_seen right.now)) b) (λ h. Halts ⊥ (followed path.old) (followed path.new) h (split_sides (seen D.Domain setting.now) (relation_seen relation) (form_seen left.now) (form_seen right.now))) }
+{
+    let first = path.choose()?;
+    know_side(alloc, setting, path, relation, first, left, right)?;
+    Ok(first)
+}
+
+/// The ways of equality: equal, below, above.
+fn split_equal<D: Domain>(
+    alloc: Global,
+    setting: &Setting<D>,
+    path: &mut Path<D>,
+    left: &Form,
+    right: &Form,
+) -> Result<bool, Halt>
+    ensures { MatchResult result (λ b. Leads (followed path.old) (followed path.new) (tests.split (seen D.Domain setting.now) Equal (form_seen left.now) (form_seen right.now)) b) (λ h. Halts ⊥ (followed path.old) (followed path.new) h (tests.split (seen D.Domain setting.now) Equal (form_seen left.now) (form_seen right.now))) }
+{
+    if path.choose()? {
+        know_equal(alloc, setting, path, left, right)?;
+        return Ok(true);
+    }
+    let first = path.choose()?;
+    know_side(alloc, setting, path, Relation::Equal, first, left, right)?;
+    Ok(false)
+}
+
+/// The ways of inequality: below, above, equal.
+fn split_unequal<D: Domain>(
+    alloc: Global,
+    setting: &Setting<D>,
+    path: &mut Path<D>,
+    left: &Form,
+    right: &Form,
+) -> Result<bool, Halt>
+    ensures { MatchResult result (λ b. Leads (followed path.old) (followed path.new) (tests.split (seen D.Domain setting.now) Unequal (form_seen left.now) (form_seen right.now)) b) (λ h. Halts ⊥ (followed path.old) (followed path.new) h (tests.split (seen D.Domain setting.now) Unequal (form_seen left.now) (form_seen right.now))) }
+{
+    if path.choose()? {
+        know_side(alloc, setting, path, Relation::Unequal, true, left, right)?;
+        return Ok(true);
+    }
+    if path.choose()? {
+        know_side(alloc, setting, path, Relation::Unequal, false, left, right)?;
+        return Ok(true);
+    }
+    know_equal(alloc, setting, path, left, right)?;
+    Ok(false)
+}
+
+/// The ways of a comparison, in their order.
+pub fn split<D: Domain>(
+    alloc: Global,
+    setting: &Setting<D>,
+    path: &mut Path<D>,
+    relation: Relation,
+    left: &Form,
+    right: &Form,
+) -> Result<bool, Halt>
+    ensures { MatchResult result (λ b. Leads (followed path.old) (followed path.new) (tests.split (seen D.Domain setting.now) (relation_seen relation) (form_seen left.now) (form_seen right.now)) b) (λ h. Halts ⊥ (followed path.old) (followed path.new) h (tests.split (seen D.Domain setting.now) (relation_seen relation) (form_seen left.now) (form_seen right.now))) }
+{
+    match relation {
+        Relation::Less => split_sides(alloc, setting, path, Relation::Less, left, right),
+        Relation::AtMost => split_sides(alloc, setting, path, Relation::AtMost, left, right),
+        Relation::More => split_sides(alloc, setting, path, Relation::More, left, right),
+        Relation::AtLeast => split_sides(alloc, setting, path, Relation::AtLeast, left, right),
+        Relation::Equal => split_equal(alloc, setting, path, left, right),
+        Relation::Unequal => split_unequal(alloc, setting, path, left, right),
+    }
+}
+
+/// The same form again.
+pub fn copied(alloc: Global, form: &Form) -> Result<Form, WalkError>
+    ensures { MatchResult result (λ f. form_seen f ≡ form_seen form.now) IsMemory }
+{
+    let copy = form.copy(alloc)?;
+    Ok(copy)
+}
+
+/// A form's negation.
+pub fn negated(alloc: Global, form: &Form) -> Result<Form, WalkError>
+    ensures { MatchResult result (λ f. form_seen f ≡ multiple (negsuc 0) (form_seen form.now)) (λ e. IsUnfit e (multiple (negsuc 0) (form_seen form.now))) }
+{
+    let negation = form.times(alloc, -1)?;
+    Ok(negation)
+}
+
+/// A form is above 0.
+fn know_above<D: Domain>(
+    alloc: Global,
+    setting: &Setting<D>,
+    path: &mut Path<D>,
+    form: &Form,
+) -> Result<(), Halt>
+    ensures { MatchResult result (λ _. Steps (followed path.old) (followed path.new) (walks.know_test (seen D.Domain setting.now) (minus (form_seen form.now) (constant (pos 1))))) (λ h. HaltsAtStep ⊥ (followed path.old) (followed path.new) h (walks.know_test (seen D.Domain setting.now) (minus (form_seen form.now) (constant (pos 1))))) }
+{
+    let fact = less_number(alloc, form, 1)?;
+    know_test(setting, path, fact)
+}
+
+/// A form is below 0.
+fn know_below<D: Domain>(
+    alloc: Global,
+    setting: &Setting<D>,
+    path: &mut Path<D>,
+    form: &Form,
+) -> Result<(), Halt>
+    ensures { MatchResult result (λ _. Steps (followed path.old) (followed path.new) (walks.know_test (seen D.Domain setting.now) (minus (constant (negsuc 0)) (form_seen form.now)))) (λ h. HaltsAtStep ⊥ (followed path.old) (followed path.new) h (walks.know_test (seen D.Domain setting.now) (minus (constant (negsuc 0)) (form_seen form.now)))) }
+{
+    let fact = number_less(alloc, -1, form)?;
+    know_test(setting, path, fact)
+}
+
+/// A form is at least 0.
+fn know_form<D: Domain>(
+    alloc: Global,
+    setting: &Setting<D>,
+    path: &mut Path<D>,
+    form: &Form,
+) -> Result<(), Halt>
+    ensures { MatchResult result (λ _. Steps (followed path.old) (followed path.new) (walks.know_test (seen D.Domain setting.now) (form_seen form.now))) (λ h. HaltsAtStep ⊥ (followed path.old) (followed path.new) h (walks.know_test (seen D.Domain setting.now) (form_seen form.now))) }
+{
+    let fact = copied(alloc, form)?;
+    know_test(setting, path, fact)
+}
+
+/// A form is at most 0.
+fn know_negated<D: Domain>(
+    alloc: Global,
+    setting: &Setting<D>,
+    path: &mut Path<D>,
+    form: &Form,
+) -> Result<(), Halt>
+    ensures { MatchResult result (λ _. Steps (followed path.old) (followed path.new) (walks.know_test (seen D.Domain setting.now) (multiple (negsuc 0) (form_seen form.now)))) (λ h. HaltsAtStep ⊥ (followed path.old) (followed path.new) h (walks.know_test (seen D.Domain setting.now) (multiple (negsuc 0) (form_seen form.now)))) }
+{
+    let fact = negated(alloc, form)?;
+    know_test(setting, path, fact)
+}
+
+/// Two facts of a test: a form is 0.
+fn know_zero<D: Domain>(
+    alloc: Global,
+    setting: &Setting<D>,
+    path: &mut Path<D>,
+    form: &Form,
+) -> Result<(), Halt>
+    ensures { MatchResult result (λ _. Steps (followed path.old) (followed path.new) (walks.know_two (seen D.Domain setting.now) (form_seen form.now) (multiple (negsuc 0) (form_seen form.now)))) (λ h. HaltsAtStep ⊥ (followed path.old) (followed path.new) h (walks.know_two (seen D.Domain setting.now) (form_seen form.now) (multiple (negsuc 0) (form_seen form.now)))) }
+{
+    know_form(alloc, setting, path, form)?;
+    know_negated(alloc, setting, path, form)
+}
+
+/// A number as a test: above 0, below 0, or 0.
+pub fn split_number<D: Domain>(
+    alloc: Global,
+    setting: &Setting<D>,
+    path: &mut Path<D>,
+    form: &Form,
+) -> Result<bool, Halt>
+    ensures { MatchResult result (λ b. Leads (followed path.old) (followed path.new) (tests.split_number (seen D.Domain setting.now) (form_seen form.now)) b) (λ h. Halts ⊥ (followed path.old) (followed path.new) h (tests.split_number (seen D.Domain setting.now) (form_seen form.now))) }
+{
+    if path.choose()? {
+        know_above(alloc, setting, path, form)?;
+        return Ok(true);
+    }
+    if path.choose()? {
+        know_below(alloc, setting, path, form)?;
+        return Ok(true);
+    }
+    know_zero(alloc, setting, path, form)?;
+    Ok(false)
+}

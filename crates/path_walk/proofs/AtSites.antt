@@ -1,0 +1,56 @@
+-- Operators at their sites, and the smaller or larger of two values.
+use Rattle.std.proofs.Common.{◌≡◌, Bool, sym, ap, subst, ◌∙◌}
+use Rattle.std.specs.Prelude.{Result, IsErr, IsErrAnd}
+use Rattle.semantics.specs.Core.{Site}
+use Rattle.semantics.specs.Word.{Kind, Operator, Less}
+use Rattle.facts.specs.declared.error.WalkError.{WalkError}
+use Rattle.walk_trees.specs.Trees.{Tree}
+use Rattle.walk_trees.specs.Values.{Value}
+use Rattle.walk_trees.specs.Walks.{Setting, State, Onward, spot_at, at_site, both_brought}
+use Rattle.walk_trees.specs.Operators.{binary}
+use Rattle.walk_trees.specs.Tests.{split}
+use Rattle.walk_trees.specs.Terms.{chosen, pick}
+use Rattle.path_steps.specs.Paths.{Followed, collect, with_spot}
+use Rattle.path_steps.specs.Leads.{Leads, LeadsTwo}
+use Rattle.path_steps.specs.Refusals.{Stops, StopsTwo}
+use Rattle.path_steps.specs.Halts.{Halts}
+use Rattle.path_steps.specs.declared.halt.Halt.{Halt}
+use Rattle.path_steps.specs.declared.halt.Halt.TheVariants as halts
+use Rattle.path_steps.proofs.Refusing.{refused_from}
+use Rattle.path_steps.proofs.Testing.{halted}
+use Rattle.path_walk.specs.Parts.{binary_at}
+use Rattle.path_walk.proofs.Then.{Says}
+
+-- an operator with one operand, or a conversion
+module _ {E A : Type 0} (walk : State E → (A → State E → Tree E) → Tree E) (site : Site) (l m n : Followed E) (d : m ≡ with_spot l (spot_at site l.state)) where
+  pub site_leads : (v : A) → Leads m n walk v → Leads l n (λ st go. walk (at_site site st) go) v
+  site_leads v h = subst (λ u. Leads u n walk v) d h
+
+  pub site_stops : {T : Type 0} (view : T → A) (r : Result T Halt) (e : WalkError) → IsErr r × IsErrAnd r (λ h. h ≡ halts.Refused e) → Stops ⊥ m e walk → Says l n (λ st go. walk (at_site site st) go) view r
+  site_stops view r e i h = halted r (halts.Refused e) _ _ i (subst (λ u. Stops ⊥ u e walk) d h)
+
+-- an operator with two
+module _ {E : Type 0} (s : Setting E) (op : Operator) (k : Kind) (site : Site) (x y x' y' : Value) (l m n o : Followed E) where
+  both : m ≡ with_spot l (spot_at site l.state) → LeadsTwo m n (both_brought s k x y) x' y' → (go : Onward E) → collect l.found (binary_at s op k site x y l.state go) ≡ collect n.found (binary s op k x'.form y'.form n.state go)
+  both d a go =
+      ap (λ (u : Followed _). collect u.found (both_brought s k x y u.state (λ v w st. binary s op k v.form w.form st go))) (sym d)
+      ∙ a (λ v w st. binary s op k v.form w.form st go)
+
+  pub binary_leads : (v : Value) → m ≡ with_spot l (spot_at site l.state) → LeadsTwo m n (both_brought s k x y) x' y' → Leads n o (binary s op k x'.form y'.form) v → Leads l o (binary_at s op k site x y) v
+  binary_leads v d a b go = both d a go ∙ b go
+
+  pub binary_stops : {T : Type 0} (view : T → Value) (r : Result T Halt) (e : WalkError) → m ≡ with_spot l (spot_at site l.state) → IsErr r × IsErrAnd r (λ h. h ≡ halts.Refused e) → LeadsTwo m n (both_brought s k x y) x' y' → Stops ⊥ n e (binary s op k x'.form y'.form) → Says l o (binary_at s op k site x y) view r
+  binary_stops view r e d i a b = halted r (halts.Refused e) _ _ i (λ go. refused_from ⊥ e _ _ (both d a go) (b go))
+
+pub both_stop : {E T : Type 0} (s : Setting E) (op : Operator) (k : Kind) (site : Site) (x y : Value) (l m n : Followed E) (view : T → Value) (r : Result T Halt) (e : WalkError) → m ≡ with_spot l (spot_at site l.state) → IsErr r × IsErrAnd r (λ h. h ≡ halts.Refused e) → StopsTwo ⊥ m e (both_brought s k x y) → Says l n (binary_at s op k site x y) view r
+both_stop {E} s op k site x y l m n view r e d i h =
+    let walk : State E → Onward E → Tree E = λ st go. both_brought s k x y st (λ v w st'. binary s op k v.form w.form st' go) in
+    site_stops walk site l m n d view r e i (λ go. h (λ v w st. binary s op k v.form w.form st go))
+
+-- the smaller or the larger of two values
+module _ {E : Type 0} (s : Setting E) (x y second first : Value) (l m : Followed E) where
+  pub picks : (b c : Bool) → Leads l m (split s Less x.form y.form) b → b ≡ c → Leads l m (pick s x y second first) (chosen c second first)
+  picks b c a d go = a (λ h st. go (chosen h second first) st) ∙ ap (λ h. collect m.found (go (chosen h second first) m.state)) d
+
+  pub pick_halts : {T : Type 0} (view : T → Value) (r : Result T Halt) (h : Halt) → IsErr r × IsErrAnd r (λ e. e ≡ h) → Halts ⊥ l m h (split s Less x.form y.form) → Says l m (pick s x y second first) view r
+  pick_halts view r h i a = halted r h _ _ i (λ go. a (λ b st. go (chosen b second first) st))

@@ -1,0 +1,231 @@
+//! What becomes of the values of operands.
+
+ghost use Rattle.std.specs.Prelude.{◌≡◌, pos, true, map, slice_index_or, MatchResult};
+ghost use Rattle.words.specs.View.{kind as kind_seen};
+ghost use Rattle.core_code.specs.View.{array as array_seen, function as function_seen, operator as operator_seen, relation as relation_seen, site as site_seen, unary_operator as unary_seen};
+ghost use Rattle.semantics.specs.Word.{Uint};
+ghost use Rattle.facts.specs.Refusals.{IsMemory};
+ghost use Rattle.facts.specs.Symbols.{constant};
+ghost use Rattle.walk_trees.specs.Covered.{is_covered_unary};
+ghost use Rattle.walk_trees.specs.Terms as terms;
+ghost use Rattle.walk_trees.specs.Values as values;
+ghost use Rattle.walk_trees.specs.Walks as walks;
+ghost use Rattle.path_steps.specs.Halts.{Halts};
+ghost use Rattle.path_steps.specs.Leads.{Leads};
+ghost use Rattle.path_steps.specs.Paths.{with_spot};
+ghost use Rattle.path_steps.specs.View.{followed, setting as seen, value as value_seen};
+ghost use Rattle.path_walk.specs.Parts.{unary_at, brought_at, binary_at, compare_values};
+
+use crate::operators::{binary, unary};
+use core_code::tree::{Array, Function, Operator, Relation, Site, UnaryOperator};
+use domain::Domain;
+use facts::WalkError;
+use linear::Form;
+use path_steps::{Halt, Path, Setting, Value, both_brought, brought, id_form, load, split};
+use std::alloc::Global;
+use words::Kind;
+
+/// A number of a kind.
+pub fn literal(alloc: Global, kind: Kind, number: u32) -> Value
+    ensures { value_seen result ≡ values.value (kind_seen kind) (constant (pos number)) }
+{
+    Value {
+        kind,
+        form: Form::constant(alloc, number as i64),
+    }
+}
+
+/// A test's outcome as a value.
+pub fn truth(alloc: Global, holds: bool) -> Value
+    ensures { value_seen result ≡ terms.truth_value holds }
+{
+    let number = if holds { 1 } else { 0 };
+    literal(alloc, Kind::Int, number)
+}
+
+/// The same value again.
+fn copied(alloc: Global, value: &Value) -> Result<Value, WalkError>
+    ensures { MatchResult result (λ v. value_seen v ≡ value_seen value.now) IsMemory }
+{
+    let form = value.form.copy(alloc)?;
+    Ok(Value {
+        kind: value.kind,
+        form,
+    })
+}
+
+/// The value at a slot, and past the end 0.
+fn value_at(alloc: Global, variables: &[Value], slot: u32) -> Result<Value, WalkError>
+    ensures { MatchResult result (λ v. value_seen v ≡ slice_index_or (map value_seen variables.now) slot terms.no_value) IsMemory }
+{
+    match variables.get(slot as usize) {
+        Some(value) => copied(alloc, value),
+        None => Ok(literal(alloc, Kind::Int, 0)),
+    }
+}
+
+#[tactic(auto, unfolding(path_steps::specs::View::followed))]
+/// What a variable is on the path.
+pub fn variable<D: Domain>(alloc: Global, path: &Path<D>, slot: u32) -> Result<Value, WalkError>
+    ensures { MatchResult result (λ v. value_seen v ≡ terms.variable (followed path.now).state slot) IsMemory }
+{
+    value_at(alloc, path.variables.as_slice(), slot)
+}
+
+/// What a work-item function gives.
+pub fn id_value<D: Domain>(
+    alloc: Global,
+    setting: &Setting<D>,
+    function: Function,
+    dimension: u32,
+) -> Result<Value, WalkError>
+    ensures { MatchResult result (λ v. value_seen v ≡ values.value Uint (terms.id_form (seen D.Domain setting.now) (function_seen function) dimension)) IsMemory }
+{
+    let form = id_form(alloc, setting, function, dimension)?;
+    Ok(Value {
+        kind: Kind::Uint,
+        form,
+    })
+}
+
+/// The walk stands at a site of its statement.
+fn stand_at<D: Domain>(path: &mut Path<D>, site: Site)
+    ensures { followed path.new ≡ with_spot (followed path.old) (walks.spot_at (site_seen site) (followed path.old).state) }
+{
+    let spot = path.spot_at(site);
+    path.stand(spot);
+}
+
+/// A load of the element that an index names.
+pub fn loaded<D: Domain>(
+    alloc: Global,
+    setting: &Setting<D>,
+    path: &mut Path<D>,
+    array: Array,
+    site: Site,
+    index: Value,
+) -> Result<Value, Halt>
+    ensures { MatchResult result (λ v. Leads (followed path.old) (followed path.new) (terms.load (seen D.Domain setting.now) (array_seen array) (site_seen site) (value_seen index).form) (value_seen v)) (λ h. Halts ⊥ (followed path.old) (followed path.new) h (terms.load (seen D.Domain setting.now) (array_seen array) (site_seen site) (value_seen index).form)) }
+{
+    let value = load(alloc, setting, path, array, site, index.form)?;
+    Ok(value)
+}
+
+/// An operator with one operand, at its site.
+pub fn unary_at<D: Domain>(
+    alloc: Global,
+    setting: &Setting<D>,
+    path: &mut Path<D>,
+    operator: UnaryOperator,
+    kind: Kind,
+    site: Site,
+    of: Value,
+) -> Result<Value, Halt>
+    requires { is_covered_unary (unary_seen operator) (kind_seen kind) ≡ true }
+    ensures { MatchResult result (λ v. Leads (followed path.old) (followed path.new) (unary_at (seen D.Domain setting.now) (unary_seen operator) (kind_seen kind) (site_seen site) (value_seen of)) (value_seen v)) (λ h. Halts ⊥ (followed path.old) (followed path.new) h (unary_at (seen D.Domain setting.now) (unary_seen operator) (kind_seen kind) (site_seen site) (value_seen of))) }
+{
+    stand_at(path, site);
+    let value = unary(alloc, setting, path, operator, kind, &of)?;
+    Ok(value)
+}
+
+/// A conversion, at its site.
+pub fn brought_at<D: Domain>(
+    alloc: Global,
+    setting: &Setting<D>,
+    path: &mut Path<D>,
+    kind: Kind,
+    site: Site,
+    of: Value,
+) -> Result<Value, Halt>
+    ensures { MatchResult result (λ v. Leads (followed path.old) (followed path.new) (brought_at (seen D.Domain setting.now) (kind_seen kind) (site_seen site) (value_seen of)) (value_seen v)) (λ h. Halts ⊥ (followed path.old) (followed path.new) h (brought_at (seen D.Domain setting.now) (kind_seen kind) (site_seen site) (value_seen of))) }
+{
+    stand_at(path, site);
+    let value = brought(alloc, setting, path, kind, of)?;
+    Ok(value)
+}
+
+/// An operator with two operands, at its site, which first brings both to its kind.
+pub fn binary_at<D: Domain>(
+    alloc: Global,
+    setting: &Setting<D>,
+    path: &mut Path<D>,
+    operator: Operator,
+    kind: Kind,
+    site: Site,
+    left: Value,
+    right: Value,
+) -> Result<Value, Halt>
+    ensures { MatchResult result (λ v. Leads (followed path.old) (followed path.new) (binary_at (seen D.Domain setting.now) (operator_seen operator) (kind_seen kind) (site_seen site) (value_seen left) (value_seen right)) (value_seen v)) (λ h. Halts ⊥ (followed path.old) (followed path.new) h (binary_at (seen D.Domain setting.now) (operator_seen operator) (kind_seen kind) (site_seen site) (value_seen left) (value_seen right))) }
+{
+    stand_at(path, site);
+    let (first, second) = both_brought(alloc, setting, path, kind, left, right)?;
+    let value = binary(
+        alloc,
+        setting,
+        path,
+        operator,
+        kind,
+        &first.form,
+        &second.form,
+    )?;
+    Ok(value)
+}
+
+/// A comparison, which first brings both operands to its kind.
+pub fn compare_values<D: Domain>(
+    alloc: Global,
+    setting: &Setting<D>,
+    path: &mut Path<D>,
+    relation: Relation,
+    kind: Kind,
+    left: Value,
+    right: Value,
+) -> Result<bool, Halt>
+    ensures { MatchResult result (λ b. Leads (followed path.old) (followed path.new) (compare_values (seen D.Domain setting.now) (relation_seen relation) (kind_seen kind) (value_seen left) (value_seen right)) b) (λ h. Halts ⊥ (followed path.old) (followed path.new) h (compare_values (seen D.Domain setting.now) (relation_seen relation) (kind_seen kind) (value_seen left) (value_seen right))) }
+{
+    let (first, second) = both_brought(alloc, setting, path, kind, left, right)?;
+    split(alloc, setting, path, relation, &first.form, &second.form)
+}
+
+/// The smaller of two values (OpenCL 1.2, 6.12.3): the right one where it is less, else the left one.
+pub fn smaller<D: Domain>(
+    alloc: Global,
+    setting: &Setting<D>,
+    path: &mut Path<D>,
+    left: Value,
+    right: Value,
+) -> Result<Value, Halt>
+    ensures { MatchResult result (λ v. Leads (followed path.old) (followed path.new) (terms.pick (seen D.Domain setting.now) (value_seen right) (value_seen left) (value_seen right) (value_seen left)) (value_seen v)) (λ h. Halts ⊥ (followed path.old) (followed path.new) h (terms.pick (seen D.Domain setting.now) (value_seen right) (value_seen left) (value_seen right) (value_seen left))) }
+{
+    let is_less = split(
+        alloc,
+        setting,
+        path,
+        Relation::Less,
+        &right.form,
+        &left.form,
+    )?;
+    if is_less { Ok(right) } else { Ok(left) }
+}
+
+/// The larger of two values (OpenCL 1.2, 6.12.3): the right one where the left one is less, else the left one.
+pub fn larger<D: Domain>(
+    alloc: Global,
+    setting: &Setting<D>,
+    path: &mut Path<D>,
+    left: Value,
+    right: Value,
+) -> Result<Value, Halt>
+    ensures { MatchResult result (λ v. Leads (followed path.old) (followed path.new) (terms.pick (seen D.Domain setting.now) (value_seen left) (value_seen right) (value_seen right) (value_seen left)) (value_seen v)) (λ h. Halts ⊥ (followed path.old) (followed path.new) h (terms.pick (seen D.Domain setting.now) (value_seen left) (value_seen right) (value_seen right) (value_seen left))) }
+{
+    let is_less = split(
+        alloc,
+        setting,
+        path,
+        Relation::Less,
+        &left.form,
+        &right.form,
+    )?;
+    if is_less { Ok(right) } else { Ok(left) }
+}

@@ -1,0 +1,55 @@
+//! Remainders.
+
+ghost use Rattle.std.specs.Prelude.{MatchResult};
+ghost use Rattle.linear.specs.Forms.{form as form_seen};
+ghost use Rattle.words.specs.View.{kind as kind_seen};
+ghost use Rattle.semantics.specs.Word.{Remainder};
+ghost use Rattle.walk_trees.specs.Operators as operators;
+ghost use Rattle.path_steps.specs.Leads.{Leads};
+ghost use Rattle.path_steps.specs.Refusals.{Stops};
+ghost use Rattle.path_steps.specs.View.{followed, setting as seen, value as value_seen};
+ghost use Rattle.path_walk.specs.OperatorSteps.{remaining_here};
+
+use crate::cases::is_exact;
+use crate::dividing::left_alone;
+use domain::Domain;
+use facts::WalkError;
+use linear::Form;
+use path_steps::{Path, Setting, Value, claim_divisor, element_at, invent};
+use std::alloc::Global;
+use words::Kind;
+
+/// A remainder: exact, or a new symbol with what the domain tells of it.
+fn remaining<D: Domain>(
+    alloc: Global,
+    setting: &Setting<D>,
+    path: &mut Path<D>,
+    kind: Kind,
+    dividend: &Form,
+    divisor: &Form,
+) -> Result<Form, WalkError>
+    ensures { MatchResult result (λ f. Leads (followed path.old) (followed path.new) (remaining_here (seen D.Domain setting.now) (kind_seen kind) (form_seen dividend.now) (form_seen divisor.now)) (form_seen f)) (λ e. Stops ⊥ (followed path.old) e (remaining_here (seen D.Domain setting.now) (kind_seen kind) (form_seen dividend.now) (form_seen divisor.now))) }
+{
+    if is_exact(setting, path, dividend, divisor) {
+        let number = divisor.constant_part();
+        return left_alone(alloc, setting, path, kind, dividend, number);
+    }
+    let element = element_at(setting, path, dividend).rem(element_at(setting, path, divisor));
+    invent(alloc, setting, path, element)
+}
+
+/// A remainder, behind the claims of its divisor.
+pub fn remain<D: Domain>(
+    alloc: Global,
+    setting: &Setting<D>,
+    path: &mut Path<D>,
+    kind: Kind,
+    left: &Form,
+    right: &Form,
+) -> Result<Value, WalkError>
+    ensures { MatchResult result (λ v. Leads (followed path.old) (followed path.new) (operators.binary (seen D.Domain setting.now) Remainder (kind_seen kind) (form_seen left.now) (form_seen right.now)) (value_seen v)) (λ e. Stops ⊥ (followed path.old) e (operators.binary (seen D.Domain setting.now) Remainder (kind_seen kind) (form_seen left.now) (form_seen right.now))) }
+{
+    claim_divisor(alloc, setting, path, kind, left, right)?;
+    let form = remaining(alloc, setting, path, kind, left, right)?;
+    Ok(Value { kind, form })
+}

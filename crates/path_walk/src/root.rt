@@ -1,0 +1,82 @@
+//! Where the paths of a place begin.
+
+ghost use Rattle.std.specs.Prelude.{◌≡◌, List, Bool, [], map, true, MatchResult};
+ghost use Rattle.linear.specs.Forms.{forms};
+ghost use Rattle.core_code.specs.View.{kernel as core_seen};
+ghost use Rattle.facts.specs.Launching.{are_sizes};
+ghost use Rattle.walk_trees.specs.Statements.{spot_of};
+ghost use Rattle.path_steps.specs.View.{followed, choice as choice_seen, held_seen, value as value_seen};
+ghost use Rattle.obligations.specs.View.{seen};
+ghost use Rattle.obligations.specs.Roots.{root_facts};
+ghost use Rattle.path_walk.specs.Rooted.{rooted, IsUnrooted};
+
+use crate::holding::{root_narrowed, tops};
+use crate::known::root_facts;
+use crate::said::congruences_at;
+use crate::variables::root_values;
+use core_code::tree::{Core, Site};
+use domain::Domain;
+use facts::WalkError;
+use linear::Form;
+use obligations::Notes;
+use path_steps::{Choice, Invented, Narrowed, Path, Spot, Value};
+use std::alloc::Global;
+
+/// What is known and held where a path begins.
+#[derive(Drop)]
+pub struct Root<D> {
+    pub known: Vec<Form>,
+    pub variables: Vec<Value>,
+    pub news: Vec<Invented<D>>,
+    pub narrowed: Vec<Narrowed<D>>,
+}
+
+#[tactic(auto, unfolding(path_steps::specs::View::followed))]
+/// A path before its first step, with so many claims before it.
+fn planted<D: Domain>(alloc: Global, root: Root<D>, claims: u32, given: Vec<Choice>) -> Path<D>
+    ensures { followed result ≡ record { found = record { facts = forms root.known.items; claims = []; accesses = []; ends = []; count = claims; taken = []; left = map choice_seen given.items; is_fit = true; is_few = true }; state = record { claims = claims; variables = map value_seen root.variables.items; ranks = []; held = held_seen root.news.items root.narrowed.items; at = spot_of 0 } } }
+{
+    Path {
+        facts: root.known,
+        claims: Vec::new(alloc),
+        accesses: Vec::new(alloc),
+        ends: Vec::new(alloc),
+        count: claims,
+        taken: Vec::new(alloc),
+        given,
+        news: root.news,
+        narrowed: root.narrowed,
+        variables: root.variables,
+        ranks: Vec::new(alloc),
+        at: Spot {
+            statement: 0,
+            site: Site { line: 0, column: 0 },
+        },
+    }
+}
+
+/// A path of a place, by the numbers of its barrier and of its loop, with so many claims before it, along these choices.
+pub fn root_of<D: Domain>(
+    alloc: Global,
+    core: &Core,
+    notes: &Notes,
+    anchor: Option<u32>,
+    head: Option<u32>,
+    claims: u32,
+    given: Vec<Choice>,
+) -> Result<Path<D>, WalkError>
+    requires { are_sizes (core_seen core.now).sizes ≡ true }
+    ensures { MatchResult result (λ p. (entries : List Bool) → followed p ≡ rooted D.Domain (core_seen core.now) (seen notes.now entries) claims anchor head (map choice_seen given.items)) (λ e. (entries : List Bool) → IsUnrooted (root_facts (core_seen core.now) (seen notes.now entries) anchor head) e) }
+{
+    let known = root_facts(alloc, core, notes, anchor, head)?;
+    let variables = root_values(alloc, core, anchor, head)?;
+    let news = tops(alloc, congruences_at(notes, anchor, head))?;
+    let narrowed = root_narrowed(alloc, core, variables.as_slice(), anchor, head)?;
+    let root = Root {
+        known,
+        variables,
+        news,
+        narrowed,
+    };
+    Ok(planted(alloc, root, claims, given))
+}

@@ -1,0 +1,34 @@
+//! What is said of a place; of the entry nothing is.
+
+ghost use Rattle.std.specs.Prelude.{◌≡◌, [], map};
+ghost use Rattle.linear.specs.Forms.{forms};
+ghost use Rattle.obligations.specs.View.{seen, congruence as congruence_seen};
+ghost use Rattle.obligations.specs.Roots as roots;
+
+use arrival_claims::{congruences_of, facts_of};
+use linear::Form;
+use obligations::{Congruence, Notes};
+
+/// The facts of a place.
+pub fn facts_at<'n>(notes: &'n Notes, anchor: Option<u32>, head: Option<u32>) -> &'n [Form]
+    ensures { forms result.now ≡ roots.facts_at (seen notes.now []) anchor head }
+{
+    match (anchor, head) {
+        (None, None) => &[],
+        (None, Some(_)) | (Some(_), _) => facts_of(notes.places.as_slice(), anchor, head),
+    }
+}
+
+/// The congruences of a place.
+pub fn congruences_at<'n>(
+    notes: &'n Notes,
+    anchor: Option<u32>,
+    head: Option<u32>,
+) -> &'n [Congruence]
+    ensures { map congruence_seen result.now ≡ roots.congruences_at (seen notes.now []) anchor head }
+{
+    match (anchor, head) {
+        (None, None) => &[],
+        (None, Some(_)) | (Some(_), _) => congruences_of(notes.places.as_slice(), anchor, head),
+    }
+}

@@ -1,0 +1,225 @@
+//! The walk of a term, as a value and as a test.
+
+ghost use Rattle.std.specs.Prelude.{◌≡◌, ◌&&◌, true, MatchResult};
+ghost use Rattle.words.specs.View.{kind as kind_seen};
+ghost use Rattle.core_code.specs.View.{relation as relation_seen, term as term_seen};
+ghost use Rattle.semantics.specs.Core as core;
+ghost use Rattle.obligations.specs.Walking.{is_lawful};
+ghost use Rattle.walk_trees.specs.Terms as terms;
+ghost use Rattle.path_steps.specs.Halts.{Halts};
+ghost use Rattle.path_steps.specs.Leads.{Leads, LeadsTwo};
+ghost use Rattle.path_steps.specs.View.{followed, setting as seen, value as value_seen};
+ghost use Rattle.path_walk.specs.Parts.{both_values, HaltsTwo};
+
+use crate::operands::{
+    binary_at, brought_at, compare_values, id_value, larger, literal, loaded, smaller, truth,
+    unary_at, variable,
+};
+use core_code::tree::{Relation, Term};
+use domain::Domain;
+use path_steps::{Halt, Path, Setting, Value, split_number};
+use std::alloc::Global;
+use words::Kind;
+
+/// Two terms as values, the left one first.
+#[cycle(terms)]
+fn both_values<D: Domain>(
+    alloc: Global,
+    setting: &Setting<D>,
+    path: &mut Path<D>,
+    left: &Term,
+    right: &Term,
+) -> Result<(Value, Value), Halt>
+    requires left { is_lawful (term_seen left.now) ≡ true }
+    requires right { is_lawful (term_seen right.now) ≡ true }
+    ensures { MatchResult result (λ v. LeadsTwo (followed path.old) (followed path.new) (both_values (seen D.Domain setting.now) (term_seen left.now) (term_seen right.now)) (value_seen v.0) (value_seen v.1)) (λ h. HaltsTwo ⊥ (followed path.old) (followed path.new) h (both_values (seen D.Domain setting.now) (term_seen left.now) (term_seen right.now))) }
+{
+    let first = value_of(alloc, setting, path, left)?;
+    let second = value_of(alloc, setting, path, right)?;
+    Ok((first, second))
+}
+
+/// A comparison of two terms.
+#[cycle(terms)]
+fn compared<D: Domain>(
+    alloc: Global,
+    setting: &Setting<D>,
+    path: &mut Path<D>,
+    relation: Relation,
+    kind: Kind,
+    left: &Term,
+    right: &Term,
+) -> Result<bool, Halt>
+    requires left { is_lawful (term_seen left.now) ≡ true }
+    requires right { is_lawful (term_seen right.now) ≡ true }
+    ensures { MatchResult result (λ b. Leads (followed path.old) (followed path.new) (terms.walk (seen D.Domain setting.now) (core.Compare (relation_seen relation) (kind_seen kind) (term_seen left.now) (term_seen right.now))).test b) (λ h. Halts ⊥ (followed path.old) (followed path.new) h (terms.walk (seen D.Domain setting.now) (core.Compare (relation_seen relation) (kind_seen kind) (term_seen left.now) (term_seen right.now))).test) }
+{
+    let (first, second) = both_values(alloc, setting, path, left, right)?;
+    compare_values(alloc, setting, path, relation, kind, first, second)
+}
+
+/// Both tests hold; the right one is walked where the left one holds.
+#[cycle(terms)]
+fn both_hold<D: Domain>(
+    alloc: Global,
+    setting: &Setting<D>,
+    path: &mut Path<D>,
+    left: &Term,
+    right: &Term,
+) -> Result<bool, Halt>
+    requires left { is_lawful (term_seen left.now) ≡ true }
+    requires right { is_lawful (term_seen right.now) ≡ true }
+    ensures { MatchResult result (λ b. Leads (followed path.old) (followed path.new) (terms.walk (seen D.Domain setting.now) (core.And (term_seen left.now) (term_seen right.now))).test b) (λ h. Halts ⊥ (followed path.old) (followed path.new) h (terms.walk (seen D.Domain setting.now) (core.And (term_seen left.now) (term_seen right.now))).test) }
+{
+    let holds = test_of(alloc, setting, path, left)?;
+    if holds {
+        return test_of(alloc, setting, path, right);
+    }
+    Ok(false)
+}
+
+/// One of two tests holds; the right one is walked where the left one does not hold.
+#[cycle(terms)]
+fn either_holds<D: Domain>(
+    alloc: Global,
+    setting: &Setting<D>,
+    path: &mut Path<D>,
+    left: &Term,
+    right: &Term,
+) -> Result<bool, Halt>
+    requires left { is_lawful (term_seen left.now) ≡ true }
+    requires right { is_lawful (term_seen right.now) ≡ true }
+    ensures { MatchResult result (λ b. Leads (followed path.old) (followed path.new) (terms.walk (seen D.Domain setting.now) (core.Or (term_seen left.now) (term_seen right.now))).test b) (λ h. Halts ⊥ (followed path.old) (followed path.new) h (terms.walk (seen D.Domain setting.now) (core.Or (term_seen left.now) (term_seen right.now))).test) }
+{
+    let holds = test_of(alloc, setting, path, left)?;
+    if holds {
+        return Ok(true);
+    }
+    test_of(alloc, setting, path, right)
+}
+
+/// The walk of a term as a value.
+#[cycle(terms)]
+pub fn value_of<D: Domain>(
+    alloc: Global,
+    setting: &Setting<D>,
+    path: &mut Path<D>,
+    term: &Term,
+) -> Result<Value, Halt>
+    requires { is_lawful (term_seen term.now) ≡ true }
+    ensures { MatchResult result (λ v. Leads (followed path.old) (followed path.new) ((terms.walk (seen D.Domain setting.now) (term_seen term.now)).value) (value_seen v)) (λ h. Halts ⊥ (followed path.old) (followed path.new) h ((terms.walk (seen D.Domain setting.now) (term_seen term.now)).value)) }
+{
+    match term {
+        Term::Literal { kind, value } => Ok(literal(alloc, *kind, *value)),
+        Term::Variable { slot } => {
+            let value = variable(alloc, path, *slot)?;
+            Ok(value)
+        }
+        Term::Id {
+            function,
+            dimension,
+        } => {
+            let value = id_value(alloc, setting, *function, *dimension)?;
+            Ok(value)
+        }
+        Term::Load { array, site, index } => {
+            let index = value_of(alloc, setting, path, index)?;
+            loaded(alloc, setting, path, *array, *site, index)
+        }
+        Term::Unary {
+            operator,
+            kind,
+            site,
+            of,
+        } => {
+            let of = value_of(alloc, setting, path, of)?;
+            unary_at(alloc, setting, path, *operator, *kind, *site, of)
+        }
+        Term::Binary {
+            operator,
+            kind,
+            site,
+            left,
+            right,
+        } => {
+            let (first, second) = both_values(alloc, setting, path, left, right)?;
+            binary_at(alloc, setting, path, *operator, *kind, *site, first, second)
+        }
+        Term::Convert { kind, site, of } => {
+            let of = value_of(alloc, setting, path, of)?;
+            brought_at(alloc, setting, path, *kind, *site, of)
+        }
+        Term::Compare {
+            relation,
+            kind,
+            left,
+            right,
+        } => {
+            let holds = compared(alloc, setting, path, *relation, *kind, left, right)?;
+            Ok(truth(alloc, holds))
+        }
+        Term::Not { of } => {
+            let holds = test_of(alloc, setting, path, of)?;
+            Ok(truth(alloc, !holds))
+        }
+        Term::And { left, right } => {
+            let holds = both_hold(alloc, setting, path, left, right)?;
+            Ok(truth(alloc, holds))
+        }
+        Term::Or { left, right } => {
+            let holds = either_holds(alloc, setting, path, left, right)?;
+            Ok(truth(alloc, holds))
+        }
+        Term::Select {
+            test,
+            taken,
+            skipped,
+        } => {
+            let holds = test_of(alloc, setting, path, test)?;
+            if holds {
+                value_of(alloc, setting, path, taken)
+            } else {
+                value_of(alloc, setting, path, skipped)
+            }
+        }
+        Term::Minimum { left, right } => {
+            let (first, second) = both_values(alloc, setting, path, left, right)?;
+            smaller(alloc, setting, path, first, second)
+        }
+        Term::Maximum { left, right } => {
+            let (first, second) = both_values(alloc, setting, path, left, right)?;
+            larger(alloc, setting, path, first, second)
+        }
+    }
+}
+
+/// The walk of a term as a test.
+#[cycle(terms)]
+pub fn test_of<D: Domain>(
+    alloc: Global,
+    setting: &Setting<D>,
+    path: &mut Path<D>,
+    term: &Term,
+) -> Result<bool, Halt>
+    requires { is_lawful (term_seen term.now) ≡ true }
+    ensures { MatchResult result (λ b. Leads (followed path.old) (followed path.new) ((terms.walk (seen D.Domain setting.now) (term_seen term.now)).test) b) (λ h. Halts ⊥ (followed path.old) (followed path.new) h ((terms.walk (seen D.Domain setting.now) (term_seen term.now)).test)) }
+{
+    match term {
+        Term::Compare {
+            relation,
+            kind,
+            left,
+            right,
+        } => compared(alloc, setting, path, *relation, *kind, left, right),
+        Term::Not { of } => {
+            let holds = test_of(alloc, setting, path, of)?;
+            Ok(!holds)
+        }
+        Term::And { left, right } => both_hold(alloc, setting, path, left, right),
+        Term::Or { left, right } => either_holds(alloc, setting, path, left, right),
+        _ => {
+            let value = value_of(alloc, setting, path, term)?;
+            split_number(alloc, setting, path, &value.form)
+        }
+    }
+}

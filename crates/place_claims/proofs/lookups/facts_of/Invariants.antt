@@ -1,6 +1,0 @@
-use Rattle.std.proofs.Common.{◌≡◌, drop}
-use Rattle.place_obligations.specs.View as view
-use Rattle.place_claims.proofs.lookups.facts_of.Given as goal
-
-abbrev pub invariant-loop-lines : goal.invariant-loop-lines
-invariant-loop-lines l = view.facts_of (drop l.lines-index l.places) l.anchor l.head ≡ view.facts_of l.places l.anchor l.head

@@ -1,6 +1,0 @@
-use Rattle.std.proofs.Common.{◌≡◌, drop}
-use Rattle.place_obligations.specs.View as view
-use Rattle.place_claims.proofs.lookups.same_of.Given as goal
-
-abbrev pub invariant-loop-lines : goal.invariant-loop-lines
-invariant-loop-lines l = view.same_of (drop l.lines-index l.places) l.barrier ≡ view.same_of l.places l.barrier

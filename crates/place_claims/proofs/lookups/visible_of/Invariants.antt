@@ -1,6 +1,0 @@
-use Rattle.std.proofs.Common.{◌≡◌, drop}
-use Rattle.place_obligations.specs.View as view
-use Rattle.place_claims.proofs.lookups.visible_of.Given as goal
-
-abbrev pub invariant-loop-visible : goal.invariant-loop-visible
-invariant-loop-visible l = view.visible_of (drop l.visible-index l.all) l.statement ≡ view.visible_of l.all l.statement

@@ -1,6 +1,0 @@
-use Rattle.std.proofs.Common.{sym}
-use Rattle.place_claims.proofs.EachSlot.{many_terms}
-use Rattle.place_claims.proofs.slots.is_argument_term.Goals as goal
-
-pub returns-in-len2-up : goal.returns-in-len2-up
-returns-in-len2-up c = sym (many_terms c.args.slot c.args.terms.now c.in-len2-up.len_at_least)

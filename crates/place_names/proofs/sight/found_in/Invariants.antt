@@ -1,6 +1,0 @@
-use Rattle.std.proofs.Common.{◌≡◌, drop}
-use Rattle.place_names.specs.Sights as sights
-use Rattle.place_names.proofs.sight.found_in.Given as goal
-
-abbrev pub invariant-loop-found : goal.invariant-loop-found
-invariant-loop-found l = sights.found_in (drop l.found-index l.numbers) l.number ≡ sights.found_in l.numbers l.number

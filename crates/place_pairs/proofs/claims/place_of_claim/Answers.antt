@@ -1,5 +1,0 @@
-use Rattle.place_pairs.proofs.Nth.{is_claim_place}
-use Rattle.place_pairs.proofs.claims.place_of_claim.Goals as goal
-
-pub returns : goal.returns
-returns g c = is_claim_place c.args.met.now c.args.i c.index.result.now c.requires c.index.ensures

@@ -1,4 +1,0 @@
-use Rattle.place_pairs.proofs.crossings.with_one.Goals as goal
-
-pub returns-in_ok-all_orders-clause-inside : goal.returns-in_ok-all_orders-clause-inside
-returns-in_ok-all_orders-clause-inside g c = λ a. c.in_ok-all_orders.ensures.inside _ c.requires.first c.requires.second a

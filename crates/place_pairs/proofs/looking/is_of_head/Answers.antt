@@ -1,5 +1,0 @@
-use Rattle.place_pairs.proofs.Nth.{access_tag}
-use Rattle.place_pairs.proofs.looking.is_of_head.Goals as goal
-
-pub returns : goal.returns
-returns g c = (access_tag c.args.met.now c.args.i c.place_of-place.result c.index.result.now c.place_of-place.ensures c.index.ensures).1

@@ -1,5 +1,0 @@
-use Rattle.place_pairs.proofs.NthEnd.{end_tag}
-use Rattle.place_pairs.proofs.stops.is_end_of_head.Goals as goal
-
-pub returns : goal.returns
-returns g c = (end_tag c.args.met.now c.args.i c.place_of_end-place.result c.index.result.now c.place_of_end-place.ensures c.index.ensures).1

@@ -1,6 +1,0 @@
-use Rattle.std.proofs.Common.{◌≡◌, ◌++◌}
-use Rattle.place_pairs.specs.Spread.{spread}
-use Rattle.place_pairs.proofs.walked.spread.Given as goal
-
-abbrev pub invariant-loop-place : goal.invariant-loop-place
-invariant-loop-place g l = l.found.items ++ spread l.place-iterator.rest.items ≡ spread l.fn.walked.items

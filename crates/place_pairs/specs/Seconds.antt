@@ -1,8 +1,0 @@
--- The second item's symbols, one for each term of a form.
-use Rattle.std.specs.Prelude.{ℕ, List, [], ◌∷◌}
-use Rattle.linear.specs.Exact.{Terms}
-use Rattle.obligations.specs.Seconds.{second}
-
-abbrev pub seconds : Terms → List ℕ
-seconds [] = []
-seconds (t ∷ ts) = second t.symbol ∷ seconds ts

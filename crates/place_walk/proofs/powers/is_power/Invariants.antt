@@ -1,6 +1,0 @@
-use Rattle.std.proofs.Common.{◌≡◌}
-use Rattle.obligations.specs.Operators as operators
-use Rattle.place_walk.proofs.powers.is_power.Given as goal
-
-abbrev pub invariant-loop-smaller : goal.invariant-loop-smaller
-invariant-loop-smaller l = l.found ≡ operators.is_power l.smaller l.number

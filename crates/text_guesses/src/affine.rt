@@ -1,0 +1,178 @@
+//! Terms as forms, where they are linear.
+
+use crate::frame::Frame;
+use core_code::tree::{Function, Operator, Term, UnaryOperator};
+use guesses::{group, groups, local, one_of, try_difference, try_multiple, try_sum};
+use linear::Form;
+use std::alloc::{AllocError, Global};
+use words::Kind;
+
+/// What a literal's bits stand for.
+pub fn literal(kind: Kind, value: u32) -> i64 {
+    let plain = i64::from(value);
+    match kind {
+        Kind::Uint => plain,
+        Kind::Int => {
+            if plain > 2_147_483_647 {
+                plain - 4_294_967_296
+            } else {
+                plain
+            }
+        }
+    }
+}
+
+/// The power of two of a shift's count.
+pub fn power(count: u32) -> Option<i64> {
+    if count > 31 {
+        return None;
+    }
+    Some((1u64 << count) as i64)
+}
+
+/// A group's start along a dimension, and the local id.
+fn global_id(alloc: Global, size: i64, dimension: u32) -> Result<Option<Form>, AllocError> {
+    let first = one_of(alloc, group(dimension))?;
+    let Some(start) = try_multiple(alloc, &first, size)? else {
+        return Ok(None);
+    };
+    let local = one_of(alloc, local(dimension))?;
+    try_sum(alloc, &start, &local)
+}
+
+/// All items along a dimension.
+fn global_size(alloc: Global, size: i64, dimension: u32) -> Result<Option<Form>, AllocError> {
+    let count = one_of(alloc, groups(dimension))?;
+    try_multiple(alloc, &count, size)
+}
+
+/// What a work-item function answers.
+pub fn id_form(
+    alloc: Global,
+    frame: &Frame,
+    function: Function,
+    dimension: u32,
+) -> Result<Option<Form>, AllocError> {
+    let Some(size) = frame.size(dimension) else {
+        return Ok(None);
+    };
+    let symbol = match function {
+        Function::GlobalId => return global_id(alloc, size, dimension),
+        Function::GlobalSize => return global_size(alloc, size, dimension),
+        Function::LocalSize => return Ok(Some(Form::constant(alloc, size))),
+        Function::LocalId => local(dimension),
+        Function::GroupId => group(dimension),
+        Function::NumGroups => groups(dimension),
+    };
+    let form = one_of(alloc, symbol)?;
+    Ok(Some(form))
+}
+
+/// The number that a form without terms is.
+pub fn number_of(form: &Form) -> Option<i64> {
+    if form.terms().is_empty() {
+        Some(form.constant_part())
+    } else {
+        None
+    }
+}
+
+fn product(alloc: Global, left: &Form, right: &Form) -> Result<Option<Form>, AllocError> {
+    match (number_of(left), number_of(right)) {
+        (Some(number), _) => try_multiple(alloc, right, number),
+        (None, Some(number)) => try_multiple(alloc, left, number),
+        (None, None) => Ok(None),
+    }
+}
+
+fn joined(
+    alloc: Global,
+    operator: Operator,
+    left: &Form,
+    right: &Form,
+) -> Result<Option<Form>, AllocError> {
+    match operator {
+        Operator::Add => try_sum(alloc, left, right),
+        Operator::Subtract => try_difference(alloc, left, right),
+        Operator::Multiply => product(alloc, left, right),
+        Operator::Divide
+        | Operator::Remainder
+        | Operator::BitAnd
+        | Operator::BitOr
+        | Operator::BitXor => Ok(None),
+    }
+}
+
+/// By what an operator multiplies.
+fn factor(operator: UnaryOperator) -> Option<i64> {
+    match operator {
+        UnaryOperator::Negate => Some(-1),
+        UnaryOperator::ShiftLeft(count) => power(count),
+        UnaryOperator::Complement | UnaryOperator::ShiftRight(_) => None,
+    }
+}
+
+fn changed(
+    alloc: Global,
+    operator: UnaryOperator,
+    of: Option<Form>,
+) -> Result<Option<Form>, AllocError> {
+    let (Some(of), Some(factor)) = (of, factor(operator)) else {
+        return Ok(None);
+    };
+    try_multiple(alloc, &of, factor)
+}
+
+fn of_both(
+    alloc: Global,
+    operator: Operator,
+    left: Option<Form>,
+    right: Option<Form>,
+) -> Result<Option<Form>, AllocError> {
+    let (Some(left), Some(right)) = (left, right) else {
+        return Ok(None);
+    };
+    joined(alloc, operator, &left, &right)
+}
+
+/// The term's value as a form, if it is linear.
+pub fn affine(alloc: Global, frame: &Frame, term: &Term) -> Result<Option<Form>, AllocError> {
+    match term {
+        Term::Literal { kind, value } => Ok(Some(Form::constant(alloc, literal(*kind, *value)))),
+        Term::Variable { slot } => Ok(Some(one_of(alloc, frame.symbol(*slot))?)),
+        Term::Id {
+            function,
+            dimension,
+        } => id_form(alloc, frame, *function, *dimension),
+        Term::Convert { of, .. } => affine(alloc, frame, of),
+        Term::Unary { operator, of, .. } => {
+            let of = affine(alloc, frame, of)?;
+            changed(alloc, *operator, of)
+        }
+        Term::Binary {
+            operator,
+            left,
+            right,
+            ..
+        } => {
+            let left = affine(alloc, frame, left)?;
+            of_both(alloc, *operator, left, affine(alloc, frame, right)?)
+        }
+        Term::Load { .. }
+        | Term::Compare { .. }
+        | Term::Not { .. }
+        | Term::And { .. }
+        | Term::Or { .. }
+        | Term::Select { .. }
+        | Term::Minimum { .. }
+        | Term::Maximum { .. } => Ok(None),
+    }
+}
+
+/// The number that a term is.
+pub fn constant_of(alloc: Global, frame: &Frame, term: &Term) -> Result<Option<i64>, AllocError> {
+    match affine(alloc, frame, term)? {
+        Some(form) => Ok(number_of(&form)),
+        None => Ok(None),
+    }
+}

@@ -1,0 +1,15 @@
+use Rattle.std.proofs.Common.{length, ◌≡◌, ◌++◌, drop, map}
+use Rattle.std.specs.List.{All}
+use Rattle.core_code.specs.View.{space}
+use Rattle.launch.specs.View.{conditions}
+use Rattle.facts.specs.View.{three}
+use Rattle.obligations.specs.Crossings as specs
+use Rattle.two_thread.specs.Refusals.{IsInside}
+use Rattle.two_thread.specs.View.{crossing, met_accesses}
+use Rattle.two_thread.proofs.arrays.crossings_from.Given as goal
+
+abbrev pub invariant-loop-number : goal.invariant-loop-number
+invariant-loop-number g l = record {
+  found : map (crossing (met_accesses l.met)) l.found.items ++ specs.crossings_from (three l.sizes) (conditions l.conditions) (λ _. l.fenced) (met_accesses l.met) (space l.space) l.number (drop l.number l.arrays) ≡ map (crossing (met_accesses l.met)) l.fn.found.items ++ specs.crossings_from (three l.sizes) (conditions l.conditions) (λ _. l.fenced) (met_accesses l.met) (space l.space) 0 l.arrays;
+  inside : All (IsInside (length l.met.accesses.items)) l.fn.found.items → All (IsInside (length l.met.accesses.items)) l.found.items;
+}

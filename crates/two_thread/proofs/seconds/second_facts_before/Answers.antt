@@ -1,0 +1,28 @@
+use Rattle.std.proofs.Common.{ap, ◌∙◌, ◌++◌, take}
+use Rattle.std.proofs.lemmas.Bool.{and_parts}
+use Rattle.linear.specs.Forms.{forms}
+use Rattle.linear.proofs.FormLists.{forms-take}
+use Rattle.walk_trees.specs.Trees as trees
+use Rattle.obligations.specs.Listing.{Of}
+use Rattle.walk_trees.specs.Seconds.{is_own, are_own, second_forms}
+use Rattle.two_thread.specs.View.{met_access}
+use Rattle.two_thread.proofs.Nth.{access_is, met-own}
+use Rattle.two_thread.proofs.seconds.second_facts_before.Goals as goal
+
+pub push_seconds-requires : goal.push_seconds-requires
+push_seconds-requires g c =
+    let a = c.index.result.now in
+    let p = c.index-tagged.result.now in
+    let m = c.args.met.now in
+    ap (λ l. are_own (forms (take a.facts l))) c.deref.ensures.value
+    ∙ ap are_own (forms-take a.facts p.path.facts.items ∙ ap (λ (x : Of (trees.Access _)). x.it.facts) (access_is m c.args.i c.place_of-place.result p a c.place_of-place.ensures c.index-tagged.ensures c.index.ensures))
+    ∙ (and_parts (is_own (met_access m c.args.i).it.index) (are_own (met_access m c.args.i).it.facts) (met-own m c.args.i c.requires)).1
+
+pub returns : goal.returns
+returns g c =
+    let a = c.index.result.now in
+    let p = c.index-tagged.result.now in
+    c.in_ok-push_seconds.ensures ∙ ap (λ l. forms c.args.facts.now.items ++ second_forms l) (
+    ap (λ l. forms (take a.facts l)) c.deref.ensures.value
+    ∙ forms-take a.facts p.path.facts.items
+    ∙ ap (λ (x : Of (trees.Access _)). x.it.facts) (access_is c.args.met.now c.args.i c.place_of-place.result p a c.place_of-place.ensures c.index-tagged.ensures c.index.ensures))

@@ -1,0 +1,87 @@
+-- The obligations that were found, by their numbers: the claims of all places, then the pairs of stops, then those of accesses.
+use Rattle.std.specs.Prelude.{ℕ, ◌-◌, ◌<◌, length, List, [], ◌++◌, map, get_or, Bool, false, ◌&&◌, None}
+use Rattle.semantics.specs.Launch.{Kernel}
+use Rattle.semantics.specs.Conditions.{Conditions}
+use Rattle.domain.specs.declared.Domain.{Ghosts}
+use Rattle.linear.specs.Forms.{forms}
+use Rattle.facts.specs.Symbols.{Fact}
+use Rattle.facts.specs.Elements.{Known}
+use Rattle.facts.specs.View.{known_seen}
+use Rattle.walk_trees.specs.Fitting.{denials_fit}
+use Rattle.walk_trees.specs.Statements.{spot_of}
+use Rattle.walk_trees.specs.Trees.{OfIndex, Obligation, Access, Ended}
+use Rattle.path_steps.specs.Paths.{Claimed}
+use Rattle.path_steps.specs.View.{spot}
+use Rattle.obligations.specs.Listing.{Of}
+use Rattle.obligations.specs.Crossings as crossings
+use Rattle.obligations.specs.Crossings.{crossing_obligation}
+use Rattle.obligations.specs.Meetings.{meetings}
+use Rattle.obligations.specs.Notes.{Notes}
+use Rattle.two_thread.specs.Alike.{notes_of}
+use Rattle.two_thread.specs.Fitting.{claims_fit, goals_fit, crossing_fits, crossings_fit}
+use Rattle.two_thread.specs.Goals.{owed}
+use Rattle.two_thread.specs.Meetings as seen
+use Rattle.two_thread.specs.Meetings.{meeting_seen, meeting_obligation, meeting_fits, meetings_fit}
+use Rattle.two_thread.specs.View.{met_claims, nth_claim, met_accesses, met_ends, crossing}
+use Rattle.two_thread.specs.declared.met.Met.{Met}
+use Rattle.two_thread.specs.declared.numbered.Obligations.{Obligations}
+use Rattle.two_thread.specs.declared.crossings.Crossing as code
+use Rattle.two_thread.specs.declared.numbered.Which.{Which}
+use Rattle.two_thread.specs.declared.numbered.Which.TheVariants as whiches
+use Rattle.two_thread.specs.Refusals.{IsInside}
+use Rattle.two_thread.specs.declared.meetings.Meeting as code_meeting
+
+-- past the end
+abbrev pub no_obligation : Obligation
+no_obligation = record { sort = OfIndex; spot = spot_of 0; other = None; needed = false; settled = false; facts = []; goal = None }
+
+abbrev pub found_meetings : {E : Type 0} → Met E → List code_meeting.Meeting → List (seen.Meeting E)
+found_meetings m ps = map (meeting_seen (met_ends m)) ps
+
+abbrev pub found_crossings : {E : Type 0} → Met E → List code.Crossing → List (crossings.Crossing E)
+found_crossings m ps = map (crossing (met_accesses m)) ps
+
+abbrev pub claims_listed : {E : Type 0} → Obligations E → List Obligation
+claims_listed o = map (owed (forms o.launch.items)) (met_claims o.met)
+
+abbrev pub meetings_listed : {E : Type 0} → Ghosts E → Obligations E → List Obligation
+meetings_listed g o = map (meeting_obligation g (known_seen o.known) (forms o.launch.items) (notes_of o.alike.items)) (found_meetings o.met o.meetings.items)
+
+abbrev pub crossings_listed : {E : Type 0} → Ghosts E → Obligations E → List Obligation
+crossings_listed g o = map (crossing_obligation g (known_seen o.known) (forms o.launch.items) (notes_of o.alike.items)) (found_crossings o.met o.crossings.items)
+
+-- all that is to be shown of what was found
+abbrev pub listed : {E : Type 0} → Ghosts E → Obligations E → List Obligation
+listed g o = claims_listed o ++ (meetings_listed g o ++ crossings_listed g o)
+
+-- the obligation of a number, counted from 1
+abbrev pub nth_obligation : List Obligation → (number : ℕ) → Obligation
+nth_obligation os n = get_or os (n - 1) no_obligation
+
+-- all forms that are made of what was found are of i64
+abbrev pub made_fit : {E : Type 0} → Obligations E → Bool
+made_fit o = claims_fit (met_claims o.met) && (meetings_fit (found_meetings o.met o.meetings.items) && crossings_fit (found_crossings o.met o.crossings.items))
+
+-- all that is to be shown of these claims, ends and accesses, under conditions
+abbrev pub all_listed : {E : Type 0} → Ghosts E → Known E → (launch : List Fact) → Notes → Kernel → Conditions → List Claimed → List (Of (Ended E)) → List (Of (Access E)) → List Obligation
+all_listed g k launch n kernel c cs es us = map (owed launch) cs ++ (meetings g k launch n es ++ map (crossing_obligation g k launch n) (crossings.crossings kernel c us))
+
+-- all forms that are made to show it are of i64
+abbrev pub all_fit : {E : Type 0} → Ghosts E → Known E → (launch : List Fact) → Notes → Kernel → Conditions → List Claimed → List (Of (Ended E)) → List (Of (Access E)) → Bool
+all_fit g k launch n kernel c cs es us = claims_fit cs && (goals_fit (meetings g k launch n es) && crossings_fit (crossings.crossings kernel c us))
+
+-- the obligation that is meant, and whether it is there and its forms are of i64
+abbrev pub obligation_of : {E : Type 0} → Ghosts E → Obligations E → Which → Obligation
+obligation_of g o (whiches.OfClaim i) = owed (forms o.launch.items) (nth_claim o.met i)
+obligation_of g o (whiches.OfMeeting m) = meeting_obligation g (known_seen o.known) (forms o.launch.items) (notes_of o.alike.items) (meeting_seen (met_ends o.met) m)
+obligation_of g o (whiches.OfCrossing p) = crossing_obligation g (known_seen o.known) (forms o.launch.items) (notes_of o.alike.items) (crossing (met_accesses o.met) p)
+
+abbrev pub IsThere : {E : Type 0} → Obligations E → Which → Type 0
+IsThere o (whiches.OfClaim i) = i < length o.met.claims.items
+IsThere o (whiches.OfMeeting m) = seen.IsInside (length o.met.ends.items) m
+IsThere o (whiches.OfCrossing p) = IsInside (length o.met.accesses.items) p
+
+abbrev pub which_fits : {E : Type 0} → Obligations E → Which → Bool
+which_fits o (whiches.OfClaim i) = denials_fit (nth_claim o.met i).goal
+which_fits o (whiches.OfMeeting m) = meeting_fits (meeting_seen (met_ends o.met) m)
+which_fits o (whiches.OfCrossing p) = crossing_fits (crossing (met_accesses o.met) p)

@@ -1,0 +1,63 @@
+//! Where on the paths an obligation comes from.
+
+ghost use Rattle.std.specs.Prelude.{◌≡◌, ◌≤◌, ◌<◌, length};
+ghost use Rattle.linear.specs.Forms.{forms};
+ghost use Rattle.two_thread.specs.Listed.{listed};
+
+use crate::meetings::About;
+use crate::numbered::{Obligations, Which};
+use crate::places::Place;
+use crate::walked::Tagged;
+use domain::Domain;
+use linear::Form;
+
+/// A claim of a path; two ends, the second one the second item's, and what is to be shown of them; or two accesses. A search for
+/// derivations asks it; no promise stands on it.
+#[derive(Clone, Copy)]
+pub enum Part {
+    Claim(Place),
+    Ends {
+        first: Place,
+        second: Place,
+        about: About,
+    },
+    Accesses {
+        first: Place,
+        second: Place,
+    },
+}
+
+impl<D: Domain> Obligations<D> {
+    /// All paths of all places, in order.
+    pub fn paths(&self) -> &[Tagged<D>]
+        ensures { result.now ≡ self.now.met.paths.items }
+    {
+        self.met.paths.as_slice()
+    }
+
+    /// What is known of each launch.
+    pub fn launch(&self) -> &[Form]
+        ensures { forms result.now ≡ forms self.now.launch.items }
+    {
+        self.launch.as_slice()
+    }
+
+    /// Where an obligation comes from.
+    pub fn part(&self, number: usize) -> Part
+        requires first { 0 < number }
+        requires last { number ≤ length (listed D.Domain self.now) }
+    {
+        match self.which(number) {
+            Which::OfClaim(i) => Part::Claim(self.met.claims[i]),
+            Which::OfMeeting(meeting) => Part::Ends {
+                first: self.met.ends[meeting.first],
+                second: self.met.ends[meeting.second],
+                about: meeting.about,
+            },
+            Which::OfCrossing(crossing) => Part::Accesses {
+                first: self.met.accesses[crossing.first],
+                second: self.met.accesses[crossing.second],
+            },
+        }
+    }
+}

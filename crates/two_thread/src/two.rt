@@ -1,0 +1,113 @@
+//! What the domain knows of two items.
+
+ghost use Rattle.std.specs.Prelude.{◌≡◌};
+ghost use Rattle.domain.specs.Members.{leaves};
+ghost use Rattle.std.specs.Prelude.{pos};
+ghost use Rattle.linear.specs.Forms.{form as form_seen};
+ghost use Rattle.linear.specs.Terms.{term as term_seen};
+ghost use Rattle.facts.specs.Elements as elements;
+ghost use Rattle.facts.specs.View.{known_seen};
+ghost use Rattle.walk_trees.specs.Held.{element_with};
+ghost use Rattle.walk_trees.specs.Seconds.{element_of_two};
+ghost use Rattle.path_steps.specs.View.{held_seen};
+
+use domain::{Domain, Residue};
+use facts::Known;
+use linear::{Form, Symbol, Term};
+use path_steps::{Invented, Narrowed, element_from};
+
+/// What an item's path holds somewhere.
+#[derive(Clone, Copy)]
+pub struct Here<'a, D> {
+    pub news: &'a [Invented<D>],
+    pub narrowed: &'a [Narrowed<D>],
+}
+
+/// A symbol's element: the second item's by its like on the second item's path, all others by the first one's.
+fn element_of_symbol<D: Domain>(
+    known: &Known<D>,
+    first: Here<'_, D>,
+    second: Here<'_, D>,
+    symbol: Symbol,
+) -> D
+    ensures { result ≡ element_of_two D.Domain (known_seen known.now) (held_seen first.entry.news.now first.entry.narrowed.now) (held_seen second.entry.news.now second.entry.narrowed.now) symbol.number }
+{
+    let family = symbol.number % 16;
+    if family < 9 || family == 15 {
+        return element_from(known, first.news, first.narrowed, symbol);
+    }
+    let like = Symbol {
+        number: symbol.number - 6,
+    };
+    element_from(known, second.news, second.narrowed, like)
+}
+
+/// The element of a sum with one more term.
+fn with_term<D: Domain>(
+    known: &Known<D>,
+    first: Here<'_, D>,
+    second: Here<'_, D>,
+    so_far: D,
+    term: Term,
+) -> D
+    ensures { result ≡ D.add_of so_far (D.mul_of (D.number_of (term_seen term).coefficient) (element_of_two D.Domain (known_seen known.now) (held_seen first.entry.news.now first.entry.narrowed.now) (held_seen second.entry.news.now second.entry.narrowed.now) (term_seen term).symbol)) }
+{
+    let factor = D::of(term.coefficient);
+    so_far.add(factor.mul(element_of_symbol(known, first, second, term.symbol)))
+}
+
+/// The element of a form over the symbols of both items.
+pub fn element_of<D: Domain>(
+    known: &Known<D>,
+    first: Here<'_, D>,
+    second: Here<'_, D>,
+    form: &Form,
+) -> D
+    ensures { result ≡ element_with D.Domain (element_of_two D.Domain (known_seen known.now) (held_seen first.entry.news.now first.entry.narrowed.now) (held_seen second.entry.news.now second.entry.narrowed.now)) (form_seen form.now) }
+{
+    let mut so_far = D::of(form.constant_part());
+    for term in form.terms() {
+        so_far = with_term(known, first, second, so_far, *term);
+    }
+    so_far
+}
+
+/// Bounds or residue leave out 0.
+pub fn lacks_zero<D: Domain>(element: D) -> bool
+    ensures { result ≡ elements.lacks_zero D.Domain element }
+{
+    let bounds = element.bounds();
+    is_above_zero(bounds.low) || is_below_zero(bounds.high) || !leaves_nothing(element.residue())
+}
+
+/// The end is above 0.
+fn is_above_zero(low: Option<i64>) -> bool
+    ensures { result ≡ elements.is_above_zero low }
+{
+    match low {
+        Some(low) => low > 0,
+        None => false,
+    }
+}
+
+/// The end is below 0.
+fn is_below_zero(high: Option<i64>) -> bool
+    ensures { result ≡ elements.is_below_zero high }
+{
+    match high {
+        Some(high) => high < 0,
+        None => false,
+    }
+}
+
+/// 0 is one of the residue's numbers.
+fn leaves_nothing(residue: Residue) -> bool
+    ensures { result ≡ leaves residue (pos 0) }
+{
+    let size = residue.remainder.unsigned_abs();
+    if residue.modulus == 0 {
+        size == 0
+    } else {
+        size % residue.modulus == 0
+    }
+}

@@ -1,0 +1,29 @@
+//! The numbers of points.
+
+ghost use Rattle.std.specs.Prelude.{◌≡◌};
+ghost use Rattle.places.specs.View.{maybe_point};
+ghost use Rattle.obligations.specs.Notes as notes;
+ghost use Rattle.walk.specs.Unfound.{statement_by};
+
+use path_walk::number_of;
+use places::Point;
+
+/// The number of its statement.
+pub fn number_at(point: &Option<Point<'_>>) -> Option<u32>
+    ensures { result ≡ notes.number_at (maybe_point point.now) }
+{
+    match point {
+        None => None,
+        Some(point) => Some(number_of(point.statement)),
+    }
+}
+
+/// The number under which a place is told: its loop's, else its barrier's.
+pub fn statement_of(anchor: Option<u32>, head: Option<u32>) -> Option<u32>
+    ensures { result ≡ statement_by anchor head }
+{
+    match head {
+        None => anchor,
+        Some(number) => Some(number),
+    }
+}

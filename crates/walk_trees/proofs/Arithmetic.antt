@@ -1,0 +1,261 @@
+-- What the walk of an operator promises, once its operands are brought to one kind.
+use Rattle.std.proofs.Common.{◌≡◌, ℕ, ◌^◌, ◌&&◌, Bool, true, false, cond, nat_lt, List, [], ◌∷◌, Option, Some, None, arith, refl, sym, ap, ◌∙◌, subst, inl, inr}
+use Rattle.std.specs.Prelude.{ℤ, pos, negsuc, neg_ℤ, ◌+ℤ◌, ◌-ℤ◌, ◌*ℤ◌, ◌≤ℤ◌, ◌<ℤ◌, int_lt, int_div, int_rem, bit_and, bit_or, bit_xor, Result, Ok, Err}
+use Rattle.std.proofs.lemmas.Int.{ints}
+use Rattle.std.proofs.lemmas.Nat.{pow_pos}
+use Rattle.std.proofs.lemmas.Bool.{and_parts, or_cases}
+use Rattle.semantics.specs.Word.{Kind, Int, Uint, Word, word, Fault, DivisionByZero, Overflow, Operator, Add, Subtract, Multiply, Divide, Remainder, BitAnd, BitOr, BitXor, UnaryOperator, Negate, Complement, ShiftLeft, ShiftRight, in_kind, bits_of, read_bits, as_kind, settle, calculate, calculate_unary}
+use Rattle.semantics.proofs.Integers.{mul_comm}
+use Rattle.semantics.proofs.Words.{as_kind-in_kind}
+use Rattle.linear.specs.Exact.{Terms, sum, multiple}
+use Rattle.domain.specs.declared.Bounds.{Bounds}
+use Rattle.domain.specs.declared.Domain.{Ghosts}
+use Rattle.domain.specs.Members.{is_above, is_below, is_within}
+use Rattle.facts.specs.Symbols.{Fact, constant, minus}
+use Rattle.facts.specs.Elements.{is_from_zero}
+use Rattle.facts.proofs.Integers.{le_test, lt_test}
+use Rattle.facts.proofs.Members.{between-has}
+use Rattle.facts.proofs.Worlds.{View}
+use Rattle.walk_trees.specs.Trees.{Tree, Know}
+use Rattle.walk_trees.specs.Values.{Value, value}
+use Rattle.walk_trees.specs.Walks.{State, Onward, claimed_once, element_of, bounds_of, least, greatest, any_of, unknown, is_number, ranged}
+use Rattle.walk_trees.specs.Operators.{product, is_over, is_under, lacks, claim_quotient, claim_divisor, left_over, quotient, is_exact, divided, remaining, is_power, is_mask, are_from_zero, masked_by, masked, binary, complement, shifted, unary}
+use Rattle.walk_trees.specs.Covered.{is_covered_unary}
+use Rattle.walk_trees.proofs.KindEnds.{in_kind-ends}
+use Rattle.walk_trees.proofs.Holding.{form-has, held_settles}
+use Rattle.walk_trees.proofs.Standing.{walks, Stands, Comes, way_then, over_claim, over_fact, past_claim, past_fact, at_once, comes_from, onward, arriving, told_either, Owns, owns}
+use Rattle.walk_trees.proofs.Ranges.{IsForm, IsValue, form_kept, form-is, form_constant, form-sum, form-multiple, form-minus, invent_sound, unknown_sound, Settles, ranged_sound}
+use Rattle.walk_trees.proofs.Splits.{int_eq-not, value-known}
+use Rattle.walk_trees.proofs.Divisions.{settle_in, uint-quotient, IsSafe, quotient-in, remainder-in, left-is, left-low, left-high, bits-in, and-below, or-below, xor-below, power_of, mask-left, and-plain, complement-bits, complement_uint-bits}
+
+-- what the walk of operators asks of a domain besides
+pub record DividesLawfully {E : Type 0} (g : Ghosts E) : Type 0 where
+  pub div : (a b : E) (x y : ℤ) → g.has a x ≡ true → g.has b y ≡ true → (y ≡ pos 0 → ⊥) → g.has (g.div_of a b) (int_div x y) ≡ true
+  pub rem : (a b : E) (x y : ℤ) → g.has a x ≡ true → g.has b y ≡ true → (y ≡ pos 0 → ⊥) → g.has (g.rem_of a b) (int_rem x y) ≡ true
+  pub mask : (a b : E) (m n : ℕ) → g.has a (pos m) ≡ true → g.has b (pos n) ≡ true → g.has (g.mask_of a b) (pos (bit_and m n)) ≡ true
+
+-- a result is a word of its kind, whose value arrives
+pub record Yields {E : Type 0} (c : View E) (launch facts : List Fact) (n : ℕ) (tree : Tree E) (go : Onward E) (news : List ℤ) (variables : Owns) (r : Result Word Fault) : Type 0 where
+  pub result : Word
+  pub is : r ≡ Ok result
+  pub right : in_kind result.kind result.value ≡ true
+  pub comes : Comes c launch facts n tree go news variables (λ more x. IsValue c more result x)
+
+-- bounds that leave out a number
+over-not : (o : Option ℤ) (y z : ℤ) → is_above o y ≡ true → is_over o z ≡ true → y ≡ z → ⊥
+over-not None y z h e q = cc
+over-not (Some low) y z h e q = omega (arith, ints, le_test low y h, lt_test z low e, q)
+
+under-not : (o : Option ℤ) (y z : ℤ) → is_below o y ≡ true → is_under o z ≡ true → y ≡ z → ⊥
+under-not None y z h e q = cc
+under-not (Some high) y z h e q = omega (arith, ints, le_test y high h, lt_test high z e, q)
+
+pub lacks-not : (b : Bounds) (y z : ℤ) → is_within b y ≡ true → lacks b z ≡ true → y ≡ z → ⊥
+lacks-not b y z h e q =
+    let p = and_parts (is_above b.low y) (is_below b.high y) h in
+    elim (or_cases (is_over b.low z) (is_under b.high z) e) [ inl o ↦ over-not b.low y z p.0 o q | inr o ↦ under-not b.high y z p.1 o q ]
+
+module _ {E : Type 0} (c : View E) (launch : List Fact) where
+  -- a settled result
+  pub settled_yields : {facts : List Fact} {n : ℕ} {tree : Tree E} {news : List ℤ} {variables : Owns} (k : Kind) (y : ℤ) (go : Onward E) → Settles c launch facts n tree k go news variables y → Yields c launch facts n tree go news variables (settle k y)
+  settled_yields k y go s = record { result = word k (as_kind k y); is = s.settles; right = as_kind-in_kind k y; comes = s.comes }
+
+  -- a number of its kind, whose form arrives
+  form_yields : {facts : List Fact} {n : ℕ} {tree : Tree E} {news : List ℤ} {variables : Owns} {r : Result Word Fault} (k : Kind) (z : ℤ) (go : Onward E) → in_kind k z ≡ true → r ≡ Ok (word k z) → Comes c launch facts n tree (λ f st. go (value k f) st) news variables (λ more f. IsForm c more f z) → Yields c launch facts n tree go news variables r
+  form_yields k z go h e p = record { result = word k z; is = e; right = h; comes = arriving c launch go (value k) (λ more x. IsValue c more (word k z) x) (λ more f kept m. record { kind = refl; form = m }) p }
+
+  -- products
+  by_constant : {news : List ℤ} (f g : Fact) (x y : ℤ) → f.terms ≡ [] → IsForm c news f x → IsForm c news g y → IsForm c news (multiple f.constant g) (x *ℤ y)
+  by_constant f g x y e mf mg = form-is c (x *ℤ y) (ap (λ z. z *ℤ y) (value-known c launch f x mf (ap (λ ts. is_number (record { terms = ts; constant = f.constant })) e))) (form-multiple c f.constant g y mg)
+
+  pub product_sound : (ts us : Terms) {facts : List Fact} {n : ℕ} {news : List ℤ} (f g : Fact) (x y : ℤ) (st : State E) (go : Fact → State E → Tree E) → f.terms ≡ ts → g.terms ≡ us → IsForm c news f x → IsForm c news g y → Stands c launch facts n (product (walks c) ts us f g st go) news st.held → Comes c launch facts n (product (walks c) ts us f g st go) go news (owns st) (λ more h. IsForm c more h (x *ℤ y))
+  product_sound ts [] f g x y st go e k mf mg s = at_once c launch go (λ more h. IsForm c more h (x *ℤ y)) (multiple g.constant f) st (form-is c (x *ℤ y) (omega (arith, ints)) (by_constant g f y x k mg mf)) s
+  product_sound [] (u ∷ us) f g x y st go e k mf mg s = at_once c launch go (λ more h. IsForm c more h (x *ℤ y)) (multiple f.constant g) st (by_constant f g x y e mf mg) s
+  product_sound (t ∷ ts) (u ∷ us) {news = news} f g x y st go e k mf mg s =
+      let ef = element_of (walks c) st f in
+      let eg = element_of (walks c) st g in
+      invent_sound c launch (c.domain.mul_of ef eg) st go (x *ℤ y) (c.lawful.mul ef eg x y (form-has c news st.held f x s.fit mf.means) (form-has c news st.held g y s.fit mg.means)) s
+
+  -- what bounds leave out is no value
+  lacks-value : {facts : List Fact} {n : ℕ} {tree : Tree E} {news : List ℤ} (st : State E) (f : Fact) (y z : ℤ) → IsForm c news f y → Stands c launch facts n tree news st.held → lacks (bounds_of (walks c) st f) z ≡ true → y ≡ z → ⊥
+  lacks-value {news = news} st f y z m s e = lacks-not (bounds_of (walks c) st f) y z (c.lawful.bounds (element_of (walks c) st f) y (form-has c news st.held f y s.fit m.means)) e
+
+  -- the claims of a divisor
+  pub record Divides (facts : List Fact) (n : ℕ) (tree : Tree E) (go : State E → Tree E) (news : List ℤ) (variables : Owns) (k : Kind) (x y : ℤ) : Type 0 where
+    pub nonzero : y ≡ pos 0 → ⊥
+    pub safe : IsSafe k x y
+    pub comes : Comes c launch facts n tree (λ (u : Unit {0}) st. go st) news variables (λ more u. Unit {0})
+
+  goes : {facts : List Fact} {n : ℕ} {news : List ℤ} (st : State E) (go : State E → Tree E) → Stands c launch facts n (go st) news st.held → Comes c launch facts n (go st) (λ (u : Unit {0}) st'. go st') news (owns st) (λ more u. Unit {0})
+  goes st go s = at_once c launch (λ (u : Unit {0}) st'. go st') (λ more u. Unit {0}) tt st tt s
+
+  record Quotes (facts : List Fact) (n : ℕ) (tree : Tree E) (go : State E → Tree E) (news : List ℤ) (variables : Owns) (k : Kind) (x y : ℤ) : Type 0 where
+    safe : IsSafe k x y
+    comes : Comes c launch facts n tree (λ (u : Unit {0}) st. go st) news variables (λ more u. Unit {0})
+
+  quotes : (k : Kind) {facts : List Fact} {n : ℕ} {news : List ℤ} (f g : Fact) (x y : ℤ) (st : State E) (go : State E → Tree E) → IsForm c news f x → IsForm c news g y → Stands c launch facts n (claim_quotient (walks c) k f g st go) news st.held → Quotes facts n (claim_quotient (walks c) k f g st go) go news (owns st) k x y
+  quotes Uint f g x y st go mf mg s = record { safe = tt; comes = goes st go s }
+  quotes Int {news = news} f g x y st go mf mg s =
+      let t = told_either c launch g (minus f (constant (negsuc 2147483646))) y (x -ℤ negsuc 2147483646) s mg.means (form-minus c f (constant (negsuc 2147483646)) x (negsuc 2147483646) (x -ℤ negsuc 2147483646) mf (form_constant c news (negsuc 2147483646)) (omega (arith, ints))).means in
+      record {
+        safe = elim t [
+          | inl e ↦ elim (or_cases (lacks (bounds_of (walks c) st g) (negsuc 0)) (lacks (bounds_of (walks c) st f) (negsuc 2147483647)) e) [ inl o ↦ inl (lacks-value st g y (negsuc 0) mg s o) | inr o ↦ inr (lacks-value st f x (negsuc 2147483647) mf s o) ]
+          | inr o ↦ elim o [ inl h ↦ inl (λ q. omega (arith, ints, h, q)) | inr h ↦ inr (λ q. omega (arith, ints, h, q)) ]
+        ];
+        comes = comes_from c launch (over_claim c launch) (goes (claimed_once st) go (past_claim c launch s));
+      }
+
+  pub divides : (k : Kind) {facts : List Fact} {n : ℕ} {news : List ℤ} (f g : Fact) (x y : ℤ) (st : State E) (go : State E → Tree E) → IsForm c news f x → IsForm c news g y → Stands c launch facts n (claim_divisor (walks c) k f g st go) news st.held → Divides facts n (claim_divisor (walks c) k f g st go) go news (owns st) k x y
+  divides k {news = news} f g x y st go mf mg s =
+      let t = told_either c launch (minus g (constant (pos 1))) (minus (constant (negsuc 0)) g) (y -ℤ pos 1) (negsuc 0 -ℤ y) s (form-minus c g (constant (pos 1)) y (pos 1) (y -ℤ pos 1) mg (form_constant c news (pos 1)) (omega (arith, ints))).means (form-minus c (constant (negsuc 0)) g (negsuc 0) y (negsuc 0 -ℤ y) (form_constant c news (negsuc 0)) mg (omega (arith, ints))).means in
+      let q = quotes k f g x y (claimed_once st) go mf mg (past_claim c launch s) in
+      record {
+        nonzero = elim t [
+          | inl e ↦ lacks-value st g y (pos 0) mg s e
+          | inr o ↦ elim o [ inl h ↦ (λ p. omega (arith, ints, h, p)) | inr h ↦ (λ p. omega (arith, ints, h, p)) ]
+        ];
+        safe = q.safe;
+        comes = comes_from c launch (over_claim c launch) q.comes;
+      }
+
+  -- a quotient and what it leaves
+  pub quotient_sound : (k : Kind) {facts : List Fact} {n : ℕ} {news : List ℤ} (f : Fact) (x d : ℤ) (st : State E) (go : Fact → Fact → State E → Tree E) → IsForm c news f x → pos 0 ≤ℤ x → pos 0 <ℤ d → in_kind k (int_div x d) ≡ true → Stands c launch facts n (quotient (walks c) k f d st go) news st.held →
+      Comes c launch facts n (quotient (walks c) k f d st go) (λ (p : Fact × Fact) st'. go p.0 p.1 st') news (owns st) (λ more p. IsForm c more p.0 (int_div x d) × IsForm c more p.1 (int_rem x d))
+  quotient_sound k f x d st go m hx hd h s =
+      let z = int_div x d in
+      let ends = in_kind-ends k z h in
+      let next : Fact → State E → Tree E = λ q st'. Know (left_over f d q) (Know (minus (constant (d -ℤ pos 1)) (left_over f d q)) (go q (left_over f d q) st')) in
+      let p = invent_sound c launch (any_of c.domain k) st next z (between-has c.domain c.lawful (least k) (greatest k) z ends.0 ends.1) s in
+      let left : IsForm c p.more (left_over f d p.arrived) (int_rem x d) = form-minus c f (multiple d p.arrived) x (d *ℤ z) (int_rem x d) (form_kept c p.way.kept m) (form-multiple c d p.arrived z p.right) (left-is x d) in
+      let high : IsForm c p.more (minus (constant (d -ℤ pos 1)) (left_over f d p.arrived)) ((d -ℤ pos 1) -ℤ int_rem x d) = form-minus c (constant (d -ℤ pos 1)) (left_over f d p.arrived) (d -ℤ pos 1) (int_rem x d) ((d -ℤ pos 1) -ℤ int_rem x d) (form_constant c p.more (d -ℤ pos 1)) left (omega (arith, ints)) in
+      let low = left-low x d hx in
+      let top = left-high x d hx hd in
+      onward c launch p (comes_from c launch (way_then c launch (over_fact c launch) (over_fact c launch))
+      (at_once c launch (λ (p : Fact × Fact) st'. go p.0 p.1 st') (λ more q. IsForm c more q.0 z × IsForm c more q.1 (int_rem x d)) (p.arrived, left_over f d p.arrived) p.state (p.right, left)
+      (past_fact c launch (λ v a. omega (arith, ints, high.means v a, top)) (past_fact c launch (λ v a. omega (arith, ints, left.means v a, low)) p.stands))))
+
+  -- a dividend and a divisor of which the quotient is exact
+  record Exactly (f g : Fact) (x y : ℤ) : Type 0 where
+    constant : g.constant ≡ y
+    low : pos 0 ≤ℤ x
+    above : pos 0 <ℤ g.constant
+
+  exactly : {facts : List Fact} {n : ℕ} {tree : Tree E} {news : List ℤ} (f g : Fact) (x y : ℤ) (st : State E) → IsForm c news f x → IsForm c news g y → Stands c launch facts n tree news st.held → is_exact (walks c) st f g ≡ true → Exactly f g x y
+  exactly {news = news} f g x y st mf mg s e =
+      let p = and_parts (is_number g) (int_lt (pos 0) g.constant && is_from_zero (bounds_of (walks c) st f).low) e in
+      let q = and_parts (int_lt (pos 0) g.constant) (is_from_zero (bounds_of (walks c) st f).low) p.1 in
+      record { constant = value-known c launch g y mg p.0; low = held_settles c news st.held f x s.fit mf.means q.1; above = lt_test (pos 0) g.constant q.0 }
+
+  divided_sound : (b : Bool) (more : DividesLawfully c.domain) (k : Kind) {facts : List Fact} {n : ℕ} {news : List ℤ} (f g : Fact) (x y : ℤ) (st : State E) (go : Fact → State E → Tree E) → is_exact (walks c) st f g ≡ b → in_kind k (int_div x y) ≡ true → (y ≡ pos 0 → ⊥) → IsForm c news f x → IsForm c news g y → Stands c launch facts n (divided (walks c) b k f g st go) news st.held → Comes c launch facts n (divided (walks c) b k f g st go) go news (owns st) (λ more h. IsForm c more h (int_div x y))
+  divided_sound true laws k f g x y st go e h z mf mg s =
+      let w = exactly f g x y st mf mg s e in
+      let p = quotient_sound k f x g.constant st (λ q r st'. go q st') mf w.low w.above (ap (λ d. in_kind k (int_div x d)) w.constant ∙ h) s in
+      arriving c launch go (λ (p : Fact × Fact). p.0) (λ more q. IsForm c more q (int_div x y)) (λ more q kept m. form-is c (int_div x y) (ap (int_div x) w.constant) m.0) p
+  divided_sound false laws k {news = news} f g x y st go e h z mf mg s =
+      let ef = element_of (walks c) st f in
+      let eg = element_of (walks c) st g in
+      invent_sound c launch (c.domain.div_of ef eg) st go (int_div x y) (laws.div ef eg x y (form-has c news st.held f x s.fit mf.means) (form-has c news st.held g y s.fit mg.means) z) s
+
+  remaining_sound : (b : Bool) (more : DividesLawfully c.domain) (k : Kind) {facts : List Fact} {n : ℕ} {news : List ℤ} (f g : Fact) (x y : ℤ) (st : State E) (go : Fact → State E → Tree E) → is_exact (walks c) st f g ≡ b → in_kind k (int_div x y) ≡ true → (y ≡ pos 0 → ⊥) → IsForm c news f x → IsForm c news g y → Stands c launch facts n (remaining (walks c) b k f g st go) news st.held → Comes c launch facts n (remaining (walks c) b k f g st go) go news (owns st) (λ more h. IsForm c more h (int_rem x y))
+  remaining_sound true laws k f g x y st go e h z mf mg s =
+      let w = exactly f g x y st mf mg s e in
+      let p = quotient_sound k f x g.constant st (λ q r st'. go r st') mf w.low w.above (ap (λ d. in_kind k (int_div x d)) w.constant ∙ h) s in
+      arriving c launch go (λ (p : Fact × Fact). p.1) (λ more q. IsForm c more q (int_rem x y)) (λ more q kept m. form-is c (int_rem x y) (ap (int_rem x) w.constant) m.1) p
+  remaining_sound false laws k {news = news} f g x y st go e h z mf mg s =
+      let ef = element_of (walks c) st f in
+      let eg = element_of (walks c) st g in
+      invent_sound c launch (c.domain.rem_of ef eg) st go (int_rem x y) (laws.rem ef eg x y (form-has c news st.held f x s.fit mf.means) (form-has c news st.held g y s.fit mg.means) z) s
+
+  -- the bits of both
+  masked_by_sound : (b : Bool) (laws : DividesLawfully c.domain) (k : Kind) {facts : List Fact} {n : ℕ} {news : List ℤ} (f g : Fact) (x y : ℤ) (st : State E) (go : Fact → State E → Tree E) → are_from_zero (walks c) st f g ≡ b → in_kind k x ≡ true → in_kind k y ≡ true → IsForm c news f x → IsForm c news g y → Stands c launch facts n (masked_by (walks c) b k f g st go) news st.held →
+      Comes c launch facts n (masked_by (walks c) b k f g st go) go news (owns st) (λ more h. IsForm c more h (read_bits k (bit_and (bits_of x) (bits_of y))))
+  masked_by_sound true laws k {facts = facts} {n = n} {news = news} f g x y st go e hx hy mf mg s =
+      let p = and_parts (is_from_zero (bounds_of (walks c) st f).low) (is_from_zero (bounds_of (walks c) st g).low) e in
+      let ef = element_of (walks c) st f in
+      let eg = element_of (walks c) st g in
+      by x y hx hy (held_settles c news st.held f x s.fit mf.means p.0) (held_settles c news st.held g y s.fit mg.means p.1) (form-has c news st.held f x s.fit mf.means) (form-has c news st.held g y s.fit mg.means)
+    where
+      by : (x y : ℤ) → in_kind k x ≡ true → in_kind k y ≡ true → pos 0 ≤ℤ x → pos 0 ≤ℤ y → c.domain.has (element_of (walks c) st f) x ≡ true → c.domain.has (element_of (walks c) st g) y ≡ true → Comes c launch facts n (masked_by (walks c) true k f g st go) go news (owns st) (λ more h. IsForm c more h (read_bits k (bit_and (bits_of x) (bits_of y))))
+      by (pos m) (pos j) hx hy lx ly ix iy = invent_sound c launch (c.domain.mask_of (element_of (walks c) st f) (element_of (walks c) st g)) st go (read_bits k (bit_and (bits_of (pos m)) (bits_of (pos j))))
+          (subst (λ z. c.domain.has (c.domain.mask_of (element_of (walks c) st f) (element_of (walks c) st g)) z ≡ true) (sym (and-plain k m j hx hy)) (laws.mask (element_of (walks c) st f) (element_of (walks c) st g) m j ix iy)) s
+      by (pos m) (negsuc j) hx hy lx ly ix iy = absurd (omega (arith, ints))
+      by (negsuc m) y hx hy lx ly ix iy = absurd (omega (arith, ints))
+  masked_by_sound false laws k f g x y st go e hx hy mf mg s =
+      let z = read_bits k (bit_and (bits_of x) (bits_of y)) in
+      let ends = in_kind-ends k z (bits-in k (bit_and (bits_of x) (bits_of y)) (and-below x y)) in
+      invent_sound c launch (any_of c.domain k) st go z (between-has c.domain c.lawful (least k) (greatest k) z ends.0 ends.1) s
+
+  masked_sound : (b : Bool) (laws : DividesLawfully c.domain) (k : Kind) {facts : List Fact} {n : ℕ} {news : List ℤ} (f g : Fact) (x y : ℤ) (st : State E) (go : Fact → State E → Tree E) → is_mask k g ≡ b → in_kind k x ≡ true → in_kind k y ≡ true → IsForm c news f x → IsForm c news g y → Stands c launch facts n (masked (walks c) b k f g st go) news st.held →
+      Comes c launch facts n (masked (walks c) b k f g st go) go news (owns st) (λ more h. IsForm c more h (read_bits k (bit_and (bits_of x) (bits_of y))))
+  masked_sound true laws Int f g x y st go e hx hy mf mg s = cc
+  masked_sound true laws Uint f g x y st go e hx hy mf mg s =
+      let p = and_parts (is_number g) (is_power 32 (g.constant +ℤ pos 1)) e in
+      let q = power_of 32 (g.constant +ℤ pos 1) p.1 in
+      let same : g.constant ≡ y = value-known c launch g y mg p.0 in
+      let next : y +ℤ pos 1 ≡ pos (2 ^ q.0) = sym (ap (λ z. z +ℤ pos 1) same) ∙ q.2 in
+      let above : pos 0 <ℤ (g.constant +ℤ pos 1) = let l = pow_pos q.0 in subst (λ d. pos 0 <ℤ d) (sym q.2) (omega (arith, ints, l)) in
+      let r = quotient_sound Uint f x (g.constant +ℤ pos 1) st (λ q r st'. go r st') mf (in_kind-ends Uint x hx).0 above (ap (λ d. in_kind Uint (int_div x d)) q.2 ∙ uint-quotient x (2 ^ q.0) hx) s in
+      let z = read_bits Uint (bit_and (bits_of x) (bits_of y)) in
+      arriving c launch go (λ (p : Fact × Fact). p.1) (λ more h. IsForm c more h z) (λ more h kept m. form-is c z (ap (λ d. int_rem x (d +ℤ pos 1)) same ∙ sym (mask-left x y q.0 hx hy next)) m.1) r
+  masked_sound false laws k f g x y st go e hx hy mf mg s = masked_by_sound (are_from_zero (walks c) st f g) laws k f g x y st go refl hx hy mf mg s
+
+  -- a value of which no more is known than its kind
+  unknown_yields : (k : Kind) {facts : List Fact} {n : ℕ} {news : List ℤ} {r : Result Word Fault} (z : ℤ) (st : State E) (go : Onward E) → in_kind k z ≡ true → r ≡ Ok (word k z) → Stands c launch facts n (unknown (walks c) k st go) news st.held → Yields c launch facts n (unknown (walks c) k st go) go news (owns st) r
+  unknown_yields k z st go h e s = record { result = word k z; is = e; right = h; comes = unknown_sound c launch k st go z h s }
+
+  -- an operator on two numbers of its kind
+  pub binary_sound : (op : Operator) (laws : DividesLawfully c.domain) (k : Kind) {facts : List Fact} {n : ℕ} {news : List ℤ} (f g : Fact) (x y : ℤ) (st : State E) (go : Onward E) → in_kind k x ≡ true → in_kind k y ≡ true → IsForm c news f x → IsForm c news g y → Stands c launch facts n (binary (walks c) op k f g st go) news st.held → Yields c launch facts n (binary (walks c) op k f g st go) go news (owns st) (calculate op k x y)
+  binary_sound Add laws k f g x y st go hx hy mf mg s = settled_yields k (x +ℤ y) go (ranged_sound c launch k (sum f g) st go (x +ℤ y) s (form-sum c f g x y mf mg))
+  binary_sound Subtract laws k f g x y st go hx hy mf mg s = settled_yields k (x -ℤ y) go (ranged_sound c launch k (minus f g) st go (x -ℤ y) s (form-minus c f g x y (x -ℤ y) mf mg (omega (arith, ints))))
+  binary_sound Multiply laws k f g x y st go hx hy mf mg s =
+      let p = product_sound f.terms g.terms f g x y st (λ h st'. ranged (walks c) k h st' go) refl refl mf mg s in
+      let t = ranged_sound c launch k p.arrived p.state go (x *ℤ y) p.stands p.right in
+      settled_yields k (x *ℤ y) go (record { settles = t.settles; comes = onward c launch p t.comes })
+  binary_sound Divide laws k f g x y st go hx hy mf mg s =
+      let last : Fact → State E → Tree E = λ h st'. go (value k h) st' in
+      let a = divides k f g x y st (λ st1. divided (walks c) (is_exact (walks c) st1 f g) k f g st1 last) mf mg s in
+      let p = a.comes in
+      let h = quotient-in k x y hx hy a.nonzero a.safe in
+      let d = divided_sound (is_exact (walks c) p.state f g) laws k f g x y p.state last refl h a.nonzero (form_kept c p.way.kept mf) (form_kept c p.way.kept mg) p.stands in
+      form_yields k (int_div x y) go h (ap (λ b. cond b (Err DivisionByZero) (settle k (int_div x y))) (int_eq-not y (pos 0) a.nonzero) ∙ settle_in k (int_div x y) h) (onward c launch p d)
+  binary_sound Remainder laws k f g x y st go hx hy mf mg s =
+      let last : Fact → State E → Tree E = λ h st'. go (value k h) st' in
+      let a = divides k f g x y st (λ st1. remaining (walks c) (is_exact (walks c) st1 f g) k f g st1 last) mf mg s in
+      let p = a.comes in
+      let h = quotient-in k x y hx hy a.nonzero a.safe in
+      let d = remaining_sound (is_exact (walks c) p.state f g) laws k f g x y p.state last refl h a.nonzero (form_kept c p.way.kept mf) (form_kept c p.way.kept mg) p.stands in
+      let r = int_rem x y in
+      form_yields k r go (remainder-in k x y hx)
+      (ap (λ b. cond b (Err DivisionByZero) (cond (in_kind k (int_div x y)) (settle k r) (Err Overflow))) (int_eq-not y (pos 0) a.nonzero) ∙ ap (λ b. cond b (settle k r) (Err Overflow)) h ∙ settle_in k r (remainder-in k x y hx))
+      (onward c launch p d)
+  binary_sound BitAnd laws k f g x y st go hx hy mf mg s =
+      form_yields k (read_bits k (bit_and (bits_of x) (bits_of y))) go (bits-in k (bit_and (bits_of x) (bits_of y)) (and-below x y)) refl
+      (masked_sound (is_mask k g) laws k f g x y st (λ h st'. go (value k h) st') refl hx hy mf mg s)
+  binary_sound BitOr laws k f g x y st go hx hy mf mg s = unknown_yields k (read_bits k (bit_or (bits_of x) (bits_of y))) st go (bits-in k (bit_or (bits_of x) (bits_of y)) (or-below x y)) refl s
+  binary_sound BitXor laws k f g x y st go hx hy mf mg s = unknown_yields k (read_bits k (bit_xor (bits_of x) (bits_of y))) st go (bits-in k (bit_xor (bits_of x) (bits_of y)) (xor-below x y)) refl s
+
+  -- an operator on one value
+  complement_sound : (k : Kind) {facts : List Fact} {n : ℕ} {news : List ℤ} (w : Word) (f : Fact) (st : State E) (go : Onward E) → in_kind w.kind w.value ≡ true → IsForm c news f w.value → Stands c launch facts n (ranged (walks c) k (complement k f) st go) news st.held → Yields c launch facts n (ranged (walks c) k (complement k f) st go) go news (owns st) (calculate_unary Complement k w.value)
+  complement_sound Int {news = news} w f st go h m s =
+      let y = negsuc 0 -ℤ w.value in
+      let t = ranged_sound c launch Int (minus (constant (negsuc 0)) f) st go y s (form-minus c (constant (negsuc 0)) f (negsuc 0) w.value y (form_constant c news (negsuc 0)) m (omega (arith, ints))) in
+      record { result = word Int (as_kind Int y); is = ap (λ n. Ok (word Int (read_bits Int n))) (sym (complement-bits w.value)); right = as_kind-in_kind Int y; comes = t.comes }
+  complement_sound Uint {news = news} w f st go h m s =
+      let y = pos 4294967295 -ℤ w.value in
+      let t = ranged_sound c launch Uint (minus (constant (pos 4294967295)) f) st go y s (form-minus c (constant (pos 4294967295)) f (pos 4294967295) w.value y (form_constant c news (pos 4294967295)) m (omega (arith, ints))) in
+      record { result = word Uint (as_kind Uint y); is = ap (λ n. Ok (word Uint (read_bits Uint n))) (sym (complement_uint-bits w.kind w.value h)); right = as_kind-in_kind Uint y; comes = t.comes }
+
+  shifted_sound : (from : Kind) {facts : List Fact} {n : ℕ} {news : List ℤ} (f : Fact) (x : ℤ) (by : ℕ) (st : State E) (go : Onward E) → in_kind from x ≡ true → IsForm c news f x → Stands c launch facts n (shifted (walks c) from Uint f by st go) news st.held → Yields c launch facts n (shifted (walks c) from Uint f by st go) go news (owns st) (settle Uint (int_div x (pos (2 ^ by))))
+  shifted_sound Int f x by st go h m s = unknown_yields Uint (as_kind Uint (int_div x (pos (2 ^ by)))) st go (as_kind-in_kind Uint (int_div x (pos (2 ^ by)))) refl s
+  shifted_sound Uint f x by st go h m s =
+      let d = pos (2 ^ by) in
+      let i = uint-quotient x (2 ^ by) h in
+      let p = quotient_sound Uint f x d st (λ q r st'. go (value Uint q) st') m (in_kind-ends Uint x h).0 (let l = pow_pos by in omega (arith, ints, l)) i s in
+      form_yields Uint (int_div x d) go i (settle_in Uint (int_div x d) i) (arriving c launch (λ q st'. go (value Uint q) st') (λ (p : Fact × Fact). p.0) (λ more q. IsForm c more q (int_div x d)) (λ more q kept m. m.0) p)
+
+  pub unary_sound : (op : UnaryOperator) (k : Kind) → is_covered_unary op k ≡ true → {facts : List Fact} {n : ℕ} {news : List ℤ} (w : Word) (x : Value) (st : State E) (go : Onward E) → in_kind w.kind w.value ≡ true → IsValue c news w x → Stands c launch facts n (unary (walks c) op k x st go) news st.held → Yields c launch facts n (unary (walks c) op k x st go) go news (owns st) (calculate_unary op k w.value)
+  unary_sound Negate k e w x st go h m s = settled_yields k (neg_ℤ w.value) go (ranged_sound c launch k (multiple (negsuc 0) x.form) st go (neg_ℤ w.value) s (form-is c (neg_ℤ w.value) (omega (arith, ints)) (form-multiple c (negsuc 0) x.form w.value m.form)))
+  unary_sound Complement k e w x st go h m s = complement_sound k w x.form st go h m.form s
+  unary_sound (ShiftLeft by) k e w x st go h m s = settled_yields k (w.value *ℤ pos (2 ^ by)) go (ranged_sound c launch k (multiple (pos (2 ^ by)) x.form) st go (w.value *ℤ pos (2 ^ by)) s (form-is c (w.value *ℤ pos (2 ^ by)) (mul_comm (pos (2 ^ by)) w.value) (form-multiple c (pos (2 ^ by)) x.form w.value m.form)))
+  unary_sound (ShiftRight by) Int e w x st go h m s = let p = and_parts (nat_lt by 32) false e in cc
+  unary_sound (ShiftRight by) Uint e w x st go h m s = shifted_sound x.kind x.form w.value by st go (subst (λ j. in_kind j w.value ≡ true) (sym m.kind) h) m.form s

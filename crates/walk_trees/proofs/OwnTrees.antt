@@ -1,0 +1,301 @@
+-- The trees of what an item does have its own symbols, and the launch's, alone.
+use Rattle.std.proofs.Common.{◌≡◌, ℕ, zero, suc, ◌^◌, ◌%◌, Bool, true, false, not, cond, nat_lt, List, [], ◌∷◌, ◌++◌, map, length, slice_index_or, Option, Some, None, refl, lt-ltb}
+use Rattle.std.proofs.lemmas.Bool.{and_from}
+use Rattle.std.specs.Prelude.{ℤ, pos, negsuc, ◌+ℤ◌, ◌-ℤ◌, slice_set}
+use Rattle.semantics.specs.Word.{Kind, Int, Uint, Operator, Add, Subtract, Multiply, Divide, Remainder, BitAnd, BitOr, BitXor, UnaryOperator, Negate, Complement, ShiftLeft, ShiftRight, Relation, Less, AtMost, More, AtLeast, Equal, Unequal}
+use Rattle.semantics.specs.Core.{Array, Site, Function, GlobalId, LocalId, GroupId, GlobalSize, LocalSize, NumGroups, Term, Literal, Variable, Id, Load, Unary, Binary, Convert, Compare, Not, And, Or, Select, Minimum, Maximum}
+use Rattle.semantics.specs.Setup.{along}
+use Rattle.linear.specs.Exact.{Terms, sum, multiple}
+use Rattle.facts.specs.Symbols as symbols
+use Rattle.facts.specs.Symbols.{First, Local, Group, Fact, constant, once, minus}
+use Rattle.walk_trees.specs.Trees.{Tree, Leaf, Dead, Claim, Know, Touch, Fork, Access, after, accesses}
+use Rattle.walk_trees.specs.Values.{Value, value}
+use Rattle.walk_trees.specs.Walks.{Setting, State, Onward, claimed_once, counted, lower_fact, upper_fact, know_all, newest, invent, unknown, any_of, is_kept, kept_or_new, ranged, brought_from, both_brought, at_site, fork, is_dead, unless_dead, know_test, know_two}
+use Rattle.walk_trees.specs.Operators.{product, claim_divisor, claim_quotient, left_over, quotient, is_exact, divided, remaining, is_mask, are_from_zero, masked_by, masked, binary, complement, shifted, unary}
+use Rattle.walk_trees.specs.Tests.{Outcomes, below, split_below, split, split_number}
+use Rattle.walk_trees.specs.Terms.{Walks, walk, no_value, truth_value, id_inside, id_outside, id_form, access, array_kind, chosen, pick}
+use Rattle.walk_trees.specs.Statements.{argument_values, zero_value}
+use Rattle.walk_trees.specs.Seconds.{is_own_symbol, are_own_terms, is_own, are_own}
+use Rattle.walk_trees.proofs.Each.{Each}
+use Rattle.walk_trees.proofs.OwnForms.{IsOwn, AreOwn, own-sum, own-multiple, own-minus, own-groups, own-given, own-local, own-group, own-new}
+
+abbrev pub IsOwnValue : Value → Type 0
+IsOwnValue v = IsOwn v.form
+
+abbrev pub AreOwnValues : List Value → Type 0
+AreOwnValues [] = Unit {0}
+AreOwnValues (v ∷ vs) = IsOwnValue v × AreOwnValues vs
+
+abbrev pub HasOwn : {E : Type 0} → State E → Type 0
+HasOwn st = AreOwnValues st.variables
+
+unfoldable pub IsOwnTree : {E : Type 0} → Tree E → Type 0
+IsOwnTree (Leaf e) = AreOwnValues e.variables
+IsOwnTree Dead = Unit {0}
+IsOwnTree (Claim o needed settled g rest) = IsOwnTree rest
+IsOwnTree (Know f rest) = IsOwn f × IsOwnTree rest
+IsOwnTree (Touch t i h rest) = IsOwn i × IsOwnTree rest
+IsOwnTree (Fork first second) = IsOwnTree first × ((n : ℕ) → IsOwnTree (second n))
+
+module _ {E : Type 0} (s : Setting E) where
+  -- what goes on from an own form, from an own value, from an outcome
+  abbrev pub GoesOn : (Fact → State E → Tree E) → Type 0
+  GoesOn go = (f : Fact) (st : State E) → IsOwn f → HasOwn st → IsOwnTree (go f st)
+
+  abbrev pub GoesOnBy : Onward E → Type 0
+  GoesOnBy go = (v : Value) (st : State E) → IsOwnValue v → HasOwn st → IsOwnTree (go v st)
+
+  abbrev pub GoesEither : Outcomes E → Type 0
+  GoesEither go = (b : Bool) (st : State E) → HasOwn st → IsOwnTree (go b st)
+
+  lower : (f : Fact) (o : Option ℤ) (rest : List Fact) (t : Tree E) → IsOwn f → IsOwnTree (know_all rest t) → IsOwnTree (know_all (lower_fact f o rest) t)
+  unfolding IsOwnTree
+  lower f None rest t h k = k
+  lower f (Some z) rest t h k = (own-minus f (constant z) h tt, k)
+
+  upper : (f : Fact) (o : Option ℤ) (t : Tree E) → IsOwn f → IsOwnTree t → IsOwnTree (know_all (upper_fact f o) t)
+  unfolding IsOwnTree
+  upper f None t h k = k
+  upper f (Some z) t h k = (own-minus (constant z) f tt h, k)
+
+  invents : (e : E) (st : State E) (go : Fact → State E → Tree E) → HasOwn st → GoesOn go → IsOwnTree (invent s e st go)
+  invents e st go h g =
+      let b = s.domain.bounds_of e in
+      let n = own-new (length st.held.news) in
+      lower (newest st) b.low (upper_fact (newest st) b.high) _ n (upper (newest st) b.high _ n (g (newest st) _ n h))
+
+  unknowns : (k : Kind) (st : State E) (go : Onward E) → HasOwn st → GoesOnBy go → IsOwnTree (unknown s k st go)
+  unknowns k st go h g = invents (any_of s.domain k) st (λ f st'. go (value k f) st') h (λ f st' i j. g (value k f) st' i j)
+
+  kept : (b : Bool) (f : Fact) (st : State E) (go : Onward E) → IsOwn f → HasOwn st → GoesOnBy go → IsOwnTree (kept_or_new s b f st go)
+  kept true f st go i h g = g (value Uint f) st i h
+  kept false f st go i h g = unknowns Uint st go h g
+
+  ranges : (k : Kind) (f : Fact) (st : State E) (go : Onward E) → IsOwn f → HasOwn st → GoesOnBy go → IsOwnTree (ranged s k f st go)
+  unfolding IsOwnTree
+  ranges Int f st go i h g = g (value Int f) (claimed_once (claimed_once st)) i h
+  ranges Uint f st go i h g = kept (is_kept s f st) f (claimed_once (claimed_once st)) go i h g
+
+  brings_from : (to from : Kind) (f : Fact) (st : State E) (go : Onward E) → IsOwn f → HasOwn st → GoesOnBy go → IsOwnTree (brought_from s to from f st go)
+  brings_from Int Int f st go i h g = g (value Int f) st i h
+  brings_from Int Uint f st go i h g = ranges Int f st go i h g
+  brings_from Uint Int f st go i h g = ranges Uint f st go i h g
+  brings_from Uint Uint f st go i h g = g (value Uint f) st i h
+
+  brings_both : (k : Kind) (x y : Value) (st : State E) (go : Value → Value → State E → Tree E) → IsOwnValue x → IsOwnValue y → HasOwn st → ((v w : Value) (st' : State E) → IsOwnValue v → IsOwnValue w → HasOwn st' → IsOwnTree (go v w st')) → IsOwnTree (both_brought s k x y st go)
+  brings_both k x y st go i j h g = brings_from k x.kind x.form st _ i h (λ v st1 p h1. brings_from k y.kind y.form st1 _ j h1 (λ w st2 q h2. g v w st2 p q h2))
+
+  forks : (st : State E) (first second : State E → Tree E) → HasOwn st → ((a : State E) → HasOwn a → IsOwnTree (first a)) → ((a : State E) → HasOwn a → IsOwnTree (second a)) → IsOwnTree (fork st first second)
+  unfolding IsOwnTree
+  forks st first second h f g = (f st h, λ n. g (counted n st) h)
+
+  lives : (b : Bool) (f : Fact) (t : Tree E) → IsOwn f → IsOwnTree t → IsOwnTree (unless_dead b f t)
+  unfolding IsOwnTree
+  lives true f t i h = tt
+  lives false f t i h = (i, h)
+
+  tests : (f : Fact) (st : State E) (go : State E → Tree E) → IsOwn f → HasOwn st → ((a : State E) → HasOwn a → IsOwnTree (go a)) → IsOwnTree (know_test s f st go)
+  tests f st go i h g = lives (is_dead f) f _ i (g _ h)
+
+  tests_two : (f k : Fact) (st : State E) (go : State E → Tree E) → IsOwn f → IsOwn k → HasOwn st → ((a : State E) → HasOwn a → IsOwnTree (go a)) → IsOwnTree (know_two s f k st go)
+  tests_two f k st go i j h g = tests f st _ i h (λ a ha. tests k a go j ha g)
+
+  own-below : (x y : Fact) → IsOwn x → IsOwn y → IsOwn (below x y)
+  own-below x y i j = own-minus (minus y x) (constant (pos 1)) (own-minus y x j i) tt
+
+  splits_below : (a b : Bool) (f g : Fact) (st : State E) (go : Outcomes E) → IsOwn f → IsOwn g → HasOwn st → GoesEither go → IsOwnTree (split_below s a b f g st go)
+  splits_below a b f g st go i j h k = forks st _ _ h (λ c hc. tests f c (go a) i hc (k a)) (λ c hc. tests g c (go b) j hc (k b))
+
+  splits : (r : Relation) (x y : Fact) (st : State E) (go : Outcomes E) → IsOwn x → IsOwn y → HasOwn st → GoesEither go → IsOwnTree (split s r x y st go)
+  splits Less x y st go i j h g = splits_below true false (below x y) (minus x y) st go (own-below x y i j) (own-minus x y i j) h g
+  splits AtMost x y st go i j h g = splits_below true false (minus y x) (below y x) st go (own-minus y x j i) (own-below y x j i) h g
+  splits More x y st go i j h g = splits_below true false (below y x) (minus y x) st go (own-below y x j i) (own-minus y x j i) h g
+  splits AtLeast x y st go i j h g = splits_below true false (minus x y) (below x y) st go (own-minus x y i j) (own-below x y i j) h g
+  splits Equal x y st go i j h g =
+      forks st _ _ h (λ a ha. tests_two (minus x y) (minus y x) a (go true) (own-minus x y i j) (own-minus y x j i) ha (g true))
+      (λ a ha. splits_below false false (below x y) (below y x) a go (own-below x y i j) (own-below y x j i) ha g)
+  splits Unequal x y st go i j h g =
+      forks st _ _ h (λ a ha. tests (below x y) a (go true) (own-below x y i j) ha (g true))
+      (λ a ha. forks a _ _ ha (λ b hb. tests (below y x) b (go true) (own-below y x j i) hb (g true)) (λ b hb. tests_two (minus x y) (minus y x) b (go false) (own-minus x y i j) (own-minus y x j i) hb (g false)))
+
+  splits_number : (f : Fact) (st : State E) (go : Outcomes E) → IsOwn f → HasOwn st → GoesEither go → IsOwnTree (split_number s f st go)
+  splits_number f st go i h g =
+      forks st _ _ h (λ a ha. tests (minus f (constant (pos 1))) a (go true) (own-minus f (constant (pos 1)) i tt) ha (g true))
+      (λ a ha. forks a _ _ ha (λ b hb. tests (minus (constant (negsuc 0)) f) b (go true) (own-minus (constant (negsuc 0)) f tt i) hb (g true))
+      (λ b hb. tests_two f (multiple (negsuc 0) f) b (go false) i (own-multiple (negsuc 0) f i) hb (g false)))
+
+  products : (ts us : Terms) (f k : Fact) (st : State E) (go : Fact → State E → Tree E) → IsOwn f → IsOwn k → HasOwn st → GoesOn go → IsOwnTree (product s ts us f k st go)
+  products ts [] f k st go i j h g = g (multiple k.constant f) st (own-multiple k.constant f i) h
+  products [] (u ∷ us) f k st go i j h g = g (multiple f.constant k) st (own-multiple f.constant k j) h
+  products (t ∷ ts) (u ∷ us) f k st go i j h g = invents _ st go h g
+
+  quotients : (k : Kind) (x : Fact) (c : ℤ) (st : State E) (go : (q r : Fact) → State E → Tree E) → IsOwn x → HasOwn st → ((q r : Fact) (st' : State E) → IsOwn q → IsOwn r → HasOwn st' → IsOwnTree (go q r st')) → IsOwnTree (quotient s k x c st go)
+  unfolding IsOwnTree
+  quotients k x c st go i h g =
+      let on : Fact → State E → Tree E = λ q st'. Know (left_over x c q) (Know (minus (constant (c -ℤ pos 1)) (left_over x c q)) (go q (left_over x c q) st')) in
+      invents (any_of s.domain k) st on h (λ q st' j h'.
+      let r = own-minus x (multiple c q) i (own-multiple c q j) in
+      (r, (own-minus (constant (c -ℤ pos 1)) (left_over x c q) tt r, g q (left_over x c q) st' j r h')))
+
+  divides : (b : Bool) (k : Kind) (x y : Fact) (st : State E) (go : Fact → State E → Tree E) → IsOwn x → HasOwn st → GoesOn go → IsOwnTree (divided s b k x y st go)
+  divides true k x y st go i h g = quotients k x y.constant st _ i h (λ q r st' j l h'. g q st' j h')
+  divides false k x y st go i h g = invents _ st go h g
+
+  remains : (b : Bool) (k : Kind) (x y : Fact) (st : State E) (go : Fact → State E → Tree E) → IsOwn x → HasOwn st → GoesOn go → IsOwnTree (remaining s b k x y st go)
+  remains true k x y st go i h g = quotients k x y.constant st _ i h (λ q r st' j l h'. g r st' l h')
+  remains false k x y st go i h g = invents _ st go h g
+
+  masks_by : (b : Bool) (k : Kind) (x y : Fact) (st : State E) (go : Fact → State E → Tree E) → HasOwn st → GoesOn go → IsOwnTree (masked_by s b k x y st go)
+  masks_by true k x y st go h g = invents _ st go h g
+  masks_by false k x y st go h g = invents _ st go h g
+
+  masks : (b : Bool) (k : Kind) (x y : Fact) (st : State E) (go : Fact → State E → Tree E) → IsOwn x → HasOwn st → GoesOn go → IsOwnTree (masked s b k x y st go)
+  masks true k x y st go i h g = quotients k x (y.constant +ℤ pos 1) st _ i h (λ q r st' j l h'. g r st' l h')
+  masks false k x y st go i h g = masks_by (are_from_zero s st x y) k x y st go h g
+
+  claims_quotient : (k : Kind) (x y : Fact) (st : State E) (go : State E → Tree E) → HasOwn st → ((a : State E) → HasOwn a → IsOwnTree (go a)) → IsOwnTree (claim_quotient s k x y st go)
+  unfolding IsOwnTree
+  claims_quotient Uint x y st go h g = g st h
+  claims_quotient Int x y st go h g = g (claimed_once st) h
+
+  claims_divisor : (k : Kind) (x y : Fact) (st : State E) (go : State E → Tree E) → HasOwn st → ((a : State E) → HasOwn a → IsOwnTree (go a)) → IsOwnTree (claim_divisor s k x y st go)
+  unfolding IsOwnTree
+  claims_divisor k x y st go h g = claims_quotient k x y (claimed_once st) go h g
+
+  binaries : (op : Operator) (k : Kind) (x y : Fact) (st : State E) (go : Onward E) → IsOwn x → IsOwn y → HasOwn st → GoesOnBy go → IsOwnTree (binary s op k x y st go)
+  binaries Add k x y st go i j h g = ranges k (sum x y) st go (own-sum x y i j) h g
+  binaries Subtract k x y st go i j h g = ranges k (minus x y) st go (own-minus x y i j) h g
+  binaries Multiply k x y st go i j h g = products x.terms y.terms x y st _ i j h (λ f st' l h'. ranges k f st' go l h' g)
+  binaries Divide k x y st go i j h g = claims_divisor k x y st _ h (λ a ha. divides (is_exact s a x y) k x y a _ i ha (λ f st' l h'. g (value k f) st' l h'))
+  binaries Remainder k x y st go i j h g = claims_divisor k x y st _ h (λ a ha. remains (is_exact s a x y) k x y a _ i ha (λ f st' l h'. g (value k f) st' l h'))
+  binaries BitAnd k x y st go i j h g = masks (is_mask k y) k x y st _ i h (λ f st' l h'. g (value k f) st' l h')
+  binaries BitOr k x y st go i j h g = unknowns k st go h g
+  binaries BitXor k x y st go i j h g = unknowns k st go h g
+
+  own-complement : (k : Kind) (f : Fact) → IsOwn f → IsOwn (complement k f)
+  own-complement Int f i = own-minus (constant (negsuc 0)) f tt i
+  own-complement Uint f i = own-minus (constant (pos 4294967295)) f tt i
+
+  shifts : (from to : Kind) (f : Fact) (by : ℕ) (st : State E) (go : Onward E) → IsOwn f → HasOwn st → GoesOnBy go → IsOwnTree (shifted s from to f by st go)
+  shifts Uint k f by st go i h g = quotients k f (pos (2 ^ by)) st _ i h (λ q r st' j l h'. g (value k q) st' j h')
+  shifts Int k f by st go i h g = unknowns k st go h g
+
+  unaries : (op : UnaryOperator) (k : Kind) (x : Value) (st : State E) (go : Onward E) → IsOwnValue x → HasOwn st → GoesOnBy go → IsOwnTree (unary s op k x st go)
+  unaries Negate k x st go i h g = ranges k (multiple (negsuc 0) x.form) st go (own-multiple (negsuc 0) x.form i) h g
+  unaries Complement k x st go i h g = ranges k (complement k x.form) st go (own-complement k x.form i) h g
+  unaries (ShiftLeft by) k x st go i h g = ranges k (multiple (pos (2 ^ by)) x.form) st go (own-multiple (pos (2 ^ by)) x.form i) h g
+  unaries (ShiftRight by) k x st go i h g = shifts x.kind k x.form by st go i h g
+
+  either : (b : Bool) (f k : Fact) → IsOwn f → IsOwn k → IsOwn (cond b f k)
+  either true f k i j = i
+  either false f k i j = j
+
+  own-outside : (f : Function) → IsOwn (id_outside f)
+  own-outside GlobalId = tt
+  own-outside LocalId = tt
+  own-outside GroupId = tt
+  own-outside GlobalSize = tt
+  own-outside LocalSize = tt
+  own-outside NumGroups = tt
+
+  own-inside : (f : Function) (d : ℕ) → IsOwn (id_inside s f d)
+  own-inside GlobalId d = own-sum (multiple (pos (along s.sizes d 1)) (once (Group First d))) (once (Local First d)) (own-multiple (pos (along s.sizes d 1)) (once (Group First d)) (own-group d)) (own-local d)
+  own-inside LocalId d = own-local d
+  own-inside GroupId d = own-group d
+  own-inside GlobalSize d = own-multiple (pos (along s.sizes d 1)) (once (symbols.Groups d)) (own-groups d)
+  own-inside LocalSize d = tt
+  own-inside NumGroups d = own-groups d
+
+  own-variable : (vs : List Value) (x : ℕ) → AreOwnValues vs → IsOwnValue (slice_index_or vs x no_value)
+  own-variable [] x h = tt
+  own-variable (v ∷ vs) zero h = h.0
+  own-variable (v ∷ vs) (suc x) h = own-variable vs x h.1
+
+  pub accesses_on : (b : Bool) (a : Array) (site : Site) (i : Fact) (st : State E) (go : State E → Tree E) → IsOwn i → HasOwn st → ((c : State E) → HasOwn c → IsOwnTree (go c)) → IsOwnTree (access s b a site i st go)
+  unfolding IsOwnTree
+  accesses_on b a site i st go j h g = (j, g (claimed_once (claimed_once (at_site site st))) h)
+
+  picks : (x y second first : Value) (st : State E) (go : Onward E) → IsOwnValue x → IsOwnValue y → IsOwnValue second → IsOwnValue first → HasOwn st → GoesOnBy go → IsOwnTree (pick s x y second first st go)
+  picks x y second first st go i j k l h g = splits Less x.form y.form st _ i j h (λ b a ha. g (chosen b second first) a (of b) ha)
+    where
+      of : (b : Bool) → IsOwnValue (chosen b second first)
+      of true = k
+      of false = l
+
+  pub record Own (w : Walks E) : Type 0 where
+    pub as_value : (st : State E) (go : Onward E) → HasOwn st → GoesOnBy go → IsOwnTree (w.value st go)
+    pub as_test : (st : State E) (go : Outcomes E) → HasOwn st → GoesEither go → IsOwnTree (w.test st go)
+
+  of_value : (v : State E → Onward E → Tree E) → ((st : State E) (go : Onward E) → HasOwn st → GoesOnBy go → IsOwnTree (v st go)) → Own (record { value = v; test = λ st go. v st (λ x st'. split_number s x.form st' go) })
+  of_value v f = record { as_value = f; as_test = λ st go h g. f st _ h (λ x st' i h'. splits_number x.form st' go i h' g) }
+
+  own-truth : (b : Bool) → IsOwnValue (truth_value b)
+  own-truth b = tt
+
+  of_test : (t : State E → Outcomes E → Tree E) → ((st : State E) (go : Outcomes E) → HasOwn st → GoesEither go → IsOwnTree (t st go)) → Own (record { value = λ st go. t st (λ b st'. go (truth_value b) st'); test = t })
+  of_test t f = record { as_value = λ st go h g. f st _ h (λ b st' h'. g (truth_value b) st' (own-truth b) h'); as_test = f }
+
+  pub selects : (b : Bool) (t u : Tree E) → IsOwnTree t → IsOwnTree u → IsOwnTree (chosen b t u)
+  selects true t u h k = h
+  selects false t u h k = k
+
+  pub own : (e : Term) → Own (walk s e)
+  own (Literal k z) = of_value _ (λ st go h g. g (value k (constant z)) st tt h)
+  own (Variable x) = of_value _ (λ st go h g. g _ st (own-variable st.variables x h) h)
+  own (Id f d) = of_value _ (λ st go h g. g (value Uint (id_form s f d)) st (either (nat_lt d 3) (id_inside s f d) (id_outside f) (own-inside f d) (own-outside f)) h)
+  own (Load a site e) = of_value _ (λ st go h g. (own e).as_value st _ h (λ x st1 i h1. accesses_on false a site x.form st1 (λ st2. unknown s (array_kind s a) st2 go) i h1 (λ st2 h2. unknowns (array_kind s a) st2 go h2 g)))
+  own (Unary op k site e) = of_value _ (λ st go h g. (own e).as_value st _ h (λ x st1 i h1. unaries op k x (at_site site st1) go i h1 g))
+  own (Binary op k site a b) = of_value _ (λ st go h g. (own a).as_value st _ h (λ x st1 i h1. (own b).as_value st1 _ h1 (λ y st2 j h2.
+      brings_both k x y (at_site site st2) _ i j h2 (λ v w st3 p q h3. binaries op k v.form w.form st3 go p q h3 g))))
+  own (Convert k site e) = of_value _ (λ st go h g. (own e).as_value st _ h (λ x st1 i h1. brings_from k x.kind x.form (at_site site st1) go i h1 g))
+  own (Compare r k a b) = of_test _ (λ st go h g. (own a).as_value st _ h (λ x st1 i h1. (own b).as_value st1 _ h1 (λ y st2 j h2.
+      brings_both k x y st2 _ i j h2 (λ v w st3 p q h3. splits r v.form w.form st3 go p q h3 g))))
+  own (Not e) = of_test _ (λ st go h g. (own e).as_test st _ h (λ b st1 h1. g (not b) st1 h1))
+  own (And a b) = of_test _ (λ st go h g. (own a).as_test st _ h (λ t st1 h1. selects t _ _ ((own b).as_test st1 go h1 g) (g false st1 h1)))
+  own (Or a b) = of_test _ (λ st go h g. (own a).as_test st _ h (λ t st1 h1. selects t _ _ (g true st1 h1) ((own b).as_test st1 go h1 g)))
+  own (Select t a b) = of_value _ (λ st go h g. (own t).as_test st _ h (λ c st1 h1. selects c _ _ ((own a).as_value st1 go h1 g) ((own b).as_value st1 go h1 g)))
+  own (Minimum a b) = of_value _ (λ st go h g. (own a).as_value st _ h (λ x st1 i h1. (own b).as_value st1 _ h1 (λ y st2 j h2. picks y x y x st2 go j i j i h2 g)))
+  own (Maximum a b) = of_value _ (λ st go h g. (own a).as_value st _ h (λ x st1 i h1. (own b).as_value st1 _ h1 (λ y st2 j h2. picks x y y x st2 go i j j i h2 g)))
+
+  pub own-set : (vs : List Value) (x : ℕ) (v : Value) → AreOwnValues vs → IsOwnValue v → AreOwnValues (slice_set vs x v)
+  own-set [] x v h i = tt
+  own-set (w ∷ vs) zero v h i = (i, h.1)
+  own-set (w ∷ vs) (suc x) v h i = (h.0, own-set vs x v h.1 i)
+
+  pub own-arguments : (n : ℕ) (ks : List Kind) (rest : List Value) → AreOwnValues rest → AreOwnValues (argument_values n ks ++ rest)
+  own-arguments n [] rest h = h
+  own-arguments n (k ∷ ks) rest h = (own-given n, own-arguments (suc n) ks rest h)
+
+  pub own-zeros : (ks : List Kind) → AreOwnValues (map zero_value ks)
+  own-zeros [] = tt
+  own-zeros (k ∷ ks) = (tt, own-zeros ks)
+
+-- so do the accesses
+abbrev pub IsOwnAccess : {E : Type 0} → Access E → Type 0
+IsOwnAccess a = IsOwn a.index × Each IsOwn a.facts
+
+pub one_more : (fs : List Fact) (f : Fact) → Each IsOwn fs → IsOwn f → Each IsOwn (fs ++ f ∷ [])
+one_more [] f h i = (i, tt)
+one_more (x ∷ fs) f h i = (h.0, one_more fs f h.1 i)
+
+pub joined : {A : Type 0} (P : A → Type 0) (xs ys : List A) → Each P xs → Each P ys → Each P (xs ++ ys)
+joined P [] ys h k = k
+joined P (x ∷ xs) ys h k = (h.0, joined P xs ys h.1 k)
+
+pub own-accesses : {E : Type 0} (fs : List Fact) (n : ℕ) (t : Tree E) → Each IsOwn fs → IsOwnTree t → Each IsOwnAccess (accesses fs n t)
+unfolding IsOwnTree
+own-accesses fs n (Leaf e) h k = tt
+own-accesses fs n Dead h k = tt
+own-accesses fs n (Claim o needed settled g rest) h k = own-accesses fs (suc n) rest h k
+own-accesses fs n (Know f rest) h k = own-accesses (fs ++ f ∷ []) n rest (one_more fs f h k.0) k.1
+own-accesses fs n (Touch t i e rest) h k = ((k.0, h), own-accesses fs n rest h k.1)
+own-accesses fs n (Fork first second) h k = joined IsOwnAccess (accesses fs n first) (accesses fs (after n first) (second (after n first))) (own-accesses fs n first h k.0) (own-accesses fs (after n first) (second (after n first)) h (k.1 (after n first)))
+
+-- the same as a test
+pub own-terms-test : (ts : Terms) → AreOwn ts → are_own_terms ts ≡ true
+own-terms-test [] h = refl
+own-terms-test (t ∷ ts) h = and_from (is_own_symbol t.symbol) (are_own_terms ts) (lt-ltb (t.symbol % 16) 9 h.0) (own-terms-test ts h.1)
+
+pub own-test : (fs : List Fact) → Each IsOwn fs → are_own fs ≡ true
+own-test [] h = refl
+own-test (f ∷ fs) h = and_from (is_own f) (are_own fs) (own-terms-test f.terms h.0) (own-test fs h.1)

@@ -1,0 +1,153 @@
+-- Tests: the way of the outcome is gone along, its facts hold, and it is no dead one.
+use Rattle.std.proofs.Common.{◌≡◌, ℕ, Bool, true, false, not, ◌&&◌, List, [], ◌∷◌, arith, refl, sym, ap, ◌∙◌}
+use Rattle.std.specs.Prelude.{ℤ, pos, negsuc, ◌-ℤ◌, ◌*ℤ◌, ◌≤ℤ◌, ◌<ℤ◌, int_lt, int_le}
+use Rattle.std.specs.Ordering.{int_eq}
+use Rattle.std.proofs.lemmas.Int.{ints, by_lt_z}
+use Rattle.std.proofs.lemmas.Bool.{and_parts}
+use Rattle.std.proofs.lemmas.Bool.Decides.{Decides-int_eq}
+use Rattle.semantics.specs.Word.{Relation, Less, AtMost, More, AtLeast, Equal, Unequal, holds, is_zero}
+use Rattle.semantics.specs.Linear.{Weighted, terms_value, value_of}
+use Rattle.linear.specs.Exact.{multiple, fits_i64}
+use Rattle.facts.specs.Symbols.{Fact, constant, minus}
+use Rattle.facts.proofs.Integers.{le_true, lt_true, lt_test}
+use Rattle.facts.proofs.Members.{by_number}
+use Rattle.facts.proofs.Worlds.{View, Agrees, own, agrees_itself}
+use Rattle.walk_trees.specs.Held.{narrow}
+use Rattle.walk_trees.specs.Trees.{Tree}
+use Rattle.walk_trees.specs.Walks.{State, counted, holding, fork, is_none, is_number, is_dead, unless_dead, know_test, know_two}
+use Rattle.walk_trees.specs.Tests.{Outcomes, below, split_below, split, split_number}
+use Rattle.walk_trees.proofs.Holding.{known_of}
+use Rattle.walk_trees.proofs.Standing.{walks, Stands, Comes, over_fact, over_first, over_second, past_fact, narrowed, past_first, past_second, at_once, comes_from, onward, restated, owns}
+use Rattle.walk_trees.proofs.Ranges.{IsForm, form_kept, form_constant, form-multiple, form-minus}
+
+pub alone : (ts : List (Weighted ℕ)) → is_none ts ≡ true → (v : ℕ → ℤ) → terms_value v ts ≡ pos 0
+alone [] h v = refl
+alone (t ∷ ts) h v = cc
+
+int_lt-not : (a b : ℤ) → b ≤ℤ a → int_lt a b ≡ false
+int_lt-not a b h = sym (omega (arith, ints))
+
+int_le-not : (a b : ℤ) → b <ℤ a → int_le a b ≡ false
+int_le-not a b h = sym (omega (arith, ints))
+
+int_eq-same : (a b : ℤ) → a ≡ b → int_eq a b ≡ true
+int_eq-same a b h = (Decides-int_eq a b).1 h
+
+pub int_eq-not : (a b : ℤ) → (a ≡ b → ⊥) → int_eq a b ≡ false
+int_eq-not a b h = by (int_eq a b) (Decides-int_eq a b).0
+  where
+    by : (t : Bool) → (t ≡ true → a ≡ b) → t ≡ false
+    by true e = absurd (h (e refl))
+    by false e = refl
+
+-- how two numbers lie
+data Order (a b : ℤ) : Type 0 where
+  IsBelow : a <ℤ b → Order a b
+  IsSame : a ≡ b → Order a b
+  IsAbove : b <ℤ a → Order a b
+
+order : (a b : ℤ) → Order a b
+order a b = by_lt_z a b (λ l. IsBelow l) (λ l. by_lt_z b a (λ k. IsAbove k) (λ k. IsSame (omega (arith, ints, l, k))))
+
+module _ {E : Type 0} (c : View E) (launch : List Fact) where
+  pub value-known : {news : List ℤ} (f : Fact) (z : ℤ) → IsForm c news f z → is_number f ≡ true → f.constant ≡ z
+  value-known {news = news} f z m e =
+      let v = by_number (own c news) in
+      omega (arith, ints, m.means v (agrees_itself c news), alone f.terms e v)
+
+  is_alive : {news : List ℤ} (f : Fact) (z : ℤ) → IsForm c news f z → pos 0 ≤ℤ z → is_dead f ≡ true → ⊥
+  is_alive f z m h e =
+      let p = and_parts (is_number f) (fits_i64 f.constant && int_lt f.constant (pos 0)) e in
+      let q = and_parts (fits_i64 f.constant) (int_lt f.constant (pos 0)) p.1 in
+      let k = value-known f z m p.0 in
+      let l = lt_test f.constant (pos 0) q.1 in
+      omega (arith, ints, k, l, h)
+
+  -- a fact of a test that holds
+  pub know_sound : {A : Type 0} {facts : List Fact} {n : ℕ} {news : List ℤ} (f : Fact) (z : ℤ) (st : State E) (x : A) (go : A → State E → Tree E) → IsForm c news f z → pos 0 ≤ℤ z → Stands c launch facts n (know_test (walks c) f st (go x)) news st.held → Comes c launch facts n (know_test (walks c) f st (go x)) go news (owns st) (λ more y. y ≡ x)
+  know_sound {facts = facts} {n = n} {news = news} f z st x go m h s = by (is_dead f) refl s
+    where
+      next : State E
+      next = holding (narrow c.domain (known_of c) f st.held) st
+
+      by : (b : Bool) → is_dead f ≡ b → Stands c launch facts n (unless_dead b f (go x (holding (narrow c.domain (known_of c) f st.held) st))) news st.held → Comes c launch facts n (unless_dead b f (go x (holding (narrow c.domain (known_of c) f st.held) st))) go news (owns st) (λ more y. y ≡ x)
+      by true e s = absurd (is_alive f z m h e)
+      by false e s =
+          let met : (v : ℕ → ℤ) → Agrees c news v → pos 0 ≤ℤ value_of v f = λ v a. omega (arith, ints, m.means v a, h) in
+          comes_from c launch (over_fact c launch) (at_once c launch go (λ more y. y ≡ x) x (holding (narrow c.domain (known_of c) f st.held) st) refl (past_fact c launch met (narrowed c launch f m.rising met s)))
+
+  know_two_sound : {A : Type 0} {facts : List Fact} {n : ℕ} {news : List ℤ} (f g : Fact) (y z : ℤ) (st : State E) (x : A) (go : A → State E → Tree E) → IsForm c news f y → pos 0 ≤ℤ y → IsForm c news g z → pos 0 ≤ℤ z → Stands c launch facts n (know_two (walks c) f g st (go x)) news st.held → Comes c launch facts n (know_two (walks c) f g st (go x)) go news (owns st) (λ more t. t ≡ x)
+  know_two_sound f g y z st x go mf hf mg hg s =
+      let p = know_sound f y st x (λ t st'. know_test (walks c) g st' (go t)) mf hf s in
+      let q = know_sound g z p.state p.arrived go (form_kept c p.way.kept mg) hg p.stands in
+      onward c launch p (restated c launch (λ more t kept e. e ∙ p.right) q)
+
+  -- the first way of a fork, or the second one
+  fork_first : {A : Type 0} {facts : List Fact} {n : ℕ} {news : List ℤ} (st : State E) (first second : State E → Tree E) (go : A → State E → Tree E) (P : List ℤ → A → Type 0) → Stands c launch facts n (fork st first second) news st.held → (Stands c launch facts n (first st) news st.held → Comes c launch facts n (first st) go news (owns st) P) → Comes c launch facts n (fork st first second) go news (owns st) P
+  fork_first st first second go P s later = comes_from c launch (over_first c launch) (later (past_first c launch s))
+
+  fork_second : {A : Type 0} {facts : List Fact} {n : ℕ} {news : List ℤ} (st : State E) (first second : State E → Tree E) (go : A → State E → Tree E) (P : List ℤ → A → Type 0) → Stands c launch facts n (fork st first second) news st.held → ((m : ℕ) → Stands c launch facts m (second (counted m st)) news st.held → Comes c launch facts m (second (counted m st)) go news (owns st) P) → Comes c launch facts n (fork st first second) go news (owns st) P
+  fork_second st first second go P s later = comes_from c launch (over_second c launch) (later _ (past_second c launch s))
+
+  -- one is below the other, or not
+  split_below_first : {facts : List Fact} {n : ℕ} {news : List ℤ} (first otherwise : Bool) (f g : Fact) (z : ℤ) (st : State E) (go : Outcomes E) → IsForm c news f z → pos 0 ≤ℤ z → Stands c launch facts n (split_below (walks c) first otherwise f g st go) news st.held → Comes c launch facts n (split_below (walks c) first otherwise f g st go) go news (owns st) (λ more t. t ≡ first)
+  split_below_first first otherwise f g z st go m h s =
+      fork_first st (λ a. know_test (walks c) f a (go first)) (λ a. know_test (walks c) g a (go otherwise)) go (λ more t. t ≡ first) s (know_sound f z st first go m h)
+
+  split_below_other : {facts : List Fact} {n : ℕ} {news : List ℤ} (first otherwise : Bool) (f g : Fact) (z : ℤ) (st : State E) (go : Outcomes E) → IsForm c news g z → pos 0 ≤ℤ z → Stands c launch facts n (split_below (walks c) first otherwise f g st go) news st.held → Comes c launch facts n (split_below (walks c) first otherwise f g st go) go news (owns st) (λ more t. t ≡ otherwise)
+  split_below_other first otherwise f g z st go m h s =
+      fork_second st (λ a. know_test (walks c) f a (go first)) (λ a. know_test (walks c) g a (go otherwise)) go (λ more t. t ≡ otherwise) s (λ k. know_sound g z (counted k st) otherwise go m h)
+
+  form_below : {news : List ℤ} (f g : Fact) (x y : ℤ) → IsForm c news f x → IsForm c news g y → IsForm c news (below f g) ((y -ℤ x) -ℤ pos 1)
+  form_below {news = news} f g x y mf mg = form-minus c (minus g f) (constant (pos 1)) (y -ℤ x) (pos 1) _ (form-minus c g f y x (y -ℤ x) mg mf (omega (arith, ints))) (form_constant c news (pos 1)) (omega (arith, ints))
+
+  form_from : {news : List ℤ} (f g : Fact) (x y : ℤ) → IsForm c news f x → IsForm c news g y → IsForm c news (minus f g) (x -ℤ y)
+  form_from f g x y mf mg = form-minus c f g x y (x -ℤ y) mf mg (omega (arith, ints))
+
+  -- a comparison
+  pub split_sound : (r : Relation) {facts : List Fact} {n : ℕ} {news : List ℤ} (f g : Fact) (x y : ℤ) (st : State E) (go : Outcomes E) → IsForm c news f x → IsForm c news g y → Stands c launch facts n (split (walks c) r f g st go) news st.held → Comes c launch facts n (split (walks c) r f g st go) go news (owns st) (λ more t. t ≡ holds r x y)
+  split_sound Less f g x y st go mf mg s = by_lt_z x y
+      (λ l. restated c launch (λ more t kept e. e ∙ sym (lt_true x y l)) (split_below_first true false (below f g) (minus f g) ((y -ℤ x) -ℤ pos 1) st go (form_below f g x y mf mg) (omega (arith, ints, l)) s))
+      (λ l. restated c launch (λ more t kept e. e ∙ sym (int_lt-not x y l)) (split_below_other true false (below f g) (minus f g) (x -ℤ y) st go (form_from f g x y mf mg) (omega (arith, ints, l)) s))
+  split_sound AtMost f g x y st go mf mg s = by_lt_z y x
+      (λ l. restated c launch (λ more t kept e. e ∙ sym (int_le-not x y l)) (split_below_other true false (minus g f) (below g f) ((x -ℤ y) -ℤ pos 1) st go (form_below g f y x mg mf) (omega (arith, ints, l)) s))
+      (λ l. restated c launch (λ more t kept e. e ∙ sym (le_true x y l)) (split_below_first true false (minus g f) (below g f) (y -ℤ x) st go (form_from g f y x mg mf) (omega (arith, ints, l)) s))
+  split_sound More f g x y st go mf mg s = by_lt_z y x
+      (λ l. restated c launch (λ more t kept e. e ∙ sym (lt_true y x l)) (split_below_first true false (below g f) (minus g f) ((x -ℤ y) -ℤ pos 1) st go (form_below g f y x mg mf) (omega (arith, ints, l)) s))
+      (λ l. restated c launch (λ more t kept e. e ∙ sym (int_lt-not y x l)) (split_below_other true false (below g f) (minus g f) (y -ℤ x) st go (form_from g f y x mg mf) (omega (arith, ints, l)) s))
+  split_sound AtLeast f g x y st go mf mg s = by_lt_z x y
+      (λ l. restated c launch (λ more t kept e. e ∙ sym (int_le-not y x l)) (split_below_other true false (minus f g) (below f g) ((y -ℤ x) -ℤ pos 1) st go (form_below f g x y mf mg) (omega (arith, ints, l)) s))
+      (λ l. restated c launch (λ more t kept e. e ∙ sym (le_true y x l)) (split_below_first true false (minus f g) (below f g) (x -ℤ y) st go (form_from f g x y mf mg) (omega (arith, ints, l)) s))
+  split_sound Equal f g x y st go mf mg s =
+      let first : State E → Tree E = λ a. know_two (walks c) (minus f g) (minus g f) a (go true) in
+      let second : State E → Tree E = λ a. split_below (walks c) false false (below f g) (below g f) a go in
+      elim (order x y) [
+        | IsBelow l ↦ fork_second st first second go (λ more t. t ≡ int_eq x y) s (λ k u. restated c launch (λ more t kept e. e ∙ sym (int_eq-not x y (λ q. omega (arith, ints, q, l)))) (split_below_first false false (below f g) (below g f) ((y -ℤ x) -ℤ pos 1) (counted k st) go (form_below f g x y mf mg) (omega (arith, ints, l)) u))
+        | IsSame q ↦ fork_first st first second go (λ more t. t ≡ int_eq x y) s (λ u. restated c launch (λ more t kept e. e ∙ sym (int_eq-same x y q)) (know_two_sound (minus f g) (minus g f) (x -ℤ y) (y -ℤ x) st true go (form_from f g x y mf mg) (omega (arith, ints, q)) (form_from g f y x mg mf) (omega (arith, ints, q)) u))
+        | IsAbove l ↦ fork_second st first second go (λ more t. t ≡ int_eq x y) s (λ k u. restated c launch (λ more t kept e. e ∙ sym (int_eq-not x y (λ q. omega (arith, ints, q, l)))) (split_below_other false false (below f g) (below g f) ((x -ℤ y) -ℤ pos 1) (counted k st) go (form_below g f y x mg mf) (omega (arith, ints, l)) u))
+      ]
+  split_sound Unequal f g x y st go mf mg s =
+      let late : State E → Tree E = λ b. know_two (walks c) (minus f g) (minus g f) b (go false) in
+      let above : State E → Tree E = λ b. know_test (walks c) (below g f) b (go true) in
+      let first : State E → Tree E = λ a. know_test (walks c) (below f g) a (go true) in
+      let second : State E → Tree E = λ a. fork a above late in
+      let P : List ℤ → Bool → Type 0 = λ more t. t ≡ not (int_eq x y) in
+      elim (order x y) [
+        | IsBelow l ↦ fork_first st first second go P s (λ u. restated c launch (λ more t kept e. e ∙ ap not (sym (int_eq-not x y (λ q. omega (arith, ints, q, l))))) (know_sound (below f g) ((y -ℤ x) -ℤ pos 1) st true go (form_below f g x y mf mg) (omega (arith, ints, l)) u))
+        | IsSame q ↦ fork_second st first second go P s (λ k u. fork_second (counted k st) above late go P u (λ j w. restated c launch (λ more t kept e. e ∙ ap not (sym (int_eq-same x y q))) (know_two_sound (minus f g) (minus g f) (x -ℤ y) (y -ℤ x) (counted j (counted k st)) false go (form_from f g x y mf mg) (omega (arith, ints, q)) (form_from g f y x mg mf) (omega (arith, ints, q)) w)))
+        | IsAbove l ↦ fork_second st first second go P s (λ k u. fork_first (counted k st) above late go P u (λ w. restated c launch (λ more t kept e. e ∙ ap not (sym (int_eq-not x y (λ q. omega (arith, ints, q, l))))) (know_sound (below g f) ((x -ℤ y) -ℤ pos 1) (counted k st) true go (form_below g f y x mg mf) (omega (arith, ints, l)) w)))
+      ]
+
+  -- a number as a test
+  pub split_number_sound : {facts : List Fact} {n : ℕ} {news : List ℤ} (f : Fact) (z : ℤ) (st : State E) (go : Outcomes E) → IsForm c news f z → Stands c launch facts n (split_number (walks c) f st go) news st.held → Comes c launch facts n (split_number (walks c) f st go) go news (owns st) (λ more t. t ≡ not (is_zero z))
+  split_number_sound {news = news} f z st go m s =
+      let late : State E → Tree E = λ b. know_two (walks c) f (multiple (negsuc 0) f) b (go false) in
+      let under : State E → Tree E = λ b. know_test (walks c) (minus (constant (negsuc 0)) f) b (go true) in
+      let first : State E → Tree E = λ a. know_test (walks c) (minus f (constant (pos 1))) a (go true) in
+      let second : State E → Tree E = λ a. fork a under late in
+      let P : List ℤ → Bool → Type 0 = λ more t. t ≡ not (is_zero z) in
+      elim (order z (pos 0)) [
+        | IsBelow l ↦ fork_second st first second go P s (λ k u. fork_first (counted k st) under late go P u (λ w. restated c launch (λ more t kept e. e ∙ ap not (sym (int_eq-not z (pos 0) (λ q. omega (arith, ints, q, l))))) (know_sound (minus (constant (negsuc 0)) f) (negsuc 0 -ℤ z) (counted k st) true go (form_from (constant (negsuc 0)) f (negsuc 0) z (form_constant c news (negsuc 0)) m) (omega (arith, ints, l)) w)))
+        | IsSame q ↦ fork_second st first second go P s (λ k u. fork_second (counted k st) under late go P u (λ j w. restated c launch (λ more t kept e. e ∙ ap not (sym (int_eq-same z (pos 0) q))) (know_two_sound f (multiple (negsuc 0) f) z (negsuc 0 *ℤ z) (counted j (counted k st)) false go m (omega (arith, ints, q)) (form-multiple c (negsuc 0) f z m) (omega (arith, ints, q)) w)))
+        | IsAbove l ↦ fork_first st first second go P s (λ u. restated c launch (λ more t kept e. e ∙ ap not (sym (int_eq-not z (pos 0) (λ q. omega (arith, ints, q, l))))) (know_sound (minus f (constant (pos 1))) (z -ℤ pos 1) st true go (form_from f (constant (pos 1)) z (pos 1) m (form_constant c news (pos 1))) (omega (arith, ints, l)) u))
+      ]

@@ -1,0 +1,14 @@
+pub mod Held
+pub mod Values
+pub mod Trees
+pub mod Walks
+pub mod Operators
+pub mod Tests
+pub mod Terms
+pub mod Statements
+pub mod Sound
+pub mod Covered
+pub mod Seconds
+pub mod Pairs
+pub mod Shown
+pub mod Fitting

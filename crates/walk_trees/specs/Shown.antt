@@ -1,0 +1,17 @@
+-- All that is to be shown of a kernel under conditions, in the order of its numbers: the claims of one item, then the pairs.
+use Rattle.std.specs.Prelude.{◌≡◌, ◌⊎◌, List, true, Option, Some, None}
+use Rattle.semantics.specs.Linear.{IsImpossible}
+use Rattle.facts.specs.Symbols.{Fact}
+use Rattle.walk_trees.specs.Trees.{Obligation, Manner, facts_by, claims}
+
+abbrev pub IsRefuted : Option (List Fact) → Type 0
+IsRefuted None = ⊥
+IsRefuted (Some facts) = IsImpossible facts
+
+-- in a manner that fits, its facts are impossible
+abbrev pub IsShownIn : Manner → Obligation → Type 0
+IsShownIn m o = IsRefuted (facts_by m o)
+
+-- where it is needed, the domain settles it or its facts are impossible
+abbrev pub IsShown : Obligation → Type 0
+IsShown o = o.needed ≡ true → (o.settled ≡ true) ⊎ ((m : Manner) × IsShownIn m o)

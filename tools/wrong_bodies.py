@@ -1,0 +1,61 @@
+#!/usr/bin/env python3
+"""Tries the wrong bodies that the gate leaves out for its time: bench/wrong_bodies/CRATE/NAME.edit, each of which the proof of CRATE must
+refuse. They have the form of the edits in crates/CRATE/must-fail, and are tried as the gate tries those.
+
+usage: tools/wrong_bodies.py [CRATE..], at the top of the repository; without a crate, all. The libraries below a crate are built where they
+are not. The status is 1 where one is not refused.
+"""
+import glob
+import os
+import shutil
+import sys
+
+from rt_parts import PARTS_OF_TRIALS, parts_of_rt
+
+FOLDER = "bench/wrong_bodies"
+FLAGS = ["--jobs", "1"]
+
+
+def tries(rt, crate):
+    """What the prover says to each wrong body of the crate: whether it is refused, and the line that tells it."""
+    edits = [os.path.abspath(it) for it in sorted(glob.glob(f"{FOLDER}/{crate.name}/*.edit"))]
+    if any(below.build_rlib(FLAGS, anew=False) for below in crate.below()):
+        yield False, f"{crate.name}: a library below it is not proved"
+        return
+    room = rt.seeded(crate, FLAGS) if len(edits) > 1 else None
+    for edit in edits:
+        kind, line = tried(rt, crate, edit, room)
+        yield kind in (rt.REFUSED, rt.AT_LIMIT), line
+    shutil.rmtree(room or "", ignore_errors=True)
+
+
+def tried(rt, crate, edit, room):
+    """What a try comes to, over what the crate's own proof left; what is not refused there is tried once more from nothing."""
+    if room:
+        over = f"{room}/over"
+        rt.linked(f"{room}/seed", over)
+        kind, line = rt.must_fail(crate, edit, FLAGS, over)
+        shutil.rmtree(over, ignore_errors=True)
+        if kind in rt.SETTLED:
+            return kind, line
+    return rt.must_fail(crate, edit, FLAGS)
+
+
+def main(names):
+    rt = parts_of_rt(PARTS_OF_TRIALS)
+    rt.rtlib.guarded()
+    known = sorted(os.listdir(FOLDER))
+    if unknown := [it for it in names if it not in known]:
+        sys.exit(f"there is no folder of these crates in {FOLDER}: {' '.join(unknown)}")
+    failed = 0
+    for crate in rt.rtlib.crates_below(os.getcwd()):
+        if crate.name in (names or known):
+            for is_refused, line in tries(rt, crate):
+                print(line, flush=True)
+                failed += not is_refused
+    print(f"{failed} not refused")
+    return 1 if failed else 0
+
+
+if __name__ == "__main__":
+    sys.exit(main(sys.argv[1:]))

@@ -4,8 +4,8 @@ over, and then goes.
 
 usage: tools/rename_crates.py [TOP]      renames in that repository, or in this one; then lists what is to be read by hand
        tools/rename_crates.py --check [TOP]      changes nothing: says whether each edit still names a text that stands once in its file
-       tools/rename_crates.py --trial FOLDER     renames in a copy of a trial: a folder of crates' folders, with files that take the place of
-                                                 those of a repository
+       tools/rename_crates.py --trial FOLDER     renames in a copy of a trial: folders of crates, with files that take the place of
+                                                 those of a repository; definitions that moved are found where they stand now
 
 It goes through the files that git tracks. A name is changed where it can only be a crate's:
 - folders crates/NAME and bench/wrong_bodies/NAME;
@@ -41,6 +41,18 @@ MODULES = {"walk": "walking", "guesses": "guessing", "obligations": "owing", "pa
 # documents in which `obligations` in backquotes is the crate; in the others it is the definition
 MAPS = ("README.md", "docs/ARCHITECTURE.md", "docs/PROOF_NOTES.md", "docs/DECISIONS.md", "docs/NAMES.md")
 KEPT = ("CHANGELOG.md", "tools/rename_crates.py")
+# Definitions that stand in another crate now: only trials still look for them where they were.
+MOVED = {
+    "semantics.specs.Linear": "linear.specs.Linear",
+    "semantics.specs.Candidates": "supports.specs.Candidates",
+    "texts.specs.CertificateText": "certificate_text.specs.Text",
+    "texts.specs.CertificateForms": "certificate_text.specs.Forms",
+    "texts.specs.CertificateLines": "certificate_text.specs.Lines",
+    "texts.specs.CertificateDrafts": "certificate_text.specs.Drafts",
+    "texts.specs.CertificateReading": "certificate_text.specs.Reading",
+    "texts.specs.CertificateRules": "certificate_text.specs.Rules",
+    "texts.specs.Certificate": "certificate_text.specs.Certificate",
+}
 WIDTH = 140
 
 ANY = "|".join(sorted(NAMES, key=len, reverse=True))
@@ -202,12 +214,17 @@ def rename_modules(top):
     return touched
 
 
+def with_moved(text):
+    """The text of a file of a trial, which finds definitions where they stand now."""
+    return re.sub("|".join(rf"(?<=Rattle\.){re.escape(it)}(?!\w)" for it in MOVED), lambda at: MOVED[at.group()], text)
+
+
 def rename_trial(top):
     """Changes all texts of a trial, then the folders that are called as crates were."""
     for folder, _, files in os.walk(top):
         for name in files:
             if name.endswith((".antt", ".rt", ".edit")) or name == "crates.txt":
-                write(f"{folder}/{name}", changed(name, read(f"{folder}/{name}")))
+                write(f"{folder}/{name}", with_moved(changed(name, read(f"{folder}/{name}"))))
     there = [it for it in NAMES if os.path.isdir(f"{top}/{it}")]
     for it in there:
         os.rename(f"{top}/{it}", f"{top}/{it}.renamed")

@@ -21,8 +21,8 @@ module _ {E : Type 0} (w : Placed E) (a h : Option ℕ) (stop : Stop) (turns : T
   unfolding collect
   arrives m n s e = e ∙ sym (s (λ st. Leaf (arrived stop turns st))) ∙ sym lawful
 
-  pub arrival_stops : (e : WalkError) → StopsAtStep ⊥ l e (claim_lines w a h) → IsRefusedAt l (arrive_at w a h stop turns) e
-  arrival_stops e s = refused_from ⊥ e _ _ lawful (s (λ st. Leaf (arrived stop turns st)))
+  pub arrival_stops : (e : WalkError) → StopsAtStep l e (claim_lines w a h) → IsRefusedAt l (arrive_at w a h stop turns) e
+  arrival_stops e s = refused_from e _ _ lawful (s (λ st. Leaf (arrived stop turns st)))
 
 pub stops_at_head : {E : Type 0} (w : Placed E) (s : Stop) (n : ℕ) (again : Bool) (t : Turns) (l : Followed E) (m : Found E) (r : Result (Unit {0}) WalkError) → s ≡ AtHead n again → MatchResult r (λ _. Comes l (arrive_at w w.anchor (Some n) (AtHead n again) t) m) (IsRefusedAt l (arrive_at w w.anchor (Some n) (AtHead n again) t)) → MatchResult r (λ _. Comes l (stops w s t) m) (IsRefusedAt l (stops w s t))
 stops_at_head w s n again t l m r e h =

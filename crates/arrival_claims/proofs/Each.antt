@@ -16,5 +16,5 @@ module _ {E A : Type 0} (all : List A → State E → (State E → Tree E) → T
   pub each_next : (j : ℕ) (n : Followed E) → j ≡ suc i → Steps m n (one x) → (go : State E → Tree E) → collect l.found (all xs l.state go) ≡ collect n.found (all (drop j xs) n.state go)
   each_next j n p s go = there go ∙ s (λ st. all (drop (suc i) xs) st go) ∙ ap (λ k. collect n.found (all (drop k xs) n.state go)) (sym p)
 
-  pub each_stops : (e : WalkError) → StopsAtStep ⊥ m e (one x) → StopsAtStep ⊥ l e (all xs)
-  each_stops e s go = refused_from ⊥ e _ _ (there go) (s (λ st. all (drop (suc i) xs) st go))
+  pub each_stops : (e : WalkError) → StopsAtStep m e (one x) → StopsAtStep l e (all xs)
+  each_stops e s go = refused_from e _ _ (there go) (s (λ st. all (drop (suc i) xs) st go))

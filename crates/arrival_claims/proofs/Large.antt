@@ -4,7 +4,7 @@ use Rattle.std.specs.Prelude.{ℤ, pos, negsuc, ◌≤ℤ◌, ◌+ℤ◌, ◌*�
 use Rattle.std.specs.Ordering.{int_eq}
 use Rattle.std.proofs.lemmas.Int.{ints, unsigned_abs-mul}
 use Rattle.std.proofs.lemmas.Bool.Decides.{nat_tests}
-use Rattle.semantics.specs.Linear.{Weighted, Form}
+use Rattle.linear.specs.Linear.{Weighted, Form}
 use Rattle.linear.specs.Exact.{Terms, fits_i64, fits_terms, fits, is_rising, put, merge, multiples, multiple, sum}
 use Rattle.linear.specs.Terms.{terms}
 use Rattle.linear.specs.declared.term.Term as code

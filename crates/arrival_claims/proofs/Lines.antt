@@ -57,11 +57,11 @@ module _ {E : Type 0} (w : Placed E) (f : Fact) (ms : List Fact) (g : Fact) (l :
   told_same : (go : State E → Tree E) → collect l.found (claim_fact w f l.state go) ≡ collect l.found (claim_told w.setting OfFact ms g l.state go)
   told_same go = λ i. collect l.found (claim_told w.setting OfFact (sym p i) (sym q i) l.state go)
 
-  pub told_does : (n : Followed E) (r : Result (Unit {0}) WalkError) → MatchResult r (λ _. Steps l n (claim_told w.setting OfFact ms g)) (λ e. StopsAtStep ⊥ l e (claim_told w.setting OfFact ms g)) → MatchResult r (λ _. Steps l n (claim_fact w f)) (λ e. StopsAtStep ⊥ l e (claim_fact w f))
+  pub told_does : (n : Followed E) (r : Result (Unit {0}) WalkError) → MatchResult r (λ _. Steps l n (claim_told w.setting OfFact ms g)) (λ e. StopsAtStep l e (claim_told w.setting OfFact ms g)) → MatchResult r (λ _. Steps l n (claim_fact w f)) (λ e. StopsAtStep l e (claim_fact w f))
   told_does n (Ok u) h = λ go. told_same go ∙ h go
-  told_does n (Err e) h = λ go. refused_from ⊥ e _ _ (told_same go) (h go)
+  told_does n (Err e) h = λ go. refused_from e _ _ (told_same go) (h go)
 
-pub fact_unfit : {E : Type 0} (w : Placed E) (f : Fact) (l : Followed E) (e : WalkError) → AreUnfit e (made (on_path w l.state) f) → StopsAtStep ⊥ l e (claim_fact w f)
+pub fact_unfit : {E : Type 0} (w : Placed E) (f : Fact) (l : Followed E) (e : WalkError) → AreUnfit e (made (on_path w l.state) f) → StopsAtStep l e (claim_fact w f)
 fact_unfit w f l e h = unfit_goal OfFact true (settles w.setting l.state (replaced (on_path w l.state) f)) (Replaced (made (on_path w l.state) f) (replaced (on_path w l.state) f)) l e (unfit_replaced e _ _ h)
 
 -- of a congruence
@@ -69,9 +69,9 @@ module _ {E : Type 0} (w : Placed E) (c : notes.Congruence) (ms : List Fact) (g 
   divided_same : (go : State E → Tree E) → collect l.found (claim_congruence w c l.state go) ≡ collect l.found (claim_divided c.modulus ms g p l.state go)
   divided_same go = λ i. collect l.found (claim_divided c.modulus (sym d i) (sym q i) (sym z i) l.state go)
 
-  pub divided_does : (n : Followed E) (r : Result (Unit {0}) WalkError) → MatchResult r (λ _. Steps l n (claim_divided c.modulus ms g p)) (λ e. StopsAtStep ⊥ l e (claim_divided c.modulus ms g p)) → MatchResult r (λ _. Steps l n (claim_congruence w c)) (λ e. StopsAtStep ⊥ l e (claim_congruence w c))
+  pub divided_does : (n : Followed E) (r : Result (Unit {0}) WalkError) → MatchResult r (λ _. Steps l n (claim_divided c.modulus ms g p)) (λ e. StopsAtStep l e (claim_divided c.modulus ms g p)) → MatchResult r (λ _. Steps l n (claim_congruence w c)) (λ e. StopsAtStep l e (claim_congruence w c))
   divided_does n (Ok u) h = λ go. divided_same go ∙ h go
-  divided_does n (Err e) h = λ go. refused_from ⊥ e _ _ (divided_same go) (h go)
+  divided_does n (Err e) h = λ go. refused_from e _ _ (divided_same go) (h go)
 
 first_of_two : (b c d : Bool) → (c ≡ false → d ≡ false) → (b && c) ≡ false → (b && d) ≡ false
 first_of_two true c d k h = k h
@@ -87,14 +87,14 @@ before errors.TooLarge xs ys h = all_before xs ys h
 before errors.Memory xs ys h = h
 
 module _ {E : Type 0} (w : Placed E) (c : notes.Congruence) (l : Followed E) (e : WalkError) where
-  stopped : AreUnfit e (made (on_path w l.state) c.form ++ multiple (pos c.modulus) (w.notes.quotient (l.state.claims + 1)) ∷ []) → StopsAtStep ⊥ l e (claim_congruence w c)
+  stopped : AreUnfit e (made (on_path w l.state) c.form ++ multiple (pos c.modulus) (w.notes.quotient (l.state.claims + 1)) ∷ []) → StopsAtStep l e (claim_congruence w c)
   stopped h go =
       let f = replaced (on_path w l.state) c.form in
       let p = multiple (pos c.modulus) (w.notes.quotient (l.state.claims + 1)) in
       unfit_goal OfCongruence true (divides_form c.modulus f) (Divided (made (on_path w l.state) c.form ++ p ∷ []) (minus f p)) l e (unfit_divided e _ _ h) (λ st. claim_under c.modulus f p st go)
 
-  pub product_unfit : IsUnfit e (multiple (pos c.modulus) (w.notes.quotient (l.state.claims + 1))) → StopsAtStep ⊥ l e (claim_congruence w c)
+  pub product_unfit : IsUnfit e (multiple (pos c.modulus) (w.notes.quotient (l.state.claims + 1))) → StopsAtStep l e (claim_congruence w c)
   product_unfit h = stopped (unfit_among e (made (on_path w l.state) c.form) [] _ h)
 
-  pub form_unfit : AreUnfit e (made (on_path w l.state) c.form) → StopsAtStep ⊥ l e (claim_congruence w c)
+  pub form_unfit : AreUnfit e (made (on_path w l.state) c.form) → StopsAtStep l e (claim_congruence w c)
   form_unfit h = stopped (before e (made (on_path w l.state) c.form) _ h)

@@ -2,7 +2,7 @@
 use Rattle.std.proofs.Common.{◌≡◌, ℕ, false, List, [], ◌∷◌, ◌++◌, ap, subst, ◌∙◌}
 use Rattle.std.proofs.lemmas.List.{append_assoc}
 use Rattle.linear.specs.Exact.{Terms, sum, multiple, fits}
-use Rattle.semantics.specs.Linear.{Weighted}
+use Rattle.linear.specs.Linear.{Weighted}
 use Rattle.facts.specs.Symbols.{Fact}
 use Rattle.facts.specs.Refusals.{IsUnfit}
 use Rattle.facts.specs.declared.error.WalkError.{WalkError}

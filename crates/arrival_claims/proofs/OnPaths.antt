@@ -3,8 +3,11 @@ use Rattle.std.proofs.Common.{◌≡◌, ℕ, zero, suc, ◌<◌, ◌≤◌, ◌
 use Rattle.std.specs.Prelude.{pos, slice_index_or}
 use Rattle.semantics.specs.Word.{Kind}
 use Rattle.semantics.specs.Launch.{Kernel}
-use Rattle.facts.specs.Symbols.{of_family, symbol_of, Fact, once, constant, ArgumentOf}
-use Rattle.facts.proofs.Families.{of_symbol}
+use Rattle.facts.specs.Symbols.{First, symbol_of, Fact, once, constant, ArgumentOf, Variable, AtAnchor, Turns}
+use Rattle.facts.specs.Families.{symbol_in}
+use Rattle.facts.specs.declared.family.Family.{Family}
+use Rattle.facts.specs.declared.family.Family.TheVariants as families
+use Rattle.facts.specs.declared.side.Side.TheVariants as items
 use Rattle.walk_trees.specs.Values.{Value}
 use Rattle.walk_trees.specs.Terms.{no_value}
 use Rattle.walk_trees.specs.Walks.{Ranked, rank_form}
@@ -12,43 +15,33 @@ use Rattle.walk_trees.specs.Statements.{argument_values, zero_value}
 use Rattle.obligations.specs.Replacing.{form_on}
 use Rattle.obligations.specs.Roots.{root_form, values_from}
 
-abbrev pub once_number : ℕ → ℕ → Fact
-once_number f i = record { terms = record { coefficient = pos 1; symbol = f + 16 * i } ∷ []; constant = pos 0 }
+by_family : (vs : List Value) (an : ℕ → Fact) (rs : List Ranked) (f : Family) (i : ℕ) → (f ≡ families.Variable items.First → ⊥) → (f ≡ families.AtAnchor items.First → ⊥) → (f ≡ families.Turns items.First → ⊥) → form_on vs an rs (symbol_in f i) ≡ once (symbol_in f i)
+by_family vs an rs families.Groups i a b c = refl
+by_family vs an rs families.Argument i a b c = refl
+by_family vs an rs families.Length i a b c = refl
+by_family vs an rs (families.Local w) i a b c = refl
+by_family vs an rs (families.Group w) i a b c = refl
+by_family vs an rs (families.New w) i a b c = refl
+by_family vs an rs (families.Variable items.First) i a b c = absurd (a refl)
+by_family vs an rs (families.Variable items.Second) i a b c = refl
+by_family vs an rs (families.AtAnchor items.First) i a b c = absurd (b refl)
+by_family vs an rs (families.AtAnchor items.Second) i a b c = refl
+by_family vs an rs (families.Turns items.First) i a b c = absurd (c refl)
+by_family vs an rs (families.Turns items.Second) i a b c = refl
 
-pub variable_on : (vs : List Value) (an : ℕ → Fact) (rs : List Ranked) (n : ℕ) → n % 16 ≡ 6 → form_on vs an rs (symbol_of n) ≡ (slice_index_or vs (n / 16) no_value).form
-variable_on vs an rs n e = ap (form_on vs an rs) (of_symbol n 6 e)
+pub variable_on : (vs : List Value) (an : ℕ → Fact) (rs : List Ranked) (n x : ℕ) → symbol_of n ≡ Variable First x → form_on vs an rs (symbol_of n) ≡ (slice_index_or vs x no_value).form
+variable_on vs an rs n x e = ap (form_on vs an rs) e
 
-pub anchor_on : (vs : List Value) (an : ℕ → Fact) (rs : List Ranked) (n : ℕ) → n % 16 ≡ 7 → form_on vs an rs (symbol_of n) ≡ an (n / 16)
-anchor_on vs an rs n e = ap (form_on vs an rs) (of_symbol n 7 e)
+pub anchor_on : (vs : List Value) (an : ℕ → Fact) (rs : List Ranked) (n x : ℕ) → symbol_of n ≡ AtAnchor First x → form_on vs an rs (symbol_of n) ≡ an x
+anchor_on vs an rs n x e = ap (form_on vs an rs) e
 
-pub rank_on : (vs : List Value) (an : ℕ → Fact) (rs : List Ranked) (n : ℕ) → n % 16 ≡ 8 → form_on vs an rs (symbol_of n) ≡ rank_form rs (n / 16)
-rank_on vs an rs n e = ap (form_on vs an rs) (of_symbol n 8 e)
+pub rank_on : (vs : List Value) (an : ℕ → Fact) (rs : List Ranked) (n k : ℕ) → symbol_of n ≡ Turns First k → form_on vs an rs (symbol_of n) ≡ rank_form rs k
+rank_on vs an rs n k e = ap (form_on vs an rs) e
 
-pub last_on : (vs : List Value) (an : ℕ → Fact) (rs : List Ranked) (n : ℕ) → n % 16 ≡ 15 → form_on vs an rs (symbol_of n) ≡ rank_form rs (n / 16)
-last_on vs an rs n e = ap (form_on vs an rs) (of_symbol n 15 e)
+pub other_on : (vs : List Value) (an : ℕ → Fact) (rs : List Ranked) (n i : ℕ) (f : Family) → symbol_of n ≡ symbol_in f i → (f ≡ families.Variable items.First → ⊥) → (f ≡ families.AtAnchor items.First → ⊥) → (f ≡ families.Turns items.First → ⊥) → form_on vs an rs (symbol_of n) ≡ once (symbol_in f i)
+other_on vs an rs n i f e a b c = ap (form_on vs an rs) e ∙ by_family vs an rs f i a b c
 
-by_family : (vs : List Value) (an : ℕ → Fact) (rs : List Ranked) (f i : ℕ) → f < 16 → (f ≡ 6 → ⊥) → (f ≡ 7 → ⊥) → (f ≡ 8 → ⊥) → (f ≡ 15 → ⊥) → form_on vs an rs (of_family f i) ≡ once_number f i
-by_family vs an rs zero i l a b c d = refl
-by_family vs an rs (suc zero) i l a b c d = refl
-by_family vs an rs (suc (suc zero)) i l a b c d = refl
-by_family vs an rs (suc (suc (suc zero))) i l a b c d = refl
-by_family vs an rs (suc (suc (suc (suc zero)))) i l a b c d = refl
-by_family vs an rs (suc (suc (suc (suc (suc zero))))) i l a b c d = refl
-by_family vs an rs (suc (suc (suc (suc (suc (suc zero)))))) i l a b c d = absurd (a refl)
-by_family vs an rs (suc (suc (suc (suc (suc (suc (suc zero))))))) i l a b c d = absurd (b refl)
-by_family vs an rs (suc (suc (suc (suc (suc (suc (suc (suc zero)))))))) i l a b c d = absurd (c refl)
-by_family vs an rs (suc (suc (suc (suc (suc (suc (suc (suc (suc zero))))))))) i l a b c d = refl
-by_family vs an rs (suc (suc (suc (suc (suc (suc (suc (suc (suc (suc zero)))))))))) i l a b c d = refl
-by_family vs an rs (suc (suc (suc (suc (suc (suc (suc (suc (suc (suc (suc zero))))))))))) i l a b c d = refl
-by_family vs an rs (suc (suc (suc (suc (suc (suc (suc (suc (suc (suc (suc (suc zero)))))))))))) i l a b c d = refl
-by_family vs an rs (suc (suc (suc (suc (suc (suc (suc (suc (suc (suc (suc (suc (suc zero))))))))))))) i l a b c d = refl
-by_family vs an rs (suc (suc (suc (suc (suc (suc (suc (suc (suc (suc (suc (suc (suc (suc zero)))))))))))))) i l a b c d = refl
-by_family vs an rs (suc (suc (suc (suc (suc (suc (suc (suc (suc (suc (suc (suc (suc (suc (suc f))))))))))))))) i l a b c d = absurd (d (omega (arith, l)))
-
-pub other_on : (vs : List Value) (an : ℕ → Fact) (rs : List Ranked) (n : ℕ) → (n % 16 ≡ 6 → ⊥) → (n % 16 ≡ 7 → ⊥) → (n % 16 ≡ 8 → ⊥) → (n % 16 ≡ 15 → ⊥) → form_on vs an rs (symbol_of n) ≡ once_number (n % 16) (n / 16)
-other_on vs an rs n a b c d = ap (form_on vs an rs) (of_symbol n (n % 16) refl) ∙ by_family vs an rs (n % 16) (n / 16) (omega arith) a b c d
-
-pub ruleset on_paths = (variable_on, anchor_on, rank_on, last_on, other_on)
+pub ruleset on_paths = (variable_on, anchor_on, rank_on, other_on)
 
 -- the values where a path begins
 pub root_inside : (k : Kernel) (n : ℕ) (as' : List Kind) (i : ℕ) → i < length as' → (slice_index_or (values_from k n as') i no_value).form ≡ root_form k (n + i)

@@ -42,7 +42,7 @@ abbrev pub Comes : {E : Type 0} → Followed E → (State E → Tree E) → Foun
 Comes l walk n = n ≡ collect l.found (walk l.state)
 
 abbrev pub IsRefusedAt : {E : Type 0} → Followed E → (State E → Tree E) → WalkError → Type 0
-IsRefusedAt l walk e = Refused ⊥ e (collect l.found (walk l.state))
+IsRefusedAt l walk e = Refused e (collect l.found (walk l.state))
 
 -- by how much a ranking falls; none where it halves
 abbrev pub step_of : Bound → Option ℕ

@@ -25,7 +25,7 @@ use path_steps::{Goal, Path, Sort, Stop};
 use std::alloc::Global;
 
 #[tactic(auto, unfolding(path_steps::specs::Paths::collect))]
-/// What nobody shows, and nobody goes on.
+/// Claims that -1 is at least 0, which is shown only where no item comes there.
 pub fn refuse<D: Domain>(alloc: Global, path: &mut Path<D>) -> Result<(), WalkError>
     ensures { MatchResult result (λ _. Comes (followed path.old) walking.refused (followed path.new).found) (IsRefusedAt (followed path.old) walking.refused) }
 {
@@ -35,7 +35,7 @@ pub fn refuse<D: Domain>(alloc: Global, path: &mut Path<D>) -> Result<(), WalkEr
 }
 
 #[tactic(auto, unfolding(crate::specs::View::placed, path_steps::specs::View::followed))]
-/// The variables have their kinds, and the parameters that nothing assigns their arguments.
+/// The path's variables have their kinds, and the parameters that nothing assigns have their arguments.
 fn has_slots<D: Domain>(placing: &Placing<'_, D>, path: &Path<D>) -> bool
     ensures { result ≡ roots.are_slots (placed D.Domain placing.now).kernel 0 (roots.kinds (placed D.Domain placing.now).kernel) (followed path.now).state.variables }
 {
@@ -72,7 +72,7 @@ fn congruences_at<'a, D: Domain>(
     }
 }
 
-/// All that is said of a place.
+/// Claims the facts, then the congruences, that are said of a place by its anchor and its loop.
 fn claim_lines<D: Domain>(
     alloc: Global,
     placing: &Placing<'_, D>,
@@ -80,13 +80,13 @@ fn claim_lines<D: Domain>(
     anchor: Option<u32>,
     head: Option<u32>,
 ) -> Result<(), WalkError>
-    ensures { MatchResult result (λ _. Steps (followed path.old) (followed path.new) (claims.claim_lines (placed D.Domain placing.now) anchor head)) (λ e. StopsAtStep ⊥ (followed path.old) e (claims.claim_lines (placed D.Domain placing.now) anchor head)) }
+    ensures { MatchResult result (λ _. Steps (followed path.old) (followed path.new) (claims.claim_lines (placed D.Domain placing.now) anchor head)) (λ e. StopsAtStep (followed path.old) e (claims.claim_lines (placed D.Domain placing.now) anchor head)) }
 {
     claim_facts(alloc, placing, path, facts_at(placing, anchor, head))?;
     claim_congruences(alloc, placing, path, congruences_at(placing, anchor, head))
 }
 
-/// A place is reached.
+/// Claims what is said of the place that a path reaches, and notes the end; a path whose variables are not of their kinds is refused.
 fn arrive_at<D: Domain>(
     alloc: Global,
     placing: &Placing<'_, D>,
@@ -119,7 +119,7 @@ fn end<D: Domain>(
     Ok(())
 }
 
-/// A path stops.
+/// Claims what is said of the place or the end at which a path stops, and notes the end.
 pub fn stop<D: Domain>(
     alloc: Global,
     placing: &Placing<'_, D>,

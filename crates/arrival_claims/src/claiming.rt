@@ -25,34 +25,34 @@ pub fn claim_told<D: Domain>(
     made: Vec<Form>,
     form: Form,
 ) -> Result<(), WalkError>
-    ensures { MatchResult result (λ _. Steps (followed path.old) (followed path.new) (claims.claim_told (seen D.Domain setting.now) (sort_seen sort) (forms made.items) (form_seen form))) (λ e. StopsAtStep ⊥ (followed path.old) e (claims.claim_told (seen D.Domain setting.now) (sort_seen sort) (forms made.items) (form_seen form))) }
+    ensures { MatchResult result (λ _. Steps (followed path.old) (followed path.new) (claims.claim_told (seen D.Domain setting.now) (sort_seen sort) (forms made.items) (form_seen form))) (λ e. StopsAtStep (followed path.old) e (claims.claim_told (seen D.Domain setting.now) (sort_seen sort) (forms made.items) (form_seen form))) }
 {
     let settled = settles(setting, path, &form);
     path.claim(sort, true, settled, Goal::Replaced { made, form })?;
     Ok(())
 }
 
-/// One fact.
+/// Claims that one fact of a place holds where the path comes there.
 fn claim_fact<D: Domain>(
     alloc: Global,
     placing: &Placing<'_, D>,
     path: &mut Path<D>,
     fact: &Form,
 ) -> Result<(), WalkError>
-    ensures { MatchResult result (λ _. Steps (followed path.old) (followed path.new) (claims.claim_fact (placed D.Domain placing.now) (form_seen fact.now))) (λ e. StopsAtStep ⊥ (followed path.old) e (claims.claim_fact (placed D.Domain placing.now) (form_seen fact.now))) }
+    ensures { MatchResult result (λ _. Steps (followed path.old) (followed path.new) (claims.claim_fact (placed D.Domain placing.now) (form_seen fact.now))) (λ e. StopsAtStep (followed path.old) e (claims.claim_fact (placed D.Domain placing.now) (form_seen fact.now))) }
 {
     let told = replaced(alloc, placing, path, fact)?;
     claim_told(placing.setting, path, Sort::OfFact, told.made, told.form)
 }
 
-/// All of them.
+/// Claims that each of a place's facts holds where the path comes there, one after another.
 pub fn claim_facts<D: Domain>(
     alloc: Global,
     placing: &Placing<'_, D>,
     path: &mut Path<D>,
     facts: &[Form],
 ) -> Result<(), WalkError>
-    ensures { MatchResult result (λ _. Steps (followed path.old) (followed path.new) (walking.claim_facts (placed D.Domain placing.now) (forms facts.now))) (λ e. StopsAtStep ⊥ (followed path.old) e (walking.claim_facts (placed D.Domain placing.now) (forms facts.now))) }
+    ensures { MatchResult result (λ _. Steps (followed path.old) (followed path.new) (walking.claim_facts (placed D.Domain placing.now) (forms facts.now))) (λ e. StopsAtStep (followed path.old) e (walking.claim_facts (placed D.Domain placing.now) (forms facts.now))) }
 {
     for fact in facts {
         claim_fact(alloc, placing, path, fact)?;

@@ -37,7 +37,7 @@ fn divides(modulus: u64, number: i64) -> bool
     }
 }
 
-/// It divides each term.
+/// The modulus divides the coefficient of each term.
 fn divides_terms(modulus: u64, terms: &[Term]) -> bool
     ensures { result ≡ walking.divides_terms modulus (terms_seen terms.now) }
 {
@@ -49,7 +49,7 @@ fn divides_terms(modulus: u64, terms: &[Term]) -> bool
     true
 }
 
-/// It divides a form term by term.
+/// The modulus divides each coefficient and the constant of a form.
 fn divides_form(modulus: u64, form: &Form) -> bool
     ensures { result ≡ walking.divides_form modulus (form_seen form.now) }
 {
@@ -83,7 +83,7 @@ fn claim_over<D: Domain>(
     form: &Form,
     product: &Form,
 ) -> Result<(), WalkError>
-    ensures { MatchResult result (λ _. Steps (followed path.old) (followed path.new) (claims.claim_over modulus (forms made.items) (form_seen form.now) (form_seen product.now))) (λ e. StopsAtStep ⊥ (followed path.old) e (claims.claim_over modulus (forms made.items) (form_seen form.now) (form_seen product.now))) }
+    ensures { MatchResult result (λ _. Steps (followed path.old) (followed path.new) (claims.claim_over modulus (forms made.items) (form_seen form.now) (form_seen product.now))) (λ e. StopsAtStep (followed path.old) e (claims.claim_over modulus (forms made.items) (form_seen form.now) (form_seen product.now))) }
 {
     let settled = divides_form(modulus, form);
     let over = difference(alloc, form, product)?;
@@ -105,7 +105,7 @@ fn claim_under<D: Domain>(
     form: &Form,
     product: &Form,
 ) -> Result<(), WalkError>
-    ensures { MatchResult result (λ _. Steps (followed path.old) (followed path.new) (claims.claim_under modulus (form_seen form.now) (form_seen product.now))) (λ e. StopsAtStep ⊥ (followed path.old) e (claims.claim_under modulus (form_seen form.now) (form_seen product.now))) }
+    ensures { MatchResult result (λ _. Steps (followed path.old) (followed path.new) (claims.claim_under modulus (form_seen form.now) (form_seen product.now))) (λ e. StopsAtStep (followed path.old) e (claims.claim_under modulus (form_seen form.now) (form_seen product.now))) }
 {
     let settled = divides_form(modulus, form);
     let under = difference(alloc, product, form)?;
@@ -119,7 +119,7 @@ fn claim_under<D: Domain>(
     Ok(())
 }
 
-/// Both.
+/// Claims that a form is at least the product of the modulus and the named quotient, and that it is at most that.
 fn claim_divided<D: Domain>(
     alloc: Global,
     path: &mut Path<D>,
@@ -127,7 +127,7 @@ fn claim_divided<D: Domain>(
     told: PathForm,
     product: &Form,
 ) -> Result<(), WalkError>
-    ensures { MatchResult result (λ _. Steps (followed path.old) (followed path.new) (claims.claim_divided modulus (forms told.made.items) (form_seen told.form) (form_seen product.now))) (λ e. StopsAtStep ⊥ (followed path.old) e (claims.claim_divided modulus (forms told.made.items) (form_seen told.form) (form_seen product.now))) }
+    ensures { MatchResult result (λ _. Steps (followed path.old) (followed path.new) (claims.claim_divided modulus (forms told.made.items) (form_seen told.form) (form_seen product.now))) (λ e. StopsAtStep (followed path.old) e (claims.claim_divided modulus (forms told.made.items) (form_seen told.form) (form_seen product.now))) }
 {
     let PathForm { made, form } = told;
     claim_over(alloc, path, modulus, made, &form, product)?;
@@ -150,7 +150,7 @@ fn product_of(alloc: Global, number: i64, form: &Form) -> Result<Form, WalkError
     Ok(product)
 }
 
-/// The same, of a number of 2^63 or more: its half twice. A greater number fits only nothing.
+/// A form times a number of 2^63 or more, as twice its half; an error for a greater number than 2^63, unless the form is 0.
 fn times_many(alloc: Global, number: u64, form: &Form) -> Result<Form, WalkError>
     requires { 9223372036854775808 ≤ number }
     ensures { MatchResult result (λ f. form_seen f ≡ multiple (pos number) (form_seen form.now)) (λ e. IsUnfit e (multiple (pos number) (form_seen form.now))) }
@@ -166,7 +166,7 @@ fn times_many(alloc: Global, number: u64, form: &Form) -> Result<Form, WalkError
     Ok(product)
 }
 
-/// The same, of any number.
+/// A form times a number of `u64`; an error where a number of the product is too large for `i64`.
 pub fn times(alloc: Global, number: u64, form: &Form) -> Result<Form, WalkError>
     ensures { MatchResult result (λ f. form_seen f ≡ multiple (pos number) (form_seen form.now)) (λ e. IsUnfit e (multiple (pos number) (form_seen form.now))) }
 {
@@ -192,7 +192,7 @@ fn next_quotient<D: Domain>(
     }
 }
 
-/// Its product with the modulus.
+/// The product of the modulus and the quotient that the entry of the next claim names.
 fn next_product<D: Domain>(
     alloc: Global,
     placing: &Placing<'_, D>,
@@ -205,28 +205,28 @@ fn next_product<D: Domain>(
     times(alloc, modulus, &quotient)
 }
 
-/// One congruence.
+/// Claims that one congruence of a place holds where the path comes there.
 fn claim_congruence<D: Domain>(
     alloc: Global,
     placing: &Placing<'_, D>,
     path: &mut Path<D>,
     congruence: &Congruence,
 ) -> Result<(), WalkError>
-    ensures { MatchResult result (λ _. Steps (followed path.old) (followed path.new) (claims.claim_congruence (placed D.Domain placing.now) (congruence_seen congruence.now))) (λ e. StopsAtStep ⊥ (followed path.old) e (claims.claim_congruence (placed D.Domain placing.now) (congruence_seen congruence.now))) }
+    ensures { MatchResult result (λ _. Steps (followed path.old) (followed path.new) (claims.claim_congruence (placed D.Domain placing.now) (congruence_seen congruence.now))) (λ e. StopsAtStep (followed path.old) e (claims.claim_congruence (placed D.Domain placing.now) (congruence_seen congruence.now))) }
 {
     let told = replaced(alloc, placing, path, &congruence.form)?;
     let product = next_product(alloc, placing, path, congruence.modulus)?;
     claim_divided(alloc, path, congruence.modulus, told, &product)
 }
 
-/// All of them.
+/// Claims that each of a place's congruences holds where the path comes there, one after another.
 pub fn claim_congruences<D: Domain>(
     alloc: Global,
     placing: &Placing<'_, D>,
     path: &mut Path<D>,
     congruences: &[Congruence],
 ) -> Result<(), WalkError>
-    ensures { MatchResult result (λ _. Steps (followed path.old) (followed path.new) (walking.claim_congruences (placed D.Domain placing.now) (map congruence_seen congruences.now))) (λ e. StopsAtStep ⊥ (followed path.old) e (walking.claim_congruences (placed D.Domain placing.now) (map congruence_seen congruences.now))) }
+    ensures { MatchResult result (λ _. Steps (followed path.old) (followed path.new) (walking.claim_congruences (placed D.Domain placing.now) (map congruence_seen congruences.now))) (λ e. StopsAtStep (followed path.old) e (walking.claim_congruences (placed D.Domain placing.now) (map congruence_seen congruences.now))) }
 {
     for congruence in congruences {
         claim_congruence(alloc, placing, path, congruence)?;

@@ -22,4 +22,4 @@ pub use lookups::{congruences_of, facts_of, quotient_of, ranking_of, same_of, vi
 pub use placing::Placing;
 pub use ranking::{arrive, enter, stand_before};
 pub use replacing::{PathForm, replaced};
-pub use slots::{are_slots, is_kept};
+pub use slots::{are_slots, is_kept, kind_at};

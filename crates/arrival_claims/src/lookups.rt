@@ -27,7 +27,7 @@ fn is_of(lines: &Lines, anchor: Option<u32>, head: Option<u32>) -> bool
     same_number(lines.anchor, anchor) && same_number(lines.head, head)
 }
 
-/// The facts of a place.
+/// The facts that notes say of a place, by its anchor and its loop; none where nothing is said of it.
 pub fn facts_of<'n>(places: &'n [Lines], anchor: Option<u32>, head: Option<u32>) -> &'n [Form]
     ensures { forms result.now ≡ view.facts_of places.now anchor head }
 {
@@ -39,7 +39,7 @@ pub fn facts_of<'n>(places: &'n [Lines], anchor: Option<u32>, head: Option<u32>)
     &[]
 }
 
-/// The congruences of a place.
+/// The congruences that notes say of a place, by its anchor and its loop; none where nothing is said of it.
 pub fn congruences_of<'n>(
     places: &'n [Lines],
     anchor: Option<u32>,

@@ -58,7 +58,7 @@ fn loop_form<D: Domain>(
 }
 
 #[tactic(auto, unfolding(crate::specs::View::placed))]
-/// What it is at most where the loop opens.
+/// The number that a loop's ranking is at most where the loop opens; 0 where nothing is said of the loop.
 fn most_of<D: Domain>(alloc: Global, placing: &Placing<'_, D>, number: u32) -> Form
     ensures { form_seen result ≡ constant (notes.most ((placed D.Domain placing.now).notes.ranking number).bound) }
 {
@@ -70,7 +70,7 @@ fn most_of<D: Domain>(alloc: Global, placing: &Placing<'_, D>, number: u32) -> F
 }
 
 #[tactic(auto, unfolding(crate::specs::View::placed))]
-/// By how much it falls; none where it halves.
+/// The step by which a loop's ranking is said to fall in each turn; none where it is said to halve.
 fn step_of<D: Domain>(placing: &Placing<'_, D>, number: u32) -> Option<u64>
     ensures { result ≡ claims.step_of ((placed D.Domain placing.now).notes.ranking number).bound }
 {
@@ -81,7 +81,7 @@ fn step_of<D: Domain>(placing: &Placing<'_, D>, number: u32) -> Option<u64>
     }
 }
 
-/// It on the path.
+/// The ranking of a loop, in the terms of the path.
 fn rank_on<D: Domain>(
     alloc: Global,
     placing: &Placing<'_, D>,
@@ -94,14 +94,14 @@ fn rank_on<D: Domain>(
     replaced(alloc, placing, path, &form)
 }
 
-/// Where a loop opens it is at most what is said.
+/// Claims that a loop's ranking is at most what is said, where the loop opens.
 fn claim_opened<D: Domain>(
     alloc: Global,
     placing: &Placing<'_, D>,
     path: &mut Path<D>,
     number: u32,
 ) -> Result<(), WalkError>
-    ensures { MatchResult result (λ _. Steps (followed path.old) (followed path.new) (claims.claim_opened (placed D.Domain placing.now) number)) (λ e. StopsAtStep ⊥ (followed path.old) e (claims.claim_opened (placed D.Domain placing.now) number)) }
+    ensures { MatchResult result (λ _. Steps (followed path.old) (followed path.new) (claims.claim_opened (placed D.Domain placing.now) number)) (λ e. StopsAtStep (followed path.old) e (claims.claim_opened (placed D.Domain placing.now) number)) }
 {
     let told = rank_on(alloc, placing, path, number)?;
     let most = most_of(alloc, placing, number);
@@ -126,7 +126,7 @@ fn less_most(alloc: Global, of: &Form) -> Result<Form, WalkError>
     Ok(form)
 }
 
-/// A form less a number of 2^63 or more: less what is above 2^63, then less that.
+/// A form less a number of 2^63 or more: less what the number has above 2^63, then less 2^63.
 fn less_large(alloc: Global, of: &Form, number: u64) -> Result<Form, WalkError>
     requires { 9223372036854775808 ≤ number }
     ensures { MatchResult result (λ f. form_seen f ≡ minus (form_seen of.now) (constant (pos number))) (λ e. IsUnfit e (minus (form_seen of.now) (constant (pos number)))) }
@@ -147,7 +147,7 @@ fn less_natural(alloc: Global, of: &Form, number: u64) -> Result<Form, WalkError
     less_small(alloc, of, number)
 }
 
-/// The form on the way.
+/// The form that is made on the way to the claim: by how much the ranking fell, or, where it is to halve, the double of its new value.
 fn way_by(alloc: Global, step: Option<u64>, before: &Form, now: &Form) -> Result<Form, WalkError>
     ensures { MatchResult result (λ f. form_seen f ≡ claims.way_by step (form_seen before.now) (form_seen now.now)) (λ e. IsUnfit e (claims.way_by step (form_seen before.now) (form_seen now.now))) }
 {
@@ -157,7 +157,7 @@ fn way_by(alloc: Global, step: Option<u64>, before: &Form, now: &Form) -> Result
     }
 }
 
-/// What is left, by the form on the way.
+/// The form that is at least 0 where the ranking has fallen enough: by the step, or to a half.
 fn left_by(
     alloc: Global,
     step: Option<u64>,
@@ -174,14 +174,14 @@ fn left_by(
     }
 }
 
-/// After a turn it has fallen.
+/// Claims that a loop's ranking has fallen in a turn: by the step at least, or to a half at most.
 fn claim_fallen<D: Domain>(
     alloc: Global,
     placing: &Placing<'_, D>,
     path: &mut Path<D>,
     number: u32,
 ) -> Result<(), WalkError>
-    ensures { MatchResult result (λ _. Steps (followed path.old) (followed path.new) (claims.claim_fallen (placed D.Domain placing.now) number)) (λ e. StopsAtStep ⊥ (followed path.old) e (claims.claim_fallen (placed D.Domain placing.now) number)) }
+    ensures { MatchResult result (λ _. Steps (followed path.old) (followed path.new) (claims.claim_fallen (placed D.Domain placing.now) number)) (λ e. StopsAtStep (followed path.old) e (claims.claim_fallen (placed D.Domain placing.now) number)) }
 {
     let told = rank_on(alloc, placing, path, number)?;
     let before = rank_now(alloc, path, number as u64)?;
@@ -192,14 +192,14 @@ fn claim_fallen<D: Domain>(
     claim_told(placing.setting, path, Sort::OfRanking, made, form)
 }
 
-/// Where its test was true it is above 0, and it is kept.
+/// Claims that a loop's ranking is above 0 where the loop's test was true, and notes its value there.
 fn claim_entered<D: Domain>(
     alloc: Global,
     placing: &Placing<'_, D>,
     path: &mut Path<D>,
     number: u32,
 ) -> Result<(), WalkError>
-    ensures { MatchResult result (λ _. Steps (followed path.old) (followed path.new) (claims.claim_entered (placed D.Domain placing.now) number)) (λ e. StopsAtStep ⊥ (followed path.old) e (claims.claim_entered (placed D.Domain placing.now) number)) }
+    ensures { MatchResult result (λ _. Steps (followed path.old) (followed path.new) (claims.claim_entered (placed D.Domain placing.now) number)) (λ e. StopsAtStep (followed path.old) e (claims.claim_entered (placed D.Domain placing.now) number)) }
 {
     let told = rank_on(alloc, placing, path, number)?;
     let form = less_number(alloc, &told.form, 1)?;
@@ -216,7 +216,7 @@ pub fn arrive<D: Domain>(
     number: u32,
     again: bool,
 ) -> Result<(), WalkError>
-    ensures { MatchResult result (λ _. Steps (followed path.old) (followed path.new) (walking.arrive (placed D.Domain placing.now) number again)) (λ e. StopsAtStep ⊥ (followed path.old) e (walking.arrive (placed D.Domain placing.now) number again)) }
+    ensures { MatchResult result (λ _. Steps (followed path.old) (followed path.new) (walking.arrive (placed D.Domain placing.now) number again)) (λ e. StopsAtStep (followed path.old) e (walking.arrive (placed D.Domain placing.now) number again)) }
 {
     stand_before(path, number);
     if again {
@@ -226,14 +226,14 @@ pub fn arrive<D: Domain>(
     }
 }
 
-/// Its test was true.
+/// Enters a turn of a loop whose test was true: its ranking is claimed to be above 0 there.
 pub fn enter<D: Domain>(
     alloc: Global,
     placing: &Placing<'_, D>,
     path: &mut Path<D>,
     number: u32,
 ) -> Result<(), WalkError>
-    ensures { MatchResult result (λ _. Steps (followed path.old) (followed path.new) (walking.enter (placed D.Domain placing.now) number)) (λ e. StopsAtStep ⊥ (followed path.old) e (walking.enter (placed D.Domain placing.now) number)) }
+    ensures { MatchResult result (λ _. Steps (followed path.old) (followed path.new) (walking.enter (placed D.Domain placing.now) number)) (λ e. StopsAtStep (followed path.old) e (walking.enter (placed D.Domain placing.now) number)) }
 {
     stand_before(path, number);
     claim_entered(alloc, placing, path, number)

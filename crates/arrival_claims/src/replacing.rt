@@ -26,7 +26,7 @@ pub struct PathForm {
     pub form: Form,
 }
 
-/// A term of it.
+/// A term with its symbol's value on the path in place of the symbol.
 fn part<D: Domain>(
     alloc: Global,
     placing: &Placing<'_, D>,
@@ -41,7 +41,7 @@ fn part<D: Domain>(
 }
 
 #[tactic(auto, using(facts::proofs::Facts::copies))]
-/// One form more is made.
+/// Keeps a form that was made on the way to a claim.
 pub fn keep(made: &mut Vec<Form>, form: Form) -> Result<(), WalkError>
     ensures { MatchResult result (λ _. forms made.new.items ≡ forms made.old.items ++ form_seen form ∷ []) IsMemory }
 {
@@ -49,7 +49,7 @@ pub fn keep(made: &mut Vec<Form>, form: Form) -> Result<(), WalkError>
     Ok(())
 }
 
-/// The sum of what there was and a part.
+/// The sum of the form so far and a part; the form so far is kept as one that was made on the way.
 fn added(alloc: Global, made: &mut Vec<Form>, so_far: &Form, part: Form) -> Result<Form, WalkError>
     ensures form { IfOk result (λ f. form_seen f ≡ sum (form_seen so_far.now) (form_seen part)) }
     ensures made { MatchResult result (λ _. forms made.new.items ≡ forms made.old.items ++ form_seen part ∷ sum (form_seen so_far.now) (form_seen part) ∷ []) (λ e. IsUnfit e (sum (form_seen so_far.now) (form_seen part))) }

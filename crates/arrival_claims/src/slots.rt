@@ -9,18 +9,19 @@ ghost use Rattle.obligations.specs.Roots as roots;
 ghost use Rattle.path_steps.specs.View.{value as value_seen};
 
 use core_code::tree::{Core, Statement};
+use facts::Family;
 use linear::{Form, Term};
 use path_steps::Value;
 use words::Kind;
 
-/// One of two; both are asked beforehand.
+/// The disjunction of two truth values; both are asked beforehand.
 fn either(first: bool, second: bool) -> bool
     ensures { result ≡ (first || second) }
 {
     first || second
 }
 
-/// The statement assigns the variable.
+/// The statement, or one in it, assigns the variable of a slot.
 #[cycle(sets)]
 fn sets(slot: u64, statement: &Statement) -> bool
     ensures { result ≡ roots.sets slot (statement_seen statement.now) }
@@ -47,7 +48,7 @@ fn sets(slot: u64, statement: &Statement) -> bool
     }
 }
 
-/// One of the statements assigns it.
+/// One of the statements, or one in it, assigns the variable of a slot.
 #[cycle(sets)]
 fn some_sets(slot: u64, body: &[Statement]) -> bool
     ensures { result ≡ roots.some_sets slot (statements_seen body.now) }
@@ -68,7 +69,7 @@ pub fn is_kept(core: &Core, slot: u64) -> bool
     is_argument && !some_sets(slot, core.body.as_slice())
 }
 
-/// The kinds are the same.
+/// Two kinds are the same.
 fn same_kind(left: Kind, right: Kind) -> bool
     ensures { result ≡ roots.same_kind (kind_seen left) (kind_seen right) }
 {
@@ -85,7 +86,7 @@ fn is_argument_term(slot: u64, terms: &[Term]) -> bool
 {
     match terms {
         [] => false,
-        [term] => term.coefficient == 1 && term.symbol.number == 1 + 16 * slot,
+        [term] => term.coefficient == 1 && term.symbol == Family::Argument.symbol(slot),
         [_, _, ..] => false,
     }
 }
@@ -109,8 +110,8 @@ fn is_slot(core: &Core, slot: u64, kind: Kind, value: &Value) -> bool
     !is_kept(core, slot) || is_argument(slot, &value.form)
 }
 
-/// The kind of a variable.
-fn kind_at(core: &Core, slot: usize) -> Kind
+/// The kind of a variable; past the last one `int`.
+pub fn kind_at(core: &Core, slot: usize) -> Kind
     ensures { kind_seen result ≡ roots.kind_of (core_seen core.now) slot }
 {
     let first = core.arguments.len();

@@ -8,20 +8,20 @@ ghost use Rattle.arrivals.specs.Shown.{Notes, Shown, IsSound, IsShort};
 ghost use Rattle.arrivals.specs.Races.{AccessesShown};
 ghost use Rattle.arrivals.specs.Faults.{FaultsShown};
 
-/// Where everything that is owed of leaves is shown, items of one group wait with equal lists left, and one that has ended has arrived
-/// at least as often as the others.
+/// If everything that is owed of leaves is shown, items of one group wait with equal lists left, and one that has ended has arrived at
+/// least as often as the others.
 pub fn arrivals_agree()
     ensures waits { (s : Setup) (k : Notes) → IsSound s → Shown s k → (i j : ℕ) → i < item_count s → j < item_count s → i ≢ j → group_of s i ≡ group_of s j → WaitAlike s i j }
     ensures ends { (s : Setup) (k : Notes) → IsSound s → Shown s k → (i j : ℕ) → i < item_count s → j < item_count s → i ≢ j → group_of s i ≡ group_of s j → EndsLast s i j }
 {}
 
-/// Where what is owed of accesses is shown too, no accesses of two items clash: in a space that every barrier fences the accesses of
-/// one visit of an anchor are enough.
+/// If what is owed of accesses is shown too, no accesses of two items clash: in a space that every barrier fences the accesses of one visit
+/// of an anchor are enough.
 pub fn accesses_are_apart()
     ensures { (s : Setup) (k : Notes) → IsSound s → Shown s k → AccessesShown s k → (i j : ℕ) (ws vs : List ℤ) (a b : Access) → i < item_count s → j < item_count s → i ≢ j → Touched s i ws a → Touched s j vs b → Clash s a b → ⊥ }
 {}
 
-/// Where no statement faults at a front, no solo run is stopped; so with a bound of the steps all that was shown is pair-safety.
+/// If no statement faults at a front, no solo run is stopped; with a bound of the steps, all that was shown is pair-safety then.
 pub fn shown_is_pair_safe()
     ensures { (s : Setup) (k : Notes) (bound : ℕ) → IsSound s → Shown s k → AccessesShown s k → FaultsShown s k → IsShort s bound → IsPairSafe s bound }
 {}

@@ -74,7 +74,7 @@ fn a_lone_seat_settles_in_five_passes(rt: HostRuntime) -> Result<(), Fail> {
     Ok(())
 }
 
-/// What a caller's thread finds of one candidate: the answer, whether it reads it as left, and what it settles.
+/// The findings of a caller's thread of one candidate: the answer, whether it reads it as left, and what it settles.
 type Finding = (Option<Examined>, bool, [bool; 5]);
 
 fn find(board: &Board, mut seat: Seat, candidate: u32) -> Finding

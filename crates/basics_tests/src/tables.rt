@@ -9,7 +9,7 @@ pub type Table = &'static [&'static [&'static [&'static [u32]]]];
 /// 0 supports itself, 1 rests on 0 and 2 or on 3, 2 has no support, 3 rests on 1: 0, 1 and 3 stand.
 pub const THREE_STAND: Table = &[&[&[&[0]]], &[&[&[0, 2], &[3]]], &[&[]], &[&[&[1]]]];
 
-/// The same, but 3 rests on 1 and 2: 0 stands.
+/// 0 supports itself, 1 rests on 0 and 2 or on 3, 2 has no support, 3 rests on 1 and 2: 0 stands.
 pub const ONE_STANDS: Table = &[&[&[&[0]]], &[&[&[0, 2], &[3]]], &[&[]], &[&[&[1, 2]]]];
 
 /// 1 and 2 have no support, 3 rests on 1: 0 stands.

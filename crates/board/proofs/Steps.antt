@@ -7,7 +7,7 @@ use mathlib.Core.Option.{Option, some, none}
 use lib.ListN.{get_elem?}
 use Rattle.atomic_table.proofs.Lists.{at_set, at_snoc, set_again}
 use Rattle.atomic_table.specs.Table.{State, Me, Step, Act, keeps, Valid, stepped, carried_after, step}
-use Rattle.semantics.specs.Candidates.{Supports, IsInGreatest}
+use Rattle.supports.specs.Candidates.{Supports, IsInGreatest}
 use Rattle.supports.specs.Sets.{members, HoldsGreatest}
 use Rattle.supports.proofs.Bits.{members_written, members_elsewhere, same_place}
 use Rattle.board.specs.declared.View.{View}

@@ -2,20 +2,20 @@
 
 use supports::Set;
 
-/// What an examination of one candidate found.
+/// The findings of an examination of one candidate.
 #[derive(Debug, Clone, Copy, PartialEq, Eq)]
 pub enum Examined {
-    /// Each of its obligations has a listed set inside the set that was read.
+    /// The candidate is kept: each of its obligations has a listed set inside the set that was read.
     Kept,
-    /// It is not in the greatest set.
+    /// The candidate is not in the greatest set.
     Refuted,
 }
 
-/// What a pass over all candidates found.
+/// The findings of a pass over all candidates.
 #[derive(Debug, Clone, Copy, PartialEq, Eq)]
 pub enum Passed {
-    /// This is the greatest set.
+    /// The greatest standing set: the pass refuted none.
     Settled(Set),
-    /// So many candidates were refuted.
+    /// The number of candidates that the pass refuted.
     Refuted(u32),
 }

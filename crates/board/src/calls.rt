@@ -29,14 +29,14 @@ impl Board {
         ))
     }
 
-    /// How many candidates there are.
+    /// The number of candidates on the board.
     pub fn count(&self) -> u32
         ensures { (result ≡ length (supports_of self.now)) × (result ≤ 512) }
     {
         self.supports.count()
     }
 
-    /// Two seats that have seen the same.
+    /// Splits a seat into two that have seen the same.
     pub fn split(&self, mut seat: Seat) -> (Seat, Seat)
         requires { IsSeatOf self.now seat }
         ensures first { IsSeatOf self.now result.0 × (result.0.me ≡ seat.me) }
@@ -46,7 +46,7 @@ impl Board {
         (seat, other)
     }
 
-    /// What is left in the end: a set that holds the greatest one and lacks all that the seat had seen.
+    /// Ends the board, and gives the set that is left: it holds the greatest one and lacks all that the seat had seen refuted.
     pub fn close(self, seat: Seat) -> Set
         requires { IsSeatOf self seat }
         ensures greatest { HoldsGreatest (supports_of self) (members result.words) }

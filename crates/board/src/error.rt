@@ -14,7 +14,7 @@ pub enum BoardError {
 }
 
 impl BoardError {
-    /// The number that it is printed under.
+    /// The number under which the error is printed.
     pub fn number(&self) -> u8
         ensures { result ≡ 90 }
     {

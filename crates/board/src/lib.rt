@@ -25,7 +25,7 @@ pub use answers::{Examined, Passed};
 pub use board::Board;
 pub use error::BoardError;
 
-/// What a seat knows: the table of supports, and which candidates may be left. No value of it is made.
+/// The knowledge of a seat: the table of supports, and which candidates may be left. No value of it is made.
 pub struct View {
     pub supports: Supports,
     pub left: [u64; 8],
@@ -45,7 +45,7 @@ impl TableRule<(), View, Supports> for Kept {
     ghost first = { newcomer };
 }
 
-/// A load.
+/// The move of a seat that reads a word of the board by a load.
 pub struct Looked;
 
 impl Play<(), View> for Looked {
@@ -54,7 +54,7 @@ impl Play<(), View> for Looked {
     ghost then = { Looks };
 }
 
-/// A `fetch_and`.
+/// The move of a seat that takes candidates out of a word of the board by `fetch_and`.
 pub struct Dropped;
 
 impl Play<(), View> for Dropped {
@@ -63,7 +63,7 @@ impl Play<(), View> for Dropped {
     ghost then = { Drops };
 }
 
-/// Two seats that know the same.
+/// The move by which a seat becomes two that know the same.
 pub struct Alike;
 
 impl Split<View> for Alike {

@@ -2,7 +2,7 @@
 
 ghost use Rattle.std.specs.Prelude.{◌≡◌, ℕ, ◌<◌, length, false, true, [], slice_index_or};
 ghost use Rattle.std.specs.List.{All};
-ghost use Rattle.semantics.specs.Candidates.{IsSupported};
+ghost use Rattle.supports.specs.Candidates.{IsSupported};
 ghost use Rattle.supports.specs.Sets.{members, IsUnsupported};
 ghost use Rattle.board.specs.Rule.{Seen};
 ghost use Rattle.board.specs.Calls.{IsSeatOf, IsPass, supports_of};

@@ -2,7 +2,7 @@
 
 ghost use Rattle.std.specs.Prelude.{◌≡◌, ◌≢◌, ℕ, ◌<◌, ◌%◌, length, slice_set, List};
 ghost use Rattle.std.specs.Int.{bit_at};
-ghost use Rattle.semantics.specs.Candidates.{IsInGreatest};
+ghost use Rattle.supports.specs.Candidates.{IsInGreatest};
 ghost use Rattle.supports.specs.Sets.{members, HoldsGreatest};
 ghost use Rattle.board.specs.Rule.{Seen};
 ghost use Rattle.board.specs.declared.answers.Examined.TheVariants.{Refuted};

@@ -1,12 +1,9 @@
 //! Quotients of one form by one number are one symbol.
 
 use crate::sums::plus_symbol;
-use guesses::{copied, family, is_same};
+use guesses::{copied, is_new, is_same};
 use linear::{Form, Symbol};
 use std::alloc::{AllocError, Global};
-
-/// The family of the symbols that are new on a path.
-const NEW: u64 = 5;
 
 /// A symbol that two facts hold to the quotient of a form by a number.
 #[derive(Drop)]
@@ -30,7 +27,8 @@ pub struct Aliases {
 }
 
 impl Aliases {
-    /// What the facts of a path tell: of a quotient they have `form - divisor * quotient >= 0`, and next `divisor - 1` less that.
+    /// The aliases among a path's facts: a quotient shows as `form - divisor * quotient >= 0`, followed by a fact that this is at most
+    /// `divisor - 1`.
     pub fn of(alloc: Global, facts: &[Form]) -> Result<Aliases, AllocError> {
         let mut aliases = Aliases {
             list: Vec::new(alloc),
@@ -66,7 +64,7 @@ impl Aliases {
         self.enter(seen, quotient)
     }
 
-    /// The quotient with what it is a quotient of.
+    /// The quotient that a symbol is, with its dividend, in which aliases are settled; none where a number is too large.
     fn quotient(
         &self,
         alloc: Global,
@@ -157,12 +155,12 @@ fn divisor_of_both(lower: &Form, upper: &Form) -> Option<i64> {
     sum.checked_add(1)
 }
 
-/// The latest new symbol that is taken away so many times.
+/// The latest new symbol of a form that is taken away so many times; none where there is none.
 fn quotient_in(lower: &Form, divisor: i64) -> Option<Symbol> {
     let opposite = divisor.checked_neg()?;
     let mut found = None;
     for term in lower.terms() {
-        if family(term.symbol) == NEW && term.coefficient == opposite {
+        if is_new(term.symbol) && term.coefficient == opposite {
             found = Some(term.symbol);
         }
     }

@@ -6,10 +6,10 @@ use guesses::{try_difference, try_multiple};
 use linear::Form;
 use std::alloc::AllocError;
 
-/// The rank of what is told here.
+/// The rank of the candidates that this file tells.
 const GROWTH: u32 = 3;
 
-/// A form is no more than another one so many times.
+/// Adds that a form is at most another one so many times.
 fn tell_most(
     told: &mut Gathering<'_>,
     place: usize,
@@ -26,7 +26,7 @@ fn tell_most(
     }
 }
 
-/// How far one way is at most, by another one whose stride is given.
+/// Adds how far one way is at most, by another one whose stride is given.
 pub fn tell_ends(
     told: &mut Gathering<'_>,
     place: usize,

@@ -9,7 +9,7 @@ use std::alloc::{AllocError, Global};
 /// How many values that a variable begins with are looked at.
 const STARTS: usize = 4;
 
-/// What a variable begins with, and by how much it steps.
+/// The values that a variable begins with, over ids and arguments, and the numbers, not 0, by which it steps.
 #[derive(Drop)]
 pub struct Course {
     pub starts: Vec<Form>,
@@ -70,7 +70,7 @@ impl Course {
 }
 
 impl Courses {
-    /// Of so many slots, of which nothing is known.
+    /// The courses of so many slots, of which nothing is known.
     pub fn new(alloc: Global, slots: usize) -> Result<Courses, AllocError> {
         let mut of_slots = Vec::new(alloc);
         for _ in 0..slots {
@@ -133,7 +133,7 @@ impl Courses {
     }
 }
 
-/// By how much the value is more than the variable was, if that is one number and not 0, in each launch and item.
+/// The number, not 0, by which a value is more than its variable was, in each launch and item; none where it is no one number.
 fn stride_of(
     alloc: Global,
     slot: u32,

@@ -6,11 +6,11 @@ use crate::gathering::Gathering;
 use crate::single_values::Given;
 use crate::stride_lines::first_ways;
 use crate::turns::{Counter, Turns};
-use guesses::{Leaf, family, index_of, is_global, try_difference, try_multiple, variable};
+use guesses::{Leaf, index_of, is_global, is_variable, try_difference, try_multiple};
 use linear::{Form, Symbol};
 use std::alloc::{AllocError, Global};
 
-/// The rank of what is told here.
+/// The rank of the candidates that this file tells.
 const DRIFTED: u32 = 3;
 
 /// How many candidates are looked at.
@@ -21,7 +21,7 @@ fn step_of(alloc: Global, turns: Turns<'_>, symbol: Symbol) -> Result<Option<i64
     if is_global(symbol) {
         return Ok(Some(0));
     }
-    if family(symbol) != family(variable(0)) {
+    if !is_variable(symbol) {
         return Ok(None);
     }
     let Ok(slot) = u32::try_from(index_of(symbol)) else {
@@ -78,7 +78,7 @@ fn without_drift(
     try_difference(alloc, &left, &right)
 }
 
-/// What the facts of a place are in later turns, as one of its counters tells.
+/// Adds the facts of a place as they are in later turns, by the way that one of its counters has gone.
 fn tell_by(
     told: &mut Gathering<'_>,
     turns: Turns<'_>,
@@ -96,7 +96,7 @@ fn tell_by(
     Ok(())
 }
 
-/// What the facts of a place are in later turns, as each variable tells that steps by one number.
+/// Adds the facts of a place as they are in later turns, by each variable that steps by one number.
 fn tell_place(
     told: &mut Gathering<'_>,
     turns: Turns<'_>,
@@ -118,7 +118,7 @@ fn tell_place(
     Ok(())
 }
 
-/// What the facts of all places are in later turns.
+/// Adds, for each place, its facts as they are in later turns.
 pub fn tell_drifts(
     told: &mut Gathering<'_>,
     courses: &Courses,

@@ -1,8 +1,8 @@
 //! Facts that are worth a guess at a place.
 
 use guesses::{
-    Candidate, Line, Sight, at_anchor, family, index_of, is_global, is_same, reduced, turns,
-    variable,
+    Candidate, Line, Sight, index_of, is_at_anchor, is_global, is_same, is_turns, is_variable,
+    reduced,
 };
 use linear::{Form, Symbol};
 use std::alloc::{AllocError, Global};
@@ -19,19 +19,6 @@ const CONSTANT: u64 = 35_184_372_088_832;
 /// The last rank of what paths tell.
 const TOLD: u32 = 2;
 
-fn is_slot(symbol: Symbol) -> bool {
-    family(symbol) == family(variable(0))
-}
-
-/// The symbol is a variable as it was at the anchor.
-pub fn is_anchored(symbol: Symbol) -> bool {
-    family(symbol) == family(at_anchor(0))
-}
-
-fn is_turns(symbol: Symbol) -> bool {
-    family(symbol) == family(turns(0))
-}
-
 fn has(numbers: &[u32], number: u64) -> bool {
     numbers.iter().any(|other| *other as u64 == number)
 }
@@ -39,9 +26,9 @@ fn has(numbers: &[u32], number: u64) -> bool {
 /// The symbol is one of the place.
 pub fn sees_symbol(sight: &Sight, symbol: Symbol) -> bool {
     let index = index_of(symbol);
-    if is_slot(symbol) {
+    if is_variable(symbol) {
         has(sight.slots.as_slice(), index)
-    } else if is_anchored(symbol) {
+    } else if is_at_anchor(symbol) {
         has(sight.before.as_slice(), index)
     } else if is_turns(symbol) {
         has(sight.loops.as_slice(), index)
@@ -67,14 +54,14 @@ pub fn is_all_global(form: &Form) -> bool {
 
 /// The slot of a variable's symbol, here or at the anchor.
 pub fn slot_of(symbol: Symbol) -> Option<usize> {
-    if is_slot(symbol) || is_anchored(symbol) {
+    if is_variable(symbol) || is_at_anchor(symbol) {
         Some(index_of(symbol) as usize)
     } else {
         None
     }
 }
 
-/// It has few terms, and numbers that are not too large.
+/// The form has few terms, and numbers that are not too large.
 fn is_small(form: &Form) -> bool {
     form.terms().len() <= TERMS
         && form.constant_part().unsigned_abs() <= CONSTANT
@@ -111,7 +98,7 @@ fn is_end_of_type(unsigned: &[bool], form: &Form) -> bool {
     }
 }
 
-/// It is known anyway, or it speaks of nothing that a guess of that rank is for.
+/// A fact is not worth a guess of this rank: it is known anyway, or no symbol in it is one that such a guess is for.
 fn is_needless(known: &[Form], form: &Form, rank: u32) -> bool {
     if is_all_global(form) {
         return rank > TOLD || known.iter().any(|fact| is_same(fact, form));
@@ -120,7 +107,7 @@ fn is_needless(known: &[Form], form: &Form, rank: u32) -> bool {
         && form
             .terms()
             .iter()
-            .all(|term| is_global(term.symbol) || is_anchored(term.symbol))
+            .all(|term| is_global(term.symbol) || is_at_anchor(term.symbol))
 }
 
 /// The fact as a candidate of the place, divided by the greatest number that divides its coefficients. Nothing of a fact that types or the

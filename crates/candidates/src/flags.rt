@@ -5,14 +5,15 @@ use crate::gathering::Gathering;
 use crate::naming::Naming;
 use crate::reach::{Reach, reach_of};
 use crate::sums::plus_symbol;
-use guesses::{Leaf, argument, at_anchor, family, group, length, one_of, plus, variable};
+use facts::Family;
+use guesses::{Leaf, one_of, plus, variable};
 use linear::{Form, Symbol};
 use std::alloc::AllocError;
 
-/// The rank of what is told here.
+/// The rank of the candidates that this file tells.
 const FLAG: u32 = 1;
 
-/// What a variable is at the end of a path, if that is 0 or 1.
+/// The number 0 or 1 that a variable is at the end of a path; none where its value there is anything else.
 fn answer_in(leaf: &Leaf, slot: u32) -> Option<i64> {
     let value = leaf.variables.get(slot as usize)?;
     let answer = value.constant_part();
@@ -36,21 +37,19 @@ fn kept_answer(leaves: &[Leaf], leaf: &Leaf, slot: u32) -> Option<i64> {
 
 /// Between which values a symbol lies, whatever the launch and the item.
 fn ends_by_family(symbol: Symbol) -> Option<Reach> {
-    let number = family(symbol);
-    if number == family(group(0)) {
-        return Some(Reach {
+    match Family::of(symbol) {
+        Family::Group(_) => Some(Reach {
             low: 0,
             high: 65_535,
-        });
+        }),
+        Family::Argument | Family::Length | Family::Variable(_) | Family::AtAnchor(_) => {
+            Some(Reach {
+                low: i32::MIN as i64,
+                high: u32::MAX as i64,
+            })
+        }
+        Family::Groups | Family::Local(_) | Family::New(_) | Family::Turns(_) => None,
     }
-    let words = [argument(0), length(0), variable(0), at_anchor(0)];
-    if words.iter().any(|word| family(*word) == number) {
-        return Some(Reach {
-            low: i32::MIN as i64,
-            high: u32::MAX as i64,
-        });
-    }
-    None
 }
 
 /// Between which values a symbol lies.
@@ -62,7 +61,7 @@ fn ends_of(told: &Gathering<'_>, symbol: Symbol) -> Result<Option<Reach>, AllocE
     }
 }
 
-/// What a form is at least, whatever its symbols are.
+/// The least value of a form by the ends of its symbols; none where a symbol has no ends, or a number is too large.
 fn least_value(told: &Gathering<'_>, form: &Form) -> Result<Option<i64>, AllocError> {
     let mut sum = form.constant_part();
     for term in form.terms() {
@@ -83,7 +82,7 @@ fn least_value(told: &Gathering<'_>, form: &Form) -> Result<Option<i64>, AllocEr
     Ok(Some(sum))
 }
 
-/// That the form is at least 0 where a variable is that answer, if it may be below 0.
+/// The fact that the form is at least 0 where a variable is that answer; none where the form is never below 0, or a number is too large.
 fn under(
     told: &Gathering<'_>,
     form: &Form,
@@ -104,7 +103,7 @@ fn under(
     }
 }
 
-/// What the tests of a path said, by a variable that keeps the answer.
+/// Adds each fact of a path's tests, in the terms of the place reached, as true where a variable keeps the answer that it has there.
 fn tell_flag(
     told: &mut Gathering<'_>,
     leaf: &Leaf,
@@ -125,7 +124,7 @@ fn tell_flag(
     Ok(())
 }
 
-/// What the tests of all paths said, by variables that keep the answers.
+/// Adds the facts of all paths' tests, by variables that keep the answers.
 pub fn tell_flags(
     told: &mut Gathering<'_>,
     leaves: &[Leaf],

@@ -16,7 +16,7 @@ pub struct Gathering<'a> {
     pub shelf: Shelf,
 }
 
-/// It is the kernel's entry, of which nothing is guessed.
+/// The place is the kernel's entry, of which nothing is guessed.
 fn is_entry(sight: &Sight) -> bool {
     sight.anchor.is_none() && sight.head.is_none()
 }
@@ -33,7 +33,7 @@ fn all_reduced(alloc: Global, facts: &[Form]) -> Result<Vec<Form>, AllocError> {
 }
 
 impl<'a> Gathering<'a> {
-    /// Nothing is told.
+    /// A gathering without candidates, for these places, the known facts, and which variables are `uint`, by their slots.
     pub fn new(
         alloc: Global,
         sights: &'a [Sight],
@@ -110,7 +110,7 @@ impl<'a> Gathering<'a> {
         })
     }
 
-    /// That no item comes to a place, of each.
+    /// Adds, of each place, the candidate that no item comes to it.
     pub fn add_unreached(&mut self) -> Result<(), AllocError> {
         for place in 0..self.sights.len() {
             let form = Form::constant(self.alloc, -1);
@@ -119,7 +119,7 @@ impl<'a> Gathering<'a> {
         Ok(())
     }
 
-    /// What is told.
+    /// The candidates gathered so far, each once, in the order in which they were found.
     pub fn into_candidates(self) -> Vec<Candidate> {
         self.shelf.into_candidates()
     }

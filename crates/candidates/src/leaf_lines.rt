@@ -9,7 +9,7 @@ use guesses::{Leaf, Line, Sight, one_of, turns, variable};
 use linear::{Form, Symbol};
 use std::alloc::AllocError;
 
-/// That a symbol of the place has that value there, in the terms of the place.
+/// Adds that a symbol of the place equals a form over symbols of the place, unless the form has that symbol.
 fn tell_value(
     told: &mut Gathering<'_>,
     place: usize,
@@ -76,7 +76,7 @@ fn tell_values(
     Ok(())
 }
 
-/// At a barrier, that items have each variable alike.
+/// Adds, at a barrier, that the items of a group have each of its variables alike.
 fn tell_alike(told: &mut Gathering<'_>, place: usize, to: &Sight) -> Result<(), AllocError> {
     if to.head.is_some() {
         return Ok(());
@@ -107,7 +107,7 @@ fn tell_here(
     Ok(())
 }
 
-/// What is known at the path's end, and was not where it began.
+/// Adds the facts that a path found after it began, in the terms of the place that it reaches, and sums of these.
 fn tell_facts(
     told: &mut Gathering<'_>,
     to: &Sight,
@@ -133,7 +133,7 @@ fn tell_facts(
     Ok(())
 }
 
-/// All that the path's end tells.
+/// Adds the candidates that the end of one path tells by itself, and its steps to the courses.
 pub fn tell_leaf(
     told: &mut Gathering<'_>,
     courses: &mut Courses,

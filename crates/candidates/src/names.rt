@@ -1,8 +1,7 @@
 //! What symbols of a path are called at the place that it reaches.
 
-use crate::fact_lines::is_anchored;
 use crate::sums::{plus_symbol, plus_times};
-use guesses::{is_global, one_of, try_difference, try_multiple};
+use guesses::{is_at_anchor, is_global, one_of, try_difference, try_multiple};
 use linear::{Form, Symbol, Term};
 use std::alloc::{AllocError, Global};
 
@@ -17,7 +16,7 @@ pub enum Except {
 
 fn has_anchored(form: &Form) -> bool {
     for term in form.terms() {
-        if is_anchored(term.symbol) {
+        if is_at_anchor(term.symbol) {
             return true;
         }
     }
@@ -33,7 +32,7 @@ pub struct Name {
 }
 
 impl Name {
-    /// What is told of a symbol by an owner that is the symbol so many times and a form.
+    /// The name of a symbol where the owner equals the symbol so many times plus a form; none where a number is too large.
     pub fn told(
         alloc: Global,
         owner: Symbol,
@@ -57,12 +56,12 @@ impl Name {
         }))
     }
 
-    /// It is none of those that are left out.
+    /// Neither the name's owner nor its form has a symbol that is left out.
     fn is_without(&self, except: Except) -> bool {
         match except {
             Except::Nothing => true,
             Except::Of(symbol) => self.owner != symbol && self.form.coefficient(symbol) == 0,
-            Except::AtAnchor => !is_anchored(self.owner) && !has_anchored(&self.form),
+            Except::AtAnchor => !is_at_anchor(self.owner) && !has_anchored(&self.form),
         }
     }
 }
@@ -75,7 +74,7 @@ pub struct Named {
 }
 
 impl Named {
-    /// One of its names comes from that owner.
+    /// One of the symbol's names comes from that owner.
     fn is_told_by(&self, owner: Symbol) -> bool {
         for name in self.names.as_slice() {
             if name.owner == owner {
@@ -105,14 +104,14 @@ pub struct Names {
 }
 
 impl Names {
-    /// No names.
+    /// A list that has no names.
     pub fn new(alloc: Global) -> Names {
         Names {
             list: Vec::new(alloc),
         }
     }
 
-    /// The symbol with its names.
+    /// The entry of a symbol, with its names; none where it has no name.
     pub fn find(&self, symbol: Symbol) -> Option<&Named> {
         for named in self.list.as_slice() {
             if named.symbol == symbol {

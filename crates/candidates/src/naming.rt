@@ -4,14 +4,11 @@ use crate::aliases::Aliases;
 use crate::names::{Except, Name, Named, Names};
 use crate::sums::plus_symbol;
 use guesses::{
-    Leaf, Sight, at_anchor, copied, family, is_global, try_difference, try_multiple, turns,
+    Leaf, Sight, at_anchor, copied, is_global, is_variable, try_difference, try_multiple, turns,
     variable,
 };
 use linear::{Form, Symbol, Term};
 use std::alloc::{AllocError, Global};
-
-/// The family of the private variables where a path begins.
-const VARIABLE: u64 = 6;
 
 /// How many kinds of names there are, the best first.
 const KINDS: u32 = 4;
@@ -23,14 +20,14 @@ pub struct Value {
     pub form: Form,
 }
 
-/// What the symbols of a path are called at the place that it reaches.
+/// The names that symbols of a path have at the place that it reaches, and the values there that gave them.
 #[derive(Drop)]
 pub struct Naming {
     pub(crate) aliases: Aliases,
     pub(crate) names: Names,
     /// The values of variables, then those at the anchor.
     pub(crate) values: Vec<Value>,
-    /// What ranked the loops.
+    /// The values of the rankings of the loops around the place, when their tests were last true.
     pub(crate) ranks: Vec<Value>,
 }
 
@@ -114,7 +111,7 @@ impl Naming {
         Ok(())
     }
 
-    /// Reads what ranked the loops.
+    /// Takes in the values of the rankings of the loops around the place, when their tests were last true.
     fn take_ranks(&mut self, alloc: Global, leaf: &Leaf) -> Result<(), AllocError> {
         for (number, form) in leaf.ranks.as_slice() {
             if let Some(form) = self.aliases.settled(alloc, form)? {
@@ -141,8 +138,8 @@ impl Naming {
         Ok(())
     }
 
-    /// One more name, behind all others, of each symbol that a value has beside those of the launch and of the item: of `row + groups`, which
-    /// is `row` at the end and was `@row`, that it is `row` less the groups.
+    /// One more name, behind all others, of each symbol that a value has beside those of the launch and of the item: of `row + groups`,
+    /// which is `row` at the end and was `@row`, that it is `row` less the groups.
     fn name_beside(&mut self, alloc: Global) -> Result<(), AllocError> {
         for value in self.values.as_slice() {
             if let Some(term) = only_own(&value.form) {
@@ -251,7 +248,7 @@ fn add_coincidences(alloc: Global, named: &Named, found: &mut Vec<Form>) -> Resu
         return Ok(());
     };
     for other in others {
-        if family(other.owner) == VARIABLE {
+        if is_variable(other.owner) {
             if let Some(form) = name_difference(alloc, best, other)? {
                 found.push(form)?;
             }

@@ -77,7 +77,7 @@ fn trips_of(
     }
 }
 
-/// What there is of two places, if one is the test of a loop in the body of the other one's.
+/// The nest of two places, if the inner one is the test of a loop in the body of the outer one's loop; none where a counter lacks.
 fn nest_of<'a>(
     alloc: Global,
     courses: &Courses,
@@ -102,7 +102,7 @@ fn nest_of<'a>(
     }
 }
 
-/// So many times one form and so many times another one.
+/// The sum of two forms, each so many times; none where a number is too large.
 fn blended(
     alloc: Global,
     left: &Form,

@@ -8,7 +8,7 @@ use guesses::{Leaf, try_difference, try_multiple};
 use linear::Form;
 use std::alloc::AllocError;
 
-/// The rank of what is told here.
+/// The rank of the candidates that this file tells.
 const PACE: u32 = 3;
 
 /// The one number by which a variable steps.
@@ -31,7 +31,7 @@ fn is_uneven(told: &Gathering<'_>, leaves: &[Leaf], slot: u32) -> bool {
     false
 }
 
-/// That the first way is at least the second one so many times, and at most.
+/// Adds that the first way is at most the second one so many times, and, as another candidate, that it is at least that.
 fn tell_pace(
     told: &mut Gathering<'_>,
     place: usize,
@@ -52,7 +52,7 @@ fn tell_pace(
     }
 }
 
-/// What the paces of variables tell of a place, beside an uneven one.
+/// Adds at a place how the ways of variables that step by one number compare with the way of one that does not.
 fn tell_beside(
     told: &mut Gathering<'_>,
     place: usize,
@@ -75,7 +75,7 @@ fn tell_beside(
     Ok(())
 }
 
-/// What the paces of variables tell of all places.
+/// Adds at all places how the ways of variables that step by one number compare with the ways of those that do not.
 pub fn tell_paces(
     told: &mut Gathering<'_>,
     courses: &Courses,

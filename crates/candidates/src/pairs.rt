@@ -93,7 +93,7 @@ impl Naming {
     }
 }
 
-/// It says only of what kind a symbol is.
+/// The fact says only of what kind a symbol is: that it is at least 0, or a bound by the greatest number of a kind.
 fn is_range(fact: &Form, term: Term) -> bool {
     let constant = fact.constant_part();
     fact.terms().len() == 1 && (constant >= GREATEST || constant == 0 && term.coefficient == 1)

@@ -153,7 +153,7 @@ fn times_in(term: Term, form: &Form) -> Option<i64> {
     }
 }
 
-/// The same fact, with a value so many times over the symbols of the place reached.
+/// A fact, split into its symbols without a name and those with one, after so many times a value at the place reached was taken away.
 fn less_value(
     alloc: Global,
     split: &Split,

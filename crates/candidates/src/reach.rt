@@ -22,7 +22,7 @@ impl Reach {
         }
     }
 
-    /// So many times the form, which may be below 0.
+    /// The least and the greatest value of the form so many times; the factor may be below 0. None where a number is too large.
     pub fn times(self, factor: i64) -> Option<Reach> {
         let one = self.low.checked_mul(factor)?;
         let other = self.high.checked_mul(factor)?;
@@ -32,7 +32,7 @@ impl Reach {
         })
     }
 
-    /// The sum with another form.
+    /// The least and the greatest value of the sum with another form; none where a number is too large.
     fn plus(self, other: Reach) -> Option<Reach> {
         let low = self.low.checked_add(other.low)?;
         let high = self.high.checked_add(other.high)?;
@@ -85,7 +85,7 @@ pub struct Facts<'a> {
     pub own: &'a [Form],
 }
 
-/// What single facts say of a form, and what was said before.
+/// The values of a form as far as each fact by itself narrows those given before.
 fn narrowed(
     alloc: Global,
     facts: &[Form],
@@ -104,7 +104,7 @@ fn narrowed(
     Ok(all)
 }
 
-/// What single facts say of a form.
+/// The least and the greatest value of a form, each by one fact that has the form's terms; none where either end is open.
 fn reach_by(alloc: Global, facts: Facts<'_>, form: &Form) -> Result<Option<Reach>, AllocError> {
     let any = Reach {
         low: i64::MIN,
@@ -139,7 +139,7 @@ fn unit_of(alloc: Global, form: &Form) -> Result<Option<(Form, i64)>, AllocError
     }
 }
 
-/// What single facts say of all terms together.
+/// The values of a form by facts that have all its terms together; none where there are no such facts for both ends.
 fn reach_as_whole(
     alloc: Global,
     facts: Facts<'_>,
@@ -159,7 +159,7 @@ fn added(all: Reach, one: Reach, factor: i64) -> Option<Reach> {
     all.plus(one.times(factor)?)
 }
 
-/// What single facts say of each term.
+/// The values of a form as the sum of what single facts say of each of its terms; none where a term is not bounded on both sides.
 fn reach_by_terms(
     alloc: Global,
     facts: Facts<'_>,
@@ -188,7 +188,7 @@ pub fn reach_of(alloc: Global, facts: &[Form], form: &Form) -> Result<Option<Rea
     reach_in(alloc, facts, form)
 }
 
-/// The same of facts in two lists.
+/// The values of a form where the facts of two lists hold, as far as single ones say; none where an end is open.
 pub fn reach_in(alloc: Global, facts: Facts<'_>, form: &Form) -> Result<Option<Reach>, AllocError> {
     let constant = form.constant_part();
     let constant = Reach {

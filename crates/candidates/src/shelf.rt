@@ -4,13 +4,13 @@ use guesses::{Candidate, Line, Sight};
 use linear::Form;
 use std::alloc::{AllocError, Global};
 
-/// How many candidates there may be.
+/// The most candidates on a shelf.
 const MOST: usize = 3_000;
 
 /// How many of them paths may tell, so that some room is left for strides.
 const MOST_OF_PATHS: usize = 2_500;
 
-/// How many lists there are to look for repeats in.
+/// The number of lists in which repeats are looked for.
 const BUCKETS: u64 = 256;
 
 /// The candidates, and which of them have a key.
@@ -56,7 +56,7 @@ fn bucket_of(candidate: &Candidate) -> usize {
 }
 
 impl Shelf {
-    /// No candidates.
+    /// A shelf without candidates.
     pub fn new(alloc: Global) -> Result<Shelf, AllocError> {
         let mut buckets = Vec::new(alloc);
         for _ in 0..BUCKETS {
@@ -68,12 +68,12 @@ impl Shelf {
         })
     }
 
-    /// How many candidates there are.
+    /// The number of candidates on the shelf.
     pub fn len(&self) -> usize {
         self.candidates.len()
     }
 
-    /// Paths have told enough.
+    /// The shelf has as many candidates as paths may tell.
     pub fn is_crowded(&self) -> bool {
         self.candidates.len() >= MOST_OF_PATHS
     }
@@ -123,12 +123,12 @@ impl Shelf {
         }
     }
 
-    /// The rank of that candidate.
+    /// The rank of the candidate at an index; none past the last one.
     pub fn rank_of(&self, index: usize) -> Option<u32> {
         Some(self.candidates.get(index)?.rank)
     }
 
-    /// All of them.
+    /// The candidates on the shelf, each once, in the order in which they were added.
     pub fn into_candidates(self) -> Vec<Candidate> {
         self.candidates
     }

@@ -5,7 +5,7 @@ use guesses::{Leaf, Sight, copied, is_same, variable};
 use linear::{Form, LinearError, Symbol, Term};
 use std::alloc::{AllocError, Global};
 
-/// What a variable is given on all paths.
+/// The values that a variable gets on all paths: none, one form over ids and arguments, or others.
 #[derive(Drop)]
 pub enum Given {
     Nothing,
@@ -26,7 +26,7 @@ pub fn has_slot(sight: &Sight, slot: u32) -> bool {
     sight.slots.iter().any(|other| *other == slot)
 }
 
-/// What a variable is given on the paths, with one path more.
+/// The values of a variable so far with the value that one more path gives; none where that changes nothing.
 fn given_more(alloc: Global, old: &Given, form: &Form) -> Result<Option<Given>, AllocError> {
     match old {
         Given::Nothing if is_all_global(form) => {
@@ -53,7 +53,7 @@ fn add_value(
     Ok(())
 }
 
-/// What one path gives.
+/// Adds the values that one path gives to the variables of the place that it reaches, but for those that it leaves as they were.
 fn add_leaf(
     alloc: Global,
     values: &mut [Given],
@@ -73,7 +73,7 @@ fn add_leaf(
     Ok(())
 }
 
-/// By slot, what variables are given on the paths.
+/// The values that variables get on all paths, by their slots.
 pub fn given_values(
     alloc: Global,
     sights: &[Sight],
@@ -92,7 +92,7 @@ pub fn given_values(
     Ok(values)
 }
 
-/// The one value of a variable's symbol.
+/// The one value, over ids and arguments, of the variable of a symbol; none where it has several or none.
 fn value_of(values: &[Given], symbol: Symbol) -> Option<&Form> {
     match values.get(slot_of(symbol)?) {
         Some(Given::One(form)) => Some(form),

@@ -28,7 +28,7 @@ fn way_of(
     try_difference(alloc, &own, start)
 }
 
-/// That the numbers divide a way, and both of its ends.
+/// Adds that each of the numbers divides a way, and that the way is at least 0 and at most 0.
 fn tell_way(
     told: &mut Gathering<'_>,
     place: usize,
@@ -46,7 +46,7 @@ fn tell_way(
     told.add_zero(place, way, STRIDE)
 }
 
-/// What the course of one variable tells of a place.
+/// Adds what the starts and strides of one variable make of the ways that it has gone at a place.
 fn tell_course(
     told: &mut Gathering<'_>,
     place: usize,
@@ -87,7 +87,7 @@ pub fn first_ways(
     Ok(ways)
 }
 
-/// That two ways are as their strides are.
+/// Adds that the ways of two variables that step together are in the ratio of their strides.
 fn tell_ratio(
     told: &mut Gathering<'_>,
     place: usize,
@@ -104,7 +104,7 @@ fn tell_ratio(
     told.add_equal(place, &left, &right, STRIDE)
 }
 
-/// What two variables that step together tell of a place.
+/// Adds at a place the ratios of the ways of two variables that step together, from each of their starts.
 fn tell_pair(
     told: &mut Gathering<'_>,
     place: usize,
@@ -125,7 +125,7 @@ fn tell_pair(
     Ok(())
 }
 
-/// What all courses tell of a place.
+/// Adds at a place the candidates that all variables' starts and strides give.
 fn tell_place(
     told: &mut Gathering<'_>,
     place: usize,
@@ -145,7 +145,7 @@ fn tell_place(
     Ok(())
 }
 
-/// What all courses tell of all places.
+/// Adds at each place the candidates that all variables' starts and strides give.
 pub fn tell_strides(told: &mut Gathering<'_>, courses: &Courses) -> Result<(), AllocError> {
     let sights = told.sights;
     for (place, sight) in sights.iter().enumerate() {
@@ -154,7 +154,7 @@ pub fn tell_strides(told: &mut Gathering<'_>, courses: &Courses) -> Result<(), A
     Ok(())
 }
 
-/// By how much variables step, by their slots.
+/// The numbers by which variables step, each with its variable's slot.
 pub fn all_strides(alloc: Global, courses: &Courses) -> Result<Vec<(u32, i64)>, AllocError> {
     let mut out = Vec::new(alloc);
     for (slot, course) in (0u32..).zip(courses.of_slots.iter()) {

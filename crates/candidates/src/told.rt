@@ -17,7 +17,7 @@ use guesses::{Candidate, Leaf, Sight};
 use linear::Form;
 use std::alloc::{AllocError, Global};
 
-/// What may hold at places, and by how much variables step, by their slots.
+/// The candidates that the ends of paths tell, and the numbers by which variables step, with their slots.
 #[derive(Drop)]
 pub struct Told {
     pub candidates: Vec<Candidate>,
@@ -37,7 +37,7 @@ fn namings_of(alloc: Global, sights: &[Sight], leaves: &[Leaf]) -> Result<Vec<Na
     Ok(namings)
 }
 
-/// What each path tells by itself.
+/// Adds the candidates that each path tells by itself, and collects the starts and strides of all variables.
 fn tell_leaves(
     told: &mut Gathering<'_>,
     values: &[Given],
@@ -51,7 +51,7 @@ fn tell_leaves(
     Ok(courses)
 }
 
-/// What the ends of all paths of a walk that takes each claim as shown tell: candidates of ranks 0 to 3, without repeats, and by how much
+/// The candidates of ranks 0 to 3, each once, that the ends of all paths tell of a walk which takes each claim as shown, and by how much
 /// variables step. What is known of each launch and item is not said again; variables are `uint` by their slots.
 pub fn guess_told(
     alloc: Global,

@@ -14,7 +14,7 @@ pub struct Counter {
     pub stride: i64,
 }
 
-/// By how much a variable steps along a path.
+/// The form by which a variable steps along a path; none where its value there does not hold it once.
 fn step_on(
     alloc: Global,
     sight: &Sight,
@@ -32,7 +32,7 @@ fn step_on(
     }
 }
 
-/// Between what a variable steps along a path.
+/// The least and the greatest step of a variable along a path; none where the path has no bounds for it.
 fn reach_on(
     alloc: Global,
     sight: &Sight,
@@ -92,7 +92,7 @@ pub struct Turns<'a> {
     pub values: &'a [Given],
 }
 
-/// Both, if there was one before.
+/// The least values that hold both the one before, if there was one, and this one.
 fn joined(all: Option<Reach>, one: Reach) -> Option<Reach> {
     match all {
         Some(other) => Some(other.join(one)),
@@ -101,7 +101,7 @@ fn joined(all: Option<Reach>, one: Reach) -> Option<Reach> {
 }
 
 impl Turns<'_> {
-    /// By how much a variable steps on any path from here to a place.
+    /// The least and the greatest step of a variable on any path from here to a place; none where a path has no bounds for it.
     fn reach_to(self, alloc: Global, place: usize, slot: u32) -> Result<Option<Reach>, AllocError> {
         let mut all: Option<Reach> = None;
         for leaf in self.leaves {
@@ -115,7 +115,7 @@ impl Turns<'_> {
         Ok(all)
     }
 
-    /// By how much a variable steps in any of the turns.
+    /// The least and the greatest step of a variable in any of the turns; none where a turn has no bounds for it.
     pub fn reach(self, alloc: Global, slot: u32) -> Result<Option<Reach>, AllocError> {
         self.reach_to(alloc, self.place, slot)
     }
@@ -141,7 +141,7 @@ impl Turns<'_> {
         }
     }
 
-    /// What single facts say of a variable where a turn is made.
+    /// The values of a variable where a turn is made, as far as single facts say on each path of a turn; none where an end is open.
     pub fn values_in(self, alloc: Global, slot: u32) -> Result<Option<Reach>, AllocError> {
         let own = one_of(alloc, variable(slot))?;
         let mut all: Option<Reach> = None;

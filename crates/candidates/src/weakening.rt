@@ -4,7 +4,7 @@
 use crate::gathering::Gathering;
 use crate::reach::{Facts, least_of, reach_in};
 use crate::sums::{plus_symbol, plus_times};
-use guesses::{Leaf, Sight, family, index_of, is_global, one_of, plus, variable};
+use guesses::{Leaf, Sight, index_of, is_global, is_variable, one_of, plus};
 use linear::{Form, Symbol, Term};
 use std::alloc::{AllocError, Global};
 
@@ -18,7 +18,7 @@ const LOOKED_AT: usize = 500;
 
 /// A variable's value at the end of a path.
 fn value_of(leaf: &Leaf, symbol: Symbol) -> Option<&Form> {
-    if family(symbol) != family(variable(0)) {
+    if !is_variable(symbol) {
         return None;
     }
     leaf.variables.get(index_of(symbol) as usize)
@@ -101,7 +101,7 @@ fn raised(
 
 /// A symbol is never negative, as far as its type or single facts say.
 fn is_natural(told: &Gathering<'_>, symbol: Symbol) -> Result<bool, AllocError> {
-    if family(symbol) == family(variable(0)) {
+    if is_variable(symbol) {
         return Ok(told.is_unsigned(index_of(symbol)));
     }
     if !is_global(symbol) {
@@ -124,7 +124,8 @@ fn without(told: &Gathering<'_>, form: &Form, term: Term) -> Result<Option<Form>
     }
 }
 
-/// What follows of that candidate, if it is a fact of the loop's test, and holds where the loop is entered.
+/// The facts that follow of a candidate and hold where the loop is entered as well; none where the candidate is not a fact of the loop's
+/// test.
 fn weaker(
     told: &Gathering<'_>,
     place: usize,
@@ -153,7 +154,7 @@ fn weaker(
     Ok(out)
 }
 
-/// What holds where a loop is entered as well.
+/// Adds at a loop's test what follows of its facts and holds where the loop is entered as well.
 fn tell_head(
     told: &mut Gathering<'_>,
     place: usize,
@@ -170,7 +171,7 @@ fn tell_head(
     Ok(())
 }
 
-/// What holds where loops are entered as well, of all loops.
+/// Adds, at all loops' tests, what follows of their facts and holds where the loops are entered as well.
 pub fn tell_weaker(told: &mut Gathering<'_>, leaves: &[Leaf]) -> Result<(), AllocError> {
     let sights = told.sights;
     let count = told.shelf.len().min(LOOKED_AT);

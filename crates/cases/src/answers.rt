@@ -11,7 +11,7 @@ use std::sync::Wait;
 use std::thread::{Threads, join};
 use std::time::{Clock, Duration};
 
-/// What is written, and the status.
+/// The status of a command and the bytes that it writes to its two outputs.
 #[derive(PartialEq, Eq, Drop)]
 pub struct Answer {
     pub status: u8,
@@ -29,7 +29,7 @@ impl Answer {
     }
 }
 
-/// What the program answers.
+/// The answer of the program to a command line, over these files.
 fn of_program<R: Threads + Wait + Clock + Sync, F: Files>(
     rt: &R,
     alloc: Global,
@@ -41,7 +41,7 @@ fn of_program<R: Threads + Wait + Clock + Sync, F: Files>(
     answer
 }
 
-/// What it answers where there is room for so many bytes alone.
+/// The answer of the program where its output has room for four bytes alone.
 fn with_room<R: Threads + Wait + Clock + Sync>(
     rt: &R,
     alloc: Global,
@@ -55,7 +55,7 @@ fn with_room<R: Threads + Wait + Clock + Sync>(
     answer
 }
 
-/// What a part of the program answers.
+/// The answer of a part of the program to the files of these names.
 fn of_part<R: Threads + Wait + Sync>(
     rt: &R,
     alloc: Global,
@@ -97,7 +97,7 @@ fn of_patience<R: Threads + Wait + Clock + Sync>(
     Ok(answer)
 }
 
-/// What a command line answers: the program's own; behind `torn NAME`, where the file of that name takes too much memory; behind `sealed`,
+/// The answer to a command line: the program's own; behind `torn NAME`, where the file of that name takes too much memory; behind `sealed`,
 /// where no file can be written; behind `narrow`, where no more than four bytes can be; `patience`, of the wait for an end; or that of a
 /// part.
 pub fn answer_of<R: Threads + Wait + Clock + Sync>(

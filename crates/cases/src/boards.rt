@@ -30,7 +30,7 @@ fn obligations(alloc: Global, member: Option<u32>) -> Result<Vec<Vec<Vec<u32>>>,
     Ok(made)
 }
 
-/// What a candidate rests on, if on anything.
+/// The candidate on which a candidate rests: the next one; the last one on the first if all are to stand, else on none.
 fn rests_on(candidate: u32, all_stand: bool) -> Option<u32> {
     if candidate < CANDIDATES - 1 {
         Some(candidate + 1)

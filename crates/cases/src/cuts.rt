@@ -131,7 +131,7 @@ fn search_list(
     Ok(())
 }
 
-/// A line of the file.
+/// Takes up a line of the file: a kernel begins, a fact is one more, and a list of facts is searched.
 fn take(
     rt: &HostRuntime,
     line: &str,

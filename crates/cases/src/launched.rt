@@ -63,7 +63,7 @@ fn push_lines(out: &mut String, conditions: &Conditions) -> Result<(), AllocErro
     writeln!(out, "budget {}", conditions.budget)
 }
 
-/// What conditions say of a kernel, or their refusal.
+/// Writes what conditions say of a kernel, or their refusal.
 pub fn push_conditions(
     alloc: Global,
     out: &mut String,
@@ -83,7 +83,6 @@ fn push_buffers(
     launch: &Launch,
 ) -> Result<(), AllocError> {
     let buffers = write_buffers(alloc, typed, &launch.buffers)?;
-    let buffers = String::from_utf8_lossy(alloc, &buffers)?;
     out.push_str(&buffers)
 }
 

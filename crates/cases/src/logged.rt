@@ -18,7 +18,7 @@ use words::Open;
 use work_item::identity::product_of;
 use write_log::WriteLog;
 
-/// How many records there are, and a line for each.
+/// Writes how many records a log has, and a line for each.
 fn push_records(alloc: Global, out: &mut String, log: &WriteLog) -> Result<(), AllocError> {
     let records = log.records(alloc)?;
     writeln!(out, "{} records", records.len())?;
@@ -28,7 +28,7 @@ fn push_records(alloc: Global, out: &mut String, log: &WriteLog) -> Result<(), A
     Ok(())
 }
 
-/// What the first group of a launch writes.
+/// Writes the records that the first group of a launch stores.
 #[tactic(auto, unfolding(semantics::specs::Setup::group_count))]
 fn push_group(
     alloc: Global,
@@ -46,7 +46,7 @@ fn push_group(
     push_records(alloc, out, &log)
 }
 
-/// The same of a launch that runs, and of any other why it does not.
+/// Writes the records that the first group of a launch stores, or the number of the refusal where the launch does not run.
 fn push_log<R: Threads + Wait + Sync>(
     rt: &R,
     alloc: Global,

@@ -74,7 +74,7 @@ fn run_files<R: Threads + Wait + Clock + Sync>(
     Ok(all)
 }
 
-/// Replays a schedule.
+/// Prints what a schedule does, by the files of the kernel, the launch and the schedule; always true.
 fn replay<R: Threads + Wait + Sync>(
     handle: &R,
     rt: &HostRuntime,

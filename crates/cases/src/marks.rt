@@ -13,7 +13,7 @@ pub fn cut(line: &[u8]) -> (&[u8], &[u8]) {
     (line, &[])
 }
 
-/// A decimal; 0 where there is none.
+/// The number of a decimal; 0 where the text is none.
 pub fn number_of(text: &[u8]) -> u64 {
     let mut number = 0u64;
     for byte in text {
@@ -34,7 +34,7 @@ fn half(digit: u8) -> u8 {
     }
 }
 
-/// A line, with its end.
+/// Adds a line, with its end.
 pub fn push_line(out: &mut Vec<u8>, text: &[u8]) -> Result<(), AllocError> {
     out.extend_from_slice(text)?;
     out.push(b'\n')?;

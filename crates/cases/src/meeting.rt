@@ -105,7 +105,7 @@ impl Gate for Meeting {
     }
 }
 
-/// 65 words that nobody has written.
+/// Buffers of one array with 65 words, all 0.
 fn zeros(alloc: Global) -> Result<Buffers, AllocError> {
     let row = Vec::from_elem(alloc, Word::Uint(0), 65)?;
     let mut words = Vec::new(alloc);
@@ -148,7 +148,7 @@ pub fn push_meeting<R: Threads + Wait + Sync>(
 {
     let gate = Meeting::new();
     let mut buffers = zeros(alloc)?;
-    let code = lower(alloc, typed.core())?;
+    let code = lower(alloc, typed)?;
     let task = Task {
         core: typed.core(),
         code: &code,

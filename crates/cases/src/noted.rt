@@ -2,7 +2,6 @@
 
 use certificate::Certificate;
 use certificate_notes::notes_of;
-use core_code::tree::Statement;
 use loop_bounds::{Bound, cost, turns};
 use obligations::{Lines, Notes};
 use places::{Place, Point, places};
@@ -10,24 +9,11 @@ use std::alloc::{AllocError, Global};
 use syntax::site_at;
 use types::typed::Typed;
 
-fn number_of(statement: &Statement) -> u32 {
-    match statement {
-        Statement::Set { number, .. }
-        | Statement::Store { number, .. }
-        | Statement::If { number, .. }
-        | Statement::Loop { number, .. }
-        | Statement::Barrier { number, .. }
-        | Statement::Return { number }
-        | Statement::Break { number, .. }
-        | Statement::Continue { number, .. } => *number,
-    }
-}
-
 /// The number of a point's statement, 0 where there is none.
 fn name(point: &Option<Point<'_>>) -> u32 {
     match point {
         None => 0,
-        Some(point) => number_of(point.statement),
+        Some(point) => point.statement.number(),
     }
 }
 
@@ -60,7 +46,7 @@ fn push_places(out: &mut String, places: &[Place<'_>]) -> Result<(), AllocError>
     Ok(())
 }
 
-/// Its barrier and its loop, the slots that are alike, and the constant of each fact.
+/// Writes the barrier and the loop of a place's notes (0 where there is none), the slots that are alike, and the constant of each fact.
 fn push_lines(out: &mut String, lines: &Lines) -> Result<(), AllocError> {
     write!(
         out,
@@ -150,7 +136,7 @@ pub fn push_placed(
     }
 }
 
-/// Where the statement of a number begins; the kernel, where there is no such statement.
+/// Writes the line and the column at which the statement of a number begins; the kernel's, where there is no such statement.
 pub fn push_site(out: &mut String, typed: &Typed, number: Option<u32>) -> Result<(), AllocError> {
     let site = site_at(typed.kernel(), number);
     writeln!(out, "{}:{}", site.line, site.column)

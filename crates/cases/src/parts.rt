@@ -26,7 +26,7 @@ use std::sync::Wait;
 use std::thread::Threads;
 use types::typed::Typed;
 
-/// What is asked of texts.
+/// The parts of the program that can be asked alone, each with the texts that it is asked of.
 #[derive(Clone, Copy)]
 pub enum Part {
     /// `tokens TEXT`: the tokens of a text.
@@ -110,7 +110,7 @@ fn number_of(names: &[String]) -> Option<u32> {
     names.get(1)?.as_str().parse::<u32>().ok()
 }
 
-/// `LINE:COLUMN KIND` of each token.
+/// Writes `LINE:COLUMN KIND` of each token.
 fn push_tokens(out: &mut String, tokens: &[Token<'_>]) -> Result<(), AllocError> {
     for token in tokens {
         writeln!(out, "{}:{} {:?}", token.line, token.column, token.kind)?;
@@ -118,7 +118,7 @@ fn push_tokens(out: &mut String, tokens: &[Token<'_>]) -> Result<(), AllocError>
     Ok(())
 }
 
-/// What the tokens of a text are, or its tree, or the fault.
+/// Writes the tokens of a text, its tree or where the tree's nodes stand, or the fault.
 fn push_lexed(alloc: Global, out: &mut String, asked: Asked<'_>) -> Result<(), AllocError> {
     match lex(alloc, asked.first) {
         Ok(tokens) => match asked.part {
@@ -163,7 +163,7 @@ fn push_compared(out: &mut String, first: &[u8], second: &[u8]) -> Result<(), Al
     out.push_str("not the same\n")
 }
 
-/// What is asked of a launch.
+/// Writes the answer of a part that is asked of a kernel and a launch.
 fn push_of_launch<R: Threads + Wait + Sync>(
     rt: &R,
     alloc: Global,
@@ -204,7 +204,7 @@ fn push_with_launch<R: Threads + Wait + Sync>(
     }
 }
 
-/// What is asked of a kernel.
+/// Writes the answer of a part that is asked of a kernel, and perhaps of a text that speaks of it.
 fn push_of_kernel<R: Threads + Wait + Sync>(
     rt: &R,
     alloc: Global,
@@ -235,7 +235,7 @@ fn push_with_kernel<R: Threads + Wait + Sync>(
     }
 }
 
-/// What a part answers, or the refusal of the first text that has a fault.
+/// Writes the answer of a part, or the refusal of the first text that has a fault.
 pub fn push_part<R: Threads + Wait + Sync>(
     rt: &R,
     alloc: Global,
@@ -251,7 +251,7 @@ pub fn push_part<R: Threads + Wait + Sync>(
     }
 }
 
-/// What a part answers of the files of these names.
+/// Writes the answer of a part to the files of these names.
 pub fn push_part_of_files<R: Threads + Wait + Sync>(
     rt: &R,
     alloc: Global,

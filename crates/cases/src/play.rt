@@ -209,7 +209,7 @@ fn push_end(out: &mut String, world: &World) -> Result<(), AllocError>
     push_divergence(out, world.divergence())
 }
 
-/// What the events of a schedule did, and how it ended.
+/// Writes what the events of a schedule did, and how it ended.
 pub fn push_played(
     alloc: Global,
     out: &mut String,
@@ -220,7 +220,7 @@ pub fn push_played(
     requires proper { is_proper (core_seen typed.now.1) ≡ true }
     requires fits { Fits (core_seen typed.now.1) (launch_seen launch.now) }
 {
-    let mut world = World::open(alloc, typed.core(), launch)?;
+    let mut world = World::open(alloc, typed, launch)?;
     play_lines(out, &mut world, schedule)?;
     push_end(out, &world)
 }

@@ -32,7 +32,7 @@ struct Due {
     answer: Answer,
 }
 
-/// A file of cases on its way.
+/// The state of running a file of cases: the files held, what the lines tell, and the counts.
 #[derive(Drop)]
 struct Sheet {
     alloc: Global,
@@ -46,7 +46,7 @@ fn shown(alloc: Global, text: &[u8]) -> Result<String, AllocError> {
     String::from_utf8_lossy(alloc, text)
 }
 
-/// What an answer is, a line for each part of it.
+/// Writes an answer: a line with the status, then the lines of each output.
 fn push_answer(alloc: Global, out: &mut String, answer: &Answer) -> Result<(), AllocError> {
     let text = shown(alloc, &answer.out)?;
     let err = shown(alloc, &answer.err)?;
@@ -87,7 +87,7 @@ impl Count {
 }
 
 impl Sheet {
-    /// The file that was told is there.
+    /// Puts the file that the last lines told, if any, among the held files.
     fn end_file(&mut self) -> Result<(), AllocError> {
         if !self.told.name.is_empty() {
             match self.held.write(self.told.name.as_str(), &self.told.bytes) {
@@ -99,7 +99,7 @@ impl Sheet {
         Ok(())
     }
 
-    /// The command that was told is run.
+    /// Runs the command that the last lines told, if any, and counts its answer.
     fn end_command<R: Threads + Wait + Clock + Sync>(&mut self, rt: &R) -> Result<(), AllocError> {
         if !self.due.command.is_empty() {
             let words = words_of(self.alloc, &self.due.command)?;
@@ -138,7 +138,7 @@ impl Sheet {
         }
     }
 
-    /// What stands behind a mark.
+    /// Takes up the text behind a mark: a file's or a command's name, a line of a file, or a line that is due to be written.
     fn tell(&mut self, line: usize, mark: &str, text: &[u8]) -> Result<(), AllocError> {
         match mark {
             "file" => self.begin_file(text),

@@ -40,7 +40,7 @@ fn push(text: &mut String, site: Site) -> Result<(), AllocError> {
     write!(text, " {}:{}", site.line, site.column)
 }
 
-/// Its kind's site, its name's, and its value.
+/// Writes a declaration's number, the sites of its kind and its name, and those of its value.
 fn push_declaration(text: &mut String, d: &Declaration) -> Result<(), AllocError> {
     write!(text, " {}", d.number)?;
     push(text, d.site)?;
@@ -48,7 +48,7 @@ fn push_declaration(text: &mut String, d: &Declaration) -> Result<(), AllocError
     push_expression(text, &d.value)
 }
 
-/// Its target's site, its index, its sign's site, and its value.
+/// Writes an assignment's number, the sites of its target, its index and its sign, and those of its value.
 fn push_assignment(text: &mut String, a: &Assignment) -> Result<(), AllocError> {
     write!(text, " {}", a.number)?;
     push(text, a.site)?;
@@ -118,7 +118,7 @@ fn push_first(text: &mut String, first: &First) -> Result<(), AllocError> {
     }
 }
 
-/// What stands where in the body of the tree that tokens are, or how many statements stand there, or the refusal.
+/// Writes where each node stands in the body of the tree that tokens are, or how many statements stand there, or the refusal.
 pub fn push_parsed(
     alloc: Global,
     out: &mut String,

@@ -4,7 +4,7 @@ use Rattle.std.specs.Prelude.{◌⊎◌, true, false, Err, Option, None}
 use Rattle.std.proofs.lemmas.Bool.{false≢true}
 use Rattle.semantics.specs.Launch as semantics
 use Rattle.semantics.specs.Conditions.{Conditions}
-use Rattle.texts.specs.Certificate.{Certificate}
+use Rattle.certificate_text.specs.Certificate.{Certificate}
 use Rattle.texts.specs.ConditionsReading.{Lined, meant}
 use Rattle.texts.specs.Surface as surface
 use Rattle.syntax.specs.View.{kernel as tree_seen}

@@ -3,7 +3,7 @@ use Rattle.std.proofs.Common.{◌≡◌, List, [], ap, sym, ◌∙◌, subst}
 use Rattle.std.proofs.Math.Path.{fun_ext}
 use Rattle.std.specs.Prelude.{Some}
 use Rattle.semantics.specs.Launch.{Kernel}
-use Rattle.texts.specs.Certificate.{Certificate}
+use Rattle.certificate_text.specs.Certificate.{Certificate}
 use Rattle.texts.specs.Surface as surface
 use Rattle.arrivals.specs.Places.{Place, places}
 use Rattle.obligations.specs.Notes as notes

@@ -2,9 +2,9 @@
 use Rattle.std.proofs.Common.{◌≡◌, ℕ, List, sym, subst}
 use Rattle.std.specs.Prelude.{Ok}
 use Rattle.semantics.specs.Conditions.{Conditions}
-use Rattle.texts.specs.Certificate.{Certificate}
+use Rattle.certificate_text.specs.Certificate.{Certificate}
 use Rattle.texts.specs.ConditionsReading.{Lined, conditions_of, meant}
-use Rattle.texts.specs.CertificateReading.{certificate_of}
+use Rattle.certificate_text.specs.Reading.{certificate_of}
 use Rattle.syntax.specs.View.{kernel as tree_seen}
 use Rattle.syntax.specs.declared.tree.Kernel.{Kernel}
 use Rattle.core_code.specs.View.{kernel as core_seen}

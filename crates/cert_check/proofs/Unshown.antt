@@ -4,7 +4,7 @@ use Rattle.std.proofs.lemmas.Bool.{ltb-false}
 use Rattle.std.specs.List.{All}
 use Rattle.semantics.specs.Launch.{Kernel}
 use Rattle.semantics.specs.Conditions.{Conditions}
-use Rattle.texts.specs.Certificate.{Certificate, Entry}
+use Rattle.certificate_text.specs.Certificate.{Certificate, Entry}
 use Rattle.texts.specs.Surface as surface
 use Rattle.arrivals.specs.Places.{Place, places}
 use Rattle.walk_trees.specs.Shown.{IsShown}

@@ -2,9 +2,9 @@
 use Rattle.std.specs.Prelude.{◌≡◌, ◌<◌, ◌⊎◌, ℕ, zero, suc, List, length, true, false, Result, Ok, Err}
 use Rattle.semantics.specs.Launch as semantics
 use Rattle.semantics.specs.Conditions.{Conditions}
-use Rattle.texts.specs.Certificate.{Certificate}
+use Rattle.certificate_text.specs.Certificate.{Certificate}
 use Rattle.texts.specs.ConditionsReading.{Lined, meant}
-use Rattle.texts.specs.CertificateReading.{certificate_of}
+use Rattle.certificate_text.specs.Reading.{certificate_of}
 use Rattle.texts.specs.Surface as surface
 use Rattle.syntax.specs.View.{kernel as tree_seen}
 use Rattle.syntax.specs.declared.tree.Kernel.{Kernel}

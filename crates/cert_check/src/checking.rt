@@ -42,7 +42,7 @@ use syntax::site_at;
 use syntax::tree::Kernel;
 use types::typed::Typed;
 
-/// Why there are no places, with its place in the source.
+/// The refusal of a kernel that has no places, with its place in the source.
 fn unplaced(typed: &Typed, error: PlaceError) -> CheckError
     requires { IsRefused (core_seen typed.now.1).body error }
     ensures { (c : meaning.Conditions) (certificate : List ℕ) → Stops typed.now c certificate result }
@@ -53,7 +53,7 @@ fn unplaced(typed: &Typed, error: PlaceError) -> CheckError
     }
 }
 
-/// What is not shown, where there are too many paths with their place in the source.
+/// The refusal of a kernel that is not shown; where there are too many paths, with the place in the source.
 fn unshown(kernel: &Kernel, error: ShowError) -> CheckError
     ensures { IsTold (tree_seen kernel.now) error result }
 {

@@ -6,7 +6,7 @@ ghost use Rattle.cert_check.specs.Numbers as numbers;
 
 use certificate::error::CertError;
 use core_code::tree::Site;
-pub use entry_check::{Place, ShowError};
+pub use entry_check::{Pointer, ShowError};
 use launch_text::error::LaunchTextError;
 use reading::KernelError;
 use thiserror::Error;
@@ -30,32 +30,32 @@ pub enum CheckError {
     Show(ShowError),
 }
 
-/// Where a refusal points that points to a line and a column.
-fn at_place(place: Option<(u32, u32)>) -> Option<Place>
+/// The point of a refusal that tells a line and a column.
+fn at_place(place: Option<(u32, u32)>) -> Option<Pointer>
     ensures { result ≡ numbers.at_place place }
 {
     match place {
-        Some((line, column)) => Some(Place::At { line, column }),
+        Some((line, column)) => Some(Pointer::At { line, column }),
         None => None,
     }
 }
 
-/// Where a refusal points that points to a site.
-fn at_site(site: Site) -> Place
+/// The point of a refusal that tells a site of the kernel's text.
+fn at_site(site: Site) -> Pointer
     ensures { result ≡ numbers.at_site (site_seen site) }
 {
-    Place::At {
+    Pointer::At {
         line: site.line,
         column: site.column,
     }
 }
 
-/// Where a refusal points that points to a line.
-fn at_line(line: Option<u64>) -> Option<Place>
+/// The point of a refusal that tells a line of a text.
+fn at_line(line: Option<u64>) -> Option<Pointer>
     ensures { result ≡ numbers.at_line line }
 {
     match line {
-        Some(line) => Some(Place::Number(line)),
+        Some(line) => Some(Pointer::Number(line)),
         None => None,
     }
 }
@@ -63,7 +63,7 @@ fn at_line(line: Option<u64>) -> Option<Place>
 impl CheckError {
     ghost use Rattle.cert_check.specs.Numbers.{error_number, error_place};
 
-    /// The number that it is printed under.
+    /// The number under which the error is printed.
     pub fn number(&self) -> u8
         ensures { result ≡ error_number self.now }
     {
@@ -77,8 +77,8 @@ impl CheckError {
         }
     }
 
-    /// Where it points.
-    pub fn place(&self) -> Option<Place>
+    /// The place or the number that a refusal tells; none where it tells neither.
+    pub fn place(&self) -> Option<Pointer>
         ensures { result ≡ error_place self.now }
     {
         match self {

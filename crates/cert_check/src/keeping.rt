@@ -25,7 +25,7 @@ impl Accepted {
         Accepted { typed, conditions }
     }
 
-    /// The kernel.
+    /// The kernel that was accepted, well-typed.
     pub fn typed(&self) -> &Typed
         ensures value { result.now ≡ typed_of self.now }
         ensures accepted { IsAccepted (core_seen (typed_of self.now).1) (conditions_seen (kept self.now)) }
@@ -36,7 +36,7 @@ impl Accepted {
         &self.typed
     }
 
-    /// The conditions.
+    /// The conditions under which the kernel was accepted.
     pub fn conditions(&self) -> &Conditions
         ensures value { result.now ≡ kept self.now }
         ensures accepted { IsAccepted (core_seen (typed_of self.now).1) (conditions_seen (kept self.now)) }

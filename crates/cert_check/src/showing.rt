@@ -42,7 +42,7 @@ fn is_over(core: &Core, notes: &Notes, budget: u64) -> bool
     }
 }
 
-/// By what is said of its places and loops all is shown of a kernel, within the budget.
+/// Shows all that is to be shown of a kernel, with notes of its places and loops, within the budget; an error tells what is not shown.
 fn show_noted(
     alloc: Global,
     core: &Core,
@@ -66,7 +66,7 @@ fn show_noted(
     Ok(())
 }
 
-/// So with what a certificate says of them.
+/// Shows all that is to be shown of a kernel, with what a certificate says of its places and loops; an error tells what is not shown.
 pub(crate) fn show(
     alloc: Global,
     typed: &Typed,

@@ -5,7 +5,7 @@ use Rattle.std.proofs.lemmas.Str.{IsUtf8-from_ascii}
 use Rattle.std.proofs.lemmas.Str.Ascii.{IsAscii-nil, IsAscii-cons}
 use Rattle.std.proofs.lemmas.Bool.Decides.{nat_tests}
 use Rattle.texts.specs.Tokens.{is_letter, is_word_byte}
-use Rattle.texts.specs.CertificateForms.{all_word_bytes, is_identifier}
+use Rattle.texts.specs.Identifiers.{all_word_bytes, is_identifier}
 use Rattle.texts.proofs.Fits.{both}
 
 low : (b : ℕ) → is_word_byte b ≡ true → b < 128

@@ -1,7 +1,7 @@
 -- Tests of all elements, and of each one and the next.
 use Rattle.std.proofs.Common.{◌≡◌, ℕ, ◌+◌, ◌<◌, ◌≤◌, Bool, true, false, List, [], ◌∷◌, length, drop, get_or, map, arith, refl, ap, sym, ◌∙◌, length-drop}
 use Rattle.std.proofs.lemmas.List.{drop_more, drop_all, length-map}
-use Rattle.texts.specs.CertificateRules.{all, rises}
+use Rattle.certificate_text.specs.Rules.{all, rises}
 
 at : {A B : Type 0} (view : A → B) (xs : List A) (i : ℕ) (x : A) → i < length xs → x ≡ get_or xs i x → map view (drop i xs) ≡ view x ∷ map view (drop (i + 1) xs)
 at view xs i x h e = ap (map view) (drop_more xs i x h) ∙ ap (λ y. view y ∷ map view (drop (i + 1) xs)) (sym e)

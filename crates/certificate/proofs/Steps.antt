@@ -2,8 +2,8 @@
 use Rattle.std.proofs.Common.{◌≡◌, ℕ, suc, ◌+◌, List, ◌∷◌, false, Option, Some, refl, ap, ◌∙◌, arith}
 use Rattle.std.proofs.lemmas.Bool.{cond-false}
 use Rattle.texts.specs.Lines.{is_empty}
-use Rattle.texts.specs.CertificateDrafts.{Draft}
-use Rattle.texts.specs.CertificateReading.{add_line, finish, go_on, read_lines}
+use Rattle.certificate_text.specs.Drafts.{Draft}
+use Rattle.certificate_text.specs.Reading.{add_line, finish, go_on, read_lines}
 
 went : (n : ℕ) (d : Draft) (line : List ℕ) (others : List (List ℕ)) (o : Option Draft) (e : Draft) → add_line d line ≡ o → o ≡ Some e → go_on n (add_line d line) (λ x. read_lines (suc n) x others) ≡ read_lines (suc n) e others
 went n d line others o e p q = ap (λ r. go_on n r (λ x. read_lines (suc n) x others)) (p ∙ q)

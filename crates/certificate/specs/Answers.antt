@@ -1,6 +1,6 @@
 -- What the code's errors stand for.
 use Rattle.std.specs.Prelude.{ℕ, Option, None}
-use Rattle.texts.specs.Certificate as certificate
+use Rattle.certificate_text.specs.Certificate as certificate
 use Rattle.certificate.specs.declared.error.CertFault.{CertFault}
 use Rattle.certificate.specs.declared.error.CertFault.TheVariants as faults
 use Rattle.certificate.specs.declared.error.CertError.{CertError}

@@ -1,9 +1,9 @@
 -- The code's certificates as those of the definitions, and its answers.
 use Rattle.std.specs.Prelude.{◌≡◌, Option, Result, Ok, Err}
-use Rattle.texts.specs.Certificate as certificates
-use Rattle.texts.specs.CertificateReading as reading
-use Rattle.texts.specs.CertificateForms.{when}
-use Rattle.texts.specs.CertificateRules.{is_certificate}
+use Rattle.certificate_text.specs.Certificate as certificates
+use Rattle.certificate_text.specs.Reading as reading
+use Rattle.certificate_text.specs.Forms.{when}
+use Rattle.certificate_text.specs.Rules.{is_certificate}
 use Rattle.certificate.specs.declared.certificate.Certificate.{Certificate}
 use Rattle.certificate.specs.declared.error.CertError.{CertError}
 use Rattle.certificate.specs.declared.error.CertError.TheVariants as errors

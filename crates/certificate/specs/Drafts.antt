@@ -1,7 +1,7 @@
 -- The code's drafts as those of the definitions.
 use Rattle.std.specs.Prelude.{map}
-use Rattle.texts.specs.Certificate as certificate
-use Rattle.texts.specs.CertificateDrafts as drafting
+use Rattle.certificate_text.specs.Certificate as certificate
+use Rattle.certificate_text.specs.Drafts as drafting
 use Rattle.certificate.specs.declared.draft.Parts.{Parts}
 use Rattle.certificate.specs.declared.draft.Open.{Open}
 use Rattle.certificate.specs.declared.draft.Open.TheVariants as opens

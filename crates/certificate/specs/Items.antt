@@ -1,6 +1,6 @@
 -- The code's items as those of the definitions.
 use Rattle.std.specs.String.{string_bytes}
-use Rattle.texts.specs.CertificateLines as meaning
+use Rattle.certificate_text.specs.Lines as meaning
 use Rattle.certificate.specs.declared.item.Item.{Item}
 use Rattle.certificate.specs.declared.item.Item.TheVariants as items
 use Rattle.certificate.specs.View.{spot, form, congruence, bound, sort, step}

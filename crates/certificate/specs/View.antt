@@ -1,8 +1,8 @@
 -- The code's certificates as those of the definitions.
 use Rattle.std.specs.Prelude.{map}
 use Rattle.std.specs.String.{string_bytes}
-use Rattle.semantics.specs.Linear as linear
-use Rattle.texts.specs.Certificate as certificate
+use Rattle.linear.specs.Linear as linear
+use Rattle.certificate_text.specs.Certificate as certificate
 use Rattle.certificate.specs.declared.tree.Dimension.{Dimension}
 use Rattle.certificate.specs.declared.tree.Dimension.TheVariants as dimensions
 use Rattle.certificate.specs.declared.tree.Name.{Name}

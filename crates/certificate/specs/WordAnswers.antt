@@ -1,7 +1,7 @@
 -- What the code's answers stand for.
 use Rattle.std.specs.Prelude.{◌≡◌, List, ℕ, Option, None, Some, Result, Ok, Err}
 use Rattle.std.specs.Option.{option_map}
-use Rattle.texts.specs.Certificate as certificate
+use Rattle.certificate_text.specs.Certificate as certificate
 use Rattle.lines.specs.declared.pieces.Pieces.{Pieces}
 use Rattle.lines.specs.Left.{left}
 use Rattle.certificate.specs.declared.tree.Descent.{Descent}

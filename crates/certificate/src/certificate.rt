@@ -1,7 +1,7 @@
 //! Certificates that have a text.
 
 ghost use Rattle.std.specs.Prelude.{◌≡◌, true};
-ghost use Rattle.texts.specs.CertificateRules.{is_certificate};
+ghost use Rattle.certificate_text.specs.Rules.{is_certificate};
 ghost use Rattle.certificate.specs.Drafts.{parts as parts_of};
 
 use crate::draft::Parts;
@@ -9,8 +9,8 @@ use crate::rules::is_certificate as is_proper;
 use crate::tree::{Bound, Entry, Place};
 use std::alloc::{AllocError, Global};
 
-/// What is said of places, how loops end, and what shows each obligation: names and numbers that can be written, and
-/// places, loops and obligations that rise.
+/// A certificate that has a text: the lines of places, how loops end, and the entries of obligations, with names and numbers that can be
+/// written, and places, loops and obligations that rise.
 #[derive(Drop)]
 pub struct Certificate {
     parts: Parts,
@@ -20,8 +20,8 @@ pub struct Certificate {
 impl Certificate {
     ghost use Rattle.std.specs.Prelude.{◌≡◌, true, map, IfOk};
     ghost use Rattle.std.specs.Option.{option_map};
-    ghost use Rattle.texts.specs.CertificateDrafts.{certificate as of_parts};
-    ghost use Rattle.texts.specs.CertificateRules.{is_certificate};
+    ghost use Rattle.certificate_text.specs.Drafts.{certificate as of_parts};
+    ghost use Rattle.certificate_text.specs.Rules.{is_certificate};
     ghost use Rattle.certificate.specs.View as view;
     ghost use Rattle.certificate.specs.Certificates.{certificate, proper};
     ghost use Rattle.certificate.specs.Drafts as drafts;
@@ -53,21 +53,21 @@ impl Certificate {
         Ok(Some(Certificate::of(parts)))
     }
 
-    /// What is said of places, in the order of the text.
+    /// The places of which the certificate says something, in the order of the text.
     pub fn places(&self) -> &[Place]
         ensures { map view.place result.now ≡ (certificate self.now).places }
     {
         self.parts.places.as_slice()
     }
 
-    /// How loops end, their numbers rising.
+    /// The lines that say how loops end, the loops' numbers rising.
     pub fn bounds(&self) -> &[Bound]
         ensures { map view.bound result.now ≡ (certificate self.now).bounds }
     {
         self.parts.bounds.as_slice()
     }
 
-    /// What shows obligations, their numbers rising.
+    /// The entries of the certificate, the numbers of their obligations rising.
     pub fn entries(&self) -> &[Entry]
         ensures { map view.entry result.now ≡ (certificate self.now).entries }
     {

@@ -1,7 +1,7 @@
 //! A certificate of which some lines are read, and what may stand behind them.
 
 ghost use Rattle.std.specs.Prelude.{◌≡◌};
-ghost use Rattle.texts.specs.CertificateDrafts as drafting;
+ghost use Rattle.certificate_text.specs.Drafts as drafting;
 ghost use Rattle.certificate.specs.View as view;
 ghost use Rattle.certificate.specs.Items as items;
 ghost use Rattle.certificate.specs.Drafts as drafts;
@@ -13,7 +13,7 @@ use crate::order::{bound_follows, entry_follows, has_line, place_follows};
 use crate::tree::{Bound, Entry, EntrySort, Place, Spot, Step};
 use std::alloc::Global;
 
-/// The parts that are settled.
+/// The parts of a certificate whose lines are complete.
 #[derive(Drop)]
 pub struct Parts {
     pub places: Vec<Place>,
@@ -21,7 +21,7 @@ pub struct Parts {
     pub entries: Vec<Entry>,
 }
 
-/// What is open behind them.
+/// The part of a draft to which the next line may add, behind the settled ones.
 #[derive(Drop)]
 pub enum Open {
     Nothing,
@@ -60,7 +60,7 @@ fn entry_fits(settled: &Parts, obligation: u64) -> bool
     entry_follows(settled.entries.as_slice(), obligation)
 }
 
-/// What is open becomes settled.
+/// The settled parts with the open one; an error where that is a place without a line, or the end was read.
 fn settle(settled: Parts, opened: Open) -> Result<Parts, LineError>
     ensures { Means drafts.parts result (drafting.settle (drafts.parts settled) (drafts.opened opened)) }
 {
@@ -82,7 +82,7 @@ fn settle(settled: Parts, opened: Open) -> Result<Parts, LineError>
     }
 }
 
-/// In a place `same` lines come first, then `fact` lines, then `mod` lines.
+/// A place with one more line: `same` lines come first, then `fact` lines, then `mod` lines; an error where the line is none.
 fn add_to_place(place: Place, item: Item) -> Result<Place, LineError>
     ensures { Means view.place result (drafting.add_to_place (view.place place) (items.item item)) }
 {
@@ -212,8 +212,8 @@ fn add_within(draft: Draft, item: Item) -> Result<Draft, LineError>
     })
 }
 
-/// One more line.
-#[tactic(auto, unfolding(texts::specs::CertificateDrafts::add))]
+/// A draft with one more line; an error where the line may not stand behind those that are read.
+#[tactic(auto, unfolding(certificate_text::specs::Drafts::add))]
 pub fn add(alloc: Global, draft: Draft, item: Item) -> Result<Draft, LineError>
     ensures { Means drafts.draft result (drafting.add (drafts.draft draft) (items.item item)) }
 {

@@ -1,8 +1,8 @@
 //! Which entries have a text.
 
 ghost use Rattle.std.specs.Prelude.{◌≡◌, map, IfOk};
-ghost use Rattle.texts.specs.CertificateLines as meaning;
-ghost use Rattle.texts.specs.CertificateRules as rules;
+ghost use Rattle.certificate_text.specs.Lines as meaning;
+ghost use Rattle.certificate_text.specs.Rules as rules;
 ghost use Rattle.certificate.specs.View as view;
 
 use crate::proper::{is_form, is_integer, is_natural};

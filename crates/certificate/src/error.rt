@@ -15,10 +15,10 @@ pub enum CertFault {
 }
 
 impl CertFault {
-    ghost use Rattle.texts.specs.Certificate.{certificate_fault_number, certificate_fault_line};
+    ghost use Rattle.certificate_text.specs.Certificate.{certificate_fault_number, certificate_fault_line};
     ghost use Rattle.certificate.specs.Answers.{fault};
 
-    /// The number that it is printed under.
+    /// The number under which the fault is printed.
     pub fn number(self) -> u8
         ensures { result ≡ certificate_fault_number (fault self) }
     {
@@ -28,7 +28,7 @@ impl CertFault {
         }
     }
 
-    /// The line, where it has one.
+    /// The line that is bad; none of another version.
     pub fn place(self) -> Option<usize>
         ensures { result ≡ certificate_fault_line (fault self) }
     {
@@ -60,7 +60,7 @@ pub enum CertError {
 impl CertError {
     ghost use Rattle.certificate.specs.Answers.{error_number, error_place};
 
-    /// The number that it is printed under.
+    /// The number under which the error is printed.
     pub fn number(&self) -> u8
         ensures { result ≡ error_number self.now }
     {

@@ -3,7 +3,7 @@
 ghost use Rattle.std.specs.Prelude.{◌≡◌, []};
 ghost use Rattle.std.specs.Option.{option_map};
 ghost use Rattle.std.specs.String.{string_bytes};
-ghost use Rattle.texts.specs.CertificateLines as meaning;
+ghost use Rattle.certificate_text.specs.Lines as meaning;
 ghost use Rattle.lines.specs.Left.{left};
 ghost use Rattle.certificate.specs.View as view;
 ghost use Rattle.certificate.specs.Items as items;
@@ -17,7 +17,7 @@ use crate::word::{descent, integer, is, natural, natural_from, scaled, spot};
 use lines::pieces::Pieces;
 use std::alloc::Global;
 
-/// What a line between the first and the last says.
+/// A line of a certificate between the first and the last, and the last, by what it says.
 #[derive(Drop)]
 pub enum Item {
     Place(Spot),
@@ -30,7 +30,7 @@ pub enum Item {
     End,
 }
 
-#[tactic(auto, unfolding(texts::specs::CertificateLines::congruence_of))]
+#[tactic(auto, unfolding(certificate_text::specs::Lines::congruence_of))]
 fn congruence(alloc: Global, words: Pieces<'_>) -> Result<Congruence, LineError>
     ensures { Means view.congruence result (meaning.congruence_of (left words.entry)) }
 {
@@ -44,7 +44,7 @@ fn congruence(alloc: Global, words: Pieces<'_>) -> Result<Congruence, LineError>
     Ok(Congruence { modulus, form })
 }
 
-#[tactic(auto, unfolding(texts::specs::CertificateLines::bound_of))]
+#[tactic(auto, unfolding(certificate_text::specs::Lines::bound_of))]
 fn bound(alloc: Global, words: Pieces<'_>) -> Result<Bound, LineError>
     ensures { Means view.bound result (meaning.bound_of (left words.entry)) }
 {
@@ -104,7 +104,7 @@ fn sort(alloc: Global, word: &[u8], words: Pieces<'_>) -> Result<EntrySort, Line
     Ok(sort)
 }
 
-#[tactic(auto, unfolding(texts::specs::CertificateLines::entry_of))]
+#[tactic(auto, unfolding(certificate_text::specs::Lines::entry_of))]
 fn entry(alloc: Global, words: Pieces<'_>) -> Result<Item, LineError>
     ensures { Means items.item result (meaning.entry_of (left words.entry)) }
 {
@@ -145,7 +145,7 @@ fn divide(words: Pieces<'_>) -> Result<Step, LineError>
     Ok(Step::Divide(quotient))
 }
 
-#[tactic(auto, unfolding(texts::specs::CertificateLines::sum_of))]
+#[tactic(auto, unfolding(certificate_text::specs::Lines::sum_of))]
 fn sum(alloc: Global, words: Pieces<'_>) -> Result<Step, LineError>
     ensures { Means view.step result (meaning.sum_of [] (left words.entry)) }
 {
@@ -209,8 +209,8 @@ fn step_item(alloc: Global, keyword: &[u8], words: Pieces<'_>) -> Result<Item, L
     }
 }
 
-/// What the words of a line say.
-#[tactic(auto, unfolding(texts::specs::CertificateLines::item_of))]
+/// The line that the words of a line make; an error where they make none.
+#[tactic(auto, unfolding(certificate_text::specs::Lines::item_of))]
 pub fn read_item(alloc: Global, words: Pieces<'_>) -> Result<Item, LineError>
     ensures { Means items.item result (meaning.item_of (left words.entry)) }
 {

@@ -4,7 +4,7 @@ ghost use Rattle.std.specs.Prelude.{◌≡◌, ◌&&◌, [], map, None, bytes_eq
 ghost use Rattle.std.specs.Option.{option_copied};
 ghost use Rattle.std.specs.String.{string_bytes};
 ghost use Rattle.texts.specs.Lines.{natural_of, integer_of};
-ghost use Rattle.texts.specs.CertificateForms as forms;
+ghost use Rattle.certificate_text.specs.Forms as forms;
 ghost use Rattle.lines.specs.Left.{left};
 ghost use Rattle.certificate.specs.View as view;
 ghost use Rattle.certificate.specs.WordAnswers.{Means, pair};
@@ -29,7 +29,7 @@ pub fn identifier(alloc: Global, word: &[u8]) -> Result<String, LineError>
     Ok(String::from_str(alloc, text)?)
 }
 
-#[tactic(auto, unfolding(texts::specs::CertificateForms::dimensional_of))]
+#[tactic(auto, unfolding(certificate_text::specs::Forms::dimensional_of))]
 fn dimensional(alloc: Global, word: &[u8]) -> Result<Name, LineError>
     ensures { Means view.name result (forms.dimensional_of word.now) }
 {
@@ -53,7 +53,7 @@ fn dimensional(alloc: Global, word: &[u8]) -> Result<Name, LineError>
     }
 }
 
-#[tactic(auto, unfolding(texts::specs::CertificateForms::name_of))]
+#[tactic(auto, unfolding(certificate_text::specs::Forms::name_of))]
 pub fn name(alloc: Global, word: &[u8]) -> Result<Name, LineError>
     ensures { Means view.name result (forms.name_of word.now) }
 {
@@ -108,8 +108,8 @@ fn constant(terms: Vec<Term>, word: &[u8]) -> Result<Form, LineError>
     Ok(Form { terms, constant })
 }
 
-/// The form that words say.
-#[tactic(auto, unfolding(texts::specs::CertificateForms::form_of))]
+/// The form that all the words make; an error where they make none.
+#[tactic(auto, unfolding(certificate_text::specs::Forms::form_of))]
 pub fn form(alloc: Global, words: Pieces<'_>) -> Result<Form, LineError>
     ensures { Means view.form result (forms.form_of [] None (left words.entry)) }
 {

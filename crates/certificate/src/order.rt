@@ -3,9 +3,9 @@
 ghost use Rattle.std.specs.Prelude.{◌≡◌, map};
 ghost use Rattle.std.specs.Option.{option_copied};
 ghost use Rattle.texts.specs.Lines as lines;
-ghost use Rattle.texts.specs.CertificateForms as forms;
-ghost use Rattle.texts.specs.CertificateLines as meaning;
-ghost use Rattle.texts.specs.CertificateDrafts as drafting;
+ghost use Rattle.certificate_text.specs.Forms as forms;
+ghost use Rattle.certificate_text.specs.Lines as meaning;
+ghost use Rattle.certificate_text.specs.Drafts as drafting;
 ghost use Rattle.certificate.specs.View as view;
 
 use crate::tree::{Anchor, Bound, Entry, Place, Scaled, Spot};

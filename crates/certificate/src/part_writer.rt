@@ -4,7 +4,7 @@ ghost use Rattle.std.specs.Prelude.{◌≡◌, ◌++◌, [], ◌∷◌, map, OnO
 ghost use Rattle.std.specs.List.{flat_map};
 ghost use Rattle.std.specs.String.{string_bytes};
 ghost use Rattle.texts.specs.Lines.{text_of_lines};
-ghost use Rattle.texts.specs.CertificateText as text;
+ghost use Rattle.certificate_text.specs.Text as text;
 ghost use Rattle.certificate.specs.View as view;
 
 use crate::spelling::push_name;

@@ -2,8 +2,10 @@
 
 ghost use Rattle.std.specs.Prelude.{◌≡◌, map, IfOk};
 ghost use Rattle.std.specs.String.{string_bytes};
-ghost use Rattle.texts.specs.CertificateForms as forms;
-ghost use Rattle.texts.specs.CertificateRules as rules;
+ghost use Rattle.certificate_text.specs.Forms as forms;
+ghost use Rattle.texts.specs.Identifiers as identifiers;
+ghost use Rattle.certificate_text.specs.Rules as rules;
+ghost use Rattle.texts.specs.Lines as numbers;
 ghost use Rattle.certificate.specs.View as view;
 
 use crate::spelling::term_is_before;
@@ -12,20 +14,20 @@ use crate::word::is_identifier;
 use std::alloc::{AllocError, Global};
 
 pub fn is_natural(number: u64) -> bool
-    ensures { result ≡ rules.is_natural number }
+    ensures { result ≡ numbers.is_natural number }
 {
     number < 1 << 63
 }
 
-/// Each `i64` is one.
+/// Whether a number can be written in a certificate, as each `i64` can.
 pub fn is_integer(number: i64) -> bool
-    ensures { result ≡ rules.is_integer number }
+    ensures { result ≡ numbers.is_integer number }
 {
     i64::MIN <= number
 }
 
 pub fn is_spelt(name: &String) -> bool
-    ensures { result ≡ forms.is_identifier (string_bytes name.now) }
+    ensures { result ≡ identifiers.is_identifier (string_bytes name.now) }
 {
     is_identifier(name.as_bytes())
 }
@@ -115,7 +117,7 @@ pub fn are_congruences(alloc: Global, congruences: &[Congruence]) -> Result<bool
 
 #[tactic(auto, using(crate::proofs::Rows::all_rows))]
 pub fn are_identifiers(names: &[String]) -> bool
-    ensures { result ≡ rules.all forms.is_identifier (map string_bytes names.now) }
+    ensures { result ≡ rules.all identifiers.is_identifier (map string_bytes names.now) }
 {
     for name in names {
         if !is_spelt(name) {

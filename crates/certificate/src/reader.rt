@@ -3,10 +3,10 @@
 ghost use Rattle.std.specs.Prelude.{◌≡◌, ◌+◌, ◌≤◌, ◌^◌, true, length, map};
 ghost use Rattle.std.specs.Option.{option_map};
 ghost use Rattle.texts.specs.Lines.{words};
-ghost use Rattle.texts.specs.CertificateLines as meaning;
-ghost use Rattle.texts.specs.CertificateDrafts as drafting;
-ghost use Rattle.texts.specs.CertificateReading as reading;
-ghost use Rattle.texts.specs.CertificateRules.{is_certificate};
+ghost use Rattle.certificate_text.specs.Lines as meaning;
+ghost use Rattle.certificate_text.specs.Drafts as drafting;
+ghost use Rattle.certificate_text.specs.Reading as reading;
+ghost use Rattle.certificate_text.specs.Rules.{is_certificate};
 ghost use Rattle.lines.specs.Left.{left};
 ghost use Rattle.certificate.specs.WordAnswers.{Means};
 ghost use Rattle.certificate.specs.Answers.{fault};
@@ -27,14 +27,14 @@ use std::alloc::Global;
 /// The longest text that is read, in bytes.
 pub const LIMIT: usize = 16_777_216;
 
-/// A line that says nothing.
+/// The error of a line that says nothing, by its number.
 fn bad(line: usize) -> CertError
     ensures { result ≡ Refused (BadLine line) }
 {
     CertError::Refused(CertFault::BadLine(line))
 }
 
-/// What `certificate M` has for M.
+/// The number M of a line `certificate M`; none where the line is another one.
 fn version(line: &[u8]) -> Option<i64>
     ensures { result ≡ reading.version_of (words line.now) }
 {
@@ -47,7 +47,7 @@ fn version(line: &[u8]) -> Option<i64>
     integer(version)
 }
 
-/// What is wrong with the first line.
+/// The fault of a certificate's first line: it is no such line, or the version is not 1; none where it is `certificate 1`.
 fn head_fault(line: &[u8]) -> Option<CertFault>
     ensures { option_map fault result ≡ reading.head_fault (words line.now) }
 {

@@ -1,7 +1,7 @@
 //! Which certificates have a text.
 
 ghost use Rattle.std.specs.Prelude.{◌≡◌, map, IfOk};
-ghost use Rattle.texts.specs.CertificateRules as rules;
+ghost use Rattle.certificate_text.specs.Rules as rules;
 ghost use Rattle.certificate.specs.View as view;
 ghost use Rattle.certificate.specs.Drafts as drafts;
 

@@ -2,8 +2,8 @@
 
 ghost use Rattle.std.specs.Prelude.{◌≡◌, ◌++◌, IfOk, OnOk};
 ghost use Rattle.std.specs.String.{string_bytes};
-ghost use Rattle.texts.specs.CertificateText as text;
-ghost use Rattle.texts.specs.CertificateRules as rules;
+ghost use Rattle.certificate_text.specs.Text as text;
+ghost use Rattle.certificate_text.specs.Rules as rules;
 ghost use Rattle.certificate.specs.View as view;
 
 use crate::tree::{Dimension, Name, Term};

@@ -38,7 +38,7 @@ pub struct Form {
     pub constant: i64,
 }
 
-/// Where the items of a group meet: at their first step, or at a barrier statement.
+/// The point at which the items of a group meet: their first step, or a barrier statement by its number.
 #[derive(Clone, Copy, Drop)]
 pub enum Anchor {
     KernelEntry,
@@ -60,7 +60,7 @@ pub struct Congruence {
     pub ghost small: { modulus < 2 ^ 63 },
 }
 
-/// What is said of a spot: names on which the items of a group agree, forms that are at least 0, and congruences.
+/// The lines of a spot: names on which the items of a group agree, forms that are at least 0, and congruences.
 #[derive(Drop)]
 pub struct Place {
     pub spot: Spot,
@@ -70,7 +70,7 @@ pub struct Place {
 }
 
 /// How each turn of a loop makes its form less: by a step at least, or at most half.
-#[derive(Clone, Copy, Drop)]
+#[derive(Clone, Copy, PartialEq, Eq, Drop)]
 pub enum Descent {
     Down(u64),
     Halve,
@@ -85,7 +85,7 @@ pub struct Bound {
     pub form: Form,
 }
 
-/// What an entry shows of its obligation.
+/// The manner in which an entry shows its obligation: plainly, of a divisor as positive or negative, or of a congruence with its quotient.
 #[derive(Drop)]
 pub enum EntrySort {
     Show,
@@ -109,7 +109,7 @@ pub enum Step {
     Divide(Scaled),
 }
 
-/// What shows an obligation.
+/// An entry: the number of its obligation, the manner in which it shows that, and the steps of its derivation.
 #[derive(Drop)]
 pub struct Entry {
     pub obligation: u64,

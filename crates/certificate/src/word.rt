@@ -5,8 +5,9 @@ ghost use Rattle.std.specs.Option.{option_map};
 ghost use Rattle.std.specs.Str.{bytes_eq};
 ghost use Rattle.texts.specs.Tokens.{is_letter, is_word_byte};
 ghost use Rattle.texts.specs.Lines.{natural_of, integer_of};
-ghost use Rattle.texts.specs.CertificateForms as forms;
-ghost use Rattle.texts.specs.CertificateLines as meaning;
+ghost use Rattle.certificate_text.specs.Forms as forms;
+ghost use Rattle.texts.specs.Identifiers as identifiers;
+ghost use Rattle.certificate_text.specs.Lines as meaning;
 ghost use Rattle.lines.specs.Left.{left};
 ghost use Rattle.certificate.specs.View as view;
 ghost use Rattle.certificate.specs.WordAnswers.{descent_left};
@@ -15,14 +16,14 @@ use crate::tree::{Anchor, Descent, Dimension, Scaled, Spot};
 use lines::number;
 use lines::pieces::Pieces;
 
-/// Whether a word is spelt so.
+/// Whether a word has this spelling.
 pub fn is(word: &[u8], spelling: &str) -> bool
     ensures { result ≡ bytes_eq word.now spelling.now }
 {
     word == spelling.as_bytes()
 }
 
-/// Whether a word begins so.
+/// Whether a word begins with this spelling.
 pub fn begins(word: &[u8], front: &str) -> bool
     ensures { result ≡ forms.begins word.now front.now }
 {
@@ -71,7 +72,7 @@ fn is_word_byte(b: u8) -> bool
 }
 
 fn are_word_bytes(bytes: &[u8]) -> bool
-    ensures { result ≡ forms.all_word_bytes bytes.now }
+    ensures { result ≡ identifiers.all_word_bytes bytes.now }
 {
     for b in bytes {
         if !is_word_byte(*b) {
@@ -82,7 +83,7 @@ fn are_word_bytes(bytes: &[u8]) -> bool
 }
 
 pub fn is_identifier(word: &[u8]) -> bool
-    ensures { result ≡ forms.is_identifier word.now }
+    ensures { result ≡ identifiers.is_identifier word.now }
 {
     match word {
         [] => false,

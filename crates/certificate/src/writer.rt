@@ -1,7 +1,7 @@
 //! The text of a certificate.
 
 ghost use Rattle.std.specs.Prelude.{◌≡◌, IfOk};
-ghost use Rattle.texts.specs.CertificateText as text;
+ghost use Rattle.certificate_text.specs.Text as text;
 ghost use Rattle.certificate.specs.Certificates.{certificate};
 
 use crate::certificate::Certificate;

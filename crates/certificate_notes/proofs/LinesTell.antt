@@ -2,14 +2,14 @@
 use Rattle.std.proofs.Common.{◌≡◌, ℕ, Bool, true, false, cond, List, [], ◌∷◌, Option, None, Some, refl}
 use Rattle.std.specs.Option.{option_map}
 use Rattle.std.proofs.lemmas.Bool.{and_from}
-use Rattle.semantics.specs.Linear.{Form}
+use Rattle.linear.specs.Linear.{Form}
 use Rattle.facts.specs.Symbols.{Fact, constant}
 use Rattle.arrivals.specs.Places as places
 use Rattle.obligations.specs.Notes as notes
 use Rattle.obligations.specs.Listing.{is_some}
 use Rattle.obligations.specs.Telling.{tells, all_tell, congruences_tell}
-use Rattle.texts.specs.Certificate as certificate
-use Rattle.texts.specs.Certificate.{Name, Anchor, KernelEntry, Barrier, Certificate}
+use Rattle.certificate_text.specs.Certificate as certificate
+use Rattle.certificate_text.specs.Certificate.{Name, Anchor, KernelEntry, Barrier, Certificate}
 use Rattle.certificate_notes.specs.Scenes.{Named, Scene}
 use Rattle.certificate_notes.specs.Sights.{Chart, Sight, fact}
 use Rattle.certificate_notes.specs.Noted.{put_first, each, Lines, congruence, joined, lines_at, lines_of}

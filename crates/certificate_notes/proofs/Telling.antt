@@ -3,13 +3,13 @@ use Rattle.std.proofs.Common.{◌≡◌, ℕ, zero, suc, ◌%◌, ◌<◌, Bool,
 use Rattle.std.specs.Prelude.{ℤ, pos, negsuc, ◌+ℤ◌, ◌*ℤ◌}
 use Rattle.std.specs.Option.{option_map}
 use Rattle.std.proofs.lemmas.Bool.{and_parts, and_from}
-use Rattle.semantics.specs.Linear.{Weighted}
+use Rattle.linear.specs.Linear.{Weighted}
 use Rattle.linear.specs.Exact.{Terms, fits, put, merge, merge_one, sum, multiple}
 use Rattle.facts.specs.Symbols as symbols
 use Rattle.facts.specs.Symbols.{Symbol, number, symbol_of, Fact, constant}
 use Rattle.facts.proofs.Naming.{symbol_of-number}
 use Rattle.obligations.specs.Telling.{may_tell, is_symbol, terms_tell, tells}
-use Rattle.texts.specs.Certificate.{Name, Variable, AtAnchor, Turns, Fresh, Argument, Length, Groups, Group, Local}
+use Rattle.certificate_text.specs.Certificate.{Name, Variable, AtAnchor, Turns, Fresh, Argument, Length, Groups, Group, Local}
 use Rattle.certificate_notes.specs.Scenes.{Named}
 use Rattle.certificate_notes.specs.Sights.{Chart, Sight, slot_of, found_in, dimension_number, symbol, fitting, then_fact, with_term, then_added, added}
 

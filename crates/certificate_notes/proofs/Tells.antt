@@ -8,10 +8,10 @@ use Rattle.obligations.specs.Notes as notes
 use Rattle.obligations.specs.Listing.{is_some}
 use Rattle.obligations.specs.Telling.{tells, all_tell, congruences_tell, TellsOfItems}
 use Rattle.obligations.specs.View.{same_number}
-use Rattle.texts.specs.CertificateRules.{all}
+use Rattle.certificate_text.specs.Rules.{all}
 use Rattle.texts.specs.Surface as surface
-use Rattle.texts.specs.Certificate as certificate
-use Rattle.texts.specs.Certificate.{Name, Anchor, KernelEntry, Barrier, Certificate}
+use Rattle.certificate_text.specs.Certificate as certificate
+use Rattle.certificate_text.specs.Certificate.{Name, Anchor, KernelEntry, Barrier, Certificate}
 use Rattle.certificate_notes.specs.Scenes.{Scene}
 use Rattle.certificate_notes.specs.Sights.{Chart, chart_of, fact}
 use Rattle.certificate_notes.specs.Noted.{put_first, each, Lines, lines_of, Ranked, bound_of, ranked, ranked_at, ranked_of, has_line, Quoted, quotients_of, Noted, noted_all, noted_by, noted}

@@ -5,10 +5,10 @@ use Rattle.semantics.specs.Launch as launch
 use Rattle.facts.specs.Symbols.{Fact}
 use Rattle.arrivals.specs.Places as places
 use Rattle.obligations.specs.Notes as notes
-use Rattle.texts.specs.CertificateRules.{all}
+use Rattle.certificate_text.specs.Rules.{all}
 use Rattle.texts.specs.Surface as surface
-use Rattle.texts.specs.Certificate as certificate
-use Rattle.texts.specs.Certificate.{Descent, Down, Halve, EntrySort, Show, Positive, Negative, Quotient, Certificate}
+use Rattle.certificate_text.specs.Certificate as certificate
+use Rattle.certificate_text.specs.Certificate.{Descent, Down, Halve, EntrySort, Show, Positive, Negative, Quotient, Certificate}
 use Rattle.certificate_notes.specs.Scenes.{Named, Scene}
 use Rattle.certificate_notes.specs.Stations.{loop_at, Station, station, anchor_number, is_place, in_test}
 use Rattle.certificate_notes.specs.Sights.{Chart, chart_of, Sight, slot_of, fact}

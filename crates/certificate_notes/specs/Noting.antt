@@ -6,7 +6,7 @@ use Rattle.arrivals.specs.Places as places
 use Rattle.obligations.specs.Notes as notes
 use Rattle.obligations.specs.View.{same_number, no_ranking}
 use Rattle.texts.specs.Surface as surface
-use Rattle.texts.specs.Certificate.{Certificate}
+use Rattle.certificate_text.specs.Certificate.{Certificate}
 use Rattle.certificate_notes.specs.Noted.{Lines, Ranked, Quoted, Visible, Noted, noted}
 
 -- it names a place, a loop or a symbol that the kernel lacks, says something of the entry, of items that agree at a loop, or twice or

@@ -1,13 +1,13 @@
 -- The symbols that may be named at a place, in the test of a loop and in a quotient, and forms of them.
 use Rattle.std.specs.Prelude.{ℕ, ◌-◌, ◌^◌, ℤ, pos, Bool, cond, nat_eq, nat_le, nat_lt, ◌&&◌, List, [], ◌∷◌, ◌++◌, length, Option, None, Some, bytes_eq}
 use Rattle.std.specs.Option.{option_map}
-use Rattle.semantics.specs.Linear.{Weighted, Form}
+use Rattle.linear.specs.Linear.{Weighted, Form}
 use Rattle.semantics.specs.Launch as launch
 use Rattle.linear.specs.Exact.{fits, sum, multiple}
 use Rattle.facts.specs.Symbols as symbols
 use Rattle.facts.specs.Symbols.{Fact, constant, number}
 use Rattle.texts.specs.Surface.{Parameter, Buffer, Value, Kernel}
-use Rattle.texts.specs.Certificate.{Dimension, First, Second, Third, Name, Variable, AtAnchor, Turns, Fresh, Argument, Length, Groups, Group, Local}
+use Rattle.certificate_text.specs.Certificate.{Dimension, First, Second, Third, Name, Variable, AtAnchor, Turns, Fresh, Argument, Length, Groups, Group, Local}
 use Rattle.certificate_notes.specs.Scenes.{Named, Scene, opened, gone_over}
 
 -- buffer parameters by their numbers

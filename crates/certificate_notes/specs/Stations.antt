@@ -4,7 +4,7 @@ use Rattle.std.specs.Option.{option_map}
 use Rattle.arrivals.specs.Places as places
 use Rattle.obligations.specs.Notes.{number_at}
 use Rattle.obligations.specs.View.{same_number}
-use Rattle.texts.specs.Certificate.{Anchor, KernelEntry, Barrier}
+use Rattle.certificate_text.specs.Certificate.{Anchor, KernelEntry, Barrier}
 use Rattle.certificate_notes.specs.Scenes.{Named, Scene}
 use Rattle.certificate_notes.specs.Sights.{Chart, Sight}
 

@@ -23,7 +23,7 @@ pub struct Chart<'a> {
     pub scenes: Vec<Scene<'a>>,
 }
 
-/// A parameter, where it is a buffer.
+/// Adds the name and the number of a parameter, if it is a buffer.
 fn take_buffer<'a>(parameter: &'a Parameter, buffers: &mut Vec<Named<'a>>) -> Result<(), NamesError>
     ensures { OnOk result (map named buffers.new.items ≡ sights.take_buffer (parameter_seen parameter.now) (map named buffers.old.items)) }
 {
@@ -42,7 +42,7 @@ fn take_buffer<'a>(parameter: &'a Parameter, buffers: &mut Vec<Named<'a>>) -> Re
     }
 }
 
-/// The buffer parameters.
+/// The names of a kernel's buffer parameters, with their numbers, in order.
 fn buffers_of<'a>(alloc: Global, parameters: &'a [Parameter]) -> Result<Vec<Named<'a>>, NamesError>
     ensures { IfOk result (λ v. map named v.items ≡ sights.take_buffers (map parameter_seen parameters.now) []) }
 {

@@ -13,7 +13,7 @@ pub enum NamesError {
 }
 
 impl NamesError {
-    /// The number that it is printed under.
+    /// The number under which the error is printed.
     pub fn number(&self) -> u8
         ensures { result ≡ 90 }
     {

@@ -69,7 +69,7 @@ fn with_named(
     with_term(alloc, form, term.coefficient, symbol)
 }
 
-/// The form, where all its names are symbols.
+/// A form of a certificate in symbols; none where a name means none of those that may stand there.
 pub fn fact(
     alloc: Global,
     chart: &Chart<'_>,

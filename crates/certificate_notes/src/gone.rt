@@ -23,7 +23,7 @@ pub struct Scene<'a> {
     pub around: Vec<u32>,
 }
 
-/// Where one has come to in a kernel: all variables so far, those that are visible, the loops around, and the scenes so far.
+/// The state of going over a kernel: all variables so far, those that are visible, the loops around, and the scenes so far.
 #[derive(Drop)]
 pub struct Gone<'a> {
     pub names: Vec<Named<'a>>,
@@ -33,7 +33,7 @@ pub struct Gone<'a> {
 }
 
 impl<'a> Gone<'a> {
-    /// Before all.
+    /// The state in front of the first parameter of a kernel: nothing is declared.
     pub fn nowhere(alloc: Global) -> Gone<'a>
         ensures { gone_seen result ≡ scenes.nowhere }
     {
@@ -66,7 +66,7 @@ impl<'a> Gone<'a> {
         Ok(())
     }
 
-    /// A scene.
+    /// Adds a scene: a barrier or a loop of this number, with what is visible there and the loops around it.
     pub fn stand(&mut self, alloc: Global, is_loop: bool, number: u32) -> Result<(), NamesError>
         ensures { OnOk result (gone_seen self.new ≡ scenes.stand is_loop number (gone_seen self.old)) }
     {
@@ -81,7 +81,7 @@ impl<'a> Gone<'a> {
         Ok(())
     }
 
-    /// Into a loop's body.
+    /// Enters the body of the loop of this number.
     pub fn enter(&mut self, number: u32) -> Result<(), NamesError>
         ensures { OnOk result (gone_seen self.new ≡ scenes.enter number (gone_seen self.old)) }
     {

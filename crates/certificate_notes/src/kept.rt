@@ -26,7 +26,7 @@ fn sets(slot: usize, statement: &Statement) -> bool
     }
 }
 
-/// Some statement assigns the variable.
+/// One of the statements, or one in it, assigns the variable of a slot.
 #[cycle(sets)]
 fn some_sets(slot: usize, statements: &[Statement]) -> bool
     ensures { result ≡ roots.some_sets slot (statements_seen statements.now) }

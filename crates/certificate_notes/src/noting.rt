@@ -29,7 +29,7 @@ use std::alloc::Global;
 use types::typed::Typed;
 
 #[tactic(auto, using(crate::proofs::Each::each_rows))]
-/// What is said of places.
+/// The notes of all places of which a certificate says something; none where it names what the kernel lacks.
 fn all_lines(
     alloc: Global,
     chart: &Chart<'_>,
@@ -48,7 +48,7 @@ fn all_lines(
     Ok(Some(lines))
 }
 
-/// All that a certificate says.
+/// The notes that a certificate makes of a kernel; none where a loop lacks its line, or the kernel lacks what a line names.
 fn noted_by(
     alloc: Global,
     chart: &Chart<'_>,
@@ -78,8 +78,8 @@ fn noted_by(
     }))
 }
 
-/// What a certificate says of a kernel's places and loops; nothing where it names what the kernel lacks. Which obligations have an entry is
-/// the caller's.
+/// The notes that a certificate makes of a kernel's places and loops; none where it names what the kernel lacks. Which obligations have an
+/// entry is the caller's.
 pub fn notes_of(
     alloc: Global,
     kernel: &Typed,

@@ -25,7 +25,7 @@ use obligations::{Congruence, Lines};
 use places::Place;
 use std::alloc::Global;
 
-/// The slots rise.
+/// The slots rise from each to the next.
 fn rise(slots: &[u32]) -> bool
     ensures { result ≡ noted.rise 0 slots.now }
 {
@@ -40,7 +40,7 @@ fn rise(slots: &[u32]) -> bool
 }
 
 #[tactic(auto, using(crate::proofs::Each::each_rows))]
-/// The slots of names.
+/// The slots of names on which items may agree at a place; none where a name is none of these.
 fn slots_of(
     alloc: Global,
     agreeing: &[Named<'_>],
@@ -76,7 +76,7 @@ fn same_of(
 }
 
 #[tactic(auto, using(crate::proofs::Each::each_rows))]
-/// Facts.
+/// The facts that are said of a place, in slots and symbols; none where one names what the kernel lacks.
 fn facts_of(
     alloc: Global,
     chart: &Chart<'_>,
@@ -95,7 +95,7 @@ fn facts_of(
     Ok(Some(facts))
 }
 
-/// A congruence.
+/// A congruence that is said of a place, in slots and symbols; none where it names what the kernel lacks.
 fn congruence(
     alloc: Global,
     chart: &Chart<'_>,
@@ -114,7 +114,7 @@ fn congruence(
 }
 
 #[tactic(auto, using(crate::proofs::Each::each_rows))]
-/// Congruences.
+/// The congruences that are said of a place, in slots and symbols; none where one names what the kernel lacks.
 fn congruences_of(
     alloc: Global,
     chart: &Chart<'_>,
@@ -133,7 +133,7 @@ fn congruences_of(
     Ok(Some(found))
 }
 
-/// What is said of a place with its station.
+/// The notes of a place, by what may be named there; none where another thing is named, or the slots that agree do not rise.
 fn lines_at(
     alloc: Global,
     chart: &Chart<'_>,
@@ -161,7 +161,7 @@ fn lines_at(
     }))
 }
 
-/// What is said of a place, where the kernel has it and all that is named there.
+/// The notes of a place; none where the kernel has no such place, or lacks what is named there.
 pub fn lines_of(
     alloc: Global,
     chart: &Chart<'_>,

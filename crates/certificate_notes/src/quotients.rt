@@ -3,7 +3,7 @@
 ghost use Rattle.std.specs.Prelude.{◌≡◌, IfOk, Option, List, map, cond, None};
 ghost use Rattle.std.specs.Option.{option_map};
 ghost use Rattle.linear.specs.Forms.{form as form_seen};
-ghost use Rattle.texts.specs.Certificate as meant;
+ghost use Rattle.certificate_text.specs.Certificate as meant;
 ghost use Rattle.certificate.specs.View as view;
 ghost use Rattle.certificate_notes.specs.Noted as noted;
 ghost use Rattle.certificate_notes.specs.View.{chart as chart_seen, scene as scene_seen, sight as sight_seen, named};
@@ -33,7 +33,7 @@ fn loops_among(alloc: Global, scenes: &[Scene<'_>]) -> Result<Vec<u32>, NamesErr
     Ok(loops)
 }
 
-/// The quotient of a claim.
+/// Adds the quotient that is named for a claim; false where it names what the kernel lacks.
 fn push_quoted(
     alloc: Global,
     chart: &Chart<'_>,
@@ -58,7 +58,7 @@ fn push_quoted(
     Ok(true)
 }
 
-/// What an entry names.
+/// Adds the quotient that an entry names, if it names one; false where that names what the kernel lacks.
 fn push_first(
     alloc: Global,
     chart: &Chart<'_>,
@@ -77,7 +77,7 @@ fn push_first(
     }
 }
 
-/// All quotients.
+/// The quotients that entries name, in symbols, each with its claim's number; none where one names what the kernel lacks.
 fn push_all(
     alloc: Global,
     chart: &Chart<'_>,

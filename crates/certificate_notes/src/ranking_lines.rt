@@ -3,7 +3,7 @@
 ghost use Rattle.std.specs.Prelude.{◌≡◌, IfOk, map, Some};
 ghost use Rattle.std.specs.Option.{option_map};
 ghost use Rattle.linear.specs.Forms.{form as form_seen};
-ghost use Rattle.texts.specs.CertificateRules.{all};
+ghost use Rattle.certificate_text.specs.Rules.{all};
 ghost use Rattle.certificate.specs.View as view;
 ghost use Rattle.obligations.specs.View.{ranking};
 ghost use Rattle.certificate_notes.specs.Noted as noted;
@@ -61,7 +61,7 @@ fn ranked_of(
 }
 
 #[tactic(auto, using(crate::proofs::Each::each_rows))]
-/// How loops end.
+/// The rankings of loops that a certificate says, in symbols; none where one names what the kernel lacks.
 pub fn rankings_of(
     alloc: Global,
     chart: &Chart<'_>,
@@ -91,7 +91,7 @@ fn is_bounded(bounds: &[tree::Bound], number: u32) -> bool
     false
 }
 
-/// It is no loop, or a line is of it.
+/// A scene is no loop, or a line of the certificate says how the loop ends.
 fn has_line(bounds: &[tree::Bound], scene: &Scene<'_>) -> bool
     ensures { result ≡ noted.has_line (map view.bound bounds.now) (scene_seen scene.now) }
 {
@@ -99,7 +99,7 @@ fn has_line(bounds: &[tree::Bound], scene: &Scene<'_>) -> bool
 }
 
 #[tactic(auto, using(certificate::proofs::Rows::all_rows))]
-/// Each loop has a line.
+/// Each loop among the scenes has a line that says how it ends.
 pub fn have_lines(bounds: &[tree::Bound], scenes: &[Scene<'_>]) -> bool
     ensures { result ≡ all (noted.has_line (map view.bound bounds.now)) (map scene_seen scenes.now) }
 {

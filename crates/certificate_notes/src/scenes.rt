@@ -23,7 +23,7 @@ fn begin<'a>(first: &'a First, gone: &mut Gone<'a>) -> Result<(), NamesError>
     }
 }
 
-/// Statements in order.
+/// Goes over statements in order.
 #[cycle(scenes)]
 fn go_all<'a>(alloc: Global, body: &'a [Stmt], gone: &mut Gone<'a>) -> Result<(), NamesError>
     ensures { OnOk result (gone_seen gone.new ≡ scenes.go_all (statements_seen body.now) (gone_seen gone.old)) }
@@ -34,7 +34,7 @@ fn go_all<'a>(alloc: Global, body: &'a [Stmt], gone: &mut Gone<'a>) -> Result<()
     Ok(())
 }
 
-/// A block: its names go at its end.
+/// Goes over a block: its names are visible up to its end.
 #[cycle(scenes)]
 fn block<'a>(alloc: Global, body: &'a [Stmt], gone: &mut Gone<'a>) -> Result<(), NamesError>
     ensures { OnOk result (gone_seen gone.new ≡ scenes.within (scenes.go_all (statements_seen body.now)) (gone_seen gone.old)) }
@@ -45,7 +45,7 @@ fn block<'a>(alloc: Global, body: &'a [Stmt], gone: &mut Gone<'a>) -> Result<(),
     Ok(())
 }
 
-/// A loop.
+/// Goes over a loop: its test is a scene, then its body follows.
 #[cycle(scenes)]
 fn turn<'a>(
     alloc: Global,
@@ -63,7 +63,7 @@ fn turn<'a>(
     Ok(())
 }
 
-/// A `for`.
+/// Goes over a `for`: its first part, then the loop; what it declares is visible in the loop alone.
 #[cycle(scenes)]
 fn turn_counted<'a>(
     alloc: Global,
@@ -81,7 +81,7 @@ fn turn_counted<'a>(
     Ok(())
 }
 
-/// A statement.
+/// Goes over a statement with all that is in it.
 #[cycle(scenes)]
 fn go<'a>(alloc: Global, statement: &'a Stmt, gone: &mut Gone<'a>) -> Result<(), NamesError>
     ensures { OnOk result (gone_seen gone.new ≡ scenes.go (statement_seen statement.now) (gone_seen gone.old)) }
@@ -105,7 +105,7 @@ fn go<'a>(alloc: Global, statement: &'a Stmt, gone: &mut Gone<'a>) -> Result<(),
     }
 }
 
-/// A parameter.
+/// Takes up a parameter: a buffer is no variable, and a value that nothing assigns counts but is not visible.
 fn take_parameter<'a>(
     core: &Core,
     parameter: &'a Parameter,
@@ -125,7 +125,7 @@ fn take_parameter<'a>(
     }
 }
 
-/// Parameters in order.
+/// Takes up a kernel's parameters in order.
 fn take_parameters<'a>(
     core: &Core,
     parameters: &'a [Parameter],
@@ -139,7 +139,7 @@ fn take_parameters<'a>(
     Ok(())
 }
 
-/// Before the first statement.
+/// The state in front of a kernel's first statement, with its parameters.
 pub fn opened<'a>(alloc: Global, core: &Core, tree: &'a Kernel) -> Result<Gone<'a>, NamesError>
     ensures { IfOk result (λ g. gone_seen g ≡ scenes.opened (core_seen core.now) (tree_seen tree.now)) }
 {
@@ -148,7 +148,7 @@ pub fn opened<'a>(alloc: Global, core: &Core, tree: &'a Kernel) -> Result<Gone<'
     Ok(gone)
 }
 
-/// All its statements.
+/// Goes over all statements of a kernel's body.
 pub fn go_on<'a>(alloc: Global, tree: &'a Kernel, gone: &mut Gone<'a>) -> Result<(), NamesError>
     ensures { OnOk result (gone_seen gone.new ≡ scenes.go_all (tree_seen tree.now).body (gone_seen gone.old)) }
 {

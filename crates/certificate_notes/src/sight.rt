@@ -1,7 +1,9 @@
 //! The symbols that may be named somewhere.
 
-ghost use Rattle.std.specs.Prelude.{◌≡◌, ◌+◌, ◌*◌, ◌<◌, Option, map};
+ghost use Rattle.std.specs.Prelude.{◌≡◌, ◌<◌, Option, map};
 ghost use Rattle.std.specs.Option.{option_map};
+ghost use Rattle.facts.specs.Symbols.{number};
+ghost use Rattle.facts.specs.Families.{symbol_in};
 ghost use Rattle.certificate.specs.View.{name as name_seen, dimension as dimension_seen};
 ghost use Rattle.certificate_notes.specs.Sights as sights;
 ghost use Rattle.certificate_notes.specs.View.{chart as chart_seen, sight as sight_seen, named};
@@ -9,6 +11,7 @@ ghost use Rattle.certificate_notes.specs.View.{chart as chart_seen, sight as sig
 use crate::chart::Chart;
 use crate::gone::Named;
 use certificate::tree::{Dimension, Name};
+use facts::{Family, Side};
 use linear::Symbol;
 
 /// The variables that stand for what they are now, and for what they were at the anchor; the loops around; whether new symbols are among
@@ -33,7 +36,7 @@ pub fn slot_of(names: &[Named<'_>], name: &str) -> Option<u32>
     None
 }
 
-/// The number, where it is among them.
+/// A number that stands among the numbers, as a `u32`; none where it does not.
 fn found_in(numbers: &[u32], number: u64) -> Option<u32>
     ensures { result ≡ sights.found_in numbers.now number }
 {
@@ -45,7 +48,7 @@ fn found_in(numbers: &[u32], number: u64) -> Option<u32>
     None
 }
 
-/// A new symbol's index.
+/// The index of a new symbol, from its number, which is counted from 1; none where new symbols have no name.
 fn new_number(has_new: bool, number: u64) -> Option<u32>
     ensures { result ≡ sights.new_number has_new number }
 {
@@ -65,23 +68,13 @@ fn dimension_number(dimension: Dimension) -> u32
     }
 }
 
-/// The symbol of a family.
-fn of_family(family: u64, index: u32) -> Symbol
-    requires { family < 16 }
-    ensures { result.number ≡ family + 16 * index }
-{
-    Symbol {
-        number: family + 16 * index as u64,
-    }
-}
-
-fn in_family(family: u64, index: Option<u32>) -> Option<Symbol>
-    requires { family < 16 }
-    ensures { option_map (λ s. s.number) result ≡ option_map (λ n. family + 16 * n) index }
+/// The symbol of a family and an index, where there is one.
+fn symbol_at(family: Family, index: Option<u32>) -> Option<Symbol>
+    ensures { option_map (λ s. s.number) result ≡ option_map (λ n. number (symbol_in family n)) index }
 {
     match index {
         None => None,
-        Some(index) => Some(of_family(family, index)),
+        Some(index) => Some(family.symbol(index as u64)),
     }
 }
 
@@ -90,14 +83,38 @@ pub fn symbol(chart: &Chart<'_>, sight: &Sight<'_>, name: &Name) -> Option<Symbo
     ensures { option_map (λ s. s.number) result ≡ sights.symbol (chart_seen chart.now) (sight_seen sight.now) (name_seen name.now) }
 {
     match name {
-        Name::Variable(name) => in_family(6, slot_of(sight.here, name.as_str())),
-        Name::AtAnchor(name) => in_family(7, slot_of(sight.before, name.as_str())),
-        Name::Turns(number) => in_family(8, found_in(sight.around, *number)),
-        Name::Fresh(number) => in_family(5, new_number(sight.has_new, *number)),
-        Name::Argument(name) => in_family(1, slot_of(chart.arguments.as_slice(), name.as_str())),
-        Name::Length(name) => in_family(2, slot_of(chart.buffers.as_slice(), name.as_str())),
-        Name::Groups(dimension) => Some(of_family(0, dimension_number(*dimension))),
-        Name::Group(dimension) => Some(of_family(4, dimension_number(*dimension))),
-        Name::Local(dimension) => Some(of_family(3, dimension_number(*dimension))),
+        Name::Variable(name) => symbol_at(
+            Family::Variable(Side::First),
+            slot_of(sight.here, name.as_str()),
+        ),
+        Name::AtAnchor(name) => symbol_at(
+            Family::AtAnchor(Side::First),
+            slot_of(sight.before, name.as_str()),
+        ),
+        Name::Turns(number) => symbol_at(
+            Family::Turns(Side::First),
+            found_in(sight.around, *number),
+        ),
+        Name::Fresh(number) => symbol_at(
+            Family::New(Side::First),
+            new_number(sight.has_new, *number),
+        ),
+        Name::Argument(name) => symbol_at(
+            Family::Argument,
+            slot_of(chart.arguments.as_slice(), name.as_str()),
+        ),
+        Name::Length(name) => symbol_at(
+            Family::Length,
+            slot_of(chart.buffers.as_slice(), name.as_str()),
+        ),
+        Name::Groups(dimension) => symbol_at(Family::Groups, Some(dimension_number(*dimension))),
+        Name::Group(dimension) => symbol_at(
+            Family::Group(Side::First),
+            Some(dimension_number(*dimension)),
+        ),
+        Name::Local(dimension) => symbol_at(
+            Family::Local(Side::First),
+            Some(dimension_number(*dimension)),
+        ),
     }
 }

@@ -21,7 +21,7 @@ pub struct Station<'a> {
     pub sight: Sight<'a>,
 }
 
-/// The scene of that number.
+/// The scene of a statement, by its number; none where no barrier or loop has it.
 fn scene_at<'a>(scenes: &'a [Scene<'a>], number: u64) -> Option<&'a Scene<'a>>
     ensures { option_map (λ s. scene_seen s.now) result ≡ stations.scene_at (map scene_seen scenes.now) number }
 {
@@ -33,7 +33,7 @@ fn scene_at<'a>(scenes: &'a [Scene<'a>], number: u64) -> Option<&'a Scene<'a>>
     None
 }
 
-/// The loop of that number.
+/// The scene of a loop's test, by the loop's number; none where no loop has it.
 pub fn loop_at<'a>(scenes: &'a [Scene<'a>], number: u64) -> Option<&'a Scene<'a>>
     ensures { option_map (λ s. scene_seen s.now) result ≡ stations.loop_at (map scene_seen scenes.now) number }
 {
@@ -45,7 +45,7 @@ pub fn loop_at<'a>(scenes: &'a [Scene<'a>], number: u64) -> Option<&'a Scene<'a>
     None
 }
 
-/// What may be named in a loop's test.
+/// The names that a loop's test may use: what is visible there, and the loops around.
 pub fn in_test<'a>(scene: &'a Scene<'a>) -> Sight<'a>
     ensures { sight_seen result ≡ stations.in_test (scene_seen scene.now) }
 {
@@ -84,7 +84,7 @@ fn at_head<'a>(anchor: Option<u32>, before: &'a [Named<'a>], head: &'a Scene<'a>
     }
 }
 
-/// A head behind a barrier.
+/// The station of a loop's head behind a barrier, by their numbers; none where the kernel lacks one of them.
 fn head_behind<'a>(scenes: &'a [Scene<'a>], barrier: u64, head: u64) -> Option<Station<'a>>
     ensures { option_map station_seen result ≡ stations.head_behind (stations.scene_at (map scene_seen scenes.now) barrier) (stations.scene_at (map scene_seen scenes.now) head) }
 {

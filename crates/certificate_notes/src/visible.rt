@@ -22,7 +22,7 @@ fn slots_of(alloc: Global, names: &[Named<'_>]) -> Result<Vec<u32>, NamesError>
     Ok(slots)
 }
 
-/// Those of a scene.
+/// The slots that are visible at a scene, with its statement's number.
 fn visible_at(alloc: Global, scene: &Scene<'_>) -> Result<Visible, NamesError>
     ensures { IfOk result (λ v. visible_seen v ≡ noted.visible_at (scene_seen scene.now)) }
 {
@@ -33,7 +33,7 @@ fn visible_at(alloc: Global, scene: &Scene<'_>) -> Result<Visible, NamesError>
     })
 }
 
-/// Those of the entry and of all scenes.
+/// The slots that are visible at a kernel's entry, and at each of its scenes.
 pub fn visible_in(alloc: Global, chart: &Chart<'_>) -> Result<Vec<Visible>, NamesError>
     ensures { IfOk result (λ v. map visible_seen v.items ≡ noted.visible_in (chart_seen chart.now)) }
 {

@@ -7,7 +7,7 @@ use crate::limits::least_limits;
 use crate::missing::Missing;
 use crate::needed::needed_only;
 use crate::picking::{MOST, Picked, pick, unrefuted, without_spare};
-use crate::rounds::{push_all, settle};
+use crate::rounds::{Rounds, push_all, settle};
 use candidates::guess_told;
 use certificate::Certificate;
 use cut_search::Memory;
@@ -35,7 +35,7 @@ pub enum Attempt {
     },
 }
 
-/// What all attempts are about.
+/// The kernel, the names and the number of workers, which are the same in all attempts.
 #[derive(Clone, Copy)]
 pub struct Matter<'a> {
     pub subject: Subject<'a>,
@@ -53,7 +53,7 @@ fn push_new(all: &mut Vec<Candidate>, more: Vec<Candidate>) -> Result<(), AllocE
     Ok(())
 }
 
-/// Guesses up to a rank.
+/// The guesses up to a rank that no run refutes: those that paths, runs and the text tell.
 fn guesses(
     alloc: Global,
     matter: &Matter<'_>,
@@ -142,7 +142,7 @@ enum Conclusion {
     },
 }
 
-/// Guesses that stand are put together.
+/// Puts guesses that stand together as a certificate, or tells what it would not show; an error where they have no text.
 fn concluded(
     alloc: Global,
     plan: &Plan<'_>,
@@ -164,7 +164,7 @@ fn concluded(
     })
 }
 
-/// What guesses are settled with.
+/// The rankings of the loops and the places, beside what all attempts share, with which guesses are settled.
 #[derive(Clone, Copy)]
 struct Setting<'a> {
     matter: &'a Matter<'a>,
@@ -183,19 +183,16 @@ fn settled_once<R: Threads + Sync>(
 ) -> Result<(Conclusion, Vec<Candidate>), SearchError> {
     let matter = setting.matter;
     let most = unlimited(alloc, setting.rankings)?;
-    let stands = settle(
-        rt,
-        alloc,
-        matter.subject,
-        matter.names,
-        setting.sights,
-        candidates,
-        setting.rankings,
-        most.as_slice(),
-        matter.workers,
+    let rounds = Rounds {
+        subject: matter.subject,
+        names: matter.names,
+        sights: setting.sights,
+        rankings: setting.rankings,
+        most: most.as_slice(),
+        workers: matter.workers,
         patience,
-        memory,
-    )?;
+    };
+    let stands = settle(rt, alloc, &rounds, candidates, memory)?;
     let limits = least_limits(
         alloc,
         &stands.resolved.walked.found,

@@ -8,12 +8,12 @@ use crate::table::Demand;
 use crate::used::{Ground, used_guesses};
 use cut_proof::Derivation;
 use cut_search::{Answer, Memory, Point};
-use guess_walk::{both_sides, reached};
-use guesses::{Candidate, Line, copied};
+use guess_walk::{Division, both_sides, facts_of, reached};
+use guesses::Line;
 use linear::{Form, Symbol};
 use path_steps::{Claim, Goal, Stop};
 use std::alloc::{AllocError, Global};
-use two_thread::{About, Manner, Part, Place};
+use two_thread::{About, Manner, OnPath, Part};
 use walk::FindError;
 
 /// Points at which all is so that is known at the end of a path, or of two, and a guess was not.
@@ -24,7 +24,7 @@ struct Points {
 }
 
 impl Points {
-    /// For the ends of these paths.
+    /// Turns to the ends of two paths: points of other ends are forgotten.
     fn turn_to(&mut self, of: (usize, usize)) {
         if self.of != of {
             self.of = of;
@@ -77,7 +77,7 @@ fn is_undivided(form: &Form, modulus: u64, points: &[Point]) -> bool {
 }
 
 /// The guess that a claim is of, where it is one of those at a path's end, and whether it is the second claim of a congruence.
-fn guess_of(ground: &Ground<'_>, at: Place) -> Option<(u32, bool)> {
+fn guess_of(ground: &Ground<'_>, at: OnPath) -> Option<(u32, bool)> {
     let tagged = ground.found.paths().get(at.path)?;
     let end = tagged.path.ends.first()?;
     let to = reached(end.stop, tagged.anchor, ground.sights)?;
@@ -89,7 +89,7 @@ fn guess_of(ground: &Ground<'_>, at: Place) -> Option<(u32, bool)> {
     Some((guess, is_second))
 }
 
-fn claim_at<'a>(ground: &Ground<'a>, at: Place) -> Option<&'a Claim> {
+fn claim_at<'a>(ground: &Ground<'a>, at: OnPath) -> Option<&'a Claim> {
     ground.found.paths().get(at.path)?.path.claims.get(at.item)
 }
 
@@ -105,7 +105,7 @@ pub fn target_of(ground: &Ground<'_>, part: Part) -> Option<u32> {
     }
 }
 
-/// What a question was answered with: the guesses that a derivation uses.
+/// The guesses that a derivation uses, which refutes these facts of an obligation; none where the part is no part of the walk.
 fn support_of(
     alloc: Global,
     ground: &Ground<'_>,
@@ -139,32 +139,7 @@ fn asked(
     }
 }
 
-/// The congruences known at a path's beginning: its place's, with their moduli.
-fn known_multiples(
-    alloc: Global,
-    ground: &Ground<'_>,
-    candidates: &[Candidate],
-    path: usize,
-) -> Result<Vec<(u64, Form)>, AllocError> {
-    let mut known = Vec::new(alloc);
-    let Some(place) = ground.places.get(path) else {
-        return Ok(known);
-    };
-    let Some(lines) = ground.table.places.get(*place) else {
-        return Ok(known);
-    };
-    for guess in lines.multiples.as_slice() {
-        if let Some(candidate) = candidates.get(*guess as usize) {
-            if let Line::Multiple { modulus, form } = &candidate.line {
-                let form = copied(alloc, form)?;
-                known.push((*modulus, form))?;
-            }
-        }
-    }
-    Ok(known)
-}
-
-/// Two lists of guesses as one.
+/// The guesses of two lists, those of the second one behind, each once.
 fn joined(mut first: Vec<u32>, second: &[u32]) -> Result<Vec<u32>, AllocError> {
     for guess in second {
         if !first.as_slice().contains(guess) {
@@ -178,31 +153,16 @@ fn joined(mut first: Vec<u32>, second: &[u32]) -> Result<Vec<u32>, AllocError> {
 fn divided(
     alloc: Global,
     ground: &Ground<'_>,
-    candidates: &[Candidate],
-    at: Place,
-    modulus: u64,
-    facts: &[Form],
-    form: &Form,
+    at: OnPath,
+    division: Division<'_>,
     memory: &mut Memory,
     points: &mut Vec<Point>,
 ) -> Result<Option<Vec<u32>>, AllocError> {
-    if is_undivided(form, modulus, points.as_slice()) {
-        return Ok(None);
-    }
-    let known = known_multiples(alloc, ground, candidates, at.path)?;
-    let Some(shown) = both_sides(
-        alloc,
-        facts,
-        form,
-        modulus,
-        known.as_slice(),
-        memory,
-        points,
-    )?
-    else {
+    let Some(shown) = both_sides(alloc, division, memory, points)? else {
         return Ok(None);
     };
     let part = Part::Claim(at);
+    let facts = division.facts;
     let Some(least) = support_of(alloc, ground, part, facts, &shown.least)? else {
         return Ok(None);
     };
@@ -212,103 +172,89 @@ fn divided(
     Ok(Some(joined(least, most.as_slice())?))
 }
 
-/// The facts of an obligation in a manner; none where it does not fit.
-fn facts_of(
-    alloc: Global,
-    ground: &Ground<'_>,
+/// An obligation by its number, what it is about, and the guess that it is of.
+#[derive(Clone, Copy)]
+struct Target {
     number: usize,
-    manner: Manner,
-) -> Result<Option<Vec<Form>>, FindError>
-    requires first { 0 < number }
-    requires last { number ≤ length (listed domain ground.now.found.now) }
-{
-    Ok(ground.found.facts(alloc, number, manner)?)
+    part: Part,
+    guess: u32,
 }
 
-/// What shows a claim of a guess.
+/// The guesses that suffice to show a claim of a guess; none where no derivation is found, or a point refutes it.
 fn claim_support(
     alloc: Global,
     ground: &Ground<'_>,
-    candidates: &[Candidate],
-    number: usize,
-    at: Place,
-    line: &Line,
+    target: Target,
+    at: OnPath,
     memory: &mut Memory,
     points: &mut Vec<Point>,
 ) -> Result<Option<Vec<u32>>, FindError>
-    requires first { 0 < number }
-    requires last { number ≤ length (listed domain ground.now.found.now) }
+    requires first { 0 < target.number }
+    requires last { target.number ≤ length (listed domain ground.now.found.now) }
 {
+    let Some(candidate) = ground.candidates.get(target.guess as usize) else {
+        return Ok(None);
+    };
     let Some(claim) = claim_at(ground, at) else {
         return Ok(None);
     };
-    match (&claim.goal, line) {
+    match (&claim.goal, &candidate.line) {
         (Goal::Replaced { form, .. } | Goal::AtLeastZero(form), Line::Fact(_)) => {
             if is_denied(form, points.as_slice()) {
                 return Ok(None);
             }
-            let Some(facts) = facts_of(alloc, ground, number, Manner::Plainly)? else {
+            let Some(facts) = facts_of(alloc, ground.found, target.number, Manner::Plainly)? else {
                 return Ok(None);
             };
-            let part = Part::Claim(at);
-            Ok(asked(alloc, ground, part, facts.as_slice(), memory, points)?)
+            Ok(asked(alloc, ground, target.part, facts.as_slice(), memory, points)?)
         }
         (Goal::Divided { form, .. }, Line::Multiple { modulus, .. }) => {
-            let Some(mut facts) = facts_of(alloc, ground, number, Manner::ByQuotient)? else {
+            let Some(mut facts) = facts_of(alloc, ground.found, target.number, Manner::ByQuotient)?
+            else {
                 return Ok(None);
             };
             drop(facts.pop());
-            Ok(divided(
-                alloc,
-                ground,
-                candidates,
-                at,
-                *modulus,
-                facts.as_slice(),
+            if is_undivided(form, *modulus, points.as_slice()) {
+                return Ok(None);
+            }
+            let known = ground.known_multiples(alloc, at.path)?;
+            let division = Division {
+                facts: facts.as_slice(),
                 form,
-                memory,
-                points,
-            )?)
+                modulus: *modulus,
+                known: known.as_slice(),
+            };
+            Ok(divided(alloc, ground, at, division, memory, points)?)
         }
         _ => Ok(None),
     }
 }
 
-/// The obligation of a claim; none where it is none of a guess, or nothing is to be shown.
+/// The obligation of a claim; none where nothing is to be shown.
 fn claim_demand(
     alloc: Global,
     ground: &Ground<'_>,
-    candidates: &[Candidate],
-    number: usize,
-    at: Place,
-    lacking: &[bool],
+    target: Target,
+    at: OnPath,
     memory: &mut Memory,
     points: &mut Points,
 ) -> Result<Option<Demand>, FindError>
-    requires first { 0 < number }
-    requires last { number ≤ length (listed domain ground.now.found.now) }
+    requires first { 0 < target.number }
+    requires last { target.number ≤ length (listed domain ground.now.found.now) }
 {
-    let Some((guess, is_second)) = guess_of(ground, at) else {
-        return Ok(None);
-    };
-    if is_second || lacking.get(guess as usize).copied().unwrap_or(true) {
+    if ground.found.is_settled(alloc, target.number)? {
         return Ok(None);
     }
-    if ground.found.is_settled(alloc, number)? {
-        return Ok(None);
-    }
-    let Some(candidate) = candidates.get(guess as usize) else {
-        return Ok(None);
-    };
     points.turn_to((at.path, at.path));
-    let line = &candidate.line;
-    let found = &mut points.points;
-    let support = claim_support(alloc, ground, candidates, number, at, line, memory, found)?;
-    Ok(Some(Demand { guess, support }))
+    let support = claim_support(alloc, ground, target, at, memory, &mut points.points)?;
+    Ok(Some(Demand {
+        guess: target.guess,
+        support,
+    }))
 }
 
 /// The guess that items agree on a slot at the barrier where two ends meet.
-fn agreement_of(ground: &Ground<'_>, first: Place, about: About) -> Option<u32> {
+fn agreement_of(ground: &Ground<'_>, first: OnPath, about: About) -> Option<u32> {
     let slot = match about {
         About::AtLeast(slot) | About::AtMost(slot) => slot,
         About::Never => return None,
@@ -323,38 +269,41 @@ fn agreement_of(ground: &Ground<'_>, first: Place, about: About) -> Option<u32> 
     ground.table.places.get(to)?.agreeing(slot)
 }
 
-/// The obligation that items agree.
+/// The obligation of a guess that items agree on a variable, at two ends; none where the domain settles it.
 fn agreement_demand(
     alloc: Global,
     ground: &Ground<'_>,
-    number: usize,
-    part: Part,
-    guess: u32,
+    target: Target,
     memory: &mut Memory,
     points: &mut Points,
 ) -> Result<Option<Demand>, FindError>
-    requires first { 0 < number }
-    requires last { number ≤ length (listed domain ground.now.found.now) }
+    requires first { 0 < target.number }
+    requires last { target.number ≤ length (listed domain ground.now.found.now) }
 {
-    if ground.found.is_settled(alloc, number)? {
+    if ground.found.is_settled(alloc, target.number)? {
         return Ok(None);
     }
-    let Some(facts) = facts_of(alloc, ground, number, Manner::Plainly)? else {
+    let guess = target.guess;
+    let Some(facts) = facts_of(alloc, ground.found, target.number, Manner::Plainly)? else {
         return Ok(Some(Demand {
             guess,
             support: None,
         }));
     };
     let found = &mut points.points;
-    let support = asked(alloc, ground, part, facts.as_slice(), memory, found)?;
+    let support = asked(alloc, ground, target.part, facts.as_slice(), memory, found)?;
     Ok(Some(Demand { guess, support }))
+}
+
+/// Whether an obligation was found of a guess that nothing shows; so of what is no guess.
+fn is_lacking(lacking: &[bool], guess: u32) -> bool {
+    lacking.get(guess as usize).copied().unwrap_or(true)
 }
 
 /// The obligation of a number, if it is one of a guess.
 fn demand_of(
     alloc: Global,
     ground: &Ground<'_>,
-    candidates: &[Candidate],
     number: usize,
     lacking: &[bool],
     memory: &mut Memory,
@@ -366,18 +315,32 @@ fn demand_of(
     let part = ground.found.part(number);
     match part {
         Part::Claim(at) => {
-            claim_demand(
-                alloc, ground, candidates, number, at, lacking, memory, points,
-            )
+            let Some((guess, is_second)) = guess_of(ground, at) else {
+                return Ok(None);
+            };
+            if is_second || is_lacking(lacking, guess) {
+                return Ok(None);
+            }
+            let target = Target {
+                number,
+                part,
+                guess,
+            };
+            claim_demand(alloc, ground, target, at, memory, points)
         }
         Part::Ends { first, about, .. } => {
             let Some(guess) = agreement_of(ground, first, about) else {
                 return Ok(None);
             };
-            if lacking.get(guess as usize).copied().unwrap_or(true) {
+            if is_lacking(lacking, guess) {
                 return Ok(None);
             }
-            agreement_demand(alloc, ground, number, part, guess, memory, points)
+            let target = Target {
+                number,
+                part,
+                guess,
+            };
+            agreement_demand(alloc, ground, target, memory, points)
         }
         Part::Accesses { .. } => Ok(None),
     }
@@ -387,19 +350,17 @@ fn demand_of(
 pub fn demands_of(
     alloc: Global,
     ground: &Ground<'_>,
-    candidates: &[Candidate],
     memory: &mut Memory,
 ) -> Result<Vec<Demand>, FindError> {
     let mut demands: Vec<Demand> = Vec::new(alloc);
-    let mut lacking = vec![in alloc; false; candidates.len()]?;
+    let mut lacking = vec![in alloc; false; ground.candidates.len()]?;
     let mut points = Points {
         of: (0, 0),
         points: Vec::new(alloc),
     };
     for i in 0..ground.found.len() {
         let flags = lacking.as_slice();
-        let Some(demand) = demand_of(alloc, ground, candidates, i + 1, flags, memory, &mut points)?
-        else {
+        let Some(demand) = demand_of(alloc, ground, i + 1, flags, memory, &mut points)? else {
             continue;
         };
         if demand.support.is_none() {

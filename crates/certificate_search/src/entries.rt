@@ -8,12 +8,12 @@ use crate::used::{Ground, used_guesses};
 use certificate::tree::{Entry, EntrySort};
 use cut_proof::Derivation;
 use cut_search::{Answer, Memory};
-use guess_walk::{Names, Shown, both_sides, reached, steps_of};
-use guesses::{Candidate, Line, copied};
+use guess_walk::{Division, Names, Shown, both_sides, facts_of, reached, steps_of};
+use guesses::{Line, copied};
 use linear::Form;
 use path_steps::{Goal, Sort};
 use std::alloc::{AllocError, Global};
-use two_thread::{Manner, Part, Place};
+use two_thread::{Manner, OnPath, Part};
 use walk::FindError;
 
 /// An entry, with the guesses that its derivation uses.
@@ -23,7 +23,7 @@ pub struct Made {
     pub used: Vec<u32>,
 }
 
-/// What was done of an obligation.
+/// The entries that were found for an obligation: none needed, one, the two of a congruence, or none found though some is needed.
 #[derive(Drop)]
 pub enum Outcome {
     Nothing,
@@ -32,38 +32,31 @@ pub enum Outcome {
     Unshown,
 }
 
-/// The facts of an obligation in a manner; none where it does not fit.
-fn facts_of(
-    alloc: Global,
-    ground: &Ground<'_>,
-    number: usize,
-    manner: Manner,
-) -> Result<Option<Vec<Form>>, FindError>
-    requires first { 0 < number }
-    requires last { number ≤ length (listed domain ground.now.found.now) }
-{
-    Ok(ground.found.facts(alloc, number, manner)?)
-}
-
-/// An entry of a derivation.
-fn entry_with(
-    alloc: Global,
-    ground: &Ground<'_>,
+/// An entry but for its steps: the number of an obligation with what it is about, and how it is shown.
+#[derive(Drop)]
+struct Heading {
     number: u64,
     part: Part,
     sort: EntrySort,
+}
+
+/// The entry of an obligation with this derivation, and the guesses that it uses; none where the part is not of the walk.
+fn entry_with(
+    alloc: Global,
+    ground: &Ground<'_>,
+    heading: Heading,
     facts: &[Form],
     derivation: &Derivation,
 ) -> Result<Option<Made>, AllocError> {
-    let Some(origin) = ground.origin(part) else {
+    let Some(origin) = ground.origin(heading.part) else {
         return Ok(None);
     };
     let used = used_guesses(alloc, &origin, facts, derivation)?;
     let steps = steps_of(alloc, derivation)?;
     Ok(Some(Made {
         entry: Entry {
-            obligation: number,
-            sort,
+            obligation: heading.number,
+            sort: heading.sort,
             steps,
         },
         used,
@@ -74,21 +67,17 @@ fn entry_with(
 fn made_of(
     alloc: Global,
     ground: &Ground<'_>,
-    number: usize,
-    part: Part,
-    sort: EntrySort,
+    heading: Heading,
     facts: &[Form],
     memory: &mut Memory,
 ) -> Result<Option<Made>, AllocError> {
     match memory.ask(alloc, facts)? {
-        Answer::Proof(derivation) => {
-            entry_with(alloc, ground, number as u64, part, sort, facts, &derivation)
-        }
+        Answer::Proof(derivation) => entry_with(alloc, ground, heading, facts, &derivation),
         Answer::Model(_) | Answer::Undecided => Ok(None),
     }
 }
 
-/// An entry in a manner.
+/// The entry of an obligation that is shown in a manner; none where no derivation is found, or the manner does not fit.
 fn made_by(
     alloc: Global,
     ground: &Ground<'_>,
@@ -100,7 +89,7 @@ fn made_by(
     requires first { 0 < number }
     requires last { number ≤ length (listed domain ground.now.found.now) }
 {
-    let Some(facts) = facts_of(alloc, ground, number, manner)? else {
+    let Some(facts) = facts_of(alloc, ground.found, number, manner)? else {
         return Ok(None);
     };
     let sort = match manner {
@@ -108,7 +97,12 @@ fn made_by(
         Manner::ByNegative => EntrySort::Negative,
         Manner::Plainly | Manner::ByQuotient => EntrySort::Show,
     };
-    Ok(made_of(alloc, ground, number, part, sort, facts.as_slice(), memory)?)
+    let heading = Heading {
+        number: number as u64,
+        part,
+        sort,
+    };
+    Ok(made_of(alloc, ground, heading, facts.as_slice(), memory)?)
 }
 
 fn outcome_of(found: Option<Made>) -> Outcome {
@@ -141,53 +135,30 @@ fn divisor(
     Ok(outcome_of(plain))
 }
 
-/// The congruence whose first claim it is.
-fn multiple_at<'a>(
-    ground: &Ground<'_>,
-    candidates: &'a [Candidate],
-    at: Place,
-) -> Option<&'a Line> {
+/// The line of the congruence whose first claim stands there; none where the claim is of no guess.
+fn multiple_at<'a>(ground: &Ground<'a>, at: OnPath) -> Option<&'a Line> {
     let tagged = ground.found.paths().get(at.path)?;
     let end = tagged.path.ends.first()?;
     let to = reached(end.stop, tagged.anchor, ground.sights)?;
     let lines = ground.table.places.get(to)?;
     let before = tagged.path.claims.len().checked_sub(lines.len())?;
     let guess = lines.at(at.item.checked_sub(before)?)?;
-    Some(&candidates.get(guess as usize)?.line)
+    Some(&ground.candidates.get(guess as usize)?.line)
 }
 
-/// The congruences known where a path begins.
-fn known_multiples(
-    alloc: Global,
-    ground: &Ground<'_>,
-    candidates: &[Candidate],
-    path: usize,
-) -> Result<Vec<(u64, Form)>, AllocError> {
-    let mut known = Vec::new(alloc);
-    let Some(place) = ground.places.get(path) else {
-        return Ok(known);
-    };
-    let Some(lines) = ground.table.places.get(*place) else {
-        return Ok(known);
-    };
-    for guess in lines.multiples.as_slice() {
-        if let Some(candidate) = candidates.get(*guess as usize) {
-            if let Line::Multiple { modulus, form } = &candidate.line {
-                let form = copied(alloc, form)?;
-                known.push((*modulus, form))?;
-            }
-        }
-    }
-    Ok(known)
+/// A claim on a path, by its obligation's number.
+#[derive(Clone, Copy)]
+struct Numbered {
+    number: usize,
+    at: OnPath,
 }
 
-/// Both entries of a congruence.
+/// The two entries of a congruence, which name one quotient; unshown where the quotient has no text.
 fn both_entries(
     alloc: Global,
     ground: &Ground<'_>,
     names: &Names<'_>,
-    number: usize,
-    part: Part,
+    claim: Numbered,
     facts: &[Form],
     shown: &Shown,
 ) -> Result<Outcome, AllocError> {
@@ -196,76 +167,67 @@ fn both_entries(
     let (Some(first), Some(second)) = (first, second) else {
         return Ok(Outcome::Unshown);
     };
-    let sort = EntrySort::Quotient(first);
-    let least = entry_with(
-        alloc,
-        ground,
-        number as u64,
+    let part = Part::Claim(claim.at);
+    let heading = Heading {
+        number: claim.number as u64,
         part,
-        sort,
-        facts,
-        &shown.least,
-    )?;
-    let next = (number as u64).saturating_add(1);
-    let sort = EntrySort::Quotient(second);
-    let most = entry_with(alloc, ground, next, part, sort, facts, &shown.most)?;
+        sort: EntrySort::Quotient(first),
+    };
+    let least = entry_with(alloc, ground, heading, facts, &shown.least)?;
+    let heading = Heading {
+        number: (claim.number as u64).saturating_add(1),
+        part,
+        sort: EntrySort::Quotient(second),
+    };
+    let most = entry_with(alloc, ground, heading, facts, &shown.most)?;
     match (least, most) {
         (Some(least), Some(most)) => Ok(Outcome::Two(least, most)),
         _ => Ok(Outcome::Unshown),
     }
 }
 
-/// A congruence, by its first claim.
+/// The two entries of a congruence, found at its first claim.
 fn congruence(
     alloc: Global,
     ground: &Ground<'_>,
     names: &Names<'_>,
-    candidates: &[Candidate],
-    number: usize,
-    at: Place,
+    claim: Numbered,
     memory: &mut Memory,
 ) -> Result<Outcome, FindError>
-    requires first { 0 < number }
-    requires last { number ≤ length (listed domain ground.now.found.now) }
+    requires first { 0 < claim.number }
+    requires last { claim.number ≤ length (listed domain ground.now.found.now) }
 {
-    let Some(Line::Multiple { modulus, .. }) = multiple_at(ground, candidates, at) else {
+    let at = claim.at;
+    let Some(Line::Multiple { modulus, .. }) = multiple_at(ground, at) else {
         return Ok(Outcome::Unshown);
     };
-    let Some(mut facts) = facts_of(alloc, ground, number, Manner::ByQuotient)? else {
+    let Some(mut facts) = facts_of(alloc, ground.found, claim.number, Manner::ByQuotient)? else {
         return Ok(Outcome::Unshown);
     };
     drop(facts.pop());
     let Some(form) = divided_form(alloc, ground, at)? else {
         return Ok(Outcome::Unshown);
     };
-    let known = known_multiples(alloc, ground, candidates, at.path)?;
+    let known = ground.known_multiples(alloc, at.path)?;
     let mut points = Vec::new(alloc);
-    let list = facts.as_slice();
-    let shown = both_sides(
-        alloc,
-        list,
-        &form,
-        *modulus,
-        known.as_slice(),
-        memory,
-        &mut points,
-    )?;
-    match shown {
-        Some(shown) => Ok(both_entries(
-            alloc,
-            ground,
-            names,
-            number,
-            Part::Claim(at),
-            list,
-            &shown,
-        )?),
+    let division = Division {
+        facts: facts.as_slice(),
+        form: &form,
+        modulus: *modulus,
+        known: known.as_slice(),
+    };
+    match both_sides(alloc, division, memory, &mut points)? {
+        Some(shown) => Ok(both_entries(alloc, ground, names, claim, facts.as_slice(), &shown)?),
         None => Ok(Outcome::Unshown),
     }
 }
 
-/// The form that is to be divided.
-fn divided_form(alloc: Global, ground: &Ground<'_>, at: Place) -> Result<Option<Form>, AllocError> {
+/// The form that is to be a multiple, of the first claim of a congruence; none of another claim.
+fn divided_form(
+    alloc: Global,
+    ground: &Ground<'_>,
+    at: OnPath,
+) -> Result<Option<Form>, AllocError> {
     let Some(tagged) = ground.found.paths().get(at.path) else {
         return Ok(None);
     };
@@ -278,12 +240,11 @@ fn divided_form(alloc: Global, ground: &Ground<'_>, at: Place) -> Result<Option<
     }
 }
 
-/// What shows an obligation that is not settled.
+/// The entries that show an obligation which the domain does not settle.
 fn shown(
     alloc: Global,
     ground: &Ground<'_>,
     names: &Names<'_>,
-    candidates: &[Candidate],
     number: usize,
     memory: &mut Memory,
 ) -> Result<Outcome, FindError>
@@ -297,7 +258,7 @@ fn shown(
             if ground.found.is_second_claim(number) {
                 return Ok(Outcome::Nothing);
             }
-            congruence(alloc, ground, names, candidates, number, at, memory)
+            congruence(alloc, ground, names, Numbered { number, at }, memory)
         }
         _ => {
             let found = made_by(alloc, ground, number, part, Manner::Plainly, memory)?;
@@ -306,12 +267,11 @@ fn shown(
     }
 }
 
-/// What is to be done of an obligation.
+/// The entries that show an obligation, given by its number; none needed where the domain settles it or it may be left out.
 pub fn entry_of(
     alloc: Global,
     ground: &Ground<'_>,
     names: &Names<'_>,
-    candidates: &[Candidate],
     number: usize,
     memory: &mut Memory,
 ) -> Result<Outcome, FindError>
@@ -324,5 +284,5 @@ pub fn entry_of(
     if !ground.found.is_needed(number) {
         return Ok(Outcome::Nothing);
     }
-    shown(alloc, ground, names, candidates, number, memory)
+    shown(alloc, ground, names, number, memory)
 }

@@ -22,13 +22,13 @@ pub struct Hoped {
     pub unsigned: Vec<bool>,
 }
 
-/// No limit for any loop.
+/// The limits of loops that have none, one for each ranking.
 pub fn unlimited(alloc: Global, rankings: &[Ranking]) -> Result<Vec<i64>, AllocError> {
     let limits = vec![in alloc; UNLIMITED; rankings.len()]?;
     Ok(limits)
 }
 
-/// What all know: the facts of the launch, and those with which the paths from the entry begin.
+/// The facts that hold of each launch and item: those of the launch, and those with which the paths from the entry begin.
 fn known_of(alloc: Global, walked: &Walked, begun: &[Begun]) -> Result<Vec<Form>, FindError> {
     let mut known = Vec::new(alloc);
     for fact in walked.found.launch() {
@@ -45,7 +45,7 @@ fn known_of(alloc: Global, walked: &Walked, begun: &[Begun]) -> Result<Vec<Form>
     Ok(known)
 }
 
-/// Which slots are unsigned.
+/// Of each slot, whether its variable is a `uint`.
 fn unsigned_of(alloc: Global, subject: &Subject<'_>) -> Result<Vec<bool>, AllocError> {
     let core = subject.typed.core();
     let mut unsigned = Vec::new(alloc);
@@ -75,7 +75,7 @@ fn walked(
     }
 }
 
-/// What a walk tells.
+/// The places, ends of paths and facts of a walk, as guesses need them.
 fn told_by(alloc: Global, subject: &Subject<'_>, walked: &Walked) -> Result<Hoped, FindError> {
     let sights = sights_of(alloc, subject, &walked.notes)?;
     let begun = begun_of(alloc, subject, &walked.notes, sights.as_slice())?;
@@ -90,7 +90,7 @@ fn told_by(alloc: Global, subject: &Subject<'_>, walked: &Walked) -> Result<Hope
     })
 }
 
-/// What a hopeful walk with these rankings tells; nothing where they have no text.
+/// The places, ends of paths and facts of a hopeful walk with these rankings; none where the rankings have no text.
 pub fn hope(
     alloc: Global,
     subject: &Subject<'_>,

@@ -14,7 +14,7 @@ use guesses::{Candidate, Ranking, Sight};
 use std::alloc::{AllocError, Global};
 use walk::FindError;
 
-/// What a certificate is put together of.
+/// The kernel, the names, the places, and the loops' rankings with their limits, of which a certificate is made.
 #[derive(Clone, Copy)]
 pub struct Plan<'a> {
     pub subject: Subject<'a>,
@@ -24,7 +24,7 @@ pub struct Plan<'a> {
     pub limits: &'a [i64],
 }
 
-/// What an entry is of, where that is a guess, and the guesses that it uses.
+/// The guess that an entry is of, if it is of one, and the guesses that its derivation uses.
 #[derive(Drop)]
 pub struct Use {
     pub of: Option<u32>,
@@ -62,12 +62,11 @@ impl Assembled {
     }
 }
 
-/// All entries of a walk.
+/// The entries of all obligations of a walk, and what no derivation shows.
 fn entries_of(
     alloc: Global,
     ground: &Ground<'_>,
-    plan: &Plan<'_>,
-    candidates: &[Candidate],
+    names: &Names<'_>,
     memory: &mut Memory,
 ) -> Result<Assembled, FindError> {
     let mut assembled = Assembled {
@@ -79,7 +78,7 @@ fn entries_of(
     for i in 0..ground.found.len() {
         let number = i + 1;
         let of = target_of(ground, ground.found.part(number));
-        match entry_of(alloc, ground, plan.names, candidates, number, memory)? {
+        match entry_of(alloc, ground, names, number, memory)? {
             Outcome::Nothing => {}
             Outcome::One(made) => assembled.take(of, made)?,
             Outcome::Two(first, second) => {
@@ -110,11 +109,12 @@ fn of_walk(
         begun: begun.as_slice(),
         places: places.as_slice(),
         table: &table,
+        candidates,
     };
-    entries_of(alloc, &ground, plan, candidates, memory)
+    entries_of(alloc, &ground, plan.names, memory)
 }
 
-/// A certificate without entries.
+/// The certificate of guesses and rankings without entries; none where they have no text.
 fn bare(
     alloc: Global,
     plan: &Plan<'_>,
@@ -131,7 +131,7 @@ fn bare(
     )
 }
 
-/// What shows all that is to be shown with these guesses; nothing where they have no text.
+/// The entries of all that is to be shown with these guesses, and what nothing shows; none where the guesses have no text.
 pub fn assemble(
     alloc: Global,
     plan: &Plan<'_>,

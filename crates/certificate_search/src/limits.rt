@@ -1,11 +1,7 @@
 //! What a loop's form is at most where it opens.
 
-ghost use Rattle.std.specs.Prelude.{◌≤◌, ◌<◌, length};
-ghost use Rattle.two_thread.specs.Listed.{listed};
-ghost use Rattle.plain_kernels.specs.Domains.{domain};
-
 use cut_search::{Answer, Memory};
-use guess_walk::Elements;
+use guess_walk::{Elements, facts_of};
 use guesses::{Ranking, copied, plus};
 use linear::{Form, Symbol};
 use path_steps::{Goal, Sort};
@@ -22,7 +18,7 @@ struct Opening {
     facts: Vec<Form>,
 }
 
-/// The form at an opening, where the claim is one of an opening: `UNLIMITED` less the form.
+/// An obligation is the claim that the ranking of the loop of this number is at most `UNLIMITED` where the loop opens.
 fn is_opening(found: &Obligations<Elements>, part: Part, number: u32) -> bool {
     let Part::Claim(at) = part else {
         return false;
@@ -42,19 +38,7 @@ fn is_opening(found: &Obligations<Elements>, part: Part, number: u32) -> bool {
     }
 }
 
-/// The facts of an obligation.
-fn facts_of(
-    alloc: Global,
-    found: &Obligations<Elements>,
-    number: usize,
-) -> Result<Option<Vec<Form>>, FindError>
-    requires first { 0 < number }
-    requires last { number ≤ length (listed domain found.now) }
-{
-    Ok(found.facts(alloc, number, Manner::Plainly)?)
-}
-
-/// All openings of a loop.
+/// The facts of each obligation that is of a loop's ranking where the loop opens.
 fn openings_of(
     alloc: Global,
     found: &Obligations<Elements>,
@@ -66,7 +50,7 @@ fn openings_of(
         if !is_opening(found, part, number) {
             continue;
         }
-        if let Some(facts) = facts_of(alloc, found, i + 1)? {
+        if let Some(facts) = facts_of(alloc, found, i + 1, Manner::Plainly)? {
             openings.push(Opening { facts })?;
         }
     }
@@ -141,7 +125,7 @@ fn passes_at(
     }
 }
 
-/// At one of them.
+/// Whether the form of a loop passes a limit at one of its openings, as far as a search tells.
 fn passes_somewhere(
     alloc: Global,
     openings: &[Opening],
@@ -181,7 +165,7 @@ fn least_between(
     Ok(high)
 }
 
-/// The limit of one loop.
+/// The least limit that a loop's form is shown not to pass where the loop opens; none where no limit is shown.
 fn least_limit(
     alloc: Global,
     openings: &[Opening],

@@ -7,9 +7,10 @@ ghost use Rattle.plain_kernels.specs.Domains.{domain};
 use crate::used::Ground;
 use core_code::tree::Site;
 use path_steps::{Sort, Spot, Stop};
-use two_thread::{Part, Place};
+use two_thread::{OnPath, Part};
 
-/// What an obligation is about: an access, an operator or an index by its site; a barrier or a loop by its statement's number; an end.
+/// The part of a kernel that an obligation is about: an access, an operator or an index by its site; a barrier or a loop by its statement's
+/// number; or the kernel's end.
 #[derive(Clone, Copy)]
 pub enum Mark {
     Store(Site),
@@ -28,7 +29,7 @@ pub struct Missing {
     pub second: Option<Mark>,
 }
 
-/// What a claim is about.
+/// The loop or the site that a claim is about, by its sort and its spot.
 fn claimed(sort: Sort, spot: Spot) -> Mark {
     match sort {
         Sort::OfRanking => Mark::Loop(spot.statement),
@@ -36,8 +37,8 @@ fn claimed(sort: Sort, spot: Spot) -> Mark {
     }
 }
 
-/// Where an item stops.
-fn stopped(ground: &Ground<'_>, at: Place) -> Mark {
+/// The barrier, the loop or the kernel's end at which a path stops.
+fn stopped(ground: &Ground<'_>, at: OnPath) -> Mark {
     let Some(tagged) = ground.found.paths().get(at.path) else {
         return Mark::End;
     };
@@ -51,8 +52,8 @@ fn stopped(ground: &Ground<'_>, at: Place) -> Mark {
     }
 }
 
-/// An access.
-fn accessed(ground: &Ground<'_>, at: Place) -> Mark {
+/// The site of an access, as a store or a load.
+fn accessed(ground: &Ground<'_>, at: OnPath) -> Mark {
     let Some(tagged) = ground.found.paths().get(at.path) else {
         return Mark::End;
     };
@@ -67,7 +68,7 @@ fn accessed(ground: &Ground<'_>, at: Place) -> Mark {
     }
 }
 
-/// What is missing where nothing shows the obligation of this number.
+/// The sort of the obligation of this number, and the one or two parts of the kernel that it is about.
 pub fn missing_of(ground: &Ground<'_>, number: usize) -> Missing
     requires first { 0 < number }
     requires last { number ≤ length (listed domain ground.now.found.now) }

@@ -18,7 +18,7 @@ fn mark(flags: &mut [bool], guesses: &[u32]) -> bool {
     is_new
 }
 
-/// Once through all entries: those of obligations that are of no guess, or of one that is needed.
+/// Marks the guesses used by entries that are of no guess, or of one that is needed, once through all entries; gives whether one is new.
 fn pass(flags: &mut [bool], uses: &[Use]) -> bool {
     let mut is_new = false;
     for one in uses {

@@ -9,10 +9,10 @@ use std::alloc::{AllocError, Global};
 /// How many guesses a board has.
 pub const MOST: usize = 512;
 
-/// The last rank.
+/// The highest rank of a guess.
 const LAST: u32 = 4;
 
-/// Both are bounds of the same terms at one place, and the first one is tighter.
+/// Two guesses bound the same terms at one place, and the first one's bound is tighter.
 fn is_tighter(one: &Candidate, than: &Candidate) -> bool {
     if one.anchor != than.anchor || one.head != than.head {
         return false;
@@ -41,7 +41,7 @@ fn is_spare(all: &[Candidate], candidate: &Candidate) -> bool {
     tighter >= 3
 }
 
-/// Those that no run refutes, of the ranks up to one.
+/// The guesses of the ranks up to one that may be said in a certificate and that no run refutes.
 pub fn unrefuted(
     alloc: Global,
     candidates: Vec<Candidate>,
@@ -57,7 +57,7 @@ pub fn unrefuted(
     Ok(kept)
 }
 
-/// Which of them are spare.
+/// Of each candidate, whether it is spare: tighter bounds of the same terms are there.
 fn spare_of(alloc: Global, candidates: &[Candidate]) -> Result<Vec<bool>, AllocError> {
     let mut flags = Vec::new(alloc);
     for candidate in candidates {

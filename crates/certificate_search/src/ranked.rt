@@ -1,12 +1,13 @@
 //! How each loop may end, and which way is tried.
 
-use guesses::{Descent, Ranking, copied};
+use certificate::tree::Descent;
+use guesses::{Ranking, copied};
 use linear::Form;
 use solo_runs::Observed;
 use std::alloc::{AllocError, Global};
 use text_guesses::Options;
 
-/// A ranking once more.
+/// A copy of a ranking.
 fn again(alloc: Global, ranking: &Ranking) -> Result<Ranking, AllocError> {
     let form = copied(alloc, &ranking.form)?;
     Ok(Ranking {
@@ -25,7 +26,7 @@ fn none(alloc: Global, number: u32) -> Ranking {
     }
 }
 
-/// Of each loop the ranking that is chosen.
+/// The ranking of each loop that is chosen among its options; one that shows nothing where a loop has none.
 pub fn chosen(
     alloc: Global,
     options: &[Options],
@@ -63,7 +64,7 @@ fn unrefuted(alloc: Global, options: Options, observed: &Observed) -> Result<Opt
     })
 }
 
-/// Of each loop those that no run refutes.
+/// The options of each loop without the rankings that a run refutes.
 pub fn all_unrefuted(
     alloc: Global,
     options: Vec<Options>,
@@ -86,7 +87,7 @@ fn are_refuted(options: &Options, observed: &Observed) -> bool {
             .all(|ranking| observed.refutes_ranking(ranking))
 }
 
-/// Those of some loop.
+/// Runs refute all rankings of some loop that has rankings.
 pub fn is_hopeless(options: &[Options], observed: &Observed) -> bool {
     options.iter().any(|one| are_refuted(one, observed))
 }

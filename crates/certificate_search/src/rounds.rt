@@ -53,30 +53,32 @@ impl From<BoardError> for SettlingError {
     }
 }
 
-/// What the rounds are about.
+/// The kernel, the names, the places, and the loops' rankings with their limits, which are the same in all rounds.
 #[derive(Clone, Copy)]
-struct Matter<'a> {
-    subject: Subject<'a>,
-    names: &'a Names<'a>,
-    sights: &'a [Sight],
-    rankings: &'a [Ranking],
-    most: &'a [i64],
+pub struct Rounds<'a> {
+    pub subject: Subject<'a>,
+    pub names: &'a Names<'a>,
+    pub sights: &'a [Sight],
+    pub rankings: &'a [Ranking],
+    pub most: &'a [i64],
+    pub workers: u32,
+    pub patience: u32,
 }
 
-/// A walk with these guesses.
+/// The walk of a kernel with these guesses as what is said of its places; an error where they have no text.
 fn walked(
     alloc: Global,
-    matter: &Matter<'_>,
+    rounds: &Rounds<'_>,
     candidates: &[Candidate],
     memory: &mut Memory,
 ) -> Result<Resolved, SettlingError> {
     let entries = Vec::new(alloc);
     let certificate = certificate_of(
         alloc,
-        matter.names,
+        rounds.names,
         candidates,
-        matter.rankings,
-        matter.most,
+        rounds.rankings,
+        rounds.most,
         entries,
     )?;
     let Some(certificate) = certificate else {
@@ -84,7 +86,7 @@ fn walked(
     };
     match resolve(
         alloc,
-        &matter.subject,
+        &rounds.subject,
         &certificate,
         Trust::Searched,
         memory,
@@ -137,30 +139,31 @@ fn part(
     Ok(Parted { left, lost })
 }
 
-/// Something was not shown.
+/// Some obligation of a guess has no set of guesses that shows it.
 fn any_lacks(demands: &[Demand]) -> bool {
     demands.iter().any(|demand| demand.support.is_none())
 }
 
-/// What the guesses of a walk rest on.
+/// The obligations of the guesses of a walk, each with the sets of guesses that suffice to show it.
 fn demands_in(
     alloc: Global,
-    matter: &Matter<'_>,
+    rounds: &Rounds<'_>,
     candidates: &[Candidate],
     resolved: &Resolved,
     begun: &[Begun],
     memory: &mut Memory,
 ) -> Result<Vec<Demand>, SettlingError> {
-    let table = LineTable::of(alloc, candidates, matter.sights)?;
+    let table = LineTable::of(alloc, candidates, rounds.sights)?;
     let places = places_of_paths(alloc, resolved.walked.found.paths())?;
     let ground = Ground {
         found: &resolved.walked.found,
-        sights: matter.sights,
+        sights: rounds.sights,
         begun,
         places: places.as_slice(),
         table: &table,
+        candidates,
     };
-    Ok(demands_of(alloc, &ground, candidates, memory)?)
+    Ok(demands_of(alloc, &ground, memory)?)
 }
 
 /// A walk with guesses, and what they rest on.
@@ -173,16 +176,16 @@ struct Asked {
 /// Walks with these guesses, and asks what they rest on.
 fn ask(
     alloc: Global,
-    matter: &Matter<'_>,
+    rounds: &Rounds<'_>,
     candidates: &[Candidate],
     memory: &mut Memory,
 ) -> Result<Asked, SettlingError> {
-    let resolved = walked(alloc, matter, candidates, memory)?;
+    let resolved = walked(alloc, rounds, candidates, memory)?;
     let notes = &resolved.walked.notes;
-    let begun = begun_of(alloc, &matter.subject, notes, matter.sights)?;
+    let begun = begun_of(alloc, &rounds.subject, notes, rounds.sights)?;
     let demands = demands_in(
         alloc,
-        matter,
+        rounds,
         candidates,
         &resolved,
         begun.as_slice(),
@@ -216,16 +219,15 @@ enum Turn {
 fn round<R: Threads + Sync>(
     rt: &R,
     alloc: Global,
-    matter: &Matter<'_>,
+    rounds: &Rounds<'_>,
     candidates: Vec<Candidate>,
-    workers: u32,
     is_sure: bool,
     memory: &mut Memory,
 ) -> Result<Turn, SettlingError> {
-    let asked = ask(alloc, matter, candidates.as_slice(), memory)?;
+    let asked = ask(alloc, rounds, candidates.as_slice(), memory)?;
     let demands = asked.demands.as_slice();
     if any_lacks(demands) {
-        let set = left_of(rt, alloc, candidates.len(), demands, workers)?;
+        let set = left_of(rt, alloc, candidates.len(), demands, rounds.workers)?;
         let lacking = lacking_of(alloc, candidates.len(), demands)?;
         let parted = part(alloc, candidates, &set, lacking.as_slice(), is_sure)?;
         return Ok(Turn::Falls(parted));
@@ -233,7 +235,7 @@ fn round<R: Threads + Sync>(
     Ok(Turn::Stands(candidates, asked.resolved))
 }
 
-/// Guesses behind others.
+/// Puts guesses behind others, in their order.
 pub fn push_all(all: &mut Vec<Candidate>, more: Vec<Candidate>) -> Result<(), AllocError> {
     for candidate in more {
         all.push(candidate)?;
@@ -246,27 +248,14 @@ pub fn push_all(all: &mut Vec<Candidate>, more: Vec<Candidate>) -> Result<(), Al
 pub fn settle<R: Threads + Sync>(
     rt: &R,
     alloc: Global,
-    subject: Subject<'_>,
-    names: &Names<'_>,
-    sights: &[Sight],
+    rounds: &Rounds<'_>,
     candidates: Vec<Candidate>,
-    rankings: &[Ranking],
-    most: &[i64],
-    workers: u32,
-    patience: u32,
     memory: &mut Memory,
 ) -> Result<Settled, SettlingError> {
-    let matter = Matter {
-        subject,
-        names,
-        sights,
-        rankings,
-        most,
-    };
     let mut left = candidates;
     let mut lost = Vec::new(alloc);
     for turn in 0..600 {
-        match round(rt, alloc, &matter, left, workers, lost.is_empty(), memory)? {
+        match round(rt, alloc, rounds, left, lost.is_empty(), memory)? {
             Turn::Stands(candidates, resolved) => {
                 return Ok(Settled {
                     candidates,
@@ -276,7 +265,7 @@ pub fn settle<R: Threads + Sync>(
             }
             Turn::Falls(parted) => {
                 left = parted.left;
-                if turn < patience {
+                if turn < rounds.patience {
                     push_all(&mut left, parted.lost)?;
                 } else {
                     push_all(&mut lost, parted.lost)?;

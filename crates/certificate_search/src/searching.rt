@@ -73,14 +73,14 @@ fn find_ways(
     })
 }
 
-/// What the best attempt so far does not show.
+/// The obligations that the best attempt so far does not show; none before the first one.
 #[derive(Drop)]
 struct Shortfall {
     least: Option<Vec<Missing>>,
 }
 
 impl Shortfall {
-    /// What another attempt does not show: the fewest are kept, and of equally many the first.
+    /// Takes up the obligations that another attempt does not show: the fewest are kept, and of equally many the first.
     fn meet(&mut self, missing: Vec<Missing>) {
         let is_less = match &self.least {
             Some(least) => missing.len() < least.len(),
@@ -91,7 +91,7 @@ impl Shortfall {
         }
     }
 
-    /// What stays unshown.
+    /// The error of a search in which no attempt shows all: the obligations that the best one lacks, or that no attempt could be said.
     fn told(self) -> SearchError {
         match self.least {
             Some(missing) => SearchError::NotShown(missing),
@@ -100,16 +100,23 @@ impl Shortfall {
     }
 }
 
+/// How loops may end, and up to which rank guesses are tried.
+#[derive(Clone, Copy)]
+struct Stage<'a> {
+    options: &'a [Options],
+    rank: u32,
+}
+
 /// Attempts with guesses up to a rank, with one choice of rankings after the other, eight at most.
-fn stage<R: Threads + Sync>(
+fn try_stage<R: Threads + Sync>(
     rt: &R,
     alloc: Global,
     matter: &Matter<'_>,
-    options: &[Options],
-    rank: u32,
+    stage: Stage<'_>,
     memory: &mut Memory,
     shortfall: &mut Shortfall,
 ) -> Result<Option<Certificate>, SearchError> {
+    let Stage { options, rank } = stage;
     let mut choices = vec![in alloc; 0usize; options.len()]?;
     for _ in 0..8 {
         let rankings = chosen(alloc, options, choices.as_slice())?;
@@ -144,7 +151,8 @@ fn search_named<R: Threads + Sync>(
     let options = ways.options.as_slice();
     let mut shortfall = Shortfall { least: None };
     for rank in 2..5 {
-        let found = stage(rt, alloc, &matter, options, rank, memory, &mut shortfall)?;
+        let stage = Stage { options, rank };
+        let found = try_stage(rt, alloc, &matter, stage, memory, &mut shortfall)?;
         if let Some(certificate) = found {
             return Ok(certificate);
         }

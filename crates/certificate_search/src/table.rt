@@ -13,7 +13,7 @@ pub struct Demand {
     pub support: Option<Vec<u32>>,
 }
 
-/// Of one guess its obligations, each with its sets.
+/// The obligations of one guess, each with the sets of guesses that suffice for it.
 fn lists_of(
     alloc: Global,
     guess: u32,

@@ -1,14 +1,15 @@
 //! Which guesses a derivation uses.
 
-use cut_proof::{Derivation, Line};
+use cut_proof::{Derivation, Line as ProofLine};
+use facts::{Family, Side};
 use guess_walk::{Begun, Elements, LineTable, PlaceLines, is_place};
-use guesses::{Sight, family, index_of};
+use guesses::{Candidate, Line, Sight, copied, index_of};
 use linear::Form;
 use std::alloc::{AllocError, Global};
-use two_thread::{Obligations, Part, Place};
+use two_thread::{Obligations, OnPath, Part};
 
-/// Where the facts of an obligation come from: how many the launch has, then the first item's and the second one's, each with the guesses
-/// of its place and how many facts stand where the place begins, and the guesses at the anchor.
+/// The parts of an obligation's facts: how many the launch has, then the first item's and the second one's, each with the guesses of its
+/// place and how many facts stand where the place begins, and the guesses at the anchor.
 #[derive(Clone, Copy)]
 pub struct Origin<'a> {
     pub launch: usize,
@@ -17,7 +18,7 @@ pub struct Origin<'a> {
     pub anchor: Option<&'a PlaceLines>,
 }
 
-/// The facts of one item.
+/// The facts of one item: how many, how many of them stand where the place begins, and the guesses of the place.
 #[derive(Clone, Copy)]
 pub struct Share<'a> {
     pub count: usize,
@@ -40,8 +41,11 @@ fn slot_of(fact: &Form) -> Option<u32> {
     if terms.len() != 2 || index_of(first.symbol) != index_of(second.symbol) {
         return None;
     }
-    match (family(first.symbol), family(second.symbol)) {
-        (6, 12) | (7, 13) => u32::try_from(index_of(first.symbol)).ok(),
+    match (Family::of(first.symbol), Family::of(second.symbol)) {
+        (Family::Variable(Side::First), Family::Variable(Side::Second))
+        | (Family::AtAnchor(Side::First), Family::AtAnchor(Side::Second)) => {
+            u32::try_from(index_of(first.symbol)).ok()
+        }
         _ => None,
     }
 }
@@ -73,7 +77,7 @@ pub fn used_guesses(
 ) -> Result<Vec<u32>, AllocError> {
     let mut used = Vec::new(alloc);
     for line in derivation.lines.as_slice() {
-        let Line::Given(number) = line else {
+        let ProofLine::Given(number) = line else {
             continue;
         };
         let Some(guess) = origin.guess_of(facts, *number) else {
@@ -86,7 +90,7 @@ pub fn used_guesses(
     Ok(used)
 }
 
-/// What a walk's paths are of.
+/// A walk's obligations and places, how its paths begin, and the place and the guesses of each path.
 #[derive(Clone, Copy)]
 pub struct Ground<'a> {
     pub found: &'a Obligations<Elements>,
@@ -94,6 +98,7 @@ pub struct Ground<'a> {
     pub begun: &'a [Begun],
     pub places: &'a [usize],
     pub table: &'a LineTable,
+    pub candidates: &'a [Candidate],
 }
 
 impl<'a> Ground<'a> {
@@ -119,7 +124,7 @@ impl<'a> Ground<'a> {
         self.table.places.get(place)
     }
 
-    fn claim_facts(&self, at: Place) -> Option<usize> {
+    fn claim_facts(&self, at: OnPath) -> Option<usize> {
         Some(
             self.found
                 .paths()
@@ -131,7 +136,7 @@ impl<'a> Ground<'a> {
         )
     }
 
-    fn end_facts(&self, at: Place) -> Option<usize> {
+    fn end_facts(&self, at: OnPath) -> Option<usize> {
         Some(
             self.found
                 .paths()
@@ -143,7 +148,7 @@ impl<'a> Ground<'a> {
         )
     }
 
-    fn access_facts(&self, at: Place) -> Option<usize> {
+    fn access_facts(&self, at: OnPath) -> Option<usize> {
         Some(
             self.found
                 .paths()
@@ -155,8 +160,8 @@ impl<'a> Ground<'a> {
         )
     }
 
-    /// Two items.
-    fn pair(&self, first: Place, second: Place, counts: (usize, usize)) -> Option<Origin<'a>> {
+    /// The parts of the facts of a pair, by where each item is and how many facts it has there; none where a path is not of the walk.
+    fn pair(&self, first: OnPath, second: OnPath, counts: (usize, usize)) -> Option<Origin<'a>> {
         Some(Origin {
             launch: self.found.launch().len(),
             first: self.share(first.path, counts.0)?,
@@ -165,7 +170,31 @@ impl<'a> Ground<'a> {
         })
     }
 
-    /// Where the facts of an obligation come from.
+    /// The congruences known where a path begins: its place's, with their moduli.
+    pub fn known_multiples(
+        &self,
+        alloc: Global,
+        path: usize,
+    ) -> Result<Vec<(u64, Form)>, AllocError> {
+        let mut known = Vec::new(alloc);
+        let Some(place) = self.places.get(path) else {
+            return Ok(known);
+        };
+        let Some(lines) = self.table.places.get(*place) else {
+            return Ok(known);
+        };
+        for guess in lines.multiples.as_slice() {
+            if let Some(candidate) = self.candidates.get(*guess as usize) {
+                if let Line::Multiple { modulus, form } = &candidate.line {
+                    let form = copied(alloc, form)?;
+                    known.push((*modulus, form))?;
+                }
+            }
+        }
+        Ok(known)
+    }
+
+    /// The parts of an obligation's facts; none where the obligation is not of the walk.
     pub fn origin(&self, part: Part) -> Option<Origin<'a>> {
         match part {
             Part::Claim(at) => Some(Origin {

@@ -40,7 +40,7 @@ pub fn same_cell(one: Cell, other: Cell) -> bool
 }
 
 impl Access {
-    /// Who made it, and when.
+    /// The item that made the access, and in which epoch.
     pub fn mark(&self) -> Mark
         ensures { result ≡ mark (access_seen self.now) }
     {

@@ -20,7 +20,7 @@ pub struct History {
 }
 
 impl History {
-    /// Of no access.
+    /// A history without accesses.
     pub fn new(alloc: Global) -> History
         ensures empty { accesses result ≡ [] }
         ensures watched { (s : Setup) → IsWatched s result }

@@ -9,11 +9,11 @@ use crate::mark::Mark;
 #[derive(Clone, Copy)]
 pub enum Loads {
     Nobody,
-    /// One item's, the last of them.
+    /// All loads are of one item; the mark is that of the last one.
     OneItem(Mark),
-    /// Of several items of one group, in their last epoch.
+    /// The loads are of several items of one group, in their last epoch.
     OneGroup { group: u64, epoch: u64 },
-    /// Of items of several groups.
+    /// The loads are of items of several groups.
     Groups,
 }
 
@@ -38,7 +38,7 @@ impl Loads {
         }
     }
 
-    /// With one more.
+    /// The loads of an element with one more, by groups of this size.
     fn with(self, mark: Mark, size: u64) -> Loads
         requires { 0 < size }
         ensures { result ≡ loads_after size self mark }
@@ -83,7 +83,7 @@ impl Mark {
 }
 
 impl Seen {
-    /// Of an element that nobody accessed.
+    /// An element that nobody has accessed.
     pub fn nothing() -> Seen
         ensures { result ≡ nothing }
     {
@@ -105,7 +105,7 @@ impl Seen {
         meets_store || (is_store && self.loads.meet(mark, size))
     }
 
-    /// With one more access.
+    /// An element's accesses with one more; a store makes its earlier loads forgotten.
     pub fn with(self, mark: Mark, is_store: bool, size: u64) -> Seen
         requires { 0 < size }
         ensures { result ≡ seen_after size self mark is_store }

@@ -19,7 +19,8 @@ use work_item::ask::{Cell, Owner};
 /// An element: the group that has its array, if it is a local one, the array's number and the index.
 type Element = (Option<u64>, u32, u32);
 
-/// What is known of each element up to the first access that clashes with an earlier one, and the place of that access in the history.
+/// The elements' accesses as far as they are known up to the first one that clashes with an earlier one, and the place of that access in
+/// the history.
 #[derive(Drop)]
 pub struct Watch {
     seen: HashMap<Element, Seen>,
@@ -52,7 +53,7 @@ fn earlier(history: &[Access], place: usize, size: u64) -> Option<usize>
 }
 
 impl Watch {
-    /// Of an empty history.
+    /// The watch of a history without accesses.
     pub fn new(alloc: Global) -> Watch
         ensures { (s : Setup) → Watches s [] result }
     {

@@ -39,7 +39,7 @@ pub struct Names<'a> {
     pub certificate: &'a str,
 }
 
-/// What `prove` is asked of: the files of a kernel and its conditions, the file to write, where one is named, and how many workers.
+/// The files that `prove` is asked of, a kernel's and its conditions', the file to write, where one is named, and how many workers.
 #[derive(Clone, Copy)]
 pub struct Search<'a> {
     pub kernel: &'a str,
@@ -48,7 +48,7 @@ pub struct Search<'a> {
     pub workers: u32,
 }
 
-/// What `explain` is asked of: the files of a kernel and its conditions, and that of a certificate, where one is named.
+/// The files that `explain` is asked of: a kernel's, its conditions', and a certificate's, where one is named.
 #[derive(Clone, Copy)]
 pub struct Subject<'a> {
     pub kernel: &'a str,
@@ -112,7 +112,7 @@ fn is_known(word: &str, options: &[&str]) -> bool {
     }
 }
 
-/// The command of this form.
+/// The parser of a form of the command line: its files and its options.
 fn command_of<'a>(alloc: Global, form: Form<'a>) -> Result<Command<'a>, AllocError> {
     let mut command = Command::new(alloc, form.name);
     for (at, name) in form.files.iter().enumerate() {
@@ -160,7 +160,7 @@ fn out_of(words: &[String]) -> Option<&str>
     None
 }
 
-/// The files that the words name.
+/// The files that words name, behind the command; none where there are too few.
 fn names_of<'a>(words: &'a [String]) -> Option<Names<'a>>
     ensures { IfSome result (λ names. HasNames (texts words.now) names) }
 {
@@ -203,7 +203,7 @@ fn number_of(alloc: Global, word: Option<&str>) -> Result<Option<u32>, AllocErro
     }
 }
 
-/// Whether the words are of this form.
+/// Whether the words are a command line of this form.
 fn is_of(alloc: Global, form: Form<'_>, words: &[String]) -> Result<bool, AllocError> {
     if !is_spelled(words, form.options) {
         return Ok(false);

@@ -1,8 +1,15 @@
 //! The types of the core.
 
-use words::Kind;
+ghost use Rattle.std.specs.Prelude.{◌≡◌};
+ghost use Rattle.semantics.specs.Core as core;
+ghost use Rattle.semantics.specs.Evaluation as evaluation;
+ghost use Rattle.semantics.specs.Item as items;
+ghost use Rattle.words.specs.View.{kind as kind_seen, word as word_seen};
+ghost use Rattle.core_code.specs.View.{relation as relation_seen, statement as statement_seen, statements as statements_seen};
 
-/// Where a token begins: line and column from 1, the column in bytes.
+use words::{Kind, Word, read_as};
+
+/// The place at which a token begins: line and column from 1, the column in bytes.
 #[derive(Debug, Clone, Copy, PartialEq, Eq)]
 pub struct Site {
     pub line: u32,
@@ -33,7 +40,25 @@ pub enum Relation {
     Unequal,
 }
 
-/// Where an array lies: a buffer parameter in global memory, a local array in local memory (OpenCL 1.2, 3.3).
+impl Relation {
+    /// Whether it holds of two operands, each brought to a kind (C99 6.5.8, 6.5.9).
+    pub fn compare(self, kind: Kind, left: Word, right: Word) -> bool
+        ensures { result ≡ evaluation.compare (relation_seen self) (kind_seen kind) (word_seen left) (word_seen right) }
+    {
+        let left = read_as(left, kind).value();
+        let right = read_as(right, kind).value();
+        match self {
+            Relation::Less => left < right,
+            Relation::AtMost => left <= right,
+            Relation::More => right < left,
+            Relation::AtLeast => right <= left,
+            Relation::Equal => left == right,
+            Relation::Unequal => left != right,
+        }
+    }
+}
+
+/// The memory of an array: global for a buffer parameter, local for a local array (OpenCL 1.2, 3.3).
 #[derive(Clone, Copy)]
 pub enum Space {
     Global,
@@ -179,6 +204,34 @@ pub enum Statement {
         number: u32,
         of: u32,
     },
+}
+
+impl Statement {
+    /// Its number in the source.
+    pub fn number(&self) -> u32
+        ensures { result ≡ core.number (statement_seen self.now) }
+    {
+        match self {
+            Statement::Set { number, .. }
+            | Statement::Store { number, .. }
+            | Statement::If { number, .. }
+            | Statement::Loop { number, .. }
+            | Statement::Barrier { number, .. }
+            | Statement::Return { number }
+            | Statement::Break { number, .. }
+            | Statement::Continue { number, .. } => *number,
+        }
+    }
+
+    /// The update of a loop; of another statement nothing.
+    pub fn update(&self) -> &[Statement]
+        ensures { statements_seen result.now ≡ items.update_of (statement_seen self.now) }
+    {
+        match self {
+            Statement::Loop { update, .. } => update.as_slice(),
+            _ => &[],
+        }
+    }
 }
 
 /// A local array of the kernel.

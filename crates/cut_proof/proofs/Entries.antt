@@ -3,7 +3,7 @@ use Rattle.std.proofs.Common.{◌≡◌, ℕ, zero, suc, ◌+◌, ◌<◌, ◌�
 use Rattle.std.specs.Prelude.{None, Some, ℤ}
 use Rattle.std.specs.Int.{is_negative}
 use Rattle.std.proofs.lemmas.Bool.Decides.{nat_tests}
-use Rattle.semantics.specs.Linear as semantics
+use Rattle.linear.specs.Linear as semantics
 use Rattle.linear.specs.declared.form.Form.{Form}
 use Rattle.linear.specs.declared.term.Term.{Term}
 use Rattle.linear.specs.Terms.{terms}

@@ -5,7 +5,7 @@ use Rattle.std.specs.Int.{is_positive, is_negative}
 use Rattle.std.specs.List.{All}
 use Rattle.std.proofs.lemmas.Int.{ints}
 use Rattle.std.proofs.lemmas.List.Elements.{All-head, All-tail, All-push, All-nil}
-use Rattle.semantics.specs.Linear.{Form, Weighted, value_of, terms_value, IsMet, IsImpossible}
+use Rattle.linear.specs.Linear.{Form, Weighted, value_of, terms_value, IsMet, IsImpossible}
 use Rattle.semantics.proofs.Integers.{mul-add, weighted}
 use Rattle.linear.specs.Exact.{sum, multiple, all_divide, fits}
 use Rattle.linear.proofs.Merging.{value-merge, value-multiples}

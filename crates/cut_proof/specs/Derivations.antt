@@ -1,7 +1,7 @@
 -- Derivations by cutting planes, and which of them end in a contradiction.
 use Rattle.std.specs.Prelude.{ℕ, zero, suc, ℤ, pos, Bool, true, false, cond, ◌&&◌, nat_lt, Option, None, Some, List, [], ◌∷◌, ◌++◌}
 use Rattle.std.specs.Int.{is_positive, is_negative}
-use Rattle.semantics.specs.Linear.{Weighted, Form}
+use Rattle.linear.specs.Linear.{Weighted, Form}
 use Rattle.linear.specs.Exact.{sum, multiple, quotient, all_divide, fits}
 
 -- a line of a derivation: a fact, a sum of earlier lines with weights, an earlier line divided; facts and lines are counted from 1

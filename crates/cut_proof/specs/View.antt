@@ -1,6 +1,6 @@
 -- What the code has made, as the definitions have it.
 use Rattle.std.specs.Prelude.{ℕ, Option, None, Some}
-use Rattle.semantics.specs.Linear as semantics
+use Rattle.linear.specs.Linear as semantics
 use Rattle.linear.specs.declared.form.Form.{Form}
 use Rattle.linear.specs.Forms.{form}
 use Rattle.cut_proof.specs.Derivations as derivations

@@ -8,7 +8,7 @@
 #![tactic(auto)]
 
 ghost use Rattle.std.specs.Prelude.{◌≡◌, ℕ, ℤ, pos, Some, None, Ok, Err, IfOk, MatchOption, IsTrue, length, map};
-ghost use Rattle.semantics.specs.Linear.{IsImpossible};
+ghost use Rattle.linear.specs.Linear.{IsImpossible};
 ghost use Rattle.linear.specs.Exact.{sum, multiple};
 ghost use Rattle.linear.specs.Forms.{form, forms};
 ghost use Rattle.cut_proof.specs.View.{seen, line as line_seen};
@@ -20,7 +20,7 @@ use std::alloc::{AllocError, Global};
 /// One line of a derivation. Facts and lines are counted from 1.
 #[derive(Debug, Drop)]
 pub enum Line {
-    /// A fact.
+    /// The fact of a number.
     Given(u32),
     /// Weights, each with an earlier line, the lines rising.
     Sum(Vec<(i64, u32)>),
@@ -53,7 +53,7 @@ pub fn refutes(alloc: Global, facts: &[Fact], derivation: &Derivation) -> Result
     Ok(refuted)
 }
 
-/// What a line says, if it is as written.
+/// The form that a line of a derivation says to be at least 0; none where the line may not stand there.
 fn make_line(
     alloc: Global,
     facts: &[Fact],
@@ -100,7 +100,7 @@ fn make_sum(alloc: Global, made: &[Form], parts: &[(i64, u32)]) -> Result<Option
     Ok(Some(total))
 }
 
-/// A sum with one more part.
+/// The sum with so many times an earlier line; none where the weight is below 1, the line is missing, or a number is too large.
 fn make_part(
     alloc: Global,
     made: &[Form],
@@ -138,7 +138,7 @@ fn make_quotient(
     line.divided(alloc, divisor)
 }
 
-/// A multiple, if it is within `i64`.
+/// The form of a line so many times; none where a number is too large for `i64`.
 fn settled_multiple(alloc: Global, line: &Form, weight: i64) -> Result<Option<Form>, AllocError>
     ensures { IfOk result (λ r. seen r ≡ within_i64 (multiple weight (form line.now))) }
 {
@@ -149,7 +149,7 @@ fn settled_multiple(alloc: Global, line: &Form, weight: i64) -> Result<Option<Fo
     }
 }
 
-/// A sum, if it is within `i64`.
+/// The sum of two forms; none where a number is too large for `i64`.
 fn settled_sum(alloc: Global, total: &Form, part: &Form) -> Result<Option<Form>, AllocError>
     ensures { IfOk result (λ r. seen r ≡ within_i64 (sum (form total.now) (form part.now))) }
 {

@@ -1,7 +1,7 @@
 -- What an answer says of the facts that were searched.
 use Rattle.std.specs.Prelude.{ℕ, ℤ, pos, true, cond, nat_eq, ◌≡◌, List, [], ◌∷◌, map}
 use Rattle.std.specs.List.{All}
-use Rattle.semantics.specs.Linear.{Form, IsMet, IsImpossible}
+use Rattle.linear.specs.Linear.{Form, IsMet, IsImpossible}
 use Rattle.linear.specs.declared.term.Symbol.{Symbol}
 use Rattle.cut_proof.specs.Derivations.{refutes_of}
 use Rattle.cut_proof.specs.View.{line}

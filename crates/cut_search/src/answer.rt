@@ -5,13 +5,13 @@ use linear::Symbol;
 /// Symbols with their values; all others are 0.
 pub type Point = Vec<(Symbol, i64)>;
 
-/// What a search answers.
+/// The answer of a search for a derivation that refutes facts.
 #[derive(Drop)]
 pub enum Answer {
     /// A derivation that refutes the facts.
     Proof(Derivation),
     /// Whole numbers that meet all facts.
     Model(Point),
-    /// Neither was found.
+    /// Neither a derivation nor a point was found within the limits of the search.
     Undecided,
 }

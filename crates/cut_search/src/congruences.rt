@@ -32,7 +32,7 @@ fn modulus_of(facts: &[Fact], fact: &Fact) -> Option<u64> {
     None
 }
 
-/// Of each fact the modulus, if it is one half of a congruence.
+/// The modulus of each fact that is one half of a congruence; none of another fact.
 pub fn moduli_of(alloc: Global, facts: &[Fact]) -> Result<Vec<Option<u64>>, AllocError> {
     let mut moduli = Vec::new(alloc);
     for fact in facts {

@@ -8,10 +8,10 @@ use std::alloc::Global;
 /// How many cuts are made before the tableau is solved again.
 const CUTS: usize = 4;
 
-/// What came of cutting.
+/// The outcome of an attempt to cut the point of a tableau off.
 #[derive(Drop)]
 pub enum Cuts {
-    /// There are new slacks.
+    /// New slacks were added to the tableau, one for each cut.
     Made,
     /// The parts of a sum that is below 0.
     Refuting(Vec<Part>),
@@ -80,7 +80,7 @@ fn add_sources(out: &mut Vec<Source>, rows: &[Row], is_solved: bool) -> Result<(
     Ok(())
 }
 
-/// What is left of a coefficient, taken so many times, by a denominator.
+/// The remainder, from 0 on, of a coefficient with a sign by a denominator; none where it is too large.
 fn rest_of(coefficient: i64, sign: i64, denominator: i64) -> Option<i64> {
     let Some(number) = coefficient.checked_mul(sign) else {
         return None;
@@ -112,7 +112,7 @@ fn has_parts(origins: &[Origin], parts: &[Part]) -> bool {
     })
 }
 
-/// What a slack says of symbols, over the denominator 1.
+/// The form over symbols that a slack says to be at least 0, as a row with the denominator 1; gives up on a slack of a tried bound.
 pub fn form_of(alloc: Global, tableau: &Tableau, facts: &[Fact], slack: u32) -> Result<Row, Stop> {
     match tableau.origins.get(slack as usize) {
         Some(Origin::Given(number, _)) => {
@@ -254,7 +254,7 @@ fn cut_by(
     Ok(None)
 }
 
-/// Makes some cuts.
+/// Adds up to four cuts as slacks of the tableau, or finds one that refutes the facts.
 pub fn cut(alloc: Global, tableau: &mut Tableau, facts: &[Fact]) -> Result<Cuts, Stop> {
     settle(tableau)?;
     let since = tableau.origins.len();

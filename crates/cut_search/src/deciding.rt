@@ -22,7 +22,7 @@ pub struct Prepared {
 }
 
 impl Prepared {
-    /// No facts.
+    /// A tableau that has taken in no facts.
     pub fn new(alloc: Global) -> Prepared {
         Prepared {
             tableau: Tableau::new(alloc),
@@ -30,7 +30,7 @@ impl Prepared {
         }
     }
 
-    /// These facts, or none where that is given up.
+    /// A solved tableau of these facts, or one of no facts where solving is given up.
     pub fn of_facts(alloc: Global, facts: &[Fact]) -> Result<Prepared, AllocError> {
         match solved(alloc, facts) {
             Ok(tableau) => Ok(Prepared {

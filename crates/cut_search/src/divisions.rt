@@ -25,7 +25,7 @@ pub fn quotients(
     Ok(found)
 }
 
-/// One more, unless it is there.
+/// Adds a quotient to those found, unless it is among them.
 fn push_new(found: &mut Vec<Form>, form: Form) -> Result<(), AllocError> {
     for other in found.as_slice() {
         if is_same(other, &form) {
@@ -56,7 +56,7 @@ fn push_divided(
     }
 }
 
-/// By each congruence of the same modulus.
+/// Adds the quotients that the known congruences of the same modulus give.
 fn push_known(
     alloc: Global,
     found: &mut Vec<Form>,
@@ -74,7 +74,7 @@ fn push_known(
     Ok(())
 }
 
-/// By one congruence, that of this index.
+/// Adds the quotient that one known congruence gives, whose own quotient is the new symbol of this index.
 fn push_beside(
     alloc: Global,
     found: &mut Vec<Form>,
@@ -114,7 +114,7 @@ fn quotient_of_difference(
     divided(alloc, &difference, divisor)
 }
 
-/// By the equalities that the facts hold.
+/// Adds the quotient of the form with the equalities put in that the facts hold.
 fn push_reduced(
     alloc: Global,
     found: &mut Vec<Form>,

@@ -1,7 +1,8 @@
 //! Equalities that a list of facts holds: two facts, one of which is the other with all signs turned.
 
 use crate::hashes::{hash_of_opposite, hashes_of};
-use guesses::{copied, family, is_launch, one_of, try_multiple, try_sum};
+use facts::{Family, Side};
+use guesses::{copied, is_launch, one_of, try_multiple, try_sum};
 use linear::{Form, LinearError, Symbol};
 use std::alloc::{AllocError, Global};
 
@@ -19,7 +20,7 @@ pub struct Equalities {
 }
 
 impl Equalities {
-    /// Those that the facts hold, but for what is too large.
+    /// The equalities that the facts hold, each solved for a symbol, without those whose numbers are too large.
     pub fn of_facts(alloc: Global, facts: &[Form]) -> Result<Equalities, AllocError> {
         let hashes = hashes_of(alloc, facts)?;
         let mut equalities = Equalities {
@@ -45,7 +46,7 @@ impl Equalities {
         Ok(Some(reduced))
     }
 
-    /// One more: that the form is 0.
+    /// Adds the equality that a form is 0, solved for a symbol, which is taken out of the others; nothing where that is too large.
     fn add(&mut self, alloc: Global, form: &Form) -> Result<(), AllocError> {
         let Some(form) = self.reduce(alloc, form)? else {
             return Ok(());
@@ -98,9 +99,9 @@ fn lateness(symbol: Symbol) -> u64 {
     if is_launch(symbol) {
         return 2;
     }
-    match family(symbol) {
-        3 | 4 => 3,
-        5 => 1,
+    match Family::of(symbol) {
+        Family::Local(Side::First) | Family::Group(Side::First) => 3,
+        Family::New(Side::First) => 1,
         _ => 0,
     }
 }
@@ -113,7 +114,7 @@ struct Choice {
     lateness: u64,
 }
 
-/// The symbol to solve for.
+/// The symbol with coefficient 1 or -1 to solve a form for, the one of the earliest kind; none where there is none.
 fn choice_of(form: &Form) -> Option<Choice> {
     let mut best: Option<Choice> = None;
     for term in form.terms() {
@@ -130,7 +131,7 @@ fn choice_of(form: &Form) -> Option<Choice> {
     best
 }
 
-/// That the form is 0, solved.
+/// The equality that a form is 0, solved for one of its symbols; none where no coefficient is 1 or -1, or a number is too large.
 fn solved_of(alloc: Global, form: &Form) -> Result<Option<Equality>, AllocError> {
     let Some(choice) = choice_of(form) else {
         return Ok(None);
@@ -144,7 +145,7 @@ fn solved_of(alloc: Global, form: &Form) -> Result<Option<Equality>, AllocError>
     }))
 }
 
-/// What the symbol is equal to, where the form is 0.
+/// The value of the chosen symbol where the form is 0, as a form without it; none where a number is too large.
 fn value_of(alloc: Global, form: &Form, choice: Choice) -> Result<Option<Form>, AllocError> {
     let Some(turned) = try_multiple(alloc, form, choice.sign.wrapping_neg())? else {
         return Ok(None);

@@ -14,7 +14,7 @@ pub struct Found {
 }
 
 impl Found {
-    /// One that refutes facts of these numbers.
+    /// A derivation that refutes facts of these hashes, kept with the hashes that it uses.
     pub fn new(
         alloc: Global,
         key: u64,
@@ -48,7 +48,7 @@ impl Found {
         }
     }
 
-    /// Where the facts stand that are used, counted from 1.
+    /// The places, counted from 1, at which the used facts stand in a list of facts, by their hashes; none where one is missing.
     fn places(&self, alloc: Global, hashes: &[u64]) -> Result<Option<Vec<u32>>, AllocError> {
         let mut places = Vec::new(alloc);
         for given in self.givens.as_slice() {
@@ -72,7 +72,7 @@ impl Found {
     }
 }
 
-/// Where a number stands first, counted from 1.
+/// The place, counted from 1, at which a hash stands first; none where it does not stand there.
 fn first_number(hashes: &[u64], hash: u64) -> Option<u32> {
     let place = first_place(hashes, hash)?;
     u32::try_from(place.saturating_add(1)).ok()

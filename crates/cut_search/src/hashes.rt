@@ -50,7 +50,7 @@ pub fn hash_of_list(hashes: &[u64]) -> u64 {
     hash
 }
 
-/// Where this number stands first.
+/// The index at which a hash stands first in a list; none where it does not stand there.
 pub fn first_place(hashes: &[u64], hash: u64) -> Option<usize> {
     for (place, word) in hashes.iter().enumerate() {
         if *word == hash {

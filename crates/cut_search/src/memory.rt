@@ -43,7 +43,7 @@ impl Numbers {
     }
 }
 
-/// What was found so far: derivations, points, and the numbers of lists of which neither was found.
+/// The answers found so far: derivations, points, and the hashes of lists of which neither was found.
 #[derive(Drop)]
 pub struct Memory {
     found: Vec<Found>,
@@ -53,7 +53,7 @@ pub struct Memory {
 }
 
 impl Memory {
-    /// Nothing is remembered.
+    /// A memory without answers.
     pub fn new(alloc: Global) -> Memory {
         Memory {
             found: Vec::new(alloc),
@@ -81,7 +81,7 @@ impl Memory {
         self.recall_found(alloc, facts, &numbers)
     }
 
-    /// What is remembered of the facts, after a search.
+    /// The remembered answer to a list of facts that was just searched; undecided where none is remembered.
     fn recall_found(
         &self,
         alloc: Global,
@@ -96,7 +96,8 @@ impl Memory {
         }
     }
 
-    /// What is remembered of the facts.
+    /// The remembered answer to a list of facts: a derivation that still refutes them, that nothing was found, or a point; none where none
+    /// is.
     fn recall(
         &self,
         alloc: Global,
@@ -212,7 +213,7 @@ fn distinct_of(alloc: Global, facts: &[Form], hashes: &[u64]) -> Result<Distinct
     Ok(distinct)
 }
 
-/// The derivation, if it refutes the facts.
+/// The answer that is a derivation; none where it does not refute the facts.
 fn checked_proof(
     alloc: Global,
     facts: &[Form],
@@ -227,7 +228,7 @@ fn checked_proof(
     }
 }
 
-/// The point, if it meets the facts.
+/// The answer that is a point; none where it does not meet the facts.
 fn checked_point(facts: &[Form], point: Point) -> Option<Answer>
     ensures { IfSome result (λ a. IsAnswer (forms facts.now) a) }
 {

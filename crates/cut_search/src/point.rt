@@ -1,7 +1,7 @@
 // Points: whole numbers for symbols.
 ghost use Rattle.std.specs.Prelude.{◌≡◌, ℕ, ℤ, pos, ◌+ℤ◌, ◌*ℤ◌, IfSome, IsTrue};
 ghost use Rattle.std.specs.List.{All};
-ghost use Rattle.semantics.specs.Linear.{IsMet, value_of};
+ghost use Rattle.linear.specs.Linear.{IsMet, value_of};
 ghost use Rattle.linear.specs.Forms.{form, forms};
 ghost use Rattle.cut_search.specs.Answers.{value_at};
 
@@ -29,7 +29,7 @@ fn add_product(sum: i64, coefficient: i64, value: i64) -> Option<i64>
     sum.checked_add(product)
 }
 
-/// What is summed of a fact.
+/// A partial sum of a fact's value at a point.
 #[derive(Clone, Copy)]
 struct Partial {
     sum: i64,
@@ -46,7 +46,7 @@ fn add_term(partial: Partial, term: &Term, point: &[(Symbol, i64)]) -> Option<Pa
     Some(Partial { sum })
 }
 
-/// What is summed of a fact without its terms.
+/// The constant of a fact, with which the sum of its value begins.
 fn constant_of(fact: &Fact) -> Partial
     ensures { result.sum ≡ (form fact.now).constant }
 {

@@ -12,7 +12,7 @@ use std::mem::swap;
 pub enum Variable {
     /// A symbol of the facts, of any value.
     Free(Symbol),
-    /// What a fact or a cut says to be at least 0, counted from 0.
+    /// The number, counted from 0, of a fact or a cut, whose form this variable stands for: it is at least 0.
     Slack(u32),
 }
 
@@ -139,7 +139,7 @@ fn coefficient_of(entries: &[Entry], variable: Variable) -> i64 {
 }
 
 impl Row {
-    /// The same row again.
+    /// A copy of the row.
     pub fn copy(&self, alloc: Global) -> Result<Row, AllocError> {
         let entries = Vec::from_slice(alloc, self.entries.as_slice())?;
         Ok(Row {

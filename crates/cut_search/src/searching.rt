@@ -1,6 +1,6 @@
 // The search, and its beginning with facts that several lists have in common.
 ghost use Rattle.std.specs.Prelude.{◌≡◌, true, IfOk, IfSome, map};
-ghost use Rattle.semantics.specs.Linear.{IsImpossible};
+ghost use Rattle.linear.specs.Linear.{IsImpossible};
 ghost use Rattle.linear.specs.Forms.{forms};
 ghost use Rattle.cut_proof.specs.View.{line as line_seen};
 ghost use Rattle.cut_proof.specs.Derivations.{refutes_of};
@@ -21,14 +21,14 @@ pub struct Start {
 }
 
 impl Start {
-    /// Nothing in common.
+    /// A start for lists of facts that have nothing in common.
     pub fn new(alloc: Global) -> Start {
         Start {
             prepared: Prepared::new(alloc),
         }
     }
 
-    /// The facts in common.
+    /// A start for lists that begin with these facts, which are taken in and solved.
     pub fn prepare(alloc: Global, facts: &[Fact]) -> Result<Start, AllocError> {
         let prepared = Prepared::of_facts(alloc, facts)?;
         Ok(Start { prepared })
@@ -77,7 +77,7 @@ pub fn find(alloc: Global, facts: &[Fact]) -> Result<Option<Derivation>, AllocEr
     }
 }
 
-/// The answer, if it is true of the facts.
+/// An answer that is true of the facts; undecided where the given one is not.
 fn checked(alloc: Global, facts: &[Fact], answer: Answer) -> Result<Answer, AllocError>
     ensures { IfOk result (λ a. IsAnswer (forms facts.now) a) }
 {

@@ -9,7 +9,7 @@ use std::alloc::{AllocError, Global};
 /// How many symbols such a sum has, at most.
 const SYMBOLS: usize = 4;
 
-/// About how many of them are taken in, at most.
+/// The number of sums that are taken in, about and at most.
 const MOST: u32 = 400;
 
 /// Whether a coefficient of one row is the opposite of the other's.
@@ -51,7 +51,7 @@ fn is_said(rows: &[Row], sum: &Row) -> bool {
     false
 }
 
-/// What each slack of a tableau says.
+/// The form over symbols of each slack of a tableau, as a row.
 #[derive(Drop)]
 struct Said {
     rows: Vec<Row>,

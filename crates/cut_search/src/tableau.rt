@@ -7,7 +7,7 @@ use std::alloc::{AllocError, Global};
 /// How often variables change places in one search, at most.
 pub const PIVOTS: u32 = 3_000;
 
-/// So many steps take short rows, as long as that leads on.
+/// The number of steps, from the first on, for which short rows are taken, as long as that leads on.
 const SHORT: u32 = 400;
 
 /// A slack with a weight.
@@ -17,7 +17,7 @@ pub struct Part {
     pub slack: u32,
 }
 
-/// Where a slack comes from.
+/// The origin of a slack.
 #[derive(Drop)]
 pub enum Origin {
     /// A fact, counted from 1, divided.
@@ -41,7 +41,7 @@ pub struct Tableau {
     uses: Vec<u32>,
 }
 
-/// What to do next.
+/// The next step of the simplex method.
 #[derive(Clone, Copy)]
 enum Step {
     /// No slack is below 0.
@@ -52,7 +52,7 @@ enum Step {
     Pivot(usize, Variable),
 }
 
-/// What a row offers for a step: a variable, and how good that is, less being better.
+/// A variable that may come into the basis for a row's slack, and in how many rows it stands: fewer is better.
 #[derive(Clone, Copy)]
 struct Offer {
     variable: Variable,
@@ -81,7 +81,7 @@ fn count_uses(uses: &mut Vec<u32>, rows: &[Row]) {
     }
 }
 
-/// In how many rows a symbol is.
+/// The number of rows in which a symbol stands.
 fn uses_of_symbol(rows: &[Row], symbol: Symbol) -> u32 {
     let mut uses = 0u32;
     for row in rows {
@@ -176,7 +176,7 @@ impl Tableau {
         }
     }
 
-    /// The same tableau again, with so many steps at most.
+    /// A copy of the tableau, with no step made yet and so many at most.
     pub fn copy(&self, alloc: Global, most: u32) -> Result<Tableau, AllocError> {
         let rows = copy_rows(alloc, self.rows.as_slice())?;
         let solved = copy_rows(alloc, self.solved.as_slice())?;
@@ -242,7 +242,7 @@ impl Tableau {
         best.map(|found| found.0)
     }
 
-    /// In how many rows a variable is, of slacks by the last count.
+    /// The number of rows in which a variable stands, of slacks by the last count.
     fn uses_of(&self, variable: Variable) -> u32 {
         match variable {
             Variable::Free(symbol) => uses_of_symbol(self.rows.as_slice(), symbol),

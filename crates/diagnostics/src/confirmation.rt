@@ -16,7 +16,7 @@ ghost use Rattle.findings.specs.Visits.{IsSighting};
 
 use crate::turn::Turn;
 use core_code::tree::Core;
-use findings::{Finding, Grade, Kind, Sighting, assemble, look};
+use findings::{Finding, FindingKind, Grade, Sighting, assemble, look};
 use launch::launches::Launch;
 use machine::world::{Applied, Event, World};
 use std::alloc::{AllocError, Global};
@@ -36,7 +36,7 @@ fn was_possible(applied: Applied) -> bool
     !matches!(applied, Applied::NotPossible)
 }
 
-/// An event, noted where it is possible; and whether it was.
+/// Applies an event to the world and notes it, where it is possible, and gives whether it was.
 fn happen(world: &mut World, events: &mut Vec<Event>, event: Event) -> Result<bool, AllocError>
     requires { IsAfter world.old events.old.items }
     ensures after { OnOk result (IsAfter world.new events.new.items) }
@@ -100,17 +100,29 @@ fn confirmed(alloc: Global, seen: Sighting, events: Vec<Event>) -> Result<Findin
     let grade = Grade::Confirmed(events);
     match seen {
         Sighting::Fault(fault, at) => {
-            assemble(alloc, Kind::Fault(fault), &[at.spot], &[at.item], grade)
+            assemble(
+                alloc,
+                FindingKind::Fault(fault),
+                &[at.spot],
+                &[at.item],
+                grade,
+            )
         }
         Sighting::Race(first, second) => {
             let sites = [first.spot, second.spot];
-            assemble(alloc, Kind::Race, &sites, &[first.item, second.item], grade)
+            assemble(
+                alloc,
+                FindingKind::Race,
+                &sites,
+                &[first.item, second.item],
+                grade,
+            )
         }
         Sighting::Divergence(first, second) => {
             let sites = [first.spot, second.spot];
             assemble(
                 alloc,
-                Kind::Divergence,
+                FindingKind::Divergence,
                 &sites,
                 &[first.item, second.item],
                 grade,
@@ -119,7 +131,7 @@ fn confirmed(alloc: Global, seen: Sighting, events: Vec<Event>) -> Result<Findin
     }
 }
 
-/// Whether a launch is replayed.
+/// Whether a launch has so few items that it is replayed.
 fn has_few_items(core: &Core, launch: &Launch) -> bool
     requires sizes { are_sizes (core_seen core.now).sizes ≡ true }
     requires counts { AreFew (launch_seen launch.now).groups }
@@ -136,11 +148,10 @@ pub fn confirm(alloc: Global, typed: &Typed, launch: &Launch) -> Result<Option<F
     requires fits { Fits (core_seen typed.now.1) (launch_seen launch.now) }
     ensures { IfOk result (λ o. IfSome o (λ f. IsConfirmed (setup_of typed.now.1 launch.now) (tree_seen typed.now.0) (finding_seen f))) }
 {
-    let core = typed.core();
-    if !has_few_items(core, launch) {
+    if !has_few_items(typed.core(), launch) {
         return Ok(None);
     }
-    let mut world = World::open(alloc, core, launch)?;
+    let mut world = World::open(alloc, typed, launch)?;
     let mut events = Vec::new(alloc);
     match play(typed, &mut world, &mut events)? {
         Some(seen) => Ok(Some(confirmed(alloc, seen, events)?)),

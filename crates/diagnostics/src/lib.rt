@@ -10,4 +10,4 @@ pub mod replay;
 mod turn;
 
 pub use confirmation::confirm;
-pub use findings::{Finding, Grade, Kind, Spot, WorkItem, line, possible};
+pub use findings::{Finding, FindingKind, Grade, Spot, WorkItem, line, possible};

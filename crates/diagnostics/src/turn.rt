@@ -30,7 +30,7 @@ fn is_waiting(world: &World, number: usize) -> bool {
 }
 
 impl Turn {
-    /// As a launch begins.
+    /// The turn with which a replay begins: all items of the world may run, and its first group is released first.
     pub fn first(world: &World) -> Turn {
         Turn {
             next: 0,

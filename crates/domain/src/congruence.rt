@@ -308,7 +308,7 @@ fn product(a: u64, b: u64) -> u128
     a as u128 * b as u128
 }
 
-/// Whether it is one number other than 0.
+/// Whether the congruence is one number other than 0.
 fn is_divisor(by: Congruence) -> bool
     ensures value { result ≡ is_divisor by }
     ensures nonzero { result ≡ true → 0 < unsigned_abs by.remainder }

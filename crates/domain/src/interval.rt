@@ -362,7 +362,7 @@ fn first_nonzero(low: i128, high: i128) -> i128
     }
 }
 
-/// The last of them.
+/// The last of the divisors other than 0 at which a quotient is least or greatest.
 fn last_nonzero(low: i128, high: i128) -> i128
     requires ordered { low ≤ℤ high }
     requires nonzero { ¬ ((pos 0 ≤ℤ low) × (high ≤ℤ pos 0)) }

@@ -23,7 +23,7 @@ pub struct Bounds {
     pub high: Option<i64>,
 }
 
-/// What each member leaves by the modulus. A modulus of 0 says that each member is the remainder.
+/// The remainder that each member leaves by the modulus. A modulus of 0 says that each member is the remainder.
 #[derive(Clone, Copy, Debug, PartialEq, Eq)]
 pub struct Residue {
     pub modulus: u64,
@@ -65,27 +65,27 @@ pub trait Domain: Copy {
 
     ghost residue_of: { Self → Residue };
 
-    /// All numbers.
+    /// The element of all whole numbers.
     fn top() -> Self
         ensures { result ≡ top_of };
 
-    /// One number.
+    /// The element of one number.
     fn of(number: i64) -> Self
         ensures { result ≡ number_of number };
 
-    /// The members of either.
+    /// An element that holds the members of both.
     fn join(self, other: Self) -> Self
         ensures { result ≡ join_of self other };
 
-    /// Each sum.
+    /// An element that holds each sum of members.
     fn add(self, other: Self) -> Self
         ensures { result ≡ add_of self other };
 
-    /// Each difference.
+    /// An element that holds each difference of members.
     fn sub(self, other: Self) -> Self
         ensures { result ≡ sub_of self other };
 
-    /// Each product.
+    /// An element that holds each product of members.
     fn mul(self, other: Self) -> Self
         ensures { result ≡ mul_of self other };
 

@@ -6,7 +6,7 @@ ghost use Rattle.std.proofs.lemmas.Bool.{and_from, and_parts};
 
 use crate::{Bounds, Domain, Residue};
 
-/// Of each of two domains an element.
+/// An element of each of two domains: the numbers that are members of both.
 #[derive(Clone, Copy, Debug)]
 pub struct Product<A, B> {
     pub first: A,

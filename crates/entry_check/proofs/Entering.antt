@@ -4,7 +4,7 @@ use Rattle.std.specs.Prelude.{Option, None, Some, IfSome, MatchOption, is_some}
 use Rattle.std.proofs.lemmas.Bool.{cases_eq, cases_lt}
 use Rattle.std.proofs.lemmas.Bool.Decides.{nat_tests}
 use Rattle.std.proofs.lemmas.List.{map-append, length-set, length-replicate, drop_more, drop_all, set_past, get_or-set_same, get_or-set_other, get_or_past, get_or_push, get_or_append_left, length-append, get_or_default}
-use Rattle.texts.specs.Certificate as certificate
+use Rattle.certificate_text.specs.Certificate as certificate
 use Rattle.certificate.specs.View.{entry}
 use Rattle.certificate.specs.declared.tree.Entry.{Entry}
 use Rattle.entry_check.proofs.OneByOne.{one_more}

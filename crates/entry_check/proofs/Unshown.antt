@@ -2,8 +2,8 @@
 use Rattle.std.proofs.Common.{◌≡◌, ℕ, zero, suc, ◌+◌, ◌<◌, ◌≤◌, Bool, true, false, ◌&&◌, List, length, get_or, refl, sym, subst, ◌∙◌, inr, arith}
 use Rattle.std.specs.Prelude.{Option, Some, Result, Ok, Err, IfOk, IfErr, IsTrue}
 use Rattle.std.proofs.lemmas.List.{get_or_default}
-use Rattle.semantics.specs.Linear.{IsImpossible}
-use Rattle.texts.specs.Certificate.{Entry}
+use Rattle.linear.specs.Linear.{IsImpossible}
+use Rattle.certificate_text.specs.Certificate.{Entry}
 use Rattle.linear.specs.Forms.{forms}
 use Rattle.linear.specs.declared.form.Form.{Form}
 use Rattle.facts.specs.Symbols.{Fact}

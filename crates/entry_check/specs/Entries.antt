@@ -1,8 +1,8 @@
 -- What the entries of a certificate say of obligations.
 use Rattle.std.specs.Prelude.{◌≡◌, ℕ, zero, suc, ◌-◌, ℤ, pos, negsuc, List, [], ◌∷◌, map, Bool, true, false, not, cond, ◌&&◌, ◌||◌, nat_eq, nat_le, nat_lt, Option, None, Some, slice_index_or}
 use Rattle.std.specs.Ordering.{int_eq}
-use Rattle.semantics.specs.Linear.{Weighted}
-use Rattle.texts.specs.Certificate.{Entry, EntrySort, Show, Positive, Negative, Quotient, Step, Given, Sum, Divide, Scaled}
+use Rattle.linear.specs.Linear.{Weighted}
+use Rattle.certificate_text.specs.Certificate.{Entry, EntrySort, Show, Positive, Negative, Quotient, Step, Given, Sum, Divide, Scaled}
 use Rattle.cut_proof.specs.Derivations as derivations
 use Rattle.cut_proof.specs.Derivations.{Forms, Line, refutes_of}
 use Rattle.facts.specs.Symbols.{Fact}

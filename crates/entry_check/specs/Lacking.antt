@@ -3,7 +3,7 @@ use Rattle.std.specs.Prelude.{◌≡◌, ◌<◌, ◌≤◌, ◌⊎◌, ℕ, zer
 use Rattle.semantics.specs.Launch.{Kernel}
 use Rattle.semantics.specs.Conditions.{Conditions}
 use Rattle.domain.specs.declared.Domain.{Ghosts}
-use Rattle.texts.specs.Certificate.{Entry}
+use Rattle.certificate_text.specs.Certificate.{Entry}
 use Rattle.facts.specs.Symbols.{Fact}
 use Rattle.facts.specs.declared.error.WalkError.{WalkError}
 use Rattle.walk_trees.specs.Trees.{Obligation}

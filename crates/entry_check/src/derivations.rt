@@ -1,7 +1,7 @@
 //! The derivation of an entry, and whether it refutes facts.
 
 ghost use Rattle.std.specs.Prelude.{◌≡◌, IfOk, IsTrue, map};
-ghost use Rattle.semantics.specs.Linear.{IsImpossible};
+ghost use Rattle.linear.specs.Linear.{IsImpossible};
 ghost use Rattle.linear.specs.Forms.{forms};
 ghost use Rattle.certificate.specs.View.{scaled as scaled_seen, step as step_seen, entry as entry_seen, sort as sort_seen};
 ghost use Rattle.cut_proof.specs.View.{line as line_seen};
@@ -27,7 +27,7 @@ fn line_number(number: i64) -> u32
 }
 
 #[tactic(auto, using(crate::proofs::Entering::made))]
-/// Lines with their weights.
+/// The weights of a sum, each with the number of its line.
 fn parts_of(alloc: Global, parts: &[Scaled]) -> Result<Vec<(i64, u32)>, AllocError>
     ensures { IfOk result (λ v. v.items ≡ map entries.part_of (map scaled_seen parts.now)) }
 {

@@ -8,9 +8,9 @@ use std::alloc::{AllocError, AllocFailed};
 use thiserror::Error;
 use walk::FindError;
 
-/// Where a refusal points: a place of the kernel's text; or a number, that of a line or of an obligation.
+/// The point that a refusal tells: a place of the kernel's text; or a number, that of a line or of an obligation.
 #[derive(Clone, Copy, Debug, PartialEq, Eq)]
-pub enum Place {
+pub enum Pointer {
     At { line: u32, column: u32 },
     Number(u64),
 }
@@ -21,7 +21,7 @@ pub enum ShowError {
     /// An obligation is not shown; 0 where the certificate tells of what the kernel lacks, or has an entry past the last.
     #[error("52 {0}")]
     NotShown(u64),
-    /// From a place over 256 paths come to an end: the number of its loop or barrier, none of the kernel's entry.
+    /// More than 256 paths from one place come to an end: the number of its loop or barrier, none of the kernel's entry.
     #[error("53")]
     ManyPaths(Option<u32>),
     #[error("{0}")]
@@ -32,12 +32,12 @@ pub enum ShowError {
     Memory,
 }
 
-/// Where a walk's refusal points.
-fn walk_place(error: &WalkError) -> Option<Place>
+/// The place that a walk's refusal tells: the start of the text where there is too much to show, else none.
+fn walk_place(error: &WalkError) -> Option<Pointer>
     ensures { result ≡ numbers.walk_place error.now }
 {
     match error {
-        WalkError::TooMany => Some(Place::At { line: 1, column: 1 }),
+        WalkError::TooMany => Some(Pointer::At { line: 1, column: 1 }),
         WalkError::TooLarge | WalkError::Memory => None,
     }
 }
@@ -45,7 +45,7 @@ fn walk_place(error: &WalkError) -> Option<Place>
 impl ShowError {
     ghost use Rattle.entry_check.specs.Numbers.{show_number, show_place};
 
-    /// The number that it is printed under.
+    /// The number under which the error is printed.
     pub fn number(&self) -> u8
         ensures { result ≡ show_number self.now }
     {
@@ -58,12 +58,12 @@ impl ShowError {
         }
     }
 
-    /// Where it points.
-    pub fn place(&self) -> Option<Place>
+    /// The place of the kernel's text, or the number of the obligation, that a refusal tells; none where it tells neither.
+    pub fn place(&self) -> Option<Pointer>
         ensures { result ≡ show_place self.now }
     {
         match self {
-            ShowError::NotShown(number) => Some(Place::Number(*number)),
+            ShowError::NotShown(number) => Some(Pointer::Number(*number)),
             ShowError::Walk(error) => walk_place(error),
             ShowError::ManyPaths(_) | ShowError::OverBudget | ShowError::Memory => None,
         }

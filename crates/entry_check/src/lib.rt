@@ -11,5 +11,5 @@ mod refuting;
 mod showing;
 mod table;
 
-pub use error::{Place, ShowError};
+pub use error::{Pointer, ShowError};
 pub use showing::show_all;

@@ -15,7 +15,7 @@ use obligations::{Notes, Quotient};
 use std::alloc::Global;
 use two_thread::Obligations;
 
-/// The terms are the same.
+/// Two lists of terms are the same, in order.
 fn same_terms(left: &[Term], right: &[Term]) -> bool
     ensures { result ≡ entries.same_terms (terms_seen left.now) (terms_seen right.now) }
 {
@@ -32,7 +32,7 @@ fn same_terms(left: &[Term], right: &[Term]) -> bool
     true
 }
 
-/// The forms are the same.
+/// Two forms have the same constant and the same terms.
 fn same_form(left: &Form, right: &Form) -> bool
     ensures { result ≡ entries.same_form (form_seen left.now) (form_seen right.now) }
 {

@@ -96,8 +96,8 @@ fn show_found<D: Domain>(
 }
 
 /// All that is to be shown of a kernel under conditions, with what is said of its places and loops, is shown by the entries of a
-/// certificate. 53 and 54 come first (all is listed before an obligation is looked at), then 52 with the number of the first obligation that
-/// stops the check, then 52 with 0 for an entry past the last.
+/// certificate. 53 and 54 come first (all is listed before an obligation is looked at), then 52 with the number of the first obligation
+/// that stops the check, then 52 with 0 for an entry past the last.
 pub fn show_all<D: Domain>(
     alloc: Global,
     core: &Core,

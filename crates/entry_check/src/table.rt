@@ -7,7 +7,7 @@ ghost use Rattle.entry_check.specs.Entries.{IsTable, entry_of, has_entry};
 use certificate::tree::Entry;
 use std::alloc::{AllocError, Global};
 
-/// As many places as numbers, from 0 on.
+/// A table for the numbers 0 to 65,536 of obligations, none of which has an entry.
 fn no_places(alloc: Global) -> Result<Vec<usize>, AllocError>
     ensures { IfOk result (λ v. v.items ≡ replicate 65537 0) }
 {
@@ -15,7 +15,7 @@ fn no_places(alloc: Global) -> Result<Vec<usize>, AllocError>
     Ok(places)
 }
 
-/// Past the last number nothing is put.
+/// Puts the place of an entry at its obligation's number; nothing past the last number.
 fn put_place(places: &mut Vec<usize>, number: u64, place: usize)
     ensures { places.new.items ≡ slice_set places.old.items number place }
 {
@@ -24,7 +24,7 @@ fn put_place(places: &mut Vec<usize>, number: u64, place: usize)
     }
 }
 
-/// By the number of an obligation, the place of its entry, counted from 1; 0 where it has none.
+/// The places of entries by the numbers of their obligations, counted from 1; 0 for an obligation that has none.
 pub fn places_of(alloc: Global, entries: &[Entry]) -> Result<Vec<usize>, AllocError>
     ensures { IfOk result (λ v. IsTable (map entry_seen entries.now) v.items) }
 {

@@ -11,7 +11,7 @@ use thiserror::Error;
 pub enum RunError {
     #[error("{0}")]
     Condition(ConditionError),
-    /// There are 1 to 64 workers.
+    /// The number of workers is not 1 to 64.
     #[error("70")]
     Workers,
     #[error("90")]
@@ -21,7 +21,7 @@ pub enum RunError {
 impl RunError {
     ghost use Rattle.executor.specs.Numbers.{error_number, error_line};
 
-    /// The number that it is printed under.
+    /// The number under which the error is printed.
     pub fn number(&self) -> u8
         ensures { result ≡ error_number self.now }
     {

@@ -30,9 +30,9 @@ pub fn run_group(
     requires group { group < group_count (at_launch (core_seen (typed_of accepted.now).1) (launch_seen launch.now)) }
     ensures { IfOk result (λ log. (buffer index : ℕ) → written log buffer index ≡ group_log (at_launch (core_seen (typed_of accepted.now).1) (launch_seen launch.now)) (kept accepted.now).budget group buffer index) }
 {
-    let core = accepted.typed().core();
+    let typed = accepted.typed();
     let budget = accepted.conditions().budget;
-    let code = lower(alloc, core)?;
+    let code = lower(alloc, typed)?;
     lane_logs_are_by_rounds();
-    lane_groups::run_group(alloc, core, launch, &code, budget, group)
+    lane_groups::run_group(alloc, typed.core(), launch, &code, budget, group)
 }

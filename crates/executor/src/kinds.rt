@@ -10,18 +10,7 @@ ghost use Rattle.executor.specs.Kinds.{words, typed, read, of_kinds};
 use cert_check::Accepted;
 use launch::launches::Buffers;
 use std::alloc::{AllocError, Global};
-use words::{Kind, Word};
-
-/// The 32 bits of a word, read as a kind.
-fn read_as(word: Word, kind: Kind) -> Word
-    ensures { word_seen result ≡ read (kind_seen kind) (value_of word) }
-{
-    match (word, kind) {
-        (Word::Int(value), Kind::Uint) => Word::Uint(value.cast_unsigned()),
-        (Word::Uint(value), Kind::Int) => Word::Int(value.cast_signed()),
-        _ => word,
-    }
-}
+use words::{Kind, Word, read_as};
 
 /// The words of a buffer, read as its kind.
 fn of_kind(alloc: Global, row: &[Word], kind: Kind) -> Result<Vec<Word>, AllocError>

@@ -38,7 +38,7 @@ fn copy(alloc: Global, buffers: &Buffers) -> Result<Buffers, AllocError>
     Ok(Buffers { words })
 }
 
-/// Runs the groups, by so many workers.
+/// Runs the groups of a launch, by so many workers.
 fn run_groups<R: Threads + Wait + Sync, G: Gate>(
     rt: &R,
     alloc: Global,
@@ -53,10 +53,10 @@ fn run_groups<R: Threads + Wait + Sync, G: Gate>(
     ensures { IfOk result (λ b. IsResultOf (at_launch (core_seen (typed_of accepted.now).1) (launch_seen launch.now)) (kept accepted.now).budget (words_of b)) }
 {
     let mut buffers = copy(alloc, &launch.buffers)?;
-    let core = accepted.typed().core();
-    let code = lower(alloc, core)?;
+    let typed = accepted.typed();
+    let code = lower(alloc, typed)?;
     let task = Task {
-        core,
+        core: typed.core(),
         code: &code,
         launch,
         budget: accepted.conditions().budget,

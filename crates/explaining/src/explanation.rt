@@ -69,7 +69,7 @@ fn line_of(finding: &Finding, number: usize) -> Option<u32> {
     }
 }
 
-/// A site, with who comes there.
+/// Writes a site of a finding with its line of the source, and which work-item comes there.
 fn push_spot(
     alloc: Global,
     kernel: &[u8],
@@ -88,7 +88,7 @@ fn push_spot(
     }
 }
 
-/// The sites of a finding.
+/// Writes the sites of a finding, each with its line of the source.
 fn push_spots(
     alloc: Global,
     kernel: &[u8],
@@ -101,7 +101,7 @@ fn push_spots(
     Ok(())
 }
 
-/// What a replay of the launch at the least values shows.
+/// Writes what a replay of the launch at the least values shows of a finding; nothing where the conditions have no such launch.
 fn push_replay(
     alloc: Global,
     typed: &Typed,
@@ -121,7 +121,7 @@ fn push_replay(
     }
 }
 
-/// The same of the text of the conditions.
+/// Writes what the replay of a finding shows, with the conditions given as a text.
 fn push_under(
     alloc: Global,
     typed: &Typed,
@@ -138,7 +138,7 @@ fn push_under(
     }
 }
 
-/// The same of the texts of both.
+/// Writes what the replay of a finding shows, with the kernel and the conditions given as texts.
 fn push_shown(
     alloc: Global,
     subject: Subject,
@@ -152,7 +152,7 @@ fn push_shown(
     }
 }
 
-/// What is known of a finding, behind an empty line.
+/// Writes a finding behind an empty line: its title, its sites in the source, and, where it is confirmed, its replay.
 fn push_finding(
     alloc: Global,
     subject: Subject,
@@ -173,7 +173,7 @@ fn is_possible(finding: &Finding) -> bool {
     matches!(finding.grade, Grade::Possible)
 }
 
-/// What findings that are only possible depend on, and what to do about them.
+/// Writes the values on which the possible findings depend, and what to do about such findings.
 fn push_advice(
     alloc: Global,
     subject: Subject,
@@ -217,7 +217,7 @@ fn push_cost(
     }
 }
 
-/// What a refusal means.
+/// The text that explains a refusal: what its number means, its findings, and the steps of a work-item where these are over the budget.
 fn explanation(
     alloc: Global,
     subject: Subject,
@@ -235,7 +235,7 @@ fn explanation(
     Ok(out)
 }
 
-/// What a refusal means, behind what is written.
+/// Adds to a text what a refusal means, in plain words.
 pub fn explain(
     alloc: Global,
     kernel: &[u8],

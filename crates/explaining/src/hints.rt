@@ -5,14 +5,14 @@ use crate::parts::{MOST, put, put_both, statements_of, terms_of};
 use crate::source::push_site;
 use crate::vague::{Reason, Slots};
 use core_code::tree::{Core, Operator, Site, Statement, Term};
-use findings::{Finding, Grade, Kind, Spot};
+use findings::{Finding, FindingKind, Grade, Spot};
 use std::alloc::{AllocError, Global};
 use words::Fault;
 
-/// How many of them are told.
+/// The most hints that are told.
 const SHOWN: usize = 4;
 
-/// What stands before them.
+/// The sentence in front of the hints.
 const HEAD: &str =
     "Of these values, on which that depends, little more than a range is known. If that is the reason, test them, or write \
      them otherwise, as docs/KERNELS.md says:";
@@ -47,17 +47,20 @@ fn is_of(finding: &Finding, wanted: Site) -> bool {
 }
 
 /// One element is accessed twice, or there is none.
-fn is_of_indexes(kind: Kind) -> bool {
-    matches!(kind, Kind::Race | Kind::Fault(Fault::OutOfBounds))
+fn is_of_indexes(kind: FindingKind) -> bool {
+    matches!(
+        kind,
+        FindingKind::Race | FindingKind::Fault(Fault::OutOfBounds)
+    )
 }
 
 /// Items come to different places, or come too often.
-fn is_of_tests(kind: Kind) -> bool {
-    matches!(kind, Kind::Divergence | Kind::Bound)
+fn is_of_tests(kind: FindingKind) -> bool {
+    matches!(kind, FindingKind::Divergence | FindingKind::Bound)
 }
 
 impl<'a> Slice<'a> {
-    /// What the finding says of a term depends on these parts of it.
+    /// Puts into the list of terms those parts of a term on which a finding about that term depends.
     fn begin_term(&mut self, finding: &Finding, term: &'a Term) -> Result<(), AllocError> {
         match term {
             Term::Load { site, index, .. }
@@ -65,7 +68,7 @@ impl<'a> Slice<'a> {
                 put(&mut self.left, index)
             }
             Term::Unary { site, of, .. } | Term::Convert { site, of, .. }
-                if finding.kind == Kind::Fault(Fault::Overflow) && is_of(finding, *site) => {
+                if finding.kind == FindingKind::Fault(Fault::Overflow) && is_of(finding, *site) => {
                 put(&mut self.left, of)
             }
             Term::Binary {
@@ -81,7 +84,7 @@ impl<'a> Slice<'a> {
         }
     }
 
-    /// What the finding says of a statement depends on these parts of it.
+    /// Puts into the list of terms those parts of a statement, and of its terms, on which a finding depends.
     fn begin(
         &mut self,
         alloc: Global,
@@ -100,7 +103,7 @@ impl<'a> Slice<'a> {
         Ok(())
     }
 
-    /// What is known of a variable's step.
+    /// Notes a hint where a variable steps by what is no number, if a finding is of an index.
     fn push_step(&mut self, slots: &Slots, slot: u32, value: &Term) -> Result<(), AllocError> {
         match slots.step(slot, value) {
             Some(site) if self.has_index => {
@@ -187,7 +190,7 @@ impl<'a> Slice<'a> {
     }
 }
 
-/// What is found of all findings that are only possible.
+/// The hints of all findings that are only possible, in the order in which they are met.
 fn hints_of(alloc: Global, core: &Core, findings: &[Finding]) -> Result<Vec<Hint>, AllocError> {
     let statements = statements_of(alloc, core.body.as_slice())?;
     let count = core.arguments.len().saturating_add(core.variables.len());
@@ -215,7 +218,7 @@ fn order_of(site: Site) -> u64 {
     ((site.line as u64) << 32) | site.column as u64
 }
 
-/// The first of those behind a place.
+/// The first hint, in the order of the source, behind a place; none where there is no more.
 fn first_behind(hints: &[Hint], place: u64) -> Option<Hint> {
     let mut first: Option<Hint> = None;
     for hint in hints {
@@ -230,7 +233,7 @@ fn first_behind(hints: &[Hint], place: u64) -> Option<Hint> {
     first
 }
 
-/// The first of them, each with its line.
+/// Writes the first hints in the order of the source, each with its line.
 fn push_some(
     alloc: Global,
     kernel: &[u8],

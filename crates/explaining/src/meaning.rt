@@ -1,12 +1,12 @@
 //! What refusals mean, and what to do.
 
-/// What to do about findings that are only possible.
+/// Advice about findings that are only possible.
 pub const POSSIBLE: &str =
     "A possible finding says nothing of the kernel: it is what the search could not show, and a replay of the launch at the least values \
      did not come there. A tighter condition may help (a range, a length, a requirement), or another way to write the kernel \
      (docs/KERNELS.md), or a certificate written by hand.";
 
-/// What refusals mean and what to do, by their numbers.
+/// The meanings of refusals, and what to do about them, by their numbers.
 const MEANINGS: &[(u8, &str)] = &[
     (
         1,
@@ -145,7 +145,7 @@ const MEANINGS: &[(u8, &str)] = &[
     (70, "There may be 1 to 64 workers: name such a number."),
 ];
 
-/// What a refusal of a number means, and what to do.
+/// The meaning of the refusal of a number, and what to do about it; of other numbers, where refusals are listed.
 pub fn meaning(number: u8) -> &'static str {
     for (wanted, text) in MEANINGS {
         if *wanted == number {

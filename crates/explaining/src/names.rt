@@ -61,7 +61,7 @@ impl<'a> Names<'a> {
         }
     }
 
-    /// What a statement declares; the statements in it are left.
+    /// Takes up the names that a statement declares; the statements in it are put into `left`.
     fn push_statement(
         &mut self,
         statement: &'a Stmt,

@@ -14,7 +14,7 @@ fn push_block<'a>(left: &mut Vec<&'a Statement>, block: &'a [Statement]) -> Resu
     Ok(())
 }
 
-/// The statements in a statement.
+/// Puts the statements that stand in a statement in front of those that are left.
 fn push_inner<'a>(left: &mut Vec<&'a Statement>, of: &'a Statement) -> Result<(), AllocError> {
     match of {
         Statement::If { taken, skipped, .. } => {
@@ -44,13 +44,13 @@ pub fn statements_of(alloc: Global, body: &[Statement]) -> Result<Vec<&Statement
     Ok(all)
 }
 
-/// One more term.
+/// Puts a term behind those of a list.
 pub fn put<'a>(terms: &mut Vec<&'a Term>, term: &'a Term) -> Result<(), AllocError> {
     terms.push(term)?;
     Ok(())
 }
 
-/// Two more.
+/// Puts two terms behind those of a list.
 pub fn put_both<'a>(
     terms: &mut Vec<&'a Term>,
     one: &'a Term,
@@ -60,7 +60,7 @@ pub fn put_both<'a>(
     put(terms, other)
 }
 
-/// The terms of a statement.
+/// Puts the terms that a statement itself has in front of those that are left.
 fn push_own<'a>(left: &mut Vec<&'a Term>, of: &'a Statement) -> Result<(), AllocError> {
     match of {
         Statement::Set { value, .. } => put(left, value),
@@ -70,7 +70,7 @@ fn push_own<'a>(left: &mut Vec<&'a Term>, of: &'a Statement) -> Result<(), Alloc
     }
 }
 
-/// The terms in a term.
+/// Puts the operands of a term in front of the terms that are left.
 fn push_operands<'a>(left: &mut Vec<&'a Term>, of: &'a Term) -> Result<(), AllocError> {
     match of {
         Term::Load { index: of, .. }

@@ -12,8 +12,8 @@ use crate::names::{Names, names_of};
 use crate::paragraph::push_paragraph;
 use crate::schedule::schedule;
 use clashes::access::{Access, same_cell};
-use core_code::tree::{Array, Core, Site, Space};
-use findings::{Finding, Kind, Spot};
+use core_code::tree::{Array, Site, Space};
+use findings::{Finding, FindingKind, Spot};
 use launch::launches::Launch;
 use machine::world::{Event, World};
 use std::alloc::{AllocError, Global};
@@ -21,13 +21,13 @@ use types::typed::Typed;
 use words::{Fault, Word};
 use work_item::ask::{Cell, Owner};
 
-/// What stands before each line.
+/// The blanks in front of each line of a replay.
 const INDENT: &str = "   ";
 
 /// How many values are told of an item, and how many buffers of a launch.
 const MOST: usize = 8;
 
-/// Where a site is, if it has a place in the source.
+/// The source place of a spot; none for the end of the kernel.
 pub fn site_of(spot: Spot) -> Option<Site> {
     match spot {
         Spot::Store(site) | Spot::Load(site) | Spot::Barrier(site) | Spot::At(site) => Some(site),
@@ -49,20 +49,22 @@ fn advance(world: &mut World, events: &[Event], accesses: usize) -> Result<(), A
     Ok(())
 }
 
-/// The world of a launch after events, as far as so many accesses.
-fn replayed<'a>(
-    alloc: Global,
-    core: &'a Core,
+/// A schedule of a kernel at a launch.
+#[derive(Clone, Copy)]
+struct Replay<'a> {
+    typed: &'a Typed,
     launch: &'a Launch,
-    events: &[Event],
-    accesses: usize,
-) -> Result<World<'a>, AllocError>
-    requires proper { is_proper (core_seen core.now) ≡ true }
-    requires fits { Fits (core_seen core.now) (launch_seen launch.now) }
+    events: &'a [Event],
+}
+
+/// The world of a replay, as far as so many accesses.
+fn replayed<'a>(alloc: Global, replay: Replay<'a>, accesses: usize) -> Result<World<'a>, AllocError>
+    requires proper { is_proper (core_seen replay.typed.now.1) ≡ true }
+    requires fits { Fits (core_seen replay.typed.now.1) (launch_seen replay.launch.now) }
     ensures { IfOk result (λ w. IsSound w) }
 {
-    let mut world = World::open(alloc, core, launch)?;
-    advance(&mut world, events, accesses)?;
+    let mut world = World::open(alloc, replay.typed, replay.launch)?;
+    advance(&mut world, replay.events, accesses)?;
     Ok(world)
 }
 
@@ -186,7 +188,7 @@ fn push_lengths(names: &Names, launch: &Launch, text: &mut String) -> Result<(),
     Ok(())
 }
 
-/// The launch that is replayed.
+/// Writes the launch that is replayed: its groups, arguments and lengths.
 fn push_launch(
     alloc: Global,
     names: &Names,
@@ -201,7 +203,7 @@ fn push_launch(
     push_paragraph(out, INDENT, &text)
 }
 
-/// The element that two accesses touch.
+/// Writes the element that two accesses touch.
 fn push_element(
     alloc: Global,
     names: &Names,
@@ -222,7 +224,7 @@ fn push_element(
     push_paragraph(out, INDENT, &text)
 }
 
-/// How many accesses there are up to one of them.
+/// The number of accesses in a history up to one of them.
 fn count_to(world: &World, access: Access) -> usize {
     for (place, other) in world.history.accesses.iter().enumerate() {
         if other.item == access.item
@@ -242,17 +244,19 @@ fn push_race(
     alloc: Global,
     names: &Names,
     world: &World,
-    events: &[Event],
+    replay: Replay<'_>,
     out: &mut String,
 ) -> Result<(), AllocError>
-    requires { IsSound world.now }
+    requires sound { IsSound world.now }
+    requires proper { is_proper (core_seen replay.typed.now.1) ≡ true }
+    requires fits { Fits (core_seen replay.typed.now.1) (launch_seen replay.launch.now) }
 {
     let Some((earlier, later)) = world.clash() else {
         return Ok(());
     };
     push_element(alloc, names, later.at, out)?;
     let count = count_to(world, earlier);
-    let past = replayed(alloc, world.core, world.launch, events, count)?;
+    let past = replayed(alloc, replay, count)?;
     push_item(alloc, names, &past, earlier.item, Some(earlier.site), out)?;
     push_item(alloc, names, world, later.item, Some(later.site), out)
 }
@@ -265,7 +269,7 @@ fn name_of<'a>(names: &Names<'a>, array: Array) -> &'a str {
     }
 }
 
-/// The index that is out of bounds.
+/// Writes an index that is out of bounds, and the array's length; nothing where none was found.
 fn push_reach(
     alloc: Global,
     names: &Names,
@@ -282,7 +286,7 @@ fn push_reach(
     push_paragraph(out, INDENT, &text)
 }
 
-/// What an item out of bounds reaches for.
+/// Writes the index and the array's length where an item reaches out of bounds.
 fn push_index(
     alloc: Global,
     names: &Names,
@@ -293,7 +297,7 @@ fn push_index(
     requires { IsSound world.now }
 {
     match (finding.items.first(), finding.sites.first(), finding.kind) {
-        (Some(item), Some(Spot::At(site)), Kind::Fault(Fault::OutOfBounds)) => {
+        (Some(item), Some(Spot::At(site)), FindingKind::Fault(Fault::OutOfBounds)) => {
             push_reach(alloc, names, reach_of(world, item.number, *site), out)
         }
         _ => Ok(()),
@@ -314,25 +318,27 @@ fn push_items(
     Ok(())
 }
 
-/// What decides.
+/// Writes what decides a finding: the two accesses of a data race, else the index that is out of bounds and the items with their values.
 fn push_decisive(
     alloc: Global,
     names: &Names,
     world: &World,
     finding: &Finding,
-    events: &[Event],
+    replay: Replay<'_>,
     out: &mut String,
 ) -> Result<(), AllocError>
-    requires { IsSound world.now }
+    requires sound { IsSound world.now }
+    requires proper { is_proper (core_seen replay.typed.now.1) ≡ true }
+    requires fits { Fits (core_seen replay.typed.now.1) (launch_seen replay.launch.now) }
 {
-    if finding.kind == Kind::Race {
-        return push_race(alloc, names, world, events, out);
+    if finding.kind == FindingKind::Race {
+        return push_race(alloc, names, world, replay, out);
     }
     push_index(alloc, names, world, finding, out)?;
     push_items(alloc, names, world, finding, out)
 }
 
-/// What the replay of a launch by a schedule shows of a finding.
+/// Writes what the replay of a launch by a schedule shows of a finding: the launch, the items, and the schedule.
 pub fn push_scene(
     alloc: Global,
     typed: &Typed,
@@ -345,9 +351,14 @@ pub fn push_scene(
     requires fits { Fits (core_seen typed.now.1) (launch_seen launch.now) }
 {
     let names = names_of(alloc, typed.kernel())?;
-    let world = replayed(alloc, typed.core(), launch, events, usize::MAX)?;
+    let replay = Replay {
+        typed,
+        launch,
+        events,
+    };
+    let world = replayed(alloc, replay, usize::MAX)?;
     push_launch(alloc, &names, launch, out)?;
-    push_decisive(alloc, &names, &world, finding, events, out)?;
+    push_decisive(alloc, &names, &world, finding, replay, out)?;
     let text = schedule(alloc, events)?;
     push_paragraph(out, INDENT, &text)
 }

@@ -16,7 +16,7 @@ struct Part {
 }
 
 impl Part {
-    /// Of one event.
+    /// The part of a schedule that is one event.
     fn of(event: Event) -> Part {
         let (is_release, number) = match event {
             Event::Step(item) => (false, item),
@@ -30,7 +30,7 @@ impl Part {
         }
     }
 
-    /// With one step more of the item that has none behind it.
+    /// The part of a schedule, of one item, with one step more.
     fn longer(self) -> Part {
         Part {
             steps: self.steps.saturating_add(1),

@@ -6,7 +6,7 @@ use std::alloc::{AllocError, Global};
 /// How many bytes of a line are shown.
 const ROOM: usize = 92;
 
-/// How many of them stand before the site, where the line is too long.
+/// The number of signs that stand in front of the site, where the line is too long.
 const BEFORE: usize = 30;
 
 /// A byte as it is shown, in one column: what is neither a letter nor a sign is a blank or `?`.
@@ -32,7 +32,7 @@ fn line_of(alloc: Global, kernel: &[u8], wanted: u32) -> Result<Vec<char>, Alloc
     Ok(line)
 }
 
-/// What stands before the bar: the number of a line, or as many blanks.
+/// Writes what stands in front of the bar: the number of a line, or as many blanks.
 fn push_margin(out: &mut String, line: u32, is_numbered: bool) -> Result<(), AllocError> {
     if is_numbered {
         return write!(out, "{line:>4} | ");
@@ -47,7 +47,7 @@ fn push_blanks(out: &mut String, count: usize) -> Result<(), AllocError> {
     Ok(())
 }
 
-/// A part of a line.
+/// Writes the part of a line that begins at a column and fits the room, and the line's end.
 fn push_part(out: &mut String, line: &[char], first: usize) -> Result<(), AllocError> {
     for sign in line.iter().skip(first).take(ROOM) {
         out.push(*sign)?;
@@ -93,7 +93,7 @@ pub fn push_site(
     push_caret(out, site.line, column.saturating_sub(first), label)
 }
 
-/// What is said of no place in the source.
+/// Writes a label that belongs to no place in the source, as a line of its own.
 pub fn push_label(out: &mut String, label: &str) -> Result<(), AllocError> {
     out.push_str("     = ")?;
     out.push_str(label)?;

@@ -57,7 +57,7 @@ fn push_bounds(
     Ok(())
 }
 
-/// The same by a certificate's text; nothing where it does not fit the kernel.
+/// Writes how many steps a work-item takes at most by a certificate; nothing where the certificate does not fit the kernel.
 pub fn push_steps(
     alloc: Global,
     kernel: &[u8],

@@ -1,64 +1,64 @@
 //! What findings and their sites are called.
 
-use findings::{Kind, Spot, WorkItem};
+use findings::{FindingKind, Spot, WorkItem};
 use std::alloc::{AllocError, Global};
 use words::Fault;
 
-/// What is wrong where that is confirmed, in plain words.
-pub fn confirmed(kind: Kind) -> &'static str {
+/// The title of a confirmed finding of a kind, in plain words.
+pub fn confirmed(kind: FindingKind) -> &'static str {
     match kind {
-        Kind::Race => "Data race",
-        Kind::Divergence => "Barrier divergence",
-        Kind::Fault(Fault::DivisionByZero) => "Division by zero",
-        Kind::Fault(Fault::Overflow) => "Signed overflow",
-        Kind::Fault(Fault::OutOfBounds) => "Read or write out of bounds",
-        Kind::Bound => "Loop that nothing bounds",
+        FindingKind::Race => "Data race",
+        FindingKind::Divergence => "Barrier divergence",
+        FindingKind::Fault(Fault::DivisionByZero) => "Division by zero",
+        FindingKind::Fault(Fault::Overflow) => "Signed overflow",
+        FindingKind::Fault(Fault::OutOfBounds) => "Read or write out of bounds",
+        FindingKind::Bound => "Loop that nothing bounds",
     }
 }
 
-/// What may be wrong.
-pub fn possible(kind: Kind) -> &'static str {
+/// The title of a finding of a kind that is only possible, behind "possible", in plain words.
+pub fn possible(kind: FindingKind) -> &'static str {
     match kind {
-        Kind::Race => "data race",
-        Kind::Divergence => "barrier divergence",
-        Kind::Fault(Fault::DivisionByZero) => "division by zero",
-        Kind::Fault(Fault::Overflow) => "signed overflow",
-        Kind::Fault(Fault::OutOfBounds) => "read or write out of bounds",
-        Kind::Bound => "loop that nothing bounds",
+        FindingKind::Race => "data race",
+        FindingKind::Divergence => "barrier divergence",
+        FindingKind::Fault(Fault::DivisionByZero) => "division by zero",
+        FindingKind::Fault(Fault::Overflow) => "signed overflow",
+        FindingKind::Fault(Fault::OutOfBounds) => "read or write out of bounds",
+        FindingKind::Bound => "loop that nothing bounds",
     }
 }
 
-/// What that is.
-pub fn meant(kind: Kind) -> &'static str {
+/// The meaning of a finding's kind, as a clause with a full stop.
+pub fn meant(kind: FindingKind) -> &'static str {
     match kind {
-        Kind::Race => {
+        FindingKind::Race => {
             "two work-items touch one element, one of them stores, and no barrier orders them."
         }
-        Kind::Divergence => {
+        FindingKind::Divergence => {
             "a work-item waits at a barrier to which another of its group does not come."
         }
-        Kind::Fault(Fault::DivisionByZero) => "the divisor is 0.",
-        Kind::Fault(Fault::Overflow) => "the result does not fit an int.",
-        Kind::Fault(Fault::OutOfBounds) => "the index is not below the array's length.",
-        Kind::Bound => "no number of turns is shown to be enough.",
+        FindingKind::Fault(Fault::DivisionByZero) => "the divisor is 0.",
+        FindingKind::Fault(Fault::Overflow) => "the result does not fit an int.",
+        FindingKind::Fault(Fault::OutOfBounds) => "the index is not below the array's length.",
+        FindingKind::Bound => "no number of turns is shown to be enough.",
     }
 }
 
-/// What comes to a site.
-fn action(kind: Kind, spot: Spot) -> &'static str {
+/// The words for what is done at a site, by the finding's kind, as they stand before the work-item.
+fn action(kind: FindingKind, spot: Spot) -> &'static str {
     match (spot, kind) {
         (Spot::Store(_), _) => "store",
         (Spot::Load(_), _) => "load",
         (Spot::Barrier(_), _) => "barrier, reached",
         (Spot::End, _) => "end of the kernel, reached",
-        (Spot::At(_), Kind::Fault(Fault::DivisionByZero)) => "division",
-        (Spot::At(_), Kind::Fault(Fault::Overflow)) => "overflow",
-        (Spot::At(_), Kind::Fault(Fault::OutOfBounds)) => "access",
+        (Spot::At(_), FindingKind::Fault(Fault::DivisionByZero)) => "division",
+        (Spot::At(_), FindingKind::Fault(Fault::Overflow)) => "overflow",
+        (Spot::At(_), FindingKind::Fault(Fault::OutOfBounds)) => "access",
         (Spot::At(_), _) => "loop",
     }
 }
 
-/// Who comes there.
+/// Writes which work-item comes to a site: its number, its group and its local id.
 fn push_item(out: &mut String, item: WorkItem) -> Result<(), AllocError> {
     let number = item.number;
     let group = item.group;
@@ -71,10 +71,10 @@ fn push_item(out: &mut String, item: WorkItem) -> Result<(), AllocError> {
     write!(out, ", local {} {} {}", local.x, local.y, local.z)
 }
 
-/// What happens at a site, and by whom, where that is known.
+/// The label of a site: what happens there, and by which work-item, where that is known.
 pub fn label(
     alloc: Global,
-    kind: Kind,
+    kind: FindingKind,
     spot: Spot,
     item: Option<&WorkItem>,
 ) -> Result<String, AllocError> {

@@ -18,7 +18,7 @@ pub enum Reason {
 }
 
 impl Reason {
-    /// What is said of the value.
+    /// The words that say of a value why little is known of it.
     pub fn text(self) -> &'static str {
         match self {
             Reason::Product => "product of two that are no numbers",
@@ -111,7 +111,7 @@ fn is_plain(term: &Term) -> bool {
 }
 
 impl Slots {
-    /// So many slots, of which nothing is known.
+    /// The slots of a kernel, so many, none of which is known to be a number or to become negative.
     fn new(alloc: Global, count: usize) -> Result<Slots, AllocError> {
         Ok(Slots {
             numbers: vec![in alloc; false; count]?,
@@ -119,7 +119,7 @@ impl Slots {
         })
     }
 
-    /// What a statement makes of a variable.
+    /// Notes of the variable that a statement sets whether it is a number by then, and whether it may be negative.
     fn take(&mut self, statement: &Statement, is_first: bool) {
         if let Statement::Set { slot, value, .. } = statement {
             let is_number = is_first && is_number(value, self.numbers.as_slice());
@@ -131,7 +131,8 @@ impl Slots {
         }
     }
 
-    /// What is known of the variables of a kernel: one that is set twice is no number, and in a loop nothing but its type is known of it.
+    /// The slots of a kernel, with what is known of its variables: one that is set twice is no number, and in a loop nothing but its type
+    /// is known of it.
     pub fn of(alloc: Global, core: &Core, statements: &[&Statement]) -> Result<Slots, AllocError> {
         let count = core.arguments.len().saturating_add(core.variables.len());
         let mut slots = Slots::new(alloc, count)?;
@@ -179,7 +180,7 @@ impl Slots {
         }
     }
 
-    /// Where a variable steps by a size, an argument or a variable that is no number, if that is its value.
+    /// The place at which a variable steps by a size, an argument or a variable that is no number; none where the value is no such step.
     pub fn step(&self, slot: u32, value: &Term) -> Option<Site> {
         match value {
             Term::Convert { of, .. } => self.step(slot, of),

@@ -8,7 +8,7 @@ use Rattle.semantics.specs.Word.{Kind, Word, zero_word}
 use Rattle.semantics.specs.Launch.{Three, Launch, IsBuffer}
 use Rattle.semantics.specs.Setup.{Setup, along, place, IsPlace, group_size, group_count, group_of, item_count, local_id, group_id}
 use Rattle.semantics.specs.Conditions.{Range, Summand, Constant, Argument, Groups, Requirement, Conditions, IsIn, IsLongEnough, IsRequired, Meets, summand_value, sum_value}
-use Rattle.semantics.specs.Linear.{value_of, IsMet}
+use Rattle.linear.specs.Linear.{value_of, IsMet}
 use Rattle.semantics.proofs.Groups.{group_size-pos, place-below, group-below}
 use Rattle.semantics.proofs.Places.{place-is}
 use Rattle.linear.specs.Exact.{sum}

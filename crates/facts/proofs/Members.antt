@@ -3,7 +3,7 @@ use Rattle.std.proofs.Common.{◌≡◌, ℕ, Bool, true, false, ◌||◌, not, 
 use Rattle.std.specs.Prelude.{ℤ, pos, ◌+ℤ◌, ◌*ℤ◌, ◌≤ℤ◌}
 use Rattle.std.proofs.lemmas.Int.{ints}
 use Rattle.std.proofs.lemmas.Bool.{and_parts, or_cases}
-use Rattle.semantics.specs.Linear.{Weighted, terms_value, value_of}
+use Rattle.linear.specs.Linear.{Weighted, terms_value, value_of}
 use Rattle.domain.specs.declared.Domain.{Ghosts}
 use Rattle.domain.specs.Members.{is_above, is_below, is_within, leaves}
 use Rattle.facts.specs.Symbols.{Symbol, symbol_of, Fact}

@@ -4,7 +4,7 @@ use Rattle.std.specs.Prelude.{ℤ, pos, negsuc, ◌+ℤ◌, ◌*ℤ◌, ◌≤�
 use Rattle.std.specs.List.{All}
 use Rattle.std.proofs.lemmas.Int.{ints, by_lt_z}
 use Rattle.std.proofs.lemmas.List.Elements.{All-append, All-cons, All-nil}
-use Rattle.semantics.specs.Linear.{terms_value, value_of, IsMet, IsImpossible}
+use Rattle.linear.specs.Linear.{terms_value, value_of, IsMet, IsImpossible}
 use Rattle.semantics.proofs.Integers.{mul-add}
 use Rattle.linear.specs.Exact.{sum, multiple}
 use Rattle.linear.proofs.Merging.{value-merge, value-multiples}

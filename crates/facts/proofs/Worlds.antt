@@ -9,7 +9,7 @@ use Rattle.semantics.specs.Core.{Space}
 use Rattle.semantics.specs.Launch.{Kernel, Launch, Fits}
 use Rattle.semantics.specs.Setup.{Setup, along, item_count, local_id, group_id}
 use Rattle.semantics.specs.Conditions.{Conditions, Meets}
-use Rattle.semantics.specs.Linear.{value_of, IsMet}
+use Rattle.linear.specs.Linear.{value_of, IsMet}
 use Rattle.domain.specs.declared.Domain.{Ghosts}
 use Rattle.facts.specs.Symbols as symbols
 use Rattle.facts.specs.Symbols.{Side, First, Second, Symbol, ArgumentOf, Length, Local, Group, New, Variable, AtAnchor, Turns, number, Fact}

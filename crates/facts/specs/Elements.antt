@@ -1,6 +1,6 @@
 -- What an abstract domain knows of symbols and forms.
 use Rattle.std.specs.Prelude.{ℕ, ℤ, pos, List, [], ◌∷◌, Bool, false, ◌||◌, not, slice_index_or, int_le, int_lt, Option, Some, None}
-use Rattle.semantics.specs.Linear.{Weighted}
+use Rattle.linear.specs.Linear.{Weighted}
 use Rattle.domain.specs.declared.Domain.{Ghosts}
 use Rattle.domain.specs.Members.{leaves}
 use Rattle.facts.specs.Symbols.{Side, First, Second, Symbol, Groups, ArgumentOf, Length, Local, Group, New, Variable, AtAnchor, Turns, symbol_of, Fact}

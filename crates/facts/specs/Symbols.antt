@@ -1,6 +1,6 @@
 -- The symbols of facts, and the numbers by which forms know them.
 use Rattle.std.specs.Prelude.{ℕ, zero, suc, ◌+◌, ◌*◌, ◌/◌, ◌%◌, ℤ, pos, negsuc, [], ◌∷◌, List}
-use Rattle.semantics.specs.Linear.{Form}
+use Rattle.linear.specs.Linear.{Form}
 use Rattle.linear.specs.Exact.{sum, multiple}
 
 -- one of the two items of a pair; where one item is enough, it is the first

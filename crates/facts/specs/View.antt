@@ -8,8 +8,8 @@ use Rattle.facts.specs.Elements as elements
 use Rattle.facts.specs.declared.elements.Known.{Known}
 use Rattle.facts.specs.declared.error.WalkError.{WalkError}
 use Rattle.facts.specs.declared.error.WalkError.TheVariants as errors
-use Rattle.facts.specs.declared.forms.Side.{Side}
-use Rattle.facts.specs.declared.forms.Side.TheVariants as items
+use Rattle.facts.specs.declared.side.Side.{Side}
+use Rattle.facts.specs.declared.side.Side.TheVariants as items
 
 abbrev pub error_of_form : LinearError → WalkError
 error_of_form linear.TooLarge = errors.TooLarge

@@ -9,7 +9,7 @@ use linear::Form;
 use std::alloc::Global;
 
 #[tactic(auto, using(crate::proofs::Facts::copies))]
-/// This fact too.
+/// Adds a copy of a fact.
 fn copy_one(alloc: Global, facts: &mut Vec<Form>, fact: &Form) -> Result<(), WalkError>
     ensures { MatchResult result (λ _. forms facts.new.items ≡ forms facts.old.items ++ form_seen fact.now ∷ []) IsMemory }
 {
@@ -19,7 +19,7 @@ fn copy_one(alloc: Global, facts: &mut Vec<Form>, fact: &Form) -> Result<(), Wal
 }
 
 #[tactic(auto, using(crate::proofs::Facts::carried))]
-/// These facts too.
+/// Adds copies of facts, in their order.
 pub fn copy_all(alloc: Global, facts: &mut Vec<Form>, more: &[Form]) -> Result<(), WalkError>
     ensures { MatchResult result (λ _. forms facts.new.items ≡ forms facts.old.items ++ forms more.now) IsMemory }
 {

@@ -7,6 +7,8 @@ ghost use Rattle.facts.specs.Symbols.{symbol_of};
 ghost use Rattle.facts.specs.Elements as elements;
 ghost use Rattle.facts.specs.View.{elements_seen as seen};
 
+use crate::family::Family;
+use crate::side::Side;
 use domain::Domain;
 use linear::{Form, Symbol, Term};
 
@@ -30,25 +32,20 @@ fn nth<D: Domain>(of: &[D], index: u64) -> D
     }
 }
 
-#[tactic(auto, unfolding(crate::specs::Symbols::symbol_of), using(crate::proofs::Families::families))]
 /// A symbol's element, with those of the new symbols of each item.
 fn element<D: Domain>(known: &Known<D>, first: &[D], second: &[D], symbol: Symbol) -> D
     ensures { result ≡ elements.element D.Domain (seen known.now first.now second.now) (symbol_of symbol.number) }
 {
     let index = symbol.number / 16;
-    let family = symbol.number % 16;
-    if family >= 12 {
-        return D::top();
-    }
-    match family {
-        0 => nth(known.counts.as_slice(), index),
-        1 => nth(known.arguments.as_slice(), index),
-        2 => nth(known.lengths.as_slice(), index),
-        3 | 9 => nth(known.locals.as_slice(), index),
-        4 | 10 => nth(known.groups.as_slice(), index),
-        5 => nth(first, index),
-        6 | 7 | 8 => D::top(),
-        _ => nth(second, index),
+    match Family::of(symbol) {
+        Family::Groups => nth(known.counts.as_slice(), index),
+        Family::Argument => nth(known.arguments.as_slice(), index),
+        Family::Length => nth(known.lengths.as_slice(), index),
+        Family::Local(_) => nth(known.locals.as_slice(), index),
+        Family::Group(_) => nth(known.groups.as_slice(), index),
+        Family::New(Side::First) => nth(first, index),
+        Family::New(Side::Second) => nth(second, index),
+        Family::Variable(_) | Family::AtAnchor(_) | Family::Turns(_) => D::top(),
     }
 }
 

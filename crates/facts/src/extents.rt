@@ -14,7 +14,7 @@ use domain::Domain;
 use launch::conditions::{ArgumentRange, Conditions, CountRange, CountRanges, Length, Sum};
 use std::alloc::{AllocError, Global};
 
-/// One element a dimension.
+/// A list of three elements, one a dimension.
 fn three_of<D: Domain>(alloc: Global, x: D, y: D, z: D) -> Result<Vec<D>, AllocError>
     ensures { IfOk result (λ v. v.items ≡ x ∷ y ∷ z ∷ []) }
 {
@@ -39,7 +39,7 @@ fn of_argument<D: Domain>(range: ArgumentRange) -> D
     between(number_of(range.low), number_of(range.high))
 }
 
-/// From 0 to the number before `end`.
+/// The element of the numbers from 0 to the one before `end`.
 fn below<D: Domain>(end: u32) -> D
     ensures { result ≡ launching.below D.Domain (pos end) }
 {
@@ -57,7 +57,7 @@ fn of_arguments<D: Domain>(alloc: Global, ranges: &[ArgumentRange]) -> Result<Ve
     Ok(elements)
 }
 
-/// What a `uint` counts, from the least value of a buffer's sum on.
+/// The element of a buffer's length: a `uint`, not below the least value of the sum that the conditions say of it.
 fn of_length<D: Domain>(alloc: Global, known: &Known<D>, least: &Sum) -> Result<D, WalkError>
     ensures { MatchResult result (λ e. e ≡ launching.from_least D.Domain (elements_seen known.now [] []) (sum_seen least.now)) IsMemory }
 {
@@ -85,7 +85,7 @@ fn of_lengths<D: Domain>(
     Ok(elements)
 }
 
-/// Counts and arguments alone.
+/// The elements of group counts and arguments, from which those of lengths are found.
 fn known_so_far<D: Domain>(alloc: Global, conditions: &Conditions) -> Result<Known<D>, WalkError>
     ensures { MatchResult result (λ k. elements_seen k [] [] ≡ launching.known_so_far D.Domain (conditions_seen conditions.now)) IsMemory }
 {
@@ -106,7 +106,7 @@ fn known_so_far<D: Domain>(alloc: Global, conditions: &Conditions) -> Result<Kno
     })
 }
 
-/// What the domain knows of each launch that meets the conditions.
+/// The elements that the domain has of the symbols of each launch that meets the conditions, and of its items' ids.
 pub fn known<D: Domain>(
     alloc: Global,
     sizes: [u32; 3],

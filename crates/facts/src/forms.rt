@@ -1,86 +1,71 @@
 //! Forms of one symbol, and of differences.
 
-ghost use Rattle.std.specs.Prelude.{◌≡◌, ◌<◌, ◌+◌, ◌*◌, ◌^◌, pos, negsuc, [], ◌∷◌, MatchResult};
+ghost use Rattle.std.specs.Prelude.{◌≡◌, ◌<◌, ◌^◌, MatchResult};
 ghost use Rattle.linear.specs.Forms.{form};
 ghost use Rattle.linear.specs.Exact as linear_exact;
 ghost use Rattle.facts.specs.Symbols as symbols;
 ghost use Rattle.facts.specs.View.{side};
+ghost use Rattle.facts.specs.Families.{symbol_in};
 ghost use Rattle.facts.specs.Refusals.{IsMemory, IsUnfit};
 
 use crate::error::WalkError;
-use linear::{Form, Symbol};
+use crate::family::Family;
+use crate::side::Side;
+use linear::Form;
 use std::alloc::Global;
 
-/// One of the two items of a pair; where one item is enough, it is the first.
-#[derive(Clone, Copy)]
-pub enum Side {
-    First,
-    Second,
-}
-
 /// A symbol of a family, once.
-fn of_family(alloc: Global, family: u64, index: usize) -> Result<Form, WalkError>
-    requires family { family < 16 }
-    requires index { index < 2 ^ 60 }
-    ensures { MatchResult result (λ f. form f ≡ record { terms = record { coefficient = pos 1; symbol = family + 16 * index } ∷ []; constant = pos 0 }) IsMemory }
+fn once(alloc: Global, family: Family, index: usize) -> Result<Form, WalkError>
+    requires { index < 2 ^ 60 }
+    ensures { MatchResult result (λ f. form f ≡ symbols.once (symbol_in family index)) IsMemory }
 {
-    let number = family + 16 * index as u64;
-    let form = Form::symbol(alloc, Symbol { number })?;
+    let form = Form::symbol(alloc, family.symbol(index as u64))?;
     Ok(form)
 }
 
-/// A dimension's group count.
+/// The form that is the group count of a dimension, once.
 pub fn once_groups(alloc: Global, dimension: u32) -> Result<Form, WalkError>
     ensures { MatchResult result (λ f. form f ≡ symbols.once (symbols.Groups dimension)) IsMemory }
 {
-    of_family(alloc, 0, dimension as usize)
+    once(alloc, Family::Groups, dimension as usize)
 }
 
-/// A value parameter's argument.
+/// The form that is the argument of a value parameter, once.
 pub fn once_given(alloc: Global, parameter: usize) -> Result<Form, WalkError>
     requires { parameter < 2 ^ 59 }
     ensures { MatchResult result (λ f. form f ≡ symbols.once (symbols.ArgumentOf parameter)) IsMemory }
 {
-    of_family(alloc, 1, parameter)
+    once(alloc, Family::Argument, parameter)
 }
 
-/// A buffer's length.
+/// The form that is the length of a buffer, once.
 pub fn once_length(alloc: Global, buffer: usize) -> Result<Form, WalkError>
     requires { buffer < 2 ^ 59 }
     ensures { MatchResult result (λ f. form f ≡ symbols.once (symbols.Length buffer)) IsMemory }
 {
-    of_family(alloc, 2, buffer)
+    once(alloc, Family::Length, buffer)
 }
 
-/// An item's local id.
+/// The form that is an item's local id in a dimension, once.
 pub fn once_local(alloc: Global, item: Side, dimension: u32) -> Result<Form, WalkError>
     ensures { MatchResult result (λ f. form f ≡ symbols.once (symbols.Local (side item) dimension)) IsMemory }
 {
-    match item {
-        Side::First => of_family(alloc, 3, dimension as usize),
-        Side::Second => of_family(alloc, 9, dimension as usize),
-    }
+    once(alloc, Family::Local(item), dimension as usize)
 }
 
-/// An item's group id.
+/// The form that is an item's group id in a dimension, once.
 pub fn once_group(alloc: Global, item: Side, dimension: u32) -> Result<Form, WalkError>
     ensures { MatchResult result (λ f. form f ≡ symbols.once (symbols.Group (side item) dimension)) IsMemory }
 {
-    match item {
-        Side::First => of_family(alloc, 4, dimension as usize),
-        Side::Second => of_family(alloc, 10, dimension as usize),
-    }
+    once(alloc, Family::Group(item), dimension as usize)
 }
 
-/// An item's new symbol.
+/// The form that is an item's new symbol of this index, once.
 pub fn once_new(alloc: Global, item: Side, index: usize) -> Result<Form, WalkError>
     requires { index < 2 ^ 60 }
     ensures { MatchResult result (λ f. form f ≡ symbols.once (symbols.New (side item) index)) IsMemory }
 {
-    match item {
-        Side::First => of_family(alloc, 5, index),
-        Side::Second => of_family(alloc, 11, index),
-    }
+    once(alloc, Family::New(item), index)
 }
 
 /// A form less a number.

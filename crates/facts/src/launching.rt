@@ -14,8 +14,9 @@ ghost use Rattle.facts.specs.Refusals.{IsMemory};
 
 use crate::error::WalkError;
 use crate::forms::{
-    Side, less_number, number_less, once_given, once_group, once_groups, once_length, once_local,
+    less_number, number_less, once_given, once_group, once_groups, once_length, once_local,
 };
+use crate::side::Side;
 use launch::conditions::{
     ArgumentRange, Conditions, CountRange, Dimension, Length, Requirement, Sum, Summand,
 };
@@ -35,7 +36,7 @@ fn signed(number: Number) -> i64
     }
 }
 
-/// A dimension's number.
+/// The number of a dimension, from 0 to 2.
 fn index_of(dimension: Dimension) -> u32
     ensures { result ≡ dimension_seen dimension }
 {
@@ -46,7 +47,7 @@ fn index_of(dimension: Dimension) -> u32
     }
 }
 
-/// A summand's form.
+/// The form of a summand of a sum in conditions.
 fn summand_form(alloc: Global, summand: Summand) -> Result<Form, WalkError>
     ensures exact { MatchResult result (λ f. form_seen f ≡ launching.summand_form (summand_seen summand)) IsMemory }
     ensures small { IfOk result (λ f. size (form_seen f) ≤ 4294967295) }
@@ -64,7 +65,7 @@ fn summand_form(alloc: Global, summand: Summand) -> Result<Form, WalkError>
     }
 }
 
-/// A sum's form.
+/// The form of a sum in conditions: the sum of its summands' forms.
 pub fn sum_form(alloc: Global, sum: &Sum) -> Result<Form, WalkError>
     ensures exact { MatchResult result (λ f. form_seen f ≡ launching.sum_form (sum_seen sum.now)) IsMemory }
     ensures small { IfOk result (λ f. size (form_seen f) ≤ 8 * 4294967295) }
@@ -77,7 +78,7 @@ pub fn sum_form(alloc: Global, sum: &Sum) -> Result<Form, WalkError>
     Ok(total)
 }
 
-/// A word's number.
+/// The number that a word stands for in its kind.
 pub fn number_of(word: Word) -> i64
     ensures { result ≡ value_of word }
 {
@@ -88,7 +89,7 @@ pub fn number_of(word: Word) -> i64
 }
 
 #[tactic(auto, using(crate::proofs::Facts::facts))]
-/// Two facts more.
+/// Adds two facts, the low end before the high end.
 fn push_two(facts: &mut Vec<Form>, low: Form, high: Form) -> Result<(), WalkError>
     ensures { MatchResult result (λ _. forms facts.new.items ≡ forms facts.old.items ++ form_seen low ∷ form_seen high ∷ []) IsMemory }
 {
@@ -112,7 +113,7 @@ fn count_facts(
     push_two(facts, low, high)
 }
 
-/// An argument is in its range.
+/// Adds the facts that an argument is not below its least value, and not above its greatest one.
 fn argument_fact(
     alloc: Global,
     facts: &mut Vec<Form>,
@@ -128,7 +129,7 @@ fn argument_fact(
     push_two(facts, low, high)
 }
 
-/// The arguments are in their ranges.
+/// Adds the facts that each argument is in its range, in the order of the parameters.
 fn argument_facts(
     alloc: Global,
     facts: &mut Vec<Form>,
@@ -183,7 +184,7 @@ fn required(alloc: Global, requirement: &Requirement) -> Result<Form, WalkError>
 }
 
 #[tactic(auto, using(crate::proofs::Facts::facts))]
-/// A requirement is met.
+/// Adds the fact that a requirement of the conditions is met.
 fn requirement_fact(
     alloc: Global,
     facts: &mut Vec<Form>,
@@ -197,7 +198,7 @@ fn requirement_fact(
 }
 
 #[tactic(auto, using(crate::proofs::Facts::carried))]
-/// The requirements are met.
+/// Adds the facts that all requirements of the conditions are met, in their order.
 fn requirement_facts(
     alloc: Global,
     facts: &mut Vec<Form>,
@@ -211,7 +212,7 @@ fn requirement_facts(
     Ok(())
 }
 
-/// What each launch has that meets the conditions.
+/// The facts that hold of each launch that meets the conditions: of its group counts, arguments, lengths and requirements.
 pub fn launch_facts(alloc: Global, conditions: &Conditions) -> Result<Vec<Form>, WalkError>
     ensures { MatchResult result (λ fs. forms fs.items ≡ launching.launch_facts (conditions_seen conditions.now)) IsMemory }
 {
@@ -225,7 +226,7 @@ pub fn launch_facts(alloc: Global, conditions: &Conditions) -> Result<Vec<Form>,
     Ok(facts)
 }
 
-/// A dimension's last local id.
+/// The last local id of a dimension: its local size less 1.
 fn last_id(sizes: [u32; 3], dimension: u32) -> i64
     requires { dimension < 3 }
     ensures { result ≡ pos (along (three sizes) dimension 1) -ℤ pos 1 }
@@ -280,7 +281,7 @@ fn id_facts(
     Ok(())
 }
 
-/// What each item has.
+/// The facts that hold of each item's ids: from 0 on, and below the local sizes and the group counts.
 pub fn item_facts(alloc: Global, sizes: [u32; 3], item: Side) -> Result<Vec<Form>, WalkError>
     ensures { MatchResult result (λ fs. forms fs.items ≡ launching.item_facts (three sizes) (side item)) IsMemory }
 {

@@ -12,15 +12,19 @@ mod copies;
 mod elements;
 mod error;
 mod extents;
+mod family;
 mod forms;
 mod launching;
+mod side;
 
 pub use copies::copy_all;
 pub use elements::{Known, between, element_of, is_settled};
 pub use error::WalkError;
 pub use extents::known;
+pub use family::Family;
 pub use forms::{
-    Side, less_number, number_less, once_given, once_group, once_groups, once_length, once_local,
+    less_number, number_less, once_given, once_group, once_groups, once_length, once_local,
     once_new,
 };
 pub use launching::{item_facts, launch_facts};
+pub use side::Side;

@@ -5,11 +5,11 @@ use Rattle.semantics.specs.Word.{Fault}
 use Rattle.semantics.specs.Launch.{Three}
 use Rattle.semantics.specs.World.{Event}
 
-pub data Kind : Type 0 where
-  Race : Kind
-  Divergence : Kind
-  Faults : (fault : Fault) → Kind
-  Bound : Kind
+pub data FindingKind : Type 0 where
+  Race : FindingKind
+  Divergence : FindingKind
+  Faults : (fault : Fault) → FindingKind
+  Bound : FindingKind
 
 -- an access by its array's name, a barrier, an item's end, or what faults or does not end
 pub data Spot : Type 0 where
@@ -27,7 +27,7 @@ pub record WorkItem : Type 0 where
 
 -- a confirmed one has a schedule, and an item for each of its sites
 pub record Finding : Type 0 where
-  pub kind : Kind
+  pub kind : FindingKind
   pub sites : List Spot
   pub items : List WorkItem
   pub schedule : Option (List Event)

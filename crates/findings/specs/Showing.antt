@@ -11,7 +11,7 @@ use Rattle.semantics.specs.Safety.{Clash, Divergent}
 use Rattle.semantics.specs.World.{World, waits}
 use Rattle.texts.specs.Surface.{Kernel}
 use Rattle.syntax.specs.Sites.{site_at}
-use Rattle.findings.specs.Findings.{Kind, Race, Divergence, Faults, Bound, Spot, Store, Load, Barrier, End, At, WorkItem}
+use Rattle.findings.specs.Findings.{FindingKind, Race, Divergence, Faults, Bound, Spot, Store, Load, Barrier, End, At, WorkItem}
 
 -- the item of a number, with its ids (OpenCL 1.2, 3.2 and 6.12.1)
 abbrev pub item_of : Setup → ℕ → WorkItem
@@ -65,7 +65,7 @@ pub record HasDivergence (s : Setup) (k : Kernel) (w : World) (sites : List Spot
   pub who : items ≡ item_of s waiting ∷ item_of s other ∷ []
 
 -- no world shows that a loop has too many turns
-abbrev pub Shows : Setup → Kernel → World → Kind → List Spot → List WorkItem → Type 0
+abbrev pub Shows : Setup → Kernel → World → FindingKind → List Spot → List WorkItem → Type 0
 Shows s k w Race sites items = HasRace s w sites items
 Shows s k w Divergence sites items = HasDivergence s k w sites items
 Shows s k w (Faults f) sites items = HasFault s w f sites items

@@ -6,8 +6,8 @@ use Rattle.core_code.specs.View.{site}
 use Rattle.launch.specs.View.{counts}
 use Rattle.machine.specs.Worlds.{event}
 use Rattle.findings.specs.Findings as findings
-use Rattle.findings.specs.declared.finding.Kind.{Kind}
-use Rattle.findings.specs.declared.finding.Kind.TheVariants as kinds
+use Rattle.findings.specs.declared.finding.FindingKind.{FindingKind}
+use Rattle.findings.specs.declared.finding.FindingKind.TheVariants as kinds
 use Rattle.findings.specs.declared.finding.Spot.{Spot}
 use Rattle.findings.specs.declared.finding.Spot.TheVariants as spots
 use Rattle.findings.specs.declared.finding.WorkItem.{WorkItem}
@@ -15,7 +15,7 @@ use Rattle.findings.specs.declared.finding.Grade.{Grade}
 use Rattle.findings.specs.declared.finding.Grade.TheVariants as grades
 use Rattle.findings.specs.declared.finding.Finding.{Finding}
 
-abbrev pub kind : Kind → findings.Kind
+abbrev pub kind : FindingKind → findings.FindingKind
 kind kinds.Race = findings.Race
 kind kinds.Divergence = findings.Divergence
 kind (kinds.Fault f) = findings.Faults (fault f)

@@ -6,14 +6,14 @@ use Rattle.semantics.specs.Core.{Site}
 use Rattle.semantics.specs.Word.{Fault, DivisionByZero, Overflow, OutOfBounds}
 use Rattle.semantics.specs.Launch.{Three}
 use Rattle.semantics.specs.World.{Event}
-use Rattle.findings.specs.Findings.{Kind, Race, Divergence, Faults, Bound, Spot, Store, Load, Barrier, End, At, WorkItem, Finding}
+use Rattle.findings.specs.Findings.{FindingKind, Race, Divergence, Faults, Bound, Spot, Store, Load, Barrier, End, At, WorkItem, Finding}
 
 abbrev pub fault_text : Fault → List ℕ
 fault_text DivisionByZero = codes "fault F1"
 fault_text Overflow = codes "fault F2"
 fault_text OutOfBounds = codes "fault F3"
 
-abbrev pub kind_text : Kind → List ℕ
+abbrev pub kind_text : FindingKind → List ℕ
 kind_text Race = codes "race"
 kind_text Divergence = codes "divergence"
 kind_text (Faults f) = fault_text f

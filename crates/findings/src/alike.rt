@@ -3,9 +3,9 @@
 ghost use Rattle.std.specs.Prelude.{◌≡◌, ◌↔◌, IsTrue, reverse};
 ghost use Rattle.findings.specs.Likeness.{AreAlike};
 
-use crate::finding::{Finding, Kind, Spot};
+use crate::finding::{Finding, FindingKind, Spot};
 
-fn same_kind(one: Kind, other: Kind) -> bool
+fn same_kind(one: FindingKind, other: FindingKind) -> bool
     ensures { IsTrue result ↔ (one ≡ other) }
 {
     one == other
@@ -32,7 +32,7 @@ fn are_same(one: &[Spot], other: &[Spot]) -> bool
     true
 }
 
-/// Whether they are, one of them from its end.
+/// Two lists of sites are the same, one of them from its end.
 fn are_turned(one: &[Spot], other: &[Spot]) -> bool
     ensures { IsTrue result ↔ (one.now ≡ reverse other.now) }
 {

@@ -9,9 +9,9 @@ use machine::world::Event;
 use std::alloc::{AllocError, Global};
 use words::Fault;
 
-/// What is wrong.
+/// The kinds of findings.
 #[derive(Clone, Copy, PartialEq, Eq)]
-pub enum Kind {
+pub enum FindingKind {
     /// Two accesses of one element that no barrier orders.
     Race,
     /// An item waits at a barrier where another of its group does not.
@@ -28,7 +28,7 @@ pub enum Spot {
     Load(Site),
     Barrier(Site),
     End,
-    /// Of faults and of loops.
+    /// The operator or the index that faults, or the word of a loop.
     At(Site),
 }
 
@@ -40,26 +40,26 @@ pub struct WorkItem {
     pub local: Counts,
 }
 
-/// How sure it is: a confirmed one has the schedule that shows it.
+/// The certainty of a finding: a confirmed one has the schedule that shows it.
 #[derive(Drop)]
 pub enum Grade {
     Possible,
     Confirmed(Vec<Event>),
 }
 
-/// What is wrong, where, and of a confirmed one which work-items come there, one for each site.
+/// A finding: its kind, its sites, of a confirmed one the work-items that come there, one for each site, and how sure it is.
 #[derive(Drop)]
 pub struct Finding {
-    pub kind: Kind,
+    pub kind: FindingKind,
     pub sites: Vec<Spot>,
     pub items: Vec<WorkItem>,
     pub grade: Grade,
 }
 
-/// A finding of these parts.
+/// A finding of a kind, with these sites, items and grade.
 pub fn assemble(
     alloc: Global,
-    kind: Kind,
+    kind: FindingKind,
     sites: &[Spot],
     items: &[WorkItem],
     grade: Grade,
@@ -75,7 +75,7 @@ pub fn assemble(
 }
 
 /// A finding that nothing confirms: it promises nothing.
-pub fn possible(alloc: Global, kind: Kind, sites: &[Spot]) -> Result<Finding, AllocError>
+pub fn possible(alloc: Global, kind: FindingKind, sites: &[Spot]) -> Result<Finding, AllocError>
     ensures { IfOk result (λ f. finding_seen f ≡ record { kind = kind_seen kind; sites = map spot_seen sites.now; items = []; schedule = None }) }
 {
     assemble(alloc, kind, sites, &[], Grade::Possible)

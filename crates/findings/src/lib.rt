@@ -11,7 +11,7 @@ mod sighting;
 mod visit;
 mod wording;
 
-pub use finding::{Finding, Grade, Kind, Spot, WorkItem, assemble, possible};
+pub use finding::{Finding, FindingKind, Grade, Spot, WorkItem, assemble, possible};
 pub use sighting::{Sighting, look};
 pub use visit::Visit;
 pub use wording::line;

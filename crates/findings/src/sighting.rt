@@ -16,7 +16,7 @@ use work_item::identity::group_size;
 use work_item::item::{Item, Status};
 use work_item::trail::same_left;
 
-/// What is wrong, and who comes where.
+/// A fault, a data race or a barrier divergence in a world, with the work-items and the sites that they come to.
 #[derive(Clone, Copy)]
 pub enum Sighting {
     Fault(Fault, Visit),
@@ -88,7 +88,8 @@ fn race_or_divergence(typed: &Typed, world: &World, number: u64) -> Option<Sight
     Some(Sighting::Divergence(waiting, other))
 }
 
-/// What a world shows after a step of an item, where it showed nothing before: its fault, else a data race, else a barrier divergence.
+/// The first that a world shows to be wrong after a step of an item, where it showed nothing before: the item's fault, else a data race,
+/// else a barrier divergence; none where all is well.
 pub fn look(typed: &Typed, world: &World, number: u64) -> Option<Sighting>
     requires { IsSound world.now }
     ensures { IfSome result (IsSighting (setup world.now) (tree_seen typed.now.0) (world_seen world.now)) }

@@ -18,9 +18,8 @@ use syntax::site_at;
 use types::typed::Typed;
 use work_item::identity::identity;
 use work_item::item::{Item, Status};
-use work_item::left::number_of;
 
-/// A work-item that comes somewhere.
+/// A work-item, and the spot to which it comes.
 #[derive(Clone, Copy)]
 pub struct Visit {
     pub spot: Spot,
@@ -62,7 +61,7 @@ pub fn visit_of(world: &World, number: u64, spot: Spot) -> Option<Visit>
     Some(Visit { spot, item })
 }
 
-/// Where an access is.
+/// The site of an access, as that of a store or a load.
 fn spot_of(access: Access) -> Spot
     ensures { spot_seen result ≡ access_spot (access_seen access) }
 {
@@ -73,7 +72,7 @@ fn spot_of(access: Access) -> Spot
     }
 }
 
-/// Who makes an access.
+/// The work-item that makes an access, and where it comes; none where the item is not of the launch.
 pub fn accessing(world: &World, access: Access) -> Option<Visit>
     requires { IsSound world.now }
     ensures { MatchOption result (item_count (setup world.now) ≤ access.item) (IsVisit (setup world.now) access.item (access_spot (access_seen access))) }
@@ -94,12 +93,12 @@ fn front_number(item: &Item) -> Option<u32>
     ensures { result ≡ front_number (item_seen item.now).left }
 {
     match item.left.front {
-        Some(frame) => Some(number_of(frame.statement)),
+        Some(frame) => Some(frame.statement.number()),
         None => None,
     }
 }
 
-/// Where an item stands that waits at a barrier or has ended.
+/// The barrier at which an item waits, or the end of the kernel for one that has ended.
 fn standing_spot(typed: &Typed, item: &Item) -> Spot
     ensures { spot_seen result ≡ standing_spot (tree_seen typed.now.0) (item_seen item.now) }
 {
@@ -110,7 +109,7 @@ fn standing_spot(typed: &Typed, item: &Item) -> Spot
     }
 }
 
-/// Who stands there.
+/// The work-item of a number and the barrier or the end at which it stands; none where the launch has no such item.
 pub fn standing(typed: &Typed, world: &World, number: u64) -> Option<Visit>
     requires { IsSound world.now }
     ensures { MatchOption result (item_count (setup world.now) ≤ number) (IsVisit (setup world.now) number (standing_spot (tree_seen typed.now.0) (items_of world.now number))) }

@@ -9,7 +9,7 @@ ghost use Rattle.launch.specs.View.{counts as counts_seen};
 ghost use Rattle.findings.specs.View.{kind as kind_seen, spot as spot_seen, work_item as work_item_seen, schedule, finding as finding_seen};
 ghost use Rattle.findings.specs.Wording as text;
 
-use crate::finding::{Finding, Grade, Kind, Spot, WorkItem};
+use crate::finding::{Finding, FindingKind, Grade, Spot, WorkItem};
 use core_code::tree::Site;
 use launch::launches::Counts;
 use std::alloc::{AllocError, Global};
@@ -25,14 +25,14 @@ fn push_fault(out: &mut String, fault: Fault) -> Result<(), AllocError>
     }
 }
 
-fn push_kind(out: &mut String, kind: Kind) -> Result<(), AllocError>
+fn push_kind(out: &mut String, kind: FindingKind) -> Result<(), AllocError>
     ensures { OnOk result (string_bytes out.new ≡ string_bytes out.old ++ text.kind_text (kind_seen kind)) }
 {
     match kind {
-        Kind::Race => out.push_str("race"),
-        Kind::Divergence => out.push_str("divergence"),
-        Kind::Fault(fault) => push_fault(out, fault),
-        Kind::Bound => out.push_str("bound"),
+        FindingKind::Race => out.push_str("race"),
+        FindingKind::Divergence => out.push_str("divergence"),
+        FindingKind::Fault(fault) => push_fault(out, fault),
+        FindingKind::Bound => out.push_str("bound"),
     }
 }
 
@@ -74,7 +74,7 @@ fn push_ids(out: &mut String, ids: Counts) -> Result<(), AllocError>
     write!(out, "{x} {y} {z}")
 }
 
-/// Who comes to a site.
+/// Writes a work-item: the ids of its group and its local id.
 fn push_item(out: &mut String, item: WorkItem) -> Result<(), AllocError>
     ensures { OnOk result (string_bytes out.new ≡ string_bytes out.old ++ text.item_text (Some (work_item_seen item))) }
 {
@@ -84,7 +84,7 @@ fn push_item(out: &mut String, item: WorkItem) -> Result<(), AllocError>
     push_ids(out, item.local)
 }
 
-/// Who comes to the site of a number, where that is known.
+/// Writes the work-item that comes to the site of a number; nothing where that is not known.
 #[tactic(auto, using(crate::proofs::Texts::seen_item, crate::proofs::Texts::no_item))]
 fn push_item_at(out: &mut String, items: &[WorkItem], number: usize) -> Result<(), AllocError>
     ensures { OnOk result (string_bytes out.new ≡ string_bytes out.old ++ text.item_text (slice_get (map work_item_seen items.now) number)) }

@@ -51,7 +51,7 @@ fn write<J: Logged>(
     Ok(())
 }
 
-/// Where the log of each group stands, as far as one was handed over.
+/// The place of each group's log in the list of logs; none for a group of which no log was handed over.
 fn places_by_group<J: Logged>(
     alloc: Global,
     logs: &Logs<J>,

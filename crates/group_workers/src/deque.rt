@@ -60,7 +60,7 @@ impl<D: Shares> Outcome<u64, Hand> for Takes<D> {
     ghost then = { λ v xs w. Took D.workers v (slice_index xs 0) w };
 }
 
-/// What thieves take from, in any thread.
+/// The side of a deque from which thieves take groups, in any thread.
 pub type Source<D> = Stealer<u64, Global, Hand, Dealt<D>>;
 
 /// A deque whose owner takes at the front.
@@ -95,7 +95,7 @@ impl<D: Shares> Deque<D> {
         Ok(Deque { worker })
     }
 
-    /// What thieves take from.
+    /// The side of the deque from which thieves take.
     pub fn source(&self) -> Result<Source<D>, AllocError>
         ensures { IfOk result (λ s. stealer_deque s ≡ worker_deque self.now.worker) }
     {
@@ -112,7 +112,7 @@ impl<D: Shares> Deque<D> {
     }
 }
 
-/// What takes from a deque in any thread. It keeps what it has taken from one steal to the next.
+/// A taker of groups from one deque, in any thread. It keeps what it has taken from one steal to the next.
 #[derive(Drop)]
 pub struct Thief<'d, D: Shares> {
     source: &'d Source<D>,

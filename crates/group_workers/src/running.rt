@@ -98,9 +98,9 @@ fn run_as<J: Logged + Send + Sync, D: Shares + Send + Sync, R: Threads + Wait + 
 }
 
 /// Runs all groups of a proper kernel's lane code at a launch that fits it, by so many workers, and writes their logs to the buffers in the
-/// order of the groups. The calling thread is worker 1. `gate` is told what each worker does, and changes nothing that is written. A worker stops
-/// where memory is refused; there is want of memory where it is refused to the calling thread. Then buffers may have the logs of the first
-/// groups.
+/// order of the groups. The calling thread is worker 1. `gate` is told what each worker does, and changes nothing that is written. A worker
+/// stops where memory is refused; there is want of memory where it is refused to the calling thread. Then buffers may have the logs of the
+/// first groups.
 pub fn run_groups<R: Threads + Wait + Sync, G: Gate>(
     rt: &R,
     alloc: Global,

@@ -28,7 +28,7 @@ impl Task<'_> {
     ghost use Rattle.launch.specs.View.{launch as launch_seen};
     ghost use Rattle.group_workers.specs.Tasks.{groups};
 
-    /// How many groups there are.
+    /// The number of the launch's groups.
     #[tactic(auto, unfolding(semantics::specs::Setup::group_count))]
     pub fn groups(&self) -> u64
         requires { Fits (kernel_seen self.now.core.now) (launch_seen self.now.launch.now) }
@@ -59,7 +59,7 @@ pub struct GroupLog<J: Logged> {
 impl<J: Logged> GroupLog<J> {
     ghost use Rattle.group_workers.specs.Tasks.{IsTask, groups};
 
-    /// Runs a group.
+    /// The log of a group, which is run for it.
     pub fn of(
         alloc: Global,
         task: Task,

@@ -13,7 +13,7 @@ use words::{Gate, Moment};
 /// The logs that were handed over.
 pub type Logs<J> = boxcar::Vec<GroupLog<J>>;
 
-/// What all workers share.
+/// The parts of a run that all its workers share.
 #[derive(Drop)]
 pub struct Shared<'w, J: Logged, D: Shares, R, G> {
     pub rt: &'w R,

@@ -20,7 +20,7 @@ fn declare_first<'a>(first: &'a First, variables: &mut Vec<&'a str>) -> Result<(
     Ok(())
 }
 
-/// What statements declare.
+/// Adds the names of the variables that statements declare, in the order of the source.
 #[cycle(declare)]
 fn declare_all<'a>(body: &'a [Stmt], variables: &mut Vec<&'a str>) -> Result<(), AllocError> {
     for statement in body {
@@ -29,7 +29,7 @@ fn declare_all<'a>(body: &'a [Stmt], variables: &mut Vec<&'a str>) -> Result<(),
     Ok(())
 }
 
-/// What a statement declares.
+/// Adds the names of the variables that a statement declares, with those in it, in the order of the source.
 #[cycle(declare)]
 fn declare<'a>(statement: &'a Stmt, variables: &mut Vec<&'a str>) -> Result<(), AllocError> {
     match statement {
@@ -53,7 +53,7 @@ fn declare<'a>(statement: &'a Stmt, variables: &mut Vec<&'a str>) -> Result<(), 
     }
 }
 
-/// A parameter.
+/// Adds the name of a parameter to the buffers, or to the variables and the arguments.
 fn take_parameter<'a>(parameter: &'a Parameter, names: &mut Names<'a>) -> Result<(), AllocError> {
     match parameter {
         Parameter::Buffer { name, .. } => names.buffers.push(name.as_str())?,

@@ -13,7 +13,7 @@ use std::alloc::{AllocError, Global};
 use two_thread::Tagged;
 use walk::FindError;
 
-/// What is known where the paths of a place begin: how many facts, and the values of the variables.
+/// The beginning of a place's paths: how many facts are known there, and the variables' values.
 #[derive(Drop)]
 pub struct Begun {
     pub facts: usize,
@@ -29,7 +29,7 @@ fn forms_of(alloc: Global, values: &[Value]) -> Result<Vec<Form>, AllocError> {
     Ok(forms)
 }
 
-/// Where the paths of one place begin.
+/// The facts and the variables with which the paths of one place begin.
 fn one_begun(
     alloc: Global,
     subject: &Subject<'_>,
@@ -52,7 +52,7 @@ fn one_begun(
     })
 }
 
-/// Where the paths of each place begin.
+/// The facts and the variables with which the paths of each place begin, in the order of the places.
 pub fn begun_of(
     alloc: Global,
     subject: &Subject<'_>,
@@ -78,7 +78,7 @@ fn is_first(path: &Path<Elements>) -> bool {
     true
 }
 
-/// Of each path the number of its place.
+/// The number of the place at which each path begins.
 pub fn places_of_paths(
     alloc: Global,
     paths: &[Tagged<Elements>],
@@ -136,7 +136,7 @@ fn anchored_of(
     Ok(anchored)
 }
 
-/// What ranked a loop when its test was last true, on the path or before it.
+/// The value of a loop's ranking when its test was last true, on the path or before it; none where the loop is around neither.
 fn rank_of(
     alloc: Global,
     ranks: &[Ranked],
@@ -159,7 +159,7 @@ fn rank_of(
     Ok(None)
 }
 
-/// What ranked the loops around the place reached.
+/// The values of the rankings of the loops around the place reached when their tests were last true, with the loops' numbers.
 fn ranks_of(
     alloc: Global,
     ranks: &[Ranked],
@@ -175,7 +175,7 @@ fn ranks_of(
     Ok(found)
 }
 
-/// Where a leaf is from and where it comes to.
+/// The places, by their numbers, from which a path comes and which it reaches, with what is known where it begins.
 #[derive(Clone, Copy)]
 struct Way<'a> {
     from: usize,
@@ -184,7 +184,7 @@ struct Way<'a> {
     begun: &'a Begun,
 }
 
-/// One end of a path.
+/// The end of a path as guesses see it; none where its places are not of the kernel.
 fn leaf_of(
     alloc: Global,
     path: &Path<Elements>,
@@ -211,7 +211,7 @@ fn leaf_of(
     }))
 }
 
-/// The ends of one path.
+/// Adds the ends of one path that come to a place.
 fn push_leaves(
     alloc: Global,
     leaves: &mut Vec<Leaf>,

@@ -12,7 +12,7 @@ pub struct PlaceLines {
 }
 
 impl PlaceLines {
-    /// How many facts they are: a congruence is two.
+    /// The number of facts that the guesses of a place are: a congruence is two.
     pub fn len(&self) -> usize {
         self.facts
             .len()
@@ -54,7 +54,7 @@ pub struct LineTable {
     pub places: Vec<PlaceLines>,
 }
 
-/// The guesses of one place among all.
+/// The guesses of one place, by their numbers among all guesses.
 fn lines_at(
     alloc: Global,
     candidates: &[Candidate],
@@ -80,7 +80,7 @@ fn lines_at(
 }
 
 impl LineTable {
-    /// Of guesses in their order.
+    /// The guesses of each place, by their numbers among all guesses.
     pub fn of(
         alloc: Global,
         candidates: &[Candidate],

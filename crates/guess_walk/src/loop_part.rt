@@ -2,20 +2,15 @@
 
 use crate::kernel_names::Names;
 use crate::said::may_stand;
-use certificate::tree;
-use guesses::{Descent, Ranking};
+use certificate::tree::{self, Descent};
+use guesses::Ranking;
 use std::alloc::{AllocError, Global};
 
-/// How each turn makes the form less, where the format has it.
-fn descent_of(descent: Descent) -> Option<tree::Descent> {
+/// The format has the descent: a step is 1 at least, and of `i64`.
+fn is_written(descent: Descent) -> bool {
     match descent {
-        Descent::Halving => Some(tree::Descent::Halve),
-        Descent::Down(step) => {
-            if step < 1 || step > i64::MAX as u64 {
-                return None;
-            }
-            Some(tree::Descent::Down(step))
-        }
+        Descent::Halve => true,
+        Descent::Down(step) => 1 <= step && step <= i64::MAX as u64,
     }
 }
 
@@ -26,10 +21,7 @@ pub fn bound_of(
     ranking: &Ranking,
     most: i64,
 ) -> Result<Option<tree::Bound>, AllocError> {
-    let Some(descent) = descent_of(ranking.descent) else {
-        return Ok(None);
-    };
-    if !may_stand(&ranking.form, false) {
+    if !is_written(ranking.descent) || !may_stand(&ranking.form, false) {
         return Ok(None);
     }
     let Some(form) = names.form(alloc, &ranking.form)? else {
@@ -37,7 +29,7 @@ pub fn bound_of(
     };
     Ok(Some(tree::Bound {
         number: ranking.number as u64,
-        descent,
+        descent: ranking.descent,
         most,
         form,
     }))

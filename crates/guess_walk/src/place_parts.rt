@@ -53,7 +53,7 @@ fn place_at(alloc: Global, places: &mut Vec<Place>, spot: Spot) -> Result<usize,
     Ok(index)
 }
 
-/// That items agree on a variable.
+/// Adds to a candidate's place the line that items agree on a variable.
 fn say_same(
     alloc: Global,
     name: &str,
@@ -68,7 +68,7 @@ fn say_same(
     Ok(())
 }
 
-/// That a form is at least 0.
+/// Adds to a place the line that a form is at least 0, if the form has a text.
 fn say_fact(
     alloc: Global,
     names: &Names<'_>,
@@ -86,7 +86,7 @@ fn say_fact(
     Ok(())
 }
 
-/// That a number divides a form.
+/// Adds to a place the line that a number divides a form, if the number is of `i64` and the form has a text.
 fn say_multiple(
     alloc: Global,
     names: &Names<'_>,
@@ -108,7 +108,7 @@ fn say_multiple(
     Ok(())
 }
 
-/// What is said of forms.
+/// Adds a candidate that speaks of a form to what is said of its place.
 fn say_form(
     alloc: Global,
     names: &Names<'_>,
@@ -125,7 +125,7 @@ fn say_form(
     }
 }
 
-/// Those that may be said, without those that were said before.
+/// The candidates that may be said in a certificate, each once.
 fn due_of<'a>(
     alloc: Global,
     candidates: &'a [Candidate],
@@ -146,7 +146,7 @@ fn is_of_slot(candidate: &Candidate, slot: usize) -> bool {
     }
 }
 
-/// Where items agree on a variable.
+/// Adds to the places the lines that items agree on the variable of a slot, of those candidates that say so.
 fn say_slot(
     alloc: Global,
     slot: usize,
@@ -163,8 +163,8 @@ fn say_slot(
 }
 
 /// Candidates as what is said of places. Places come in the order of the format, and of each the variables on which items agree as they are
-/// declared, and facts and congruences in the order of the candidates. What has no name is left out, and so is what the format does not have
-/// there and what an earlier candidate says of the place.
+/// declared, and facts and congruences in the order of the candidates. What has no name is left out, and so is what the format does not
+/// have there and what an earlier candidate says of the place.
 pub fn places_of(
     alloc: Global,
     names: &Names<'_>,

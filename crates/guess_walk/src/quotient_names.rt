@@ -2,11 +2,11 @@
 
 use crate::kernel_names::Names;
 use certificate::tree;
-use guesses::{family, index_of};
+use guesses::{index_of, is_at_anchor, is_variable};
 use linear::{Form, Symbol};
 use std::alloc::{AllocError, Global};
 
-/// None of the variables before it is called as this one is.
+/// The variable of a slot is the first one that is called by its name.
 fn is_first(variables: &[&str], slot: usize) -> bool {
     let Some(name) = variables.get(slot) else {
         return false;
@@ -19,10 +19,9 @@ fn is_first(variables: &[&str], slot: usize) -> bool {
     true
 }
 
-/// Its name, if any, means the symbol everywhere in the kernel.
+/// The name of a symbol, if it has one, means that symbol everywhere in the kernel.
 fn is_plain(variables: &[&str], symbol: Symbol) -> bool {
-    let family = family(symbol);
-    if family != 6 && family != 7 {
+    if !is_variable(symbol) && !is_at_anchor(symbol) {
         return true;
     }
     let Ok(slot) = usize::try_from(index_of(symbol)) else {
@@ -32,8 +31,8 @@ fn is_plain(variables: &[&str], symbol: Symbol) -> bool {
 }
 
 impl<'a> Names<'a> {
-    /// The form in names as an entry names its quotient, where a name means the first variable that is called so; none where a symbol has no
-    /// such name.
+    /// The form in names as an entry names its quotient, where a name means the first variable that is called so; none where a symbol has
+    /// no such name.
     pub fn quotient(&self, alloc: Global, form: &Form) -> Result<Option<tree::Form>, AllocError> {
         for term in form.terms() {
             if !is_plain(self.variables.as_slice(), term.symbol) {

@@ -15,6 +15,15 @@ pub struct Shown {
     pub most: Derivation,
 }
 
+/// Whether a number divides a form, by facts (without a denial), with the congruences known where the path begins.
+#[derive(Clone, Copy)]
+pub struct Division<'a> {
+    pub facts: &'a [Form],
+    pub form: &'a Form,
+    pub modulus: u64,
+    pub known: &'a [(u64, Form)],
+}
+
 /// The facts with another denial as the last one: that the form is not at least 0.
 fn denied(alloc: Global, facts: &[Form], form: &Form) -> Result<Option<Vec<Form>>, AllocError> {
     let Some(negative) = try_multiple(alloc, form, -1)? else {
@@ -53,7 +62,7 @@ fn side(
     }
 }
 
-/// One quotient is tried.
+/// Derivations that a form is at least and at most the modulus times this quotient, by the form's rest; none where one is not found.
 fn tried(
     alloc: Global,
     facts: &[Form],
@@ -94,16 +103,20 @@ fn remainder(
     try_difference(alloc, form, &product)
 }
 
-/// That a number divides a form, by facts (without a denial), with the congruences known where the path begins.
+/// Derivations that a number divides a form, by the given facts (without a denial) and the congruences known where the path begins; none
+/// where the search finds none.
 pub fn both_sides(
     alloc: Global,
-    facts: &[Form],
-    form: &Form,
-    modulus: u64,
-    known: &[(u64, Form)],
+    division: Division<'_>,
     memory: &mut Memory,
     points: &mut Vec<Point>,
 ) -> Result<Option<Shown>, AllocError> {
+    let Division {
+        facts,
+        form,
+        modulus,
+        known,
+    } = division;
     let tries = quotients(alloc, facts, form, modulus, known)?;
     for quotient in tries {
         let Some(rest) = remainder(alloc, form, modulus, &quotient)? else {

@@ -46,16 +46,17 @@ fn is_small(form: &Form) -> bool {
     true
 }
 
-/// The facts of an obligation; none where a number is too large.
-fn facts_of(
+/// The facts of an obligation in a manner; none where it does not fit.
+pub fn facts_of(
     alloc: Global,
     found: &Obligations<Elements>,
     number: usize,
+    manner: Manner,
 ) -> Result<Option<Vec<Form>>, FindError>
     requires first { 0 < number }
     requires last { number ≤ length (listed domain found.now) }
 {
-    Ok(found.facts(alloc, number, Manner::Plainly)?)
+    Ok(found.facts(alloc, number, manner)?)
 }
 
 /// The range that an obligation asks for is taken as shown.
@@ -69,7 +70,7 @@ fn is_taken(
     requires first { 0 < number }
     requires last { number ≤ length (listed domain found.now) }
 {
-    let Some(facts) = facts_of(alloc, found, number)? else {
+    let Some(facts) = facts_of(alloc, found, number, Manner::Plainly)? else {
         return Ok(false);
     };
     match trust {

@@ -1,13 +1,12 @@
 //! What may be said where.
 
-use guesses::{Candidate, Line, family};
+use guesses::{Candidate, Line, is_at_anchor, is_new};
 use linear::Form;
 
 /// No symbol is new, and none is of the anchor where one stands at an anchor itself or in a loop's test.
 pub fn may_stand(form: &Form, is_behind: bool) -> bool {
     for term in form.terms() {
-        let family = family(term.symbol);
-        if family == 5 || (family == 7 && !is_behind) {
+        if is_new(term.symbol) || (is_at_anchor(term.symbol) && !is_behind) {
             return false;
         }
     }

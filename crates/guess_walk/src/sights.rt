@@ -4,14 +4,13 @@ use crate::subject::Subject;
 use core_code::tree::Statement;
 use guesses::Sight;
 use obligations::{Notes, Visible};
-use path_walk::number_of;
 use places::{Place, Point};
 use std::alloc::{AllocError, Global};
 
-/// The loops around a statement of that number, the outermost first, if it stands there.
+/// Lists the loops around a statement of that number, the outermost first, and gives whether it stands in this one.
 #[cycle(around)]
 fn around(statement: &Statement, number: u32, loops: &mut Vec<u32>) -> Result<bool, AllocError> {
-    if number_of(statement) == number {
+    if statement.number() == number {
         return Ok(true);
     }
     match statement {
@@ -37,7 +36,7 @@ fn around(statement: &Statement, number: u32, loops: &mut Vec<u32>) -> Result<bo
     }
 }
 
-/// The same of statements.
+/// Lists the loops around a statement of that number among statements, the outermost first, and gives whether it stands there.
 #[cycle(around)]
 fn around_in(body: &[Statement], number: u32, loops: &mut Vec<u32>) -> Result<bool, AllocError> {
     for statement in body {
@@ -51,7 +50,7 @@ fn around_in(body: &[Statement], number: u32, loops: &mut Vec<u32>) -> Result<bo
 fn number_at(point: &Option<Point<'_>>) -> Option<u32> {
     match point {
         None => None,
-        Some(point) => Some(number_of(point.statement)),
+        Some(point) => Some(point.statement.number()),
     }
 }
 
@@ -69,7 +68,7 @@ fn slots_at(
     Ok(Vec::new(alloc))
 }
 
-/// What may be said at a place.
+/// The variables and the loops of which something may be said at a place.
 fn sight_of(
     alloc: Global,
     body: &[Statement],
@@ -98,7 +97,7 @@ fn sight_of(
     })
 }
 
-/// What may be said at each place.
+/// The variables and the loops of which something may be said, at each place of a kernel in order.
 pub fn sights_of(
     alloc: Global,
     subject: &Subject<'_>,
@@ -113,7 +112,7 @@ pub fn sights_of(
     Ok(sights)
 }
 
-/// It is the place of these numbers.
+/// The place has this barrier as its anchor, and this loop as its head.
 pub fn is_place(sight: &Sight, anchor: Option<u32>, head: Option<u32>) -> bool {
     sight.anchor == anchor && sight.head == head
 }

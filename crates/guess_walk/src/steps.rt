@@ -4,7 +4,7 @@ use certificate::tree::{Scaled, Step};
 use cut_proof::{Derivation, Line};
 use std::alloc::{AllocError, Global};
 
-/// Weights with their lines.
+/// The parts of a sum as a certificate has them, each weight with its line.
 fn scaled_of(alloc: Global, parts: &[(i64, u32)]) -> Result<Vec<Scaled>, AllocError> {
     let mut scaled = Vec::new(alloc);
     for part in parts {

@@ -3,7 +3,8 @@
 use crate::kernel_names::Names;
 use certificate::spelling::push_name;
 use certificate::tree::{self, Dimension, Name};
-use guesses::{family, index_of};
+use facts::{Family, Side};
+use guesses::index_of;
 use linear::{Form, Symbol};
 use std::alloc::{AllocError, Global};
 use std::cmp::Ordering;
@@ -27,10 +28,10 @@ fn dimension_of(index: u64) -> Option<Dimension> {
 /// The name of a count or an id.
 fn name_by_dimension(symbol: Symbol) -> Option<Name> {
     let dimension = dimension_of(index_of(symbol))?;
-    match family(symbol) {
-        0 => Some(Name::Groups(dimension)),
-        3 => Some(Name::Local(dimension)),
-        4 => Some(Name::Group(dimension)),
+    match Family::of(symbol) {
+        Family::Groups => Some(Name::Groups(dimension)),
+        Family::Local(Side::First) => Some(Name::Local(dimension)),
+        Family::Group(Side::First) => Some(Name::Group(dimension)),
         _ => None,
     }
 }
@@ -38,12 +39,12 @@ fn name_by_dimension(symbol: Symbol) -> Option<Name> {
 /// The name of a new symbol, or of a loop's turns.
 fn name_by_number(symbol: Symbol) -> Option<Name> {
     let index = index_of(symbol);
-    match family(symbol) {
-        5 => {
+    match Family::of(symbol) {
+        Family::New(Side::First) => {
             let number = index.checked_add(1)?;
             Some(Name::Fresh(number))
         }
-        8 => Some(Name::Turns(index)),
+        Family::Turns(Side::First) => Some(Name::Turns(index)),
         _ => None,
     }
 }
@@ -53,10 +54,10 @@ fn spelt_in_kernel<'a>(names: &Names<'a>, symbol: Symbol) -> Option<&'a str> {
     let Ok(index) = usize::try_from(index_of(symbol)) else {
         return None;
     };
-    let found = match family(symbol) {
-        1 => names.arguments.get(index),
-        2 => names.buffers.get(index),
-        6 | 7 => names.variables.get(index),
+    let found = match Family::of(symbol) {
+        Family::Argument => names.arguments.get(index),
+        Family::Length => names.buffers.get(index),
+        Family::Variable(Side::First) | Family::AtAnchor(Side::First) => names.variables.get(index),
         _ => None,
     };
     match found {
@@ -75,20 +76,22 @@ fn name_by_kernel(
         return Ok(None);
     };
     let name = String::from_str(alloc, spelt)?;
-    match family(symbol) {
-        1 => Ok(Some(Name::Argument(name))),
-        2 => Ok(Some(Name::Length(name))),
-        6 => Ok(Some(Name::Variable(name))),
+    match Family::of(symbol) {
+        Family::Argument => Ok(Some(Name::Argument(name))),
+        Family::Length => Ok(Some(Name::Length(name))),
+        Family::Variable(_) => Ok(Some(Name::Variable(name))),
         _ => Ok(Some(Name::AtAnchor(name))),
     }
 }
 
-/// The symbol's name, where it has one.
+/// The name of a symbol in a certificate; none where it has none.
 fn name_of(alloc: Global, names: &Names<'_>, symbol: Symbol) -> Result<Option<Name>, AllocError> {
-    match family(symbol) {
-        0 | 3 | 4 => Ok(name_by_dimension(symbol)),
-        5 | 8 => Ok(name_by_number(symbol)),
-        _ => name_by_kernel(alloc, names, symbol),
+    match Family::of(symbol) {
+        Family::Groups | Family::Local(_) | Family::Group(_) => Ok(name_by_dimension(symbol)),
+        Family::New(_) | Family::Turns(_) => Ok(name_by_number(symbol)),
+        Family::Argument | Family::Length | Family::Variable(_) | Family::AtAnchor(_) => {
+            name_by_kernel(alloc, names, symbol)
+        }
     }
 }
 
@@ -102,7 +105,7 @@ fn spelt(alloc: Global, coefficient: i64, name: Name) -> Result<SpeltTerm, Alloc
     })
 }
 
-/// Where among rising terms another one belongs.
+/// The index at which a term of this spelling belongs among terms whose spellings rise.
 fn index_among(terms: &[SpeltTerm], spelling: &str) -> usize {
     for (index, term) in terms.iter().enumerate() {
         if spelling.as_bytes().cmp(term.spelling.as_bytes()) == Ordering::Less {

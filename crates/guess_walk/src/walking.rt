@@ -17,10 +17,10 @@ use std::alloc::{AllocError, Global};
 use two_thread::Obligations;
 use walk::{FindError, find};
 
-/// What the check knows of numbers.
+/// The abstract domain of the check: intervals with congruences.
 pub type Elements = Product<Interval, Congruence>;
 
-/// What is said of places and loops, and what is to be shown.
+/// The notes of a kernel's places and loops, and the obligations that a walk with these notes has.
 #[derive(Drop)]
 pub struct Walked {
     pub notes: Notes,
@@ -59,8 +59,8 @@ pub fn certificate_of(
     Certificate::new(alloc, places, bounds, entries)
 }
 
-/// All that is to be shown with a certificate, where the obligations that are flagged have an entry; nothing where the kernel lacks what the
-/// certificate names, or has no places.
+/// All that is to be shown with a certificate, where the obligations that are flagged have an entry; nothing where the kernel lacks what
+/// the certificate names, or has no places.
 pub fn walk(
     alloc: Global,
     subject: &Subject<'_>,

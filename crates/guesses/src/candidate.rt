@@ -4,7 +4,8 @@ use crate::forms::{copied, is_same};
 use linear::Form;
 use std::alloc::{AllocError, Global};
 
-/// That the items of a group have a slot alike where they come to a barrier; that a form is at least 0; that a number divides a form.
+/// A line of a place: that the items of a group have a slot alike where they come to a barrier; that a form is at least 0; that a number
+/// divides a form.
 #[derive(Drop)]
 pub enum Line {
     Same(u32),
@@ -13,7 +14,7 @@ pub enum Line {
 }
 
 impl Line {
-    /// Both say the same.
+    /// Two lines say the same.
     pub fn is_like(&self, other: &Line) -> bool {
         match (self, other) {
             (Line::Same(slot), Line::Same(other)) => *slot == *other,
@@ -29,7 +30,7 @@ impl Line {
         }
     }
 
-    /// Once more.
+    /// A copy of the line.
     pub fn copy(&self, alloc: Global) -> Result<Line, AllocError> {
         match self {
             Line::Same(slot) => Ok(Line::Same(*slot)),
@@ -59,7 +60,7 @@ pub struct Candidate {
 }
 
 impl Candidate {
-    /// Both say the same of one place.
+    /// Two candidates say the same of one place; their ranks may differ.
     pub fn is_like(&self, other: &Candidate) -> bool {
         self.anchor == other.anchor && self.head == other.head && self.line.is_like(&other.line)
     }

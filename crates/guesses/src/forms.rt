@@ -11,22 +11,22 @@ fn some(given: Result<Form, LinearError>) -> Result<Option<Form>, AllocError> {
     }
 }
 
-/// A symbol, once.
+/// The form that is a symbol, once.
 pub fn one_of(alloc: Global, symbol: Symbol) -> Result<Form, AllocError> {
     Form::symbol(alloc, symbol)
 }
 
-/// The form once more.
+/// A copy of a form.
 pub fn copied(alloc: Global, form: &Form) -> Result<Form, AllocError> {
     form.copy(alloc)
 }
 
-/// The sum, if it is of `i64`.
+/// The sum of two forms; none where a number is too large for `i64`.
 pub fn try_sum(alloc: Global, left: &Form, right: &Form) -> Result<Option<Form>, AllocError> {
     some(left.add(alloc, right))
 }
 
-/// The difference, if it is of `i64`.
+/// The first form less the second one; none where a number is too large for `i64`.
 pub fn try_difference(
     alloc: Global,
     left: &Form,
@@ -46,12 +46,12 @@ pub fn plus(alloc: Global, form: &Form, number: i64) -> Result<Option<Form>, All
     some(form.add(alloc, &number))
 }
 
-/// Both are one form.
+/// Two forms have the same constant and the same terms, in their order.
 pub fn is_same(left: &Form, right: &Form) -> bool {
     left.constant_part() == right.constant_part() && left.terms() == right.terms()
 }
 
-/// By Euclid's algorithm, which takes fewer than 128 steps for numbers of 64 bits.
+/// The greatest common divisor of two numbers, by Euclid's algorithm, which takes fewer than 128 steps for numbers of 64 bits.
 pub fn divisor_of(left: u64, right: u64) -> u64 {
     let mut left = left;
     let mut right = right;

@@ -23,8 +23,8 @@ pub struct Leaf {
     pub begun: usize,
     /// Each variable's value, by its slot.
     pub variables: Vec<Form>,
-    /// Of the slots that have symbols of the anchor at the place that is reached, the values at its anchor.
+    /// The values at the anchor, by the slots that have symbols of the anchor at the place that is reached.
     pub anchored: Vec<(u32, Form)>,
-    /// Of the loops around the place that is reached, by their numbers, what ranked them when their test was last true.
+    /// The values of the rankings of the loops around the place that is reached, by the loops' numbers, when their tests were last true.
     pub ranks: Vec<(u32, Form)>,
 }

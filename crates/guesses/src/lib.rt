@@ -15,8 +15,8 @@ pub use forms::{
     try_multiple, try_sum, value_in,
 };
 pub use leaf::{Leaf, Sight};
-pub use ranking::{Descent, Ranking};
+pub use ranking::Ranking;
 pub use symbols::{
-    argument, at_anchor, family, group, groups, index_of, is_global, is_launch, length, local,
-    new_symbol, turns, variable,
+    argument, at_anchor, group, groups, index_of, is_at_anchor, is_global, is_launch, is_new,
+    is_turns, is_variable, length, local, new_symbol, turns, variable,
 };

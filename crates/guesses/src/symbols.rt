@@ -1,74 +1,91 @@
-//! Symbols, as the walks number them: sixteen families whose numbers alternate.
+//! The symbols of the launch and of the first item.
 
+use facts::{Family, Side};
 use linear::Symbol;
 
-/// A dimension's group count.
+/// The symbol of the group count of a dimension.
 pub fn groups(dimension: u32) -> Symbol {
-    of_family(0, dimension)
+    Family::Groups.symbol(dimension as u64)
 }
 
-/// A value parameter's argument.
+/// The symbol of the argument of a value parameter.
 pub fn argument(parameter: u32) -> Symbol {
-    of_family(1, parameter)
+    Family::Argument.symbol(parameter as u64)
 }
 
-/// A buffer's length.
+/// The symbol of a buffer's length.
 pub fn length(buffer: u32) -> Symbol {
-    of_family(2, buffer)
+    Family::Length.symbol(buffer as u64)
 }
 
-/// A local id.
+/// The symbol of an item's local id in a dimension.
 pub fn local(dimension: u32) -> Symbol {
-    of_family(3, dimension)
+    Family::Local(Side::First).symbol(dimension as u64)
 }
 
-/// A group id.
+/// The symbol of an item's group id in a dimension.
 pub fn group(dimension: u32) -> Symbol {
-    of_family(4, dimension)
+    Family::Group(Side::First).symbol(dimension as u64)
 }
 
 /// A symbol that is new on a path, or where its place begins.
 pub fn new_symbol(index: u32) -> Symbol {
-    of_family(5, index)
+    Family::New(Side::First).symbol(index as u64)
 }
 
 /// A private variable where a path begins.
 pub fn variable(slot: u32) -> Symbol {
-    of_family(6, slot)
+    Family::Variable(Side::First).symbol(slot as u64)
 }
 
 /// A private variable at the anchor.
 pub fn at_anchor(slot: u32) -> Symbol {
-    of_family(7, slot)
+    Family::AtAnchor(Side::First).symbol(slot as u64)
 }
 
-/// What ranked a loop when its test was last true.
+/// The symbol of the value of a loop's ranking when its test was last true.
 pub fn turns(number: u32) -> Symbol {
-    of_family(8, number)
+    Family::Turns(Side::First).symbol(number as u64)
 }
 
-fn of_family(family: u32, index: u32) -> Symbol {
-    Symbol {
-        number: family as u64 + 16 * index as u64,
-    }
-}
-
-/// The number of a symbol's family: 0 to 8 as they stand above, 9 to 14 for those of a second item.
-pub fn family(symbol: Symbol) -> u64 {
-    symbol.number % 16
-}
-
-/// Which symbol of its family it is.
+/// The index of a symbol in its family.
 pub fn index_of(symbol: Symbol) -> u64 {
     symbol.number / 16
 }
 
+/// The symbol is new on a path, or where its place begins.
+pub fn is_new(symbol: Symbol) -> bool {
+    Family::of(symbol) == Family::New(Side::First)
+}
+
+/// The symbol is a private variable where a path begins.
+pub fn is_variable(symbol: Symbol) -> bool {
+    Family::of(symbol) == Family::Variable(Side::First)
+}
+
+/// The symbol is a private variable at the anchor.
+pub fn is_at_anchor(symbol: Symbol) -> bool {
+    Family::of(symbol) == Family::AtAnchor(Side::First)
+}
+
+/// The symbol is what ranked a loop when its test was last true.
+pub fn is_turns(symbol: Symbol) -> bool {
+    Family::of(symbol) == Family::Turns(Side::First)
+}
+
 /// A symbol of the launch: a group count, an argument or a length.
 pub fn is_launch(symbol: Symbol) -> bool {
-    family(symbol) <= 2
+    matches!(
+        Family::of(symbol),
+        Family::Groups | Family::Argument | Family::Length
+    )
 }
 
 /// A symbol of the launch or of the item: it is the same wherever the item comes.
 pub fn is_global(symbol: Symbol) -> bool {
-    family(symbol) <= 4
+    is_launch(symbol)
+        || matches!(
+            Family::of(symbol),
+            Family::Local(Side::First) | Family::Group(Side::First)
+        )
 }

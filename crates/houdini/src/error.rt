@@ -5,10 +5,10 @@ ghost use Rattle.std.specs.Prelude.{◌≡◌};
 use board::BoardError;
 use thiserror::Error;
 
-/// There are too few or too many workers, or want of memory.
+/// Why candidates were not settled: a wrong number of workers, or want of memory.
 #[derive(Debug, Drop, Error)]
 pub enum SettleError {
-    /// There are 1 to 64 workers.
+    /// The number of workers is not 1 to 64.
     #[error("70")]
     Workers,
     #[error("90")]
@@ -18,7 +18,7 @@ pub enum SettleError {
 impl SettleError {
     ghost use Rattle.houdini.specs.Numbers.{error_number};
 
-    /// The number that it is printed under.
+    /// The number under which the error is printed.
     pub fn number(&self) -> u8
         ensures { result ≡ error_number self.now }
     {

@@ -39,7 +39,7 @@ fn is_search(words: &[String]) -> bool {
     )
 }
 
-/// The same, with its end made known.
+/// The status of the program on these words, after which its end is made known.
 fn status_with_end<R: Threads + Wait + Sync>(
     handle: &R,
     rt: &HostRuntime,

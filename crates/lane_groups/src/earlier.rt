@@ -61,7 +61,7 @@ fn is_group(owner: Owner, group: u64) -> bool
 }
 
 impl Earlier {
-    /// Nothing is stored.
+    /// The memory of a group in which nothing is stored yet, with an empty row for each local array.
     pub fn new(alloc: Global, group: u64, arrays: &[LocalArray]) -> Result<Earlier, AllocError>
         ensures { IfOk result (λ e. (c : memories.Cell) → kept e c ≡ None) }
     {
@@ -132,7 +132,7 @@ impl Earlier {
         Some(row.as_slice())
     }
 
-    /// Whether it is known that nothing was stored to a buffer.
+    /// True only if the group has stored nothing to any buffer in earlier rounds; false says nothing.
     pub fn has_no_buffers(&self) -> bool
         ensures { result ≡ true → (array index : ℕ) → kept self.now (record { owner = 0; array = array; index = index }) ≡ None }
     {

@@ -25,7 +25,7 @@ pub struct Overlay {
 }
 
 impl Overlay {
-    /// Nothing is stored.
+    /// An overlay in which nothing is stored.
     pub fn new(alloc: Global) -> Overlay
         ensures { (c : meaning.Cell) → kept result c ≡ None }
     {

@@ -14,7 +14,7 @@ use std::alloc::{AllocError, Global};
 use words::Word;
 use work_item::ask::{Cell, Owner};
 
-/// A word that an element got.
+/// A store: an element, and the word that was put into it.
 #[derive(Clone, Copy)]
 pub struct Store {
     pub at: Cell,
@@ -30,7 +30,7 @@ pub struct Own {
     ghost agrees: { is_found ≡ true → (c : memories.Cell) → kept later c ≡ log_of (map store_seen (drop 16 stores.items)) c None },
 }
 
-/// One owner.
+/// Two owners of arrays are the same: the launch, or one group.
 pub fn same_owner(a: Owner, b: Owner) -> bool
     ensures { result ≡ nat_eq (owner_seen a) (owner_seen b) }
 {
@@ -41,7 +41,7 @@ pub fn same_owner(a: Owner, b: Owner) -> bool
     }
 }
 
-/// One element.
+/// Two cells are the same element of one array of one owner.
 pub fn same_cell(a: Cell, b: Cell) -> bool
     ensures { result ≡ memories.same_cell (cell_seen a) (cell_seen b) }
 {
@@ -62,7 +62,7 @@ fn last(stores: &[Store], at: Cell) -> Option<Word>
 }
 
 impl Own {
-    /// Nothing is stored.
+    /// The stores of an item that has stored nothing.
     pub fn new(alloc: Global) -> Own
         ensures { result.stores.items ≡ [] }
     {
@@ -73,7 +73,7 @@ impl Own {
         }
     }
 
-    /// One more store.
+    /// Adds a store behind the others; the earlier ones stay in their order.
     pub fn push(&mut self, store: Store) -> Result<(), AllocError>
         ensures { OnOk result (map store_seen self.new.stores.items ≡ map store_seen self.old.stores.items ++ store_seen store ∷ []) }
     {
@@ -88,7 +88,7 @@ impl Own {
         Ok(())
     }
 
-    /// Nothing is stored any more.
+    /// Forgets all stores of the item.
     pub fn clear(&mut self, alloc: Global)
         ensures { self.new.stores.items ≡ [] }
     {

@@ -3,7 +3,7 @@
 ghost use Rattle.launch.specs.View.{counts as counts_seen};
 ghost use Rattle.lane_groups.specs.Places.{ArePlaces};
 
-use crate::place::Place;
+use crate::local_id::LocalId;
 use launch::launches::Counts;
 use work_item::evaluation::Identity;
 
@@ -11,7 +11,7 @@ use work_item::evaluation::Identity;
 #[derive(Drop)]
 pub struct Places {
     pub sizes: Counts,
-    pub places: Vec<Place>,
+    pub places: Vec<LocalId>,
     pub ghost are: { ArePlaces (counts_seen sizes) places.items },
 }
 

@@ -16,7 +16,7 @@ pub struct Source {
 }
 
 impl Source {
-    /// An element.
+    /// The cell of the element at an index of the array.
     pub fn cell(self, index: u32) -> Cell
         ensures { cell_seen result ≡ record { owner = owner_seen self.owner; array = self.number; index = index } }
     {

@@ -9,7 +9,7 @@ ghost use Rattle.lane_groups.specs.Groups.{setup, IsSound};
 ghost use Rattle.lane_groups.specs.Members.{IsWho};
 ghost use Rattle.lane_groups.specs.Places.{ArePlaces, local_of};
 
-use crate::place::Place;
+use crate::local_id::LocalId;
 use crate::places::{Crew, Places};
 use crate::work_group::Group;
 use core_code::tree::Core;
@@ -38,10 +38,10 @@ fn are_same(a: Counts, b: Counts) -> bool
 }
 
 /// The place of an item.
-fn place_of(who: &Identity<'_>) -> Place
+fn place_of(who: &Identity<'_>) -> LocalId
     ensures { (s : Setup) (g k : ℕ) → k < group_size s → IsWho s (member s g k) who.now → local_of result ≡ place_at s.kernel.sizes k }
 {
-    Place {
+    LocalId {
         x: who.x.local,
         y: who.y.local,
         z: who.z.local,
@@ -59,7 +59,7 @@ fn item_of<'b>(group: &Group<'b>, lane: u64) -> Result<Identity<'b>, AllocError>
 }
 
 /// The places of the items of a group.
-fn places_of(alloc: Global, group: &Group<'_>) -> Result<Vec<Place>, AllocError>
+fn places_of(alloc: Global, group: &Group<'_>) -> Result<Vec<LocalId>, AllocError>
     requires { IsSound group.now }
     ensures count { IfOk result (λ v. length v.items ≡ group_size (setup group.now)) }
     ensures places { IfOk result (λ v. ArePlaces (kernel_seen group.now.core.now).sizes v.items) }
@@ -89,7 +89,7 @@ fn at_place(first: Dimension, local: u32) -> Dimension
 
 /// The item at a place of the group whose first item this is.
 #[inline(always)]
-pub fn standing<'b>(first: &Identity<'b>, place: Place) -> Identity<'b>
+pub fn standing<'b>(first: &Identity<'b>, place: LocalId) -> Identity<'b>
     ensures { (s : Setup) (g k : ℕ) → k < group_size s → IsWho s (member s g 0) first.now → local_of place ≡ place_at s.kernel.sizes k → IsWho s (member s g k) result }
 {
     Identity {
@@ -103,7 +103,7 @@ pub fn standing<'b>(first: &Identity<'b>, place: Place) -> Identity<'b>
 }
 
 impl Places {
-    /// No places yet.
+    /// The places of no item, for groups of size 0.
     pub fn none(alloc: Global) -> Places {
         Places {
             sizes: Counts { x: 0, y: 0, z: 0 },

@@ -6,7 +6,8 @@ ghost use Rattle.lane_groups.specs.Owns.{last_at, own_in};
 use crate::own::Own;
 use crate::strip::Strip;
 
-/// What the last instruction that stored has stored, of all lanes together, and what was stored before it, lane by lane.
+/// The stores of a group's items in a round: those of the last instruction that stored, of all lanes together, and those before it, lane by
+/// lane.
 #[derive(Drop)]
 pub struct Stored {
     pub own: Vec<Own>,

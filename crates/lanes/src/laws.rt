@@ -24,7 +24,8 @@ pub fn run_together_is_by_rounds()
     ensures log { (s : Setup) (bound g low high a k : ℕ) → 0 < group_size s → g < group_count s → AllNumbered [] low high s.kernel.body → IsPairSafe s bound → log_of (stores_together s bound g) (record { owner = 0; array = a; index = k }) None ≡ group_log s bound g a k }
 {}
 
-/// So it does wherever its rounds come to an end and none of its items takes more steps than the budget.
+/// If the rounds of a group come to an end and none of its items takes more steps than the budget, the group run together stores what the
+/// rounds store.
 pub fn ended_rounds_are_run_together()
     ensures { (s : Setup) (bound g low high : ℕ) → 0 < group_size s → AllNumbered [] low high s.kernel.body → ((k : ℕ) (ws : List ℤ) → k < group_size s → (after s (member s g k) ws).steps ≤ bound) → rounds_end s g (bound + 1) (bound + 1) (opening s) (opening_memory s) ≡ true → stores_together s bound g ≡ group_stores s bound g }
 {}
@@ -39,7 +40,7 @@ pub fn lane_code_is_run_together()
     ensures { (s : Setup) (bound g : ℕ) → Fits s.kernel s.launch → AllWithin (slots_of s.kernel) s.kernel.body → stores_executed s bound g (lowered s.kernel) ≡ stores_together s bound g }
 {}
 
-/// So at a launch at which the kernel is pair-safe within a budget, lane code stores what the rounds store.
+/// At a launch at which the kernel is pair-safe within a budget, lane code stores what the rounds store.
 pub fn lane_code_is_by_rounds()
     ensures { (s : Setup) (bound g low high : ℕ) → 0 < group_size s → g < group_count s → Fits s.kernel s.launch → AllNumbered [] low high s.kernel.body → AllWithin (slots_of s.kernel) s.kernel.body → IsPairSafe s bound → stores_executed s bound g (lowered s.kernel) ≡ group_stores s bound g }
 {}

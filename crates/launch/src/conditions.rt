@@ -33,7 +33,7 @@ pub struct ArgumentRange {
     pub ghost order: { value_of low ≤ℤ value_of high },
 }
 
-/// A dimension.
+/// The dimensions of an NDRange (OpenCL 1.2, 3.2).
 #[derive(Clone, Copy)]
 pub enum Dimension {
     X,
@@ -55,7 +55,7 @@ pub enum Summand {
     },
 }
 
-/// At most 8 summands.
+/// A sum in conditions, of at most 8 summands.
 #[derive(Drop)]
 pub struct Sum {
     pub terms: Vec<Summand>,
@@ -78,7 +78,7 @@ pub struct Requirement {
     pub line: u32,
 }
 
-/// What a launch has to meet, each with the line of the text in which it stands.
+/// The conditions that a launch has to meet, each with the line of the text in which it stands.
 #[derive(Drop)]
 pub struct Conditions {
     pub groups: CountRanges,

@@ -4,7 +4,7 @@ ghost use Rattle.std.specs.Prelude.{◌≡◌, Some};
 
 use thiserror::Error;
 
-/// The number of such a refusal.
+/// The number under which a condition that a launch does not meet is refused.
 const NUMBER: u8 = 40;
 
 /// A launch does not meet the condition of this line.
@@ -15,7 +15,7 @@ pub struct ConditionError {
 }
 
 impl ConditionError {
-    /// The number that it is printed under.
+    /// The number under which the error is printed.
     pub fn number(&self) -> u8
         ensures { result ≡ 40 }
     {

@@ -2,7 +2,7 @@
 
 use words::Word;
 
-/// Group counts.
+/// A number along each dimension: group counts, or ids.
 #[derive(Debug, Clone, Copy, PartialEq, Eq)]
 pub struct Counts {
     pub x: u32,

@@ -16,7 +16,7 @@ use crate::values::sum_of;
 use std::alloc::{AllocError, Global};
 use words::{Kind, Word};
 
-/// What the buffers of a launch text have in all, at most.
+/// The most words that the buffers of a launch text have in all.
 pub const MOST_WORDS: u128 = 1_048_576;
 
 fn low_arguments(alloc: Global, ranges: &[ArgumentRange]) -> Result<Vec<Word>, AllocError>

@@ -8,7 +8,7 @@ use Rattle.semantics.specs.Word.{Kind}
 use Rattle.semantics.specs.Launch.{Three}
 use Rattle.semantics.specs.Conditions as meaning
 use Rattle.semantics.specs.Conditions.{Range, Summand}
-use Rattle.texts.specs.CertificateForms.{is_identifier}
+use Rattle.texts.specs.Identifiers.{is_identifier}
 use Rattle.texts.specs.Surface.{Parameter, Buffer, Value}
 use Rattle.texts.specs.Spelling.{SpellsParameters}
 use Rattle.texts.specs.LaunchFaults.{Cursor, cursor, then, expect, end_line}

@@ -14,8 +14,8 @@ use Rattle.semantics.specs.Launch.{IsArgument}
 use Rattle.texts.specs.Numbers.{is_decimal_digit}
 use Rattle.texts.specs.Tokens.{is_letter, is_word_byte}
 use Rattle.texts.specs.Lines.{integer_of}
-use Rattle.texts.specs.CertificateForms.{all_word_bytes, is_identifier}
-use Rattle.texts.specs.CertificateRules.{is_integer}
+use Rattle.texts.specs.Identifiers.{all_word_bytes, is_identifier}
+use Rattle.texts.specs.Lines.{is_integer}
 use Rattle.texts.specs.Surface.{Parameter}
 use Rattle.texts.specs.LaunchFaults.{Cursor, Step, cursor}
 use Rattle.texts.specs.LaunchWords.{number_length, number_found, number_at, natural_at, word_at, name_at, parameter_at}

@@ -8,7 +8,7 @@ use Rattle.std.proofs.lemmas.List.{append-nil}
 use Rattle.std.proofs.lemmas.List.Sums.{sum_by-cons}
 use Rattle.semantics.specs.Word.{Kind, Word}
 use Rattle.semantics.specs.Launch.{IsArgument}
-use Rattle.texts.specs.CertificateForms.{is_identifier}
+use Rattle.texts.specs.Identifiers.{is_identifier}
 use Rattle.texts.specs.Surface.{Parameter, Buffer, Value}
 use Rattle.texts.specs.LaunchFaults.{Cursor, Step, cursor, then, expect, end_line}
 use Rattle.texts.specs.LaunchWords.{Launch, word_at, due, due_blank, due_parameter, head_line, go_on, each, end_text}

@@ -9,7 +9,7 @@ use Rattle.semantics.specs.Word.{Kind, word}
 use Rattle.semantics.specs.Launch.{Three}
 use Rattle.semantics.specs.Conditions.{Range}
 use Rattle.texts.specs.Numbers.{is_decimal_digit}
-use Rattle.texts.specs.CertificateForms.{is_identifier}
+use Rattle.texts.specs.Identifiers.{is_identifier}
 use Rattle.texts.specs.Surface.{Parameter, Buffer, Value}
 use Rattle.texts.specs.LaunchFaults.{Cursor, Step, cursor, expect}
 use Rattle.texts.specs.LaunchWords.{Conditions, due, due_blank, due_parameter, each}

@@ -10,7 +10,7 @@ use Rattle.semantics.specs.Word.{Kind, Word, word}
 use Rattle.semantics.specs.Launch as meaning
 use Rattle.semantics.specs.Launch.{Three}
 use Rattle.texts.specs.Numbers.{is_decimal_digit}
-use Rattle.texts.specs.CertificateForms.{is_identifier}
+use Rattle.texts.specs.Identifiers.{is_identifier}
 use Rattle.texts.specs.Surface.{Parameter, Buffer, Value}
 use Rattle.texts.specs.Spelling.{SpellsParameters}
 use Rattle.texts.specs.LaunchFaults.{Cursor, Step, cursor, then, expect}

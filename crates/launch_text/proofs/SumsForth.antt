@@ -13,8 +13,8 @@ use Rattle.std.proofs.lemmas.Slice.Eq.{bytes_eq-Decides}
 use Rattle.semantics.specs.Conditions.{Summand}
 use Rattle.texts.specs.Numbers.{is_decimal_digit}
 use Rattle.texts.specs.Tokens.{is_letter, is_word_byte}
-use Rattle.texts.specs.CertificateForms.{all_word_bytes, is_identifier}
-use Rattle.texts.specs.CertificateRules.{is_integer}
+use Rattle.texts.specs.Identifiers.{all_word_bytes, is_identifier}
+use Rattle.texts.specs.Lines.{is_integer}
 use Rattle.texts.specs.Surface.{Parameter, Buffer, Value}
 use Rattle.texts.specs.LaunchFaults.{cursor, found}
 use Rattle.texts.specs.LaunchWords.{factor_within, factor_at}

@@ -3,7 +3,7 @@ use Rattle.std.specs.Prelude.{◌≡◌, ◌≤◌, ◌<◌, ◌^◌, true, List
 use Rattle.std.specs.List.{AllZip}
 use Rattle.semantics.specs.Word.{Kind, Word}
 use Rattle.semantics.specs.Launch.{IsCount, IsArgument}
-use Rattle.texts.specs.CertificateForms.{is_identifier}
+use Rattle.texts.specs.Identifiers.{is_identifier}
 use Rattle.texts.specs.Surface.{Parameter, Buffer, Value}
 use Rattle.texts.specs.LaunchWords.{name_of}
 use Rattle.texts.specs.LaunchReading.{TypedLaunch, most_words, words_of}

@@ -18,7 +18,7 @@ impl<'a> Cursor<'a> {
     ghost use Rattle.launch_text.specs.declared.error.LaunchTextError.TheVariants as errors;
     ghost use Rattle.launch_text.specs.Answers.{cursor, Gives};
 
-    /// A fault of this line.
+    /// The error of a fault in the cursor's line.
     pub fn refused(self, fault: LaunchFault) -> LaunchTextError
         ensures { result ≡ errors.Refused fault self.entry.line }
     {
@@ -28,7 +28,7 @@ impl<'a> Cursor<'a> {
         }
     }
 
-    /// Behind so many bytes of the line.
+    /// The cursor behind so many more bytes of its line.
     pub fn past(self, count: usize) -> Cursor<'a>
         requires { count ≤ length self.rest.now }
         ensures { cursor result ≡ meaning.past count (cursor self.entry) }
@@ -39,7 +39,7 @@ impl<'a> Cursor<'a> {
         }
     }
 
-    /// Behind these bytes, where they stand at the front.
+    /// The cursor behind these bytes; none where they do not stand at the front.
     pub fn strip(self, front: &str) -> Option<Cursor<'a>>
         ensures { MatchOption result (meaning.sees front.now (cursor self.entry) ≡ false) (λ c. (meaning.sees front.now (cursor self.entry) ≡ true) × (cursor c ≡ meaning.past (length front.now) (cursor self.entry))) }
     {
@@ -52,7 +52,7 @@ impl<'a> Cursor<'a> {
         })
     }
 
-    /// Behind these bytes, which have to stand at the front.
+    /// The cursor behind these bytes; a fault where they do not stand at the front.
     #[tactic(auto, unfolding(texts::specs::LaunchFaults::expect))]
     pub fn expect(self, front: &str) -> Result<Cursor<'a>, LaunchTextError>
         ensures { Gives cursor result (meaning.expect front.now (cursor self.entry)) }
@@ -63,7 +63,7 @@ impl<'a> Cursor<'a> {
         Ok(after)
     }
 
-    /// Behind the line's end, at which this has to stand.
+    /// The cursor behind the line's end; a fault where that does not stand at the front.
     #[tactic(auto, unfolding(texts::specs::LaunchFaults::end_line))]
     pub fn end_line(self) -> Result<Cursor<'a>, LaunchTextError>
         ensures { Gives cursor result (meaning.end_line (cursor self.entry)) }

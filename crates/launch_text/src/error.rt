@@ -5,7 +5,7 @@ ghost use Rattle.std.specs.Prelude.{◌≡◌};
 use std::alloc::{AllocError, AllocFailed};
 use thiserror::Error;
 
-/// What is wrong with a line.
+/// The faults of a line of conditions or of a launch.
 #[derive(Clone, Copy, Debug, PartialEq, Eq)]
 pub enum LaunchFault {
     Expected,
@@ -19,7 +19,7 @@ impl LaunchFault {
     ghost use Rattle.texts.specs.LaunchFaults.{launch_fault_number};
     ghost use Rattle.launch_text.specs.Answers.{fault};
 
-    /// The number that it is printed under.
+    /// The number under which the fault is printed.
     pub fn number(self) -> u8
         ensures { result ≡ launch_fault_number (fault self) }
     {
@@ -45,7 +45,7 @@ pub enum LaunchTextError {
 impl LaunchTextError {
     ghost use Rattle.launch_text.specs.Answers.{error_number, error_place};
 
-    /// The number that it is printed under.
+    /// The number under which the error is printed.
     pub fn number(&self) -> u8
         ensures { result ≡ error_number self.now }
     {

@@ -37,7 +37,7 @@ fn filled(alloc: Global, word: Word, count: usize) -> Result<Vec<Word>, AllocErr
     Ok(vec![in alloc; word; count]?)
 }
 
-/// So many times one word, where there is room for them.
+/// Reads `fill N W` at the cursor: so many times one word of the kind, at most as many as there is room for; a fault for any other text.
 #[tactic(auto, unfolding(texts::specs::LaunchReading::fill_at))]
 pub fn fill<'a>(
     alloc: Global,

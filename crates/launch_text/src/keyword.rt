@@ -13,14 +13,14 @@ use crate::error::{LaunchFault, LaunchTextError};
 use crate::name::parameter;
 use syntax::tree::Parameter;
 
-/// The two texts.
+/// The forms of a text in lines: that of conditions and that of a launch.
 #[derive(Clone, Copy)]
 pub enum Form {
     Conditions,
     Launch,
 }
 
-/// Whether a word is spelt so.
+/// Whether a word has this spelling.
 fn is(word: &[u8], spelling: &str) -> bool
     ensures { result ≡ bytes_eq word.now spelling.now }
 {
@@ -74,7 +74,7 @@ pub fn begins(at: Cursor<'_>, keyword: &str) -> bool
     is(first_word(at.rest), keyword)
 }
 
-/// Past the first word of the line that is due.
+/// The cursor past the first word of the line that is due; a fault where that line is missing.
 #[tactic(auto, unfolding(texts::specs::LaunchWords::due))]
 fn due<'a>(at: Cursor<'a>, form: Form, keyword: &str) -> Result<Cursor<'a>, LaunchTextError>
     ensures { Gives cursor result (meaning.due (form_of form) keyword.now (cursor at.entry)) }
@@ -92,7 +92,7 @@ fn due<'a>(at: Cursor<'a>, form: Form, keyword: &str) -> Result<Cursor<'a>, Laun
     }
 }
 
-/// Past the first word of the line that is due, and a blank.
+/// The cursor past the first word of the line that is due, and a blank; a fault where these do not stand there.
 #[tactic(auto, unfolding(texts::specs::LaunchWords::due_blank))]
 pub fn due_blank<'a>(
     at: Cursor<'a>,
@@ -104,7 +104,7 @@ pub fn due_blank<'a>(
     due(at, form, keyword)?.expect(" ")
 }
 
-/// Past the first line.
+/// The cursor past the first line, which is the form's keyword and the version 1; a fault for any other line.
 #[tactic(auto, unfolding(texts::specs::LaunchWords::head_line))]
 pub fn head_line<'a>(
     at: Cursor<'a>,
@@ -116,7 +116,7 @@ pub fn head_line<'a>(
     due(at, form, keyword)?.expect(" 1")?.end_line()
 }
 
-/// Past the name of the parameter whose line is due, and a blank.
+/// The cursor past the name of the parameter whose line is due, and a blank; a fault where these do not stand there.
 #[tactic(auto, unfolding(texts::specs::LaunchWords::due_parameter))]
 pub fn due_parameter<'a>(
     at: Cursor<'a>,
@@ -131,7 +131,7 @@ pub fn due_parameter<'a>(
     parameter(after, parameters, name)?.expect(" ")
 }
 
-/// At the text's end.
+/// Fails where the cursor is not at the text's end.
 #[tactic(auto, unfolding(texts::specs::LaunchWords::end_text))]
 pub fn end_text(at: Cursor<'_>) -> Result<(), LaunchTextError>
     ensures { Gives same result (meaning.end_text (cursor at.entry)) }

@@ -20,7 +20,7 @@ use words::{Kind, Word};
 /// The longest text that is read, in bytes.
 pub const LAUNCH_LIMIT: usize = 4_194_304;
 
-/// What the buffers of a text have in all, at most.
+/// The most words that the buffers of a launch text have in all.
 const MOST_WORDS: usize = 1_048_576;
 
 const MOST_GROUPS: u64 = 65_536;

@@ -22,37 +22,37 @@ pub fn a_least_launch_fits()
     ensures { (kernel : Kernel) (c : Conditions) (l : Launch) → IsOf kernel (lined c) → probe c ≡ Some l → Fits kernel l }
 {}
 
-/// A launch is read of its text.
+/// A launch whose text is written is read of that text again.
 pub fn a_launch_is_read_back()
     ensures { (ps : List Parameter) (l : TypedLaunch) → IsGiven ps l → length (launch_text ps l) ≤ launch_limit → launch_of ps (launch_text ps l) ≡ Ok l }
 {}
 
-/// What is read of a conditions text is what its text says, case by case.
+/// If the reader reads conditions of a text, they are what the text says, case by case.
 pub fn what_is_read_of_conditions_is_their_text()
     ensures { (ps : List Parameter) (text : List ℕ) (l : Lined) → conditions_of ps text ≡ Ok l → IsConditionsText ps text (meant l) }
 {}
 
-/// What a conditions text says, case by case, is read of it, where the names are those of a kernel's text.
+/// If a text says conditions, case by case, the reader reads them of it, where the names are those of a kernel's text.
 pub fn conditions_are_read_of_their_text()
     ensures { (ps : List Parameter) (text : List ℕ) (c : meaning.Conditions) → SpellsParameters ps → IsConditionsText ps text c → (l : Lined) × (conditions_of ps text ≡ Ok l) × (meant l ≡ c) }
 {}
 
-/// So a text says one thing.
+/// A text says no two different conditions, where the names are those of a kernel's text.
 pub fn a_conditions_text_says_one_thing()
     ensures { (ps : List Parameter) (text : List ℕ) (c d : meaning.Conditions) → SpellsParameters ps → IsConditionsText ps text c → IsConditionsText ps text d → c ≡ d }
 {}
 
-/// What is read of a launch text is what its text says, case by case.
+/// If the reader reads a launch of a text, it is what the text says, case by case.
 pub fn what_is_read_of_a_launch_is_its_text()
     ensures { (ps : List Parameter) (text : List ℕ) (l : TypedLaunch) → launch_of ps text ≡ Ok l → IsLaunchText ps text (launches.meant l) }
 {}
 
-/// What a launch text says, case by case, is read of it, where the names are those of a kernel's text.
+/// If a text says a launch, case by case, the reader reads it of the text, where the names are those of a kernel's text.
 pub fn a_launch_is_read_of_its_text()
     ensures { (ps : List Parameter) (text : List ℕ) (l : Launch) → SpellsParameters ps → IsLaunchText ps text l → (x : TypedLaunch) × (launch_of ps text ≡ Ok x) × (launches.meant x ≡ l) }
 {}
 
-/// So a text says one launch.
+/// A text says no two different launches, where the names are those of a kernel's text.
 pub fn a_launch_text_says_one_launch()
     ensures { (ps : List Parameter) (text : List ℕ) (l m : Launch) → SpellsParameters ps → IsLaunchText ps text l → IsLaunchText ps text m → l ≡ m }
 {}

@@ -45,7 +45,7 @@ fn name_length(bytes: &[u8]) -> usize
     bytes.len()
 }
 
-/// A name.
+/// Reads a name at the cursor; a fault where no name begins there.
 #[tactic(auto, unfolding(texts::specs::LaunchWords::name_at))]
 pub fn name<'a>(at: Cursor<'a>) -> Result<(&'a [u8], Cursor<'a>), LaunchTextError>
     ensures { Gives (read bytes) result (meaning.name_at (cursor at.entry)) }

@@ -92,7 +92,7 @@ fn word_within(kind: Kind, number: i64) -> Option<Word>
     }
 }
 
-/// A number of a kind.
+/// Reads a number of a kind as a word; a fault where none stands there or it is out of the kind's range.
 #[tactic(auto, unfolding(texts::specs::LaunchWords::word_at))]
 pub fn word(at: Cursor<'_>, kind: Kind) -> Result<(Word, Cursor<'_>), LaunchTextError>
     ensures { Gives (read word_seen) result (meaning.word_at (kind_of kind) (cursor at.entry)) }
@@ -116,7 +116,7 @@ fn factor_within(number: i64) -> Option<Number>
     })
 }
 
-/// A number of a sum.
+/// Reads a number of a sum; a fault where none stands there or it is too large.
 #[tactic(auto, unfolding(texts::specs::LaunchWords::factor_at))]
 pub fn factor(at: Cursor<'_>) -> Result<(Number, Cursor<'_>), LaunchTextError>
     ensures { Gives (read number_seen) result (meaning.factor_at (cursor at.entry)) }

@@ -62,11 +62,11 @@ fn push_buffers(
 }
 
 /// The text of a kernel's buffers: a line `buffer NAME list W W ..` for each buffer parameter.
-pub fn write_buffers(alloc: Global, typed: &Typed, buffers: &Buffers) -> Result<Vec<u8>, AllocError>
-    ensures { IfOk result (λ v. v.items ≡ text.buffers_text (tree_of typed.now.0).parameters (view.buffers buffers.now.words)) }
+pub fn write_buffers(alloc: Global, typed: &Typed, buffers: &Buffers) -> Result<String, AllocError>
+    ensures { IfOk result (λ s. string_bytes s ≡ text.buffers_text (tree_of typed.now.0).parameters (view.buffers buffers.now.words)) }
 {
     let tree = typed.kernel();
     let mut out = String::new(alloc);
     push_buffers(&mut out, &tree.parameters, &buffers.words)?;
-    Ok(out.into_bytes())
+    Ok(out)
 }

@@ -10,13 +10,13 @@ use crate::{Piece, TextFault};
 /// How a comment ends.
 #[derive(Clone, Copy)]
 pub enum Comment {
-    /// Before a line feed.
+    /// The comment ends before a line feed.
     Line,
-    /// With `*/`.
+    /// The comment ends with `*/`.
     Block,
 }
 
-/// A compiler passes over it between a `\` and its line's end.
+/// A byte that a compiler passes over between a `\` and its line's end.
 fn is_padding(b: u8) -> bool
     ensures { result ≡ is_padding b }
 {

@@ -36,7 +36,7 @@ pub enum Literal {
     Uint(u32),
 }
 
-/// What a token is; a name lends its text.
+/// The kind of a token; a name lends its text.
 #[derive(Clone, Copy, Debug)]
 pub enum TokenKind<'a> {
     Name(&'a str),
@@ -83,7 +83,7 @@ impl TextFault {
     ghost use Rattle.texts.specs.Faults.{fault_number};
     ghost use Rattle.lexer.specs.Seen.{fault};
 
-    /// The number that it is printed under.
+    /// The number under which the fault is printed.
     pub fn number(self) -> u8
         ensures { result ≡ fault_number (fault self) }
     {
@@ -100,7 +100,7 @@ impl TextFault {
 impl TextError {
     ghost use Rattle.lexer.specs.Seen.{error_number, error_place};
 
-    /// The number that it is printed under.
+    /// The number under which the error is printed.
     pub fn number(&self) -> u8
         ensures { result ≡ error_number self.now }
     {
@@ -141,11 +141,11 @@ impl<T: Drop> From<AllocFailed<T>> for TextError {
     }
 }
 
-/// What stands at the front of a text, with the number of its bytes.
+/// A piece at the front of a text, with the number of its bytes.
 enum Piece<'a> {
     Gap(usize),
     Has(TokenKind<'a>, usize),
-    /// A fault, behind so many bytes.
+    /// A fault, which stands behind so many bytes of the piece.
     Bad(TextFault, usize),
 }
 
@@ -231,7 +231,7 @@ fn past_byte(before: Site, byte: u8) -> Site
     }
 }
 
-/// Where the byte behind these stands.
+/// The site of the byte that follows these bytes, of which the first is at `before`.
 fn site_past(before: Site, bytes: &[u8]) -> Site
     requires line { before.line + length bytes.now < 2 ^ 32 }
     requires column { before.column + length bytes.now < 2 ^ 32 }
@@ -244,7 +244,7 @@ fn site_past(before: Site, bytes: &[u8]) -> Site
     site
 }
 
-/// What stands at the front of bytes, of which `first` is the first.
+/// The piece at the front of bytes, of which `first` is the first.
 fn piece_at(first: u8, bytes: &[u8]) -> Piece<'_>
     ensures { piece_seen result ≡ piece first bytes.now }
 {

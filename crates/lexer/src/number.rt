@@ -32,7 +32,7 @@ fn digit_value(b: u8) -> u8
     }
 }
 
-/// An exponent would begin with it.
+/// A byte with which an exponent would begin (C99 6.4.4.2).
 fn is_exponent(b: u8) -> bool
     ensures { result ≡ is_exponent b }
 {

@@ -105,7 +105,7 @@ pub enum Reserved {
     Auto,
 }
 
-/// How signs are written, longer ones first.
+/// The spellings of signs, longer ones first.
 static SIGNS: [(&[u8], Sign); 43] = [
     (b"<<=", Sign::LeftShiftEqual),
     (b">>=", Sign::RightShiftEqual),
@@ -152,7 +152,7 @@ static SIGNS: [(&[u8], Sign); 43] = [
     (b":", Sign::Colon),
 ];
 
-/// How reserved words are written.
+/// The spellings of reserved words.
 static RESERVED: [(&[u8], Reserved); 52] = [
     (b"__kernel", Reserved::Kernel),
     (b"kernel", Reserved::Kernel),
@@ -208,7 +208,7 @@ static RESERVED: [(&[u8], Reserved); 52] = [
     (b"auto", Reserved::Auto),
 ];
 
-/// How signs are written, longer ones first.
+/// The spellings of signs, longer ones first.
 #[tactic(auto, unfolding(texts::specs::Signs::signs))]
 pub fn signs() -> &'static [(&'static [u8], Sign)]
     ensures { map sign_entry result.now ≡ signs }
@@ -216,7 +216,7 @@ pub fn signs() -> &'static [(&'static [u8], Sign)]
     &SIGNS
 }
 
-/// How reserved words are written.
+/// The spellings of reserved words.
 #[tactic(auto, unfolding(texts::specs::Reserved::reserved_words))]
 pub fn reserved_words() -> &'static [(&'static [u8], Reserved)]
     ensures { map word_entry result.now ≡ reserved_words }

@@ -5,7 +5,7 @@ use Rattle.std.specs.Ordering.{int_eq}
 use Rattle.std.proofs.lemmas.Int.{ints}
 use Rattle.std.proofs.lemmas.Bool.{lt-ltb}
 use Rattle.std.proofs.lemmas.Bool.Decides.{nat_tests, Decides-int_eq}
-use Rattle.semantics.specs.Linear.{Weighted, terms_value}
+use Rattle.linear.specs.Linear.{Weighted, terms_value}
 use Rattle.semantics.proofs.Integers.{add-mul, mul-add, mul_assoc}
 use Rattle.linear.specs.Exact.{Terms, is_rising, put, merge_one, merge, multiples, without, coefficient_of, with_value}
 

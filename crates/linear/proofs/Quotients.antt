@@ -4,7 +4,7 @@ use Rattle.std.specs.Prelude.{ℤ, pos, negsuc, ◌+ℤ◌, ◌*ℤ◌, ◌<ℤ�
 use Rattle.std.specs.Int.{int_div_euclid, int_rem_euclid}
 use Rattle.std.proofs.lemmas.Int.{ints}
 use Rattle.std.proofs.lemmas.Bool.Decides.{Decides-int_eq}
-use Rattle.semantics.specs.Linear.{Form, terms_value, IsMet}
+use Rattle.linear.specs.Linear.{Form, terms_value, IsMet}
 use Rattle.semantics.proofs.Integers.{mul-add, mul_assoc, divided}
 use Rattle.linear.specs.Exact.{Terms, divides, all_divide, quotients, quotient}
 use Rattle.linear.proofs.Merging.{IsRising}

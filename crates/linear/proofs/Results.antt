@@ -3,8 +3,8 @@ use Rattle.std.proofs.Common.{◌≡◌, ℕ, true, List, [], arith, ap, sym, �
 use Rattle.std.specs.Prelude.{ℤ, pos, negsuc, ◌+ℤ◌, ◌-ℤ◌, ◌*ℤ◌, ◌<ℤ◌, ◌≤ℤ◌, Result, Ok, Err, IfOk}
 use Rattle.std.specs.Int.{int_div_euclid}
 use Rattle.std.proofs.lemmas.Int.{ints}
-use Rattle.semantics.specs.Linear as semantics
-use Rattle.semantics.specs.Linear.{terms_value, value_of}
+use Rattle.linear.specs.Linear as semantics
+use Rattle.linear.specs.Linear.{terms_value, value_of}
 use Rattle.semantics.proofs.Integers.{mul-add}
 use Rattle.linear.specs.declared.term.Term.{Term}
 use Rattle.linear.specs.declared.form.Form.{Form}
@@ -31,7 +31,7 @@ rising_quotient d out a sa hd h e p r =
 pub once : (f : semantics.Form ℕ) (g : Form) → sum f (multiple (pos 1) (form g)) ≡ sum f (form g)
 once f g =
     let e : f.constant +ℤ pos 1 *ℤ g.constant ≡ f.constant +ℤ g.constant = omega (arith, ints) in
-    ap (λ ts. record { terms = merge f.terms ts; constant = f.constant +ℤ pos 1 *ℤ g.constant }) (multiples-one 0 (terms g.terms.items) (rising_true 0 (terms g.terms.items) g.rising)) ∙ ap (λ z. record { terms = merge f.terms (terms g.terms.items); constant = z }) e
+    ap (λ ts. record { terms = merge f.terms ts; constant = f.constant +ℤ pos 1 *ℤ g.constant }) (multiples-one 0 (terms g.terms.terms.items) (rising_true 0 (terms g.terms.terms.items) g.rising)) ∙ ap (λ z. record { terms = merge f.terms (terms g.terms.terms.items); constant = z }) e
 
 -- a form is worth what the form is worth that it equals
 pub if_valued : {E : Type 0} (r : Result Form E) (g : semantics.Form ℕ) (worth : (ℕ → ℤ) → ℤ) → ((v : ℕ → ℤ) → value_of v g ≡ worth v) → IfOk r (λ f. form f ≡ g) → IfOk r (λ f. (v : ℕ → ℤ) → value_of v (form f) ≡ worth v)
@@ -50,10 +50,10 @@ value_difference f g v = omega (arith, ints, value_combined (negsuc 0) f g v)
 pub value_alone : (k : ℤ) (n g : semantics.Form ℕ) → n ≡ record { terms = []; constant = pos 0 } → (v : ℕ → ℤ) → value_of v (sum n (multiple k g)) ≡ k *ℤ value_of v g
 value_alone k n g e v = omega (arith, ints, value_combined k n g v, ap (value_of v) e)
 
-pub value_substituted : (s : ℕ) (f : Form) (k : ℤ) (n g : semantics.Form ℕ) → n ≡ form_without s (form f) → k ≡ coefficient_of s (terms f.terms.items) → (v : ℕ → ℤ) → value_of v (sum n (multiple k g)) ≡ value_of (with_value v s (value_of v g)) (form f)
+pub value_substituted : (s : ℕ) (f : Form) (k : ℤ) (n g : semantics.Form ℕ) → n ≡ form_without s (form f) → k ≡ coefficient_of s (terms f.terms.terms.items) → (v : ℕ → ℤ) → value_of v (sum n (multiple k g)) ≡ value_of (with_value v s (value_of v g)) (form f)
 value_substituted s f k n g e h v =
     value_combined k n g v ∙ ap (λ m. value_of v m +ℤ k *ℤ value_of v g) e ∙ ap (λ z. value_of v (form_without s (form f)) +ℤ z *ℤ value_of v g) h
-    ∙ omega (arith, ints, value-without v s (value_of v g) 0 (terms f.terms.items) (rising_true 0 (terms f.terms.items) f.rising))
+    ∙ omega (arith, ints, value-without v s (value_of v g) 0 (terms f.terms.terms.items) (rising_true 0 (terms f.terms.terms.items) f.rising))
 
 pub met_quotient : (v : ℕ → ℤ) (d : ℤ) (out a sa : List Term) (z x : ℤ) → pos 0 <ℤ d → all_divide d (terms sa) ≡ true → terms out ≡ quotients d (terms sa) → sa ≡ a → z ≡ int_div_euclid x d → pos 0 ≤ℤ (terms_value v (terms a) +ℤ x) → pos 0 ≤ℤ (terms_value v (terms out) +ℤ z)
 met_quotient v d out a sa z x hd h e p q m =

@@ -3,7 +3,7 @@ use Rattle.std.proofs.Common.{◌≡◌, ℕ, zero, suc, ◌+◌, ◌*◌, ◌^�
 use Rattle.std.specs.Prelude.{ℤ, pos, negsuc, ◌+ℤ◌, ◌*ℤ◌, unsigned_abs, nat_lt}
 use Rattle.std.proofs.lemmas.Int.{ints, unsigned_abs-mul}
 use Rattle.std.proofs.lemmas.Bool.{lt-ltb}
-use Rattle.semantics.specs.Linear.{Weighted, Form}
+use Rattle.linear.specs.Linear.{Weighted, Form}
 use Rattle.linear.specs.Exact.{Terms, fits_i64, fits_terms, fits, put, merge_one, merge, multiples, sum, multiple}
 use Rattle.linear.specs.Sizes.{terms_size, size}
 

@@ -2,7 +2,7 @@
 use Rattle.std.specs.Prelude.{ℕ, zero, suc, ℤ, pos, negsuc, ◌+ℤ◌, ◌*ℤ◌, ◌^◌, Bool, true, cond, not, ◌&&◌, nat_le, nat_lt, nat_eq, List, [], ◌∷◌}
 use Rattle.std.specs.Int.{int_div_euclid, int_rem_euclid}
 use Rattle.std.specs.Ordering.{int_eq}
-use Rattle.semantics.specs.Linear.{Weighted, Form}
+use Rattle.linear.specs.Linear.{Weighted, Form}
 
 abbrev pub Terms : Type 0
 Terms = List (Weighted ℕ)

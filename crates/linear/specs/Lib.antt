@@ -1,3 +1,4 @@
+pub mod Linear
 pub mod Exact
 pub mod Terms
 pub mod Forms

@@ -1,6 +1,6 @@
 -- How large the numbers of a form are together.
 use Rattle.std.specs.Prelude.{ℕ, ◌+◌, unsigned_abs, [], ◌∷◌}
-use Rattle.semantics.specs.Linear.{Form}
+use Rattle.linear.specs.Linear.{Form}
 use Rattle.linear.specs.Exact.{Terms}
 
 abbrev pub terms_size : Terms → ℕ

@@ -1,6 +1,6 @@
 -- The code's terms, as the definitions have them.
 use Rattle.std.specs.Prelude.{ℕ, Bool, List, [], ◌∷◌}
-use Rattle.semantics.specs.Linear.{Weighted}
+use Rattle.linear.specs.Linear.{Weighted}
 use Rattle.linear.specs.declared.term.Symbol.{Symbol}
 use Rattle.linear.specs.declared.term.Term.{Term}
 use Rattle.linear.specs.Exact.{Terms, is_rising, fits_terms}

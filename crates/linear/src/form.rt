@@ -1,11 +1,12 @@
 // Forms, and their operations.
 ghost use Rattle.std.specs.Prelude.{◌≡◌, ℕ, ℤ, pos, negsuc, true, false, ◌+ℤ◌, ◌-ℤ◌, ◌*ℤ◌, ◌<ℤ◌, ◌&&◌, [], ◌∷◌, IfOk, OnOk, IsErrOf, IfSome, MatchOption, length, IsTrue, ◌↔◌};
-ghost use Rattle.semantics.specs.Linear.{value_of, IsMet};
+ghost use Rattle.linear.specs.Linear.{value_of, IsMet};
 ghost use Rattle.linear.specs.Exact.{sum, multiple, form_without, coefficient_of, substituted, with_value, quotient, all_divide, fits, fits_i64, is_rising, over, form_over};
 ghost use Rattle.linear.specs.Terms.{terms, numbers, are_rising, are_i64};
 
 use super::merge::{coefficient_at, combine_terms, divide_terms, with_symbols, without_symbol};
-use super::term::{Symbol, Term, TermList, combine};
+use super::term::{Symbol, Term, combine};
+use super::term_list::TermList;
 use std::alloc::{AllocError, AllocFailed, Global};
 use thiserror::Error;
 
@@ -14,15 +15,15 @@ use thiserror::Error;
 pub struct Form {
     terms: TermList,
     constant: i64,
-    ghost rising: { are_rising terms.items ≡ true },
-    ghost in_range: { are_i64 terms.items ≡ true },
+    ghost rising: { are_rising terms.terms.items ≡ true },
+    ghost in_range: { are_i64 terms.terms.items ≡ true },
     ghost constant_in_range: { fits_i64 constant ≡ true },
 }
 
 /// Says of a form that it is at least 0.
 pub type Fact = Form;
 
-/// Why there is no form.
+/// The reasons for which there is no form.
 #[derive(Error, Debug, Drop)]
 pub enum LinearError {
     #[error("number too large")]
@@ -78,7 +79,7 @@ impl Form {
         }
     }
 
-    /// One symbol, once.
+    /// The form that is one symbol, once.
     pub fn symbol(alloc: Global, symbol: Symbol) -> Result<Form, AllocError>
         ensures { IfOk result (λ f. form f ≡ record { terms = record { coefficient = pos 1; symbol = symbol.number } ∷ []; constant = pos 0 }) }
     {
@@ -97,14 +98,14 @@ impl Form {
         self.terms.as_slice()
     }
 
-    /// The constant.
+    /// The constant of the form.
     pub fn constant_part(&self) -> i64
         ensures { result ≡ (form self.now).constant }
     {
         self.constant
     }
 
-    /// The same form again.
+    /// A copy of the form.
     pub fn copy(&self, alloc: Global) -> Result<Form, AllocError>
         ensures { IfOk result (λ f. form f ≡ form self.now) }
     {
@@ -182,7 +183,7 @@ impl Form {
 
     /// The form with other symbols, one for each term, which rise as well.
     pub fn with_symbols(&self, alloc: Global, symbols: &[Symbol]) -> Result<Form, AllocError>
-        requires each { length symbols.now ≡ length self.now.terms.items }
+        requires each { length symbols.now ≡ length self.now.terms.terms.items }
         requires rising { is_rising 0 (over (numbers symbols.now) (form self.now).terms) ≡ true }
         ensures { IfOk result (λ f. form f ≡ form_over (numbers symbols.now) (form self.now)) }
     {

@@ -10,6 +10,7 @@
 mod form;
 mod merge;
 mod term;
+mod term_list;
 
 pub use form::{Fact, Form, LinearError};
 pub use term::{Symbol, Term};

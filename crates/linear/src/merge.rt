@@ -4,7 +4,8 @@ ghost use Rattle.linear.specs.Exact.{merge, multiples, without, over, coefficien
 ghost use Rattle.linear.specs.Terms.{terms, numbers, are_rising, are_i64};
 
 use super::form::LinearError;
-use super::term::{Symbol, Term, TermList, divide, keep, keep_multiple, keep_sum};
+use super::term::{Symbol, Term, divide, keep, keep_multiple, keep_sum};
+use super::term_list::TermList;
 use std::alloc::{AllocError, Global};
 
 /// The terms of one list and multiples of those of another, those of one symbol as one.
@@ -12,8 +13,8 @@ pub fn combine_terms(alloc: Global, a: &[Term], k: i64, b: &[Term]) -> Result<Te
     requires left { are_rising a.now ≡ true }
     requires right { are_rising b.now ≡ true }
     requires left_fits { are_i64 a.now ≡ true }
-    ensures exact { IfOk result (λ out. terms out.items ≡ merge (terms a.now) (multiples k (terms b.now))) }
-    ensures fits { IfOk result (λ out. fits_terms (terms out.items) ≡ true) }
+    ensures exact { IfOk result (λ out. terms out.terms.items ≡ merge (terms a.now) (multiples k (terms b.now))) }
+    ensures fits { IfOk result (λ out. fits_terms (terms out.terms.items) ≡ true) }
     ensures too_large { IsErrOf result LinearError.TooLarge → fits_terms (merge (terms a.now) (multiples k (terms b.now))) ≡ false }
 {
     let mut out = TermList::new(alloc);
@@ -39,8 +40,8 @@ pub fn combine_terms(alloc: Global, a: &[Term], k: i64, b: &[Term]) -> Result<Te
 
 /// The terms but that of a symbol.
 pub fn without_symbol(alloc: Global, a: &[Term], symbol: Symbol) -> Result<TermList, AllocError>
-    ensures exact { IfOk result (λ out. terms out.items ≡ without symbol.number (terms a.now)) }
-    ensures fits { IfOk result (λ out. fits_terms (terms out.items) ≡ true) }
+    ensures exact { IfOk result (λ out. terms out.terms.items ≡ without symbol.number (terms a.now)) }
+    ensures fits { IfOk result (λ out. fits_terms (terms out.terms.items) ≡ true) }
 {
     let mut out = TermList::new(alloc);
     for t in a {
@@ -54,8 +55,8 @@ pub fn without_symbol(alloc: Global, a: &[Term], symbol: Symbol) -> Result<TermL
 /// The coefficients with other symbols, one for each.
 pub fn with_symbols(alloc: Global, a: &[Term], symbols: &[Symbol]) -> Result<TermList, AllocError>
     requires { length symbols.now ≡ length a.now }
-    ensures exact { IfOk result (λ out. terms out.items ≡ over (numbers symbols.now) (terms a.now)) }
-    ensures fits { IfOk result (λ out. fits_terms (terms out.items) ≡ true) }
+    ensures exact { IfOk result (λ out. terms out.terms.items ≡ over (numbers symbols.now) (terms a.now)) }
+    ensures fits { IfOk result (λ out. fits_terms (terms out.terms.items) ≡ true) }
 {
     let mut out = TermList::new(alloc);
     for i in 0..a.len() {
@@ -85,7 +86,7 @@ pub fn coefficient_at(a: &[Term], symbol: Symbol) -> i64
 /// Each term divided, where all divide.
 pub fn divide_terms(alloc: Global, a: &[Term], divisor: i64) -> Result<Option<TermList>, AllocError>
     requires { pos 0 <ℤ divisor }
-    ensures { IfOk result (λ r. MatchOption r (all_divide divisor (terms a.now) ≡ false) (λ out. (all_divide divisor (terms a.now) ≡ true) × (terms out.items ≡ quotients divisor (terms a.now)) × (fits_terms (terms out.items) ≡ true))) }
+    ensures { IfOk result (λ r. MatchOption r (all_divide divisor (terms a.now) ≡ false) (λ out. (all_divide divisor (terms a.now) ≡ true) × (terms out.terms.items ≡ quotients divisor (terms a.now)) × (fits_terms (terms out.terms.items) ≡ true))) }
 {
     let mut out = TermList::new(alloc);
     for t in a {

@@ -5,9 +5,10 @@ ghost use Rattle.linear.specs.Exact.{Terms, fits_i64, fits_terms, put, divides};
 ghost use Rattle.linear.specs.Terms.{term, terms};
 
 use super::form::LinearError;
+use super::term_list::TermList;
 use std::alloc::AllocError;
 
-/// What a number stands for, by its number in a table of the caller's.
+/// A symbol of forms, by its number in a table of the caller's.
 #[derive(Clone, Copy, Debug, Default, PartialEq, Eq, PartialOrd, Ord)]
 pub struct Symbol {
     pub number: u64,
@@ -20,9 +21,6 @@ pub struct Term {
     pub coefficient: i64,
 }
 
-/// Terms in rising order of their symbols.
-pub type TermList = Vec<Term>;
-
 /// A number and a multiple of another one, which are small enough for `i128`.
 fn wide(x: i64, k: i64, y: i64) -> i128
     ensures { result ≡ x +ℤ k *ℤ y }
@@ -30,7 +28,7 @@ fn wide(x: i64, k: i64, y: i64) -> i128
     x as i128 + k as i128 * y as i128
 }
 
-/// A number, where it is an `i64`.
+/// A number as an `i64`; none where it does not fit.
 fn narrow(number: i128) -> Option<i64>
     ensures { MatchOption result (fits_i64 number ≡ false) (λ n. n ≡ number) }
 {
@@ -77,8 +75,8 @@ pub fn divide(t: Term, divisor: i64) -> Option<Term>
 
 /// Adds a term at the end.
 pub fn keep(out: &mut TermList, t: Term) -> Result<(), AllocError>
-    ensures kept { OnOk result ((rest : Terms) → terms out.new.items ++ rest ≡ terms out.old.items ++ term t ∷ rest) }
-    ensures fits { OnOk result (fits_terms (terms out.old.items) ≡ true → fits_terms (terms out.new.items) ≡ true) }
+    ensures kept { OnOk result ((rest : Terms) → terms out.new.terms.items ++ rest ≡ terms out.old.terms.items ++ term t ∷ rest) }
+    ensures fits { OnOk result (fits_terms (terms out.old.terms.items) ≡ true → fits_terms (terms out.new.terms.items) ≡ true) }
 {
     out.push(t)?;
     Ok(())
@@ -86,8 +84,8 @@ pub fn keep(out: &mut TermList, t: Term) -> Result<(), AllocError>
 
 /// Adds a term at the end, unless its coefficient is 0.
 fn keep_some(out: &mut TermList, t: Term) -> Result<(), AllocError>
-    ensures kept { OnOk result ((rest : Terms) → terms out.new.items ++ rest ≡ terms out.old.items ++ put t.coefficient t.symbol.number rest) }
-    ensures fits { OnOk result (fits_terms (terms out.old.items) ≡ true → fits_terms (terms out.new.items) ≡ true) }
+    ensures kept { OnOk result ((rest : Terms) → terms out.new.terms.items ++ rest ≡ terms out.old.terms.items ++ put t.coefficient t.symbol.number rest) }
+    ensures fits { OnOk result (fits_terms (terms out.old.terms.items) ≡ true → fits_terms (terms out.new.terms.items) ≡ true) }
 {
     if t.coefficient == 0 {
         return Ok(());
@@ -97,8 +95,8 @@ fn keep_some(out: &mut TermList, t: Term) -> Result<(), AllocError>
 
 /// Adds a term and a multiple of one of the same symbol at the end, as one.
 pub fn keep_sum(out: &mut TermList, x: Term, k: i64, y: Term) -> Result<(), LinearError>
-    ensures kept { OnOk result ((rest : Terms) → terms out.new.items ++ rest ≡ terms out.old.items ++ put (x.coefficient +ℤ k *ℤ y.coefficient) x.symbol.number rest) }
-    ensures fits { OnOk result (fits_terms (terms out.old.items) ≡ true → fits_terms (terms out.new.items) ≡ true) }
+    ensures kept { OnOk result ((rest : Terms) → terms out.new.terms.items ++ rest ≡ terms out.old.terms.items ++ put (x.coefficient +ℤ k *ℤ y.coefficient) x.symbol.number rest) }
+    ensures fits { OnOk result (fits_terms (terms out.old.terms.items) ≡ true → fits_terms (terms out.new.terms.items) ≡ true) }
     ensures too_large { IsErrOf result LinearError.TooLarge → fits_i64 (x.coefficient +ℤ k *ℤ y.coefficient) ≡ false }
 {
     let Some(both) = add_multiple(x, k, y) else {
@@ -110,8 +108,8 @@ pub fn keep_sum(out: &mut TermList, x: Term, k: i64, y: Term) -> Result<(), Line
 
 /// Adds a multiple of a term at the end.
 pub fn keep_multiple(out: &mut TermList, k: i64, y: Term) -> Result<(), LinearError>
-    ensures kept { OnOk result ((rest : Terms) → terms out.new.items ++ rest ≡ terms out.old.items ++ put (k *ℤ y.coefficient) y.symbol.number rest) }
-    ensures fits { OnOk result (fits_terms (terms out.old.items) ≡ true → fits_terms (terms out.new.items) ≡ true) }
+    ensures kept { OnOk result ((rest : Terms) → terms out.new.terms.items ++ rest ≡ terms out.old.terms.items ++ put (k *ℤ y.coefficient) y.symbol.number rest) }
+    ensures fits { OnOk result (fits_terms (terms out.old.terms.items) ≡ true → fits_terms (terms out.new.terms.items) ≡ true) }
     ensures too_large { IsErrOf result LinearError.TooLarge → fits_i64 (k *ℤ y.coefficient) ≡ false }
 {
     let none = Term {

@@ -85,7 +85,7 @@ fn is_well_spelt(digits: &[u8]) -> bool
     }
 }
 
-/// What digits stand for, where 64 bits hold it.
+/// The number that decimal digits stand for; none where 64 bits do not hold it.
 fn value_of(digits: &[u8]) -> Option<u64>
     ensures { MatchOption result (2 ^ 64 ≤ value_of digits.now) (λ n. n ≡ value_of digits.now) }
 {

@@ -3,7 +3,7 @@
 ghost use Rattle.std.specs.Prelude.{◌≡◌, ◌≤◌, nat_eq, length};
 ghost use Rattle.std.specs.List.{position_or_len};
 
-/// What is left of a text that is cut at each `separator`.
+/// The rest of a text that is cut at each `separator`.
 #[derive(Clone, Copy)]
 pub struct Pieces<'a> {
     separator: u8,
@@ -28,7 +28,7 @@ impl<'a> Pieces<'a> {
         }
     }
 
-    /// Whether none is left.
+    /// Whether no piece is left.
     #[tactic(auto, using(crate::proofs::Cuts::some_piece))]
     pub fn is_over(self) -> bool
         ensures { result ≡ is_empty (left self.entry) }
@@ -39,7 +39,7 @@ impl<'a> Pieces<'a> {
         }
     }
 
-    /// The first piece and those after it.
+    /// The first piece, and the rest behind it; none where no piece is left.
     #[tactic(auto, using(crate::proofs::Cuts::one_piece))]
     pub fn next(self) -> Option<(&'a [u8], Pieces<'a>)>
         ensures { MatchOption result (left self.entry ≡ []) (λ r. left self.entry ≡ r.0.now ∷ left r.1) }

@@ -4,7 +4,7 @@ ghost use Rattle.std.specs.Prelude.{◌≡◌, ◌<◌, MatchOption};
 
 use linear::Form;
 
-/// By how much a form falls each turn: by 1 at least.
+/// The step by which a form falls in each turn, at least 1.
 #[derive(Clone, Copy, Drop)]
 pub struct Step {
     size: u64,
@@ -22,7 +22,7 @@ impl Step {
         Some(Step { size })
     }
 
-    /// Its size.
+    /// The size of the step, which is above 0.
     pub fn size(self) -> u64
         ensures same { result ≡ self.size }
         ensures falls { 0 < result }
@@ -40,7 +40,7 @@ pub enum Bound {
     Halving { form: Form, most: i64 },
 }
 
-/// How the loop of that number ends.
+/// The bound of a loop, with the loop's number.
 #[derive(Drop)]
 pub struct LoopBound {
     pub number: u32,

@@ -5,7 +5,7 @@ ghost use Rattle.loop_bounds.specs.declared.bound.Bound.{Bound};
 ghost use Rattle.loop_bounds.specs.Falling.{most, Runs};
 ghost use Rattle.loop_bounds.specs.Turns.{turns};
 
-/// Where each turn makes a loop's form fall, its test is true no more often than `turns` says.
+/// If each turn makes a loop's form fall as its bound says, the loop's test is true no more often than `turns` says.
 pub fn turns_are_enough()
     ensures { (b : Bound) (x : ℤ) (xs : List ℤ) → fits_i64 (most b) ≡ true → x ≤ℤ most b → Runs b x xs → length (x ∷ xs) ≤ turns b }
 {}

@@ -5,7 +5,7 @@ ghost use Rattle.loop_bounds.specs.Turns as specs;
 
 use crate::bound::{Bound, LoopBound};
 
-/// A number, 0 where it is below 0.
+/// A number from 0 on: 0 where the given one is below.
 fn above(most: i64) -> u64
     ensures { result ≡ specs.above most }
 {
@@ -29,7 +29,7 @@ pub fn turns(bound: &Bound) -> u64
     }
 }
 
-/// Those of the loop of that number.
+/// The most turns that the loop of that number takes by these bounds; 0 where none is of it.
 pub fn turns_of(bounds: &[LoopBound], number: u32) -> u64
     ensures { result ≡ specs.turns_of bounds.now number }
 {

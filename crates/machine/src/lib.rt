@@ -1,4 +1,5 @@
-//! Section: Replays. Promises a launch's events, its first data race and first barrier divergence, exactly; stands on `clashes`.
+//! Section: Replays. Promises a launch's events, its first data race and first barrier divergence, exactly; stands on `types` and
+//! `clashes`.
 //!
 //! The machine: all work-items of a launch over one memory, one event at a time. A world that was opened is sound (`IsSound`), and each
 //! event keeps that.

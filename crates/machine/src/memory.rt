@@ -71,7 +71,7 @@ fn filled(alloc: Global, arrays: &[LocalArray], fill: u32) -> Result<Buffers, Al
     Ok(Buffers { words })
 }
 
-/// So many elements with one word.
+/// A row of so many elements, each with the bits of one word.
 fn row(alloc: Global, length: u32, fill: u32) -> Result<Vec<Word>, AllocError>
     ensures { IfOk result (λ v. buffer_seen v ≡ replicate length (pos fill)) }
 {
@@ -99,7 +99,7 @@ fn all_filled(
 }
 
 impl Memory {
-    /// As a launch begins, with so many groups.
+    /// The memory as a launch begins: its buffers, and for each of so many groups the local arrays with the fill word.
     pub fn open(
         alloc: Global,
         core: &Core,
@@ -134,7 +134,7 @@ impl Memory {
         }
     }
 
-    /// Changes an element.
+    /// Puts a word into an element, in place of what it has.
     pub fn write(&mut self, at: Cell, word: Word)
         requires { Inside self.old (cell_seen at) }
         ensures memory { memory self.new ≡ meaning.put (cell_seen at) (value_of word) (memory self.old) }

@@ -13,14 +13,14 @@ use work_item::identity::{group_size, product_of};
 use work_item::item::{Item, Status};
 use work_item::trail::same_left;
 
-/// At a barrier.
+/// The item waits at a barrier.
 pub fn waits(status: Status) -> bool
     ensures { result ≡ meaning.waits (status_seen status) }
 {
     matches!(status, Status::Waiting)
 }
 
-/// So many items go past their barriers.
+/// Lets so many items, from the first one on, go past their barriers.
 fn pass_all(all: &mut Vec<Item>, first: usize, count: usize)
     requires within { first + count ≤ length all.old.items }
     requires epochs { (past : ℕ → items.Item) (i : ℕ) → first ≤ i → i < first + count → HasEpochs (items_in all.old.items past i) }

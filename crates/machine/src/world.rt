@@ -29,6 +29,7 @@ use clashes::history::History;
 use core_code::tree::{Core, Site};
 use launch::launches::Launch;
 use std::alloc::{AllocError, Global};
+use types::typed::Typed;
 use words::{Fault, Word};
 use work_item::ask::{Ask, Cell, Owner};
 use work_item::identity::{group_size, identity, product_of};
@@ -41,7 +42,7 @@ pub enum Event {
     Release(u64),
 }
 
-/// What an event did.
+/// The outcome of an event.
 #[derive(Clone, Copy)]
 pub enum Applied {
     Done,
@@ -96,7 +97,7 @@ fn touched(number: u64, item: &Item, asked: Ask) -> Option<Access>
 }
 
 impl Memory {
-    /// The word that answers an item.
+    /// The word that answers what an item asks for: the element's for a load, else 0.
     #[tactic(auto, using(crate::proofs::Steps::answers_nothing))]
     pub fn answer(&self, asked: Ask) -> Word
         ensures { (it : items.Item) → value_of result ≡ answered (asked_seen asked.entry it) (memory self.now) }
@@ -107,7 +108,7 @@ impl Memory {
         }
     }
 
-    /// What an item asked for is stored.
+    /// Stores what an item asked to store; nothing for what else it asked.
     #[tactic(auto, using(crate::proofs::Steps::remembers_nothing))]
     pub fn remember(&mut self, asked: Ask)
         requires { StoresInside self.old asked }
@@ -120,14 +121,14 @@ impl Memory {
     }
 }
 
-/// Whether a step may follow.
+/// Whether an item that asks for this may step: it neither waits nor rests.
 fn is_move(asked: Ask) -> bool
     ensures { result ≡ is_move asked.entry }
 {
     !matches!(asked, Ask::Waits | Ask::Rests)
 }
 
-/// What a step tells.
+/// The outcome of a step by what the item asked for: its fault, or done.
 fn told(asked: Ask) -> Applied
     ensures { result ≡ told asked.entry }
 {
@@ -137,7 +138,7 @@ fn told(asked: Ask) -> Applied
     }
 }
 
-/// What one of the items asked for is done.
+/// Does what one of the items asked for, with the word that answers a load; an item without memory for it stays as it is.
 fn perform<'a>(
     all: &mut Vec<Item<'a>>,
     number: usize,
@@ -253,14 +254,20 @@ impl<'a> World<'a> {
     }
 
     /// The world of a launch as it begins.
-    pub fn open(alloc: Global, core: &'a Core, launch: &'a Launch) -> Result<World<'a>, AllocError>
-        requires proper { is_proper (kernel_seen core.now) ≡ true }
-        requires fits { Fits (kernel_seen core.now) (launch_seen launch.now) }
-        ensures world { IfOk result (λ w. world w ≡ opening_world (setup_of core.now launch.now)) }
+    #[tactic(auto, using(crate::proofs::Moves::sizes_of))]
+    pub fn open(
+        alloc: Global,
+        typed: &'a Typed,
+        launch: &'a Launch,
+    ) -> Result<World<'a>, AllocError>
+        requires proper { is_proper (kernel_seen typed.now.1) ≡ true }
+        requires fits { Fits (kernel_seen typed.now.1) (launch_seen launch.now) }
+        ensures world { IfOk result (λ w. world w ≡ opening_world (setup_of typed.now.1 launch.now)) }
         ensures sound { IfOk result (λ w. IsSound w) }
-        ensures core { IfOk result (λ w. w.core.now ≡ core.now) }
+        ensures core { IfOk result (λ w. w.core.now ≡ typed.now.1) }
         ensures launch { IfOk result (λ w. w.launch.now ≡ launch.now) }
     {
+        let core = typed.core();
         let groups = product_of(launch.groups);
         let count = product(groups, group_size(core))?;
         Ok(World {

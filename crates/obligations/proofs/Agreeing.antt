@@ -7,7 +7,7 @@ use Rattle.std.proofs.lemmas.Bool.{and_parts}
 use Rattle.std.proofs.lemmas.List.Elements.{All-append, All-nil}
 use Rattle.semantics.specs.Word.{Word, zero_word}
 use Rattle.semantics.specs.Setup.{group_of}
-use Rattle.semantics.specs.Linear.{value_of, IsMet}
+use Rattle.linear.specs.Linear.{value_of, IsMet}
 use Rattle.domain.specs.Members.{is_above, is_below}
 use Rattle.facts.specs.Symbols.{Fact, minus}
 use Rattle.facts.specs.Elements.{Known, is_from_zero}

@@ -6,7 +6,7 @@ use Rattle.std.proofs.lemmas.Bool.{and_parts, and_from}
 use Rattle.facts.proofs.Integers.{le_true}
 use Rattle.semantics.specs.Word.{Word}
 use Rattle.semantics.specs.Setup.{Setup, item_count}
-use Rattle.semantics.specs.Linear.{Weighted, terms_value, value_of}
+use Rattle.linear.specs.Linear.{Weighted, terms_value, value_of}
 use Rattle.linear.specs.Exact.{multiple}
 use Rattle.semantics.proofs.Integers.{mul_comm}
 use Rattle.facts.specs.Symbols.{First, ArgumentOf, AtAnchor, Fact, once, minus}

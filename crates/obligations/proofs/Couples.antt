@@ -5,7 +5,7 @@ use Rattle.std.specs.List.{All}
 use Rattle.std.proofs.lemmas.List.Elements.{All-append, All-nil}
 use Rattle.semantics.specs.Word.{Word}
 use Rattle.semantics.specs.Setup.{along, group_of, item_count, place}
-use Rattle.semantics.specs.Linear.{value_of, IsMet}
+use Rattle.linear.specs.Linear.{value_of, IsMet}
 use Rattle.facts.specs.Symbols as symbols
 use Rattle.facts.specs.Symbols.{First, Second, Symbol, ArgumentOf, Length, Local, Group, New, Variable, AtAnchor, Turns, number, Fact, once, equals}
 use Rattle.facts.specs.Launching.{each_dimension, launch_facts}

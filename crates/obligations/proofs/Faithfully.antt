@@ -9,7 +9,7 @@ use Rattle.semantics.specs.Setup.{Setup}
 use Rattle.facts.specs.Symbols.{Fact, constant}
 use Rattle.facts.proofs.Members.{by_number}
 use Rattle.facts.proofs.Worlds.{View, Root, setup, meaning}
-use Rattle.semantics.specs.Linear.{value_of}
+use Rattle.linear.specs.Linear.{value_of}
 use Rattle.arrivals.specs.Paths.{CanBe, Held, held, Ranking, ranked}
 use Rattle.arrivals.specs.Symbolic.{Faithful}
 use Rattle.walk_trees.specs.Trees.{Access, Ended, Tree}

@@ -5,7 +5,7 @@ use Rattle.std.specs.List.{All}
 use Rattle.std.proofs.lemmas.Int.{ints, by_lt_z}
 use Rattle.std.proofs.lemmas.List.Elements.{All-append, All-cons, All-nil}
 use Rattle.semantics.specs.Setup.{Setup, along, group_of, local_id, group_id}
-use Rattle.semantics.specs.Linear.{value_of, IsMet}
+use Rattle.linear.specs.Linear.{value_of, IsMet}
 use Rattle.facts.specs.Symbols.{First, Second, Symbol, Local, Group, number, Fact, constant, once, minus, equals}
 use Rattle.facts.specs.Launching.{each_dimension, launch_facts, known, count_range}
 use Rattle.facts.proofs.Integers.{lt_true}

@@ -5,7 +5,7 @@ use Rattle.std.proofs.lemmas.Bool.{and_parts, and_from}
 use Rattle.semantics.specs.Word.{Word}
 use Rattle.semantics.specs.Setup.{Setup}
 use Rattle.semantics.specs.Solo.{opening}
-use Rattle.semantics.specs.Linear.{value_of}
+use Rattle.linear.specs.Linear.{value_of}
 use Rattle.facts.specs.Symbols.{Fact}
 use Rattle.facts.proofs.Members.{by_number}
 use Rattle.facts.proofs.Worlds.{Root, meaning}

@@ -6,7 +6,7 @@ use Rattle.std.proofs.lemmas.Int.{ints}
 use Rattle.std.proofs.lemmas.Bool.{and_parts, cases_lt}
 use Rattle.std.proofs.lemmas.List.Elements.{All-append, All-cons, All-nil}
 use Rattle.semantics.specs.Word.{Kind, Int, Word, zero_word, in_kind}
-use Rattle.semantics.specs.Linear.{value_of, IsMet}
+use Rattle.linear.specs.Linear.{value_of, IsMet}
 use Rattle.semantics.proofs.Integers.{mul_comm}
 use Rattle.linear.specs.Exact.{multiple}
 use Rattle.facts.specs.Symbols as symbols

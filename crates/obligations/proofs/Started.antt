@@ -7,7 +7,7 @@ use Rattle.semantics.specs.Word.{in_kind}
 use Rattle.semantics.specs.Launch.{Kernel}
 use Rattle.semantics.specs.Setup.{item_count}
 use Rattle.semantics.specs.Solo.{opening}
-use Rattle.semantics.specs.Linear.{IsMet}
+use Rattle.linear.specs.Linear.{IsMet}
 use Rattle.facts.specs.Symbols.{First, Variable, AtAnchor, Turns, number}
 use Rattle.facts.specs.Launching.{launch_facts, item_facts}
 use Rattle.facts.proofs.Members.{by_number}

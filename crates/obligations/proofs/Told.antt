@@ -2,7 +2,7 @@
 use Rattle.std.proofs.Common.{◌≡◌, ℕ, zero, suc, ◌+◌, ◌*◌, ◌/◌, ◌%◌, ◌<◌, Bool, true, ◌&&◌, List, [], ◌∷◌, arith, refl, sym, ap, ◌∙◌, ltb-true}
 use Rattle.std.specs.Prelude.{ℤ, ◌+ℤ◌, ◌*ℤ◌}
 use Rattle.std.proofs.lemmas.Bool.{and_parts}
-use Rattle.semantics.specs.Linear.{Weighted, terms_value, value_of}
+use Rattle.linear.specs.Linear.{Weighted, terms_value, value_of}
 use Rattle.facts.specs.Symbols as symbols
 use Rattle.facts.specs.Symbols.{First, Second, Symbol, ArgumentOf, Length, Local, Group, New, Variable, AtAnchor, Turns, number, of_family, symbol_of, Fact}
 use Rattle.facts.proofs.Members.{by_number}

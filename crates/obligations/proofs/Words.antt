@@ -5,7 +5,7 @@ use Rattle.std.specs.Ordering.{int_eq}
 use Rattle.std.proofs.lemmas.Int.{ints}
 use Rattle.std.proofs.lemmas.Bool.{and_parts, and_from}
 use Rattle.std.proofs.lemmas.Bool.Decides.{nat_tests, Decides-int_eq}
-use Rattle.semantics.specs.Linear.{Weighted, value_of}
+use Rattle.linear.specs.Linear.{Weighted, value_of}
 use Rattle.semantics.specs.Word.{Kind, Int, Uint, Word, zero_word, in_kind}
 use Rattle.semantics.specs.Launch.{Kernel, Launch}
 use Rattle.facts.specs.Symbols.{ArgumentOf, number}

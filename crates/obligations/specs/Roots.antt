@@ -1,7 +1,7 @@
 -- Where the tree of a place begins: what is known of an item there.
 use Rattle.std.specs.Prelude.{ℕ, suc, pos, Bool, true, false, not, ◌&&◌, ◌||◌, cond, nat_eq, nat_lt, List, [], ◌∷◌, ◌++◌, length, slice_index_or, Option, Some, None}
 use Rattle.std.specs.Ordering.{int_eq}
-use Rattle.semantics.specs.Linear.{Weighted}
+use Rattle.linear.specs.Linear.{Weighted}
 use Rattle.semantics.specs.Word.{Kind, Int, Uint}
 use Rattle.semantics.specs.Core.{Statement, Set, Store, If, Loop, Barrier, Return, Break, Continue, Statements, none, one}
 use Rattle.semantics.specs.Launch.{Kernel}

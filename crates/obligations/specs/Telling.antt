@@ -1,6 +1,6 @@
 -- What may be said of places and loops: forms of what an item has there.
 use Rattle.std.specs.Prelude.{◌≡◌, ℕ, ◌%◌, nat_lt, Bool, true, false, ◌&&◌, List, [], ◌∷◌, Option}
-use Rattle.semantics.specs.Linear.{Weighted}
+use Rattle.linear.specs.Linear.{Weighted}
 use Rattle.facts.specs.Symbols.{First, Second, Symbol, Groups, ArgumentOf, Length, Local, Group, New, Variable, AtAnchor, Turns, symbol_of, Fact}
 use Rattle.obligations.specs.Notes.{Congruence, Notes}
 use Rattle.obligations.specs.Listing.{is_some}

@@ -18,20 +18,20 @@ ghost use Rattle.obligations.specs.Limits.{turns_at, AreLimits};
 
 use domain::Domain;
 
-/// Where all that is to be shown of a kernel is shown, whatever is said of its places and loops, the kernel is pair-safe at each launch
-/// that meets the conditions, with any bound of its steps: loops, barriers, local arrays and exits included.
+/// If all that is to be shown of a kernel is shown, whatever is said of its places and loops, the kernel is pair-safe at each launch that
+/// meets the conditions, with any bound of its steps: loops, barriers, local arrays and exits included.
 pub fn what_is_shown_by_places_is_pair_safe<D: Domain>()
     ensures { (k : Kernel) (c : Conditions) (n : Notes) (l : Launch) (bound : ℕ) → are_sizes k.sizes ≡ true → TellsOfItems n → All IsShown (obligations D.Domain k c n) → Fits k l → Meets c l → IsSound (record { kernel = k; launch = l }) → IsShort (record { kernel = k; launch = l }) bound → IsPairSafe (record { kernel = k; launch = l }) bound }
 {}
 
-/// Where the limits of rankings are limits, no item passes the cost of the kernel's body with as many turns as its loops have at most; so
-/// no bound of steps has to be known.
+/// If the limits of rankings are limits, no item passes the cost of the kernel's body with as many turns as its loops have at most; no
+/// bound of steps has to be known then.
 pub fn what_is_shown_by_places_is_safe_within_its_cost<D: Domain>()
     ensures { (k : Kernel) (c : Conditions) (n : Notes) (l : Launch) → are_sizes k.sizes ≡ true → TellsOfItems n → AreLimits n → All IsShown (obligations D.Domain k c n) → Fits k l → Meets c l → IsSound (record { kernel = k; launch = l }) → IsPairSafe (record { kernel = k; launch = l }) (cost (turns_at n) k.body) }
 {}
 
-/// Where what is said of places is of one item, all accesses and all ends of the trees of places, and what is known before them, have
-/// symbols of the launch and of the first item alone.
+/// If what is said of places is of one item, all accesses and all ends of the trees of places, and what is known before them, have symbols
+/// of the launch and of the first item alone.
 pub fn trees_have_own_symbols<D: Domain>()
     ensures accesses { (k : Kernel) (c : Conditions) (n : Notes) → TellsOfItems n → all_own_accesses (accesses_of (all_trees D.Domain k c n)) ≡ true }
     ensures ends { (k : Kernel) (c : Conditions) (n : Notes) → TellsOfItems n → all_own_ends (ends_in (all_trees D.Domain k c n)) ≡ true }

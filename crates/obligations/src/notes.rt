@@ -13,8 +13,8 @@ pub struct Congruence {
     pub ghost small: { modulus < 2 ^ 63 },
 }
 
-/// What is said of a place, by the numbers of its barrier and of its loop: the slots that two items of a group have alike there, facts
-/// and congruences.
+/// The lines of a place, with the numbers of its barrier and of its loop: the slots that two items of a group have alike there, facts and
+/// congruences.
 #[derive(Drop)]
 pub struct Lines {
     pub anchor: Option<u32>,

@@ -65,7 +65,7 @@ fn count_parameter(so_far: Counts, p: &Parameter) -> Result<Counts, Site>
     }
 }
 
-/// The parameters, counted.
+/// The counts of declared names with those of the parameters; an error with the site of the first one too many.
 pub fn count_parameters(so_far: Counts, list: &[Parameter]) -> Result<Counts, Site>
     ensures { CountsAre result (limits.count_parameters (counts so_far) (parameters list.now)) }
 {
@@ -85,7 +85,7 @@ fn count_first(so_far: Counts, part: &First) -> Result<Counts, Site>
     }
 }
 
-/// The declarations in statements, counted.
+/// The counts of declared names with those of statements; an error with the site of the first one too many.
 #[cycle(counts)]
 pub fn count_statements(so_far: Counts, body: &[Stmt]) -> Result<Counts, Site>
     ensures { CountsAre result (limits.count_statements (counts so_far) (statements body.now)) }

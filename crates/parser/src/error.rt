@@ -18,7 +18,7 @@ pub enum ParseError {
 impl ParseError {
     ghost use Rattle.parser.specs.Parsed.{error_number, error_place};
 
-    /// The number that it is printed under.
+    /// The number under which the error is printed.
     pub fn number(&self) -> u8
         ensures { result ≡ error_number self.now }
     {

@@ -46,7 +46,7 @@ fn conditional<'a>(
     Ok((tree, rest))
 }
 
-/// An expression.
+/// Reads an expression at the front of the tokens; with the tokens behind it, or the fault and the tokens where it stands.
 #[cycle(expressions)]
 #[tactic(auto, using(crate::proofs::Steps::steps, crate::proofs::Lists::lists))]
 pub fn expression<'a>(

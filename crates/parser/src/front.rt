@@ -22,7 +22,7 @@ use lexer::{Literal, Reserved, Sign, Token, TokenKind};
 use syntax::tree::{AssignSign, Expr, InfixSign, PrefixSign};
 use words::Kind;
 
-/// What the token at the front is: the end, where none is left.
+/// The kind of the token at the front: the end, where none is left.
 pub fn kind_at<'a>(tokens: &[Token<'a>]) -> TokenKind<'a>
     ensures { kind result ≡ (front (lexemes tokens.now)).kind }
 {
@@ -32,7 +32,7 @@ pub fn kind_at<'a>(tokens: &[Token<'a>]) -> TokenKind<'a>
     }
 }
 
-/// Where the token at the front begins.
+/// The line and the column at which the token at the front begins; line 1, column 1, where none is left.
 pub fn site_at(tokens: &[Token]) -> Site
     ensures { site result ≡ (front (lexemes tokens.now)).site }
 {
@@ -117,7 +117,7 @@ pub fn is_colon(token: TokenKind) -> bool
     matches!(token, TokenKind::Sign(Sign::Colon))
 }
 
-/// The kind that the token names.
+/// The kind that a token names; none where it names none.
 pub fn kind_named(token: TokenKind) -> Option<Kind>
     ensures { option_map number_kind result ≡ reads.kind_at (kind token.entry) }
 {
@@ -216,7 +216,7 @@ pub fn is_else(token: TokenKind) -> bool
     matches!(token, TokenKind::Reserved(Reserved::Else))
 }
 
-/// The name that the token is.
+/// The name that a token is; none where it is no name.
 pub fn name_of<'a>(token: TokenKind<'a>) -> Option<&'a str>
     ensures { option_map text_seen result ≡ statements.name_at (kind token.entry) }
 {
@@ -226,7 +226,7 @@ pub fn name_of<'a>(token: TokenKind<'a>) -> Option<&'a str>
     }
 }
 
-/// The number that the token is.
+/// The number that a token is; none where it is no number.
 pub fn number_of(token: TokenKind) -> Option<u32>
     ensures { result ≡ statements.number_at (kind token.entry) }
 {

@@ -49,12 +49,12 @@ pub fn a_refusal_is_true_where_it_stands()
     ensures { (ts : List Lexeme) (fault : ParseFault) (t : Lexeme) (tail : List Lexeme) → run kernel_reader ts ≡ Refused fault (t ∷ tail) → Before ts (t ∷ tail) (λ front. (others : List Lexeme) (room : ℕ) (k : Kernel) → IsKernel room (front ++ t ∷ others) k → IsKept fault room (front ++ t ∷ others) k → ⊥) }
 {}
 
-/// What is refused has no kernel that keeps the limit of which the fault speaks.
+/// Tokens that are refused have no kernel that keeps the limit of which the fault speaks.
 pub fn what_is_refused_has_no_kernel()
     ensures { (ts : List Lexeme) (e : ParseFault × Site) (room : ℕ) (k : Kernel) → parsed ts ≡ Err e → IsKernel room ts k → IsKept e.0 room ts k → ⊥ }
 {}
 
-/// So each answer is true of the grammar.
+/// Each answer of the parser, a kernel or a fault, is true of the grammar.
 pub fn an_answer_is_true_of_the_grammar()
     ensures { (answer : Result code.Kernel ParseError) (ts : List Lexeme) → Gives answer (parsed ts) → Says answer ts }
 {}

@@ -20,7 +20,7 @@ use lexer::Token;
 use std::alloc::Global;
 use syntax::tree::{Assignment, Declaration, Expr, First, Stmt};
 
-/// What a `for` has in parentheses.
+/// The three parts that a `for` has in parentheses.
 #[derive(Drop)]
 pub struct Head {
     pub first: First,
@@ -80,7 +80,7 @@ fn index<'a>(
     Ok((Some(index), rest))
 }
 
-/// An assignment.
+/// Reads an assignment at the front of the tokens, with the number given; with the tokens behind it, or the fault and its tokens.
 #[tactic(auto, using(crate::proofs::Steps::part_steps), unfolding(crate::specs::Statements::assignment_reader))]
 pub fn assignment<'a>(
     alloc: Global,
@@ -101,7 +101,7 @@ pub fn assignment<'a>(
     assigned(alloc, room, depth, number, name, site, index, rest)
 }
 
-/// A private variable with its initialiser.
+/// Reads the declaration of a private variable with its initialiser; with the tokens behind it, or the fault and its tokens.
 #[tactic(auto, using(crate::proofs::Steps::part_steps), unfolding(crate::specs::Statements::declaration_reader))]
 pub fn declaration<'a>(
     alloc: Global,
@@ -180,7 +180,7 @@ pub fn tested<'a>(
     closed(test, rest)
 }
 
-/// What a `for` has in parentheses, its first part with the number given.
+/// Reads the three parts that a `for` has in parentheses, the first one with the number given; with the tokens behind the parentheses.
 #[tactic(auto, using(crate::proofs::Steps::part_steps), unfolding(crate::specs::Statements::head_reader))]
 pub fn head_of_for<'a>(
     alloc: Global,
@@ -272,7 +272,7 @@ fn parts_of_for<'a>(
     Ok((head, rest))
 }
 
-/// A local array, behind its `__local`.
+/// Reads the declaration of a local array behind its `__local`; with the tokens behind it, or the fault and its tokens.
 #[tactic(auto, using(crate::proofs::Steps::part_steps), unfolding(crate::specs::Statements::array_reader))]
 pub fn array<'a>(
     alloc: Global,

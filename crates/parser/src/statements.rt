@@ -20,7 +20,7 @@ use lexer::{Reserved, Sign, Token, TokenKind};
 use std::alloc::Global;
 use syntax::tree::{Expr, JumpWord, Stmt};
 
-/// A kernel has fewer statements than this.
+/// One more than the most statements of a kernel.
 const MOST_ITEMS: u32 = 513;
 
 // What begins with a name: a barrier or an assignment.
@@ -70,7 +70,8 @@ fn jump<'a>(
     Ok(((tree, number + 1), rest))
 }
 
-/// A statement.
+/// Reads a statement at the front of the tokens; with the number of the next statement and the tokens behind it, or the fault and its
+/// tokens.
 #[cycle(statements)]
 #[tactic(auto, using(crate::proofs::StatementSteps::statement_steps))]
 pub fn statement<'a>(

@@ -17,7 +17,7 @@ impl ParseFault {
     ghost use Rattle.texts.specs.ParseFaults.{parse_fault_number};
     ghost use Rattle.parser.specs.View.{fault};
 
-    /// The number that it is printed under.
+    /// The number under which the fault is printed.
     pub fn number(self) -> u8
         ensures { result ≡ parse_fault_number (fault self) }
     {

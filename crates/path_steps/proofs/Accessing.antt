@@ -22,17 +22,17 @@ array_steps s a i low last room l m n d e f p q go =
     (λ j. collect l.found (walks.claim_form s OfIndex true (sym d j) l.state (λ st'. walks.claim_form s OfIndex true (sym (f ∙ ap (λ x. minus x i) e) j) st' go)))
     ∙ p (λ st'. walks.claim_form s OfIndex true room st' go) ∙ q go
 
-pub room_stops : {E : Type 0} (s : Setting E) (a : Array) (i last : Fact) (m : Followed E) (e : WalkError) → last ≡ minus (terms.length_form s a) (constant (pos 1)) → IsUnfit e (minus last i) → StopsAtStep ⊥ m e (terms.in_array s a i)
+pub room_stops : {E : Type 0} (s : Setting E) (a : Array) (i last : Fact) (m : Followed E) (e : WalkError) → last ≡ minus (terms.length_form s a) (constant (pos 1)) → IsUnfit e (minus last i) → StopsAtStep m e (terms.in_array s a i)
 room_stops s a i last m e d h go = second_claim e m.found _ true _ (AtLeastZero i) _ true _ (minus (minus (terms.length_form s a) (constant (pos 1))) i) _ (subst (λ l. IsUnfit e (minus l i)) d h)
 
-pub index_stops : {E : Type 0} (s : Setting E) (a : Array) (i low : Fact) (m : Followed E) (e : WalkError) → low ≡ i → StopsAtStep ⊥ m e (walks.claim_form s OfIndex true low) → StopsAtStep ⊥ m e (terms.in_array s a i)
+pub index_stops : {E : Type 0} (s : Setting E) (a : Array) (i low : Fact) (m : Followed E) (e : WalkError) → low ≡ i → StopsAtStep m e (walks.claim_form s OfIndex true low) → StopsAtStep m e (terms.in_array s a i)
 index_stops s a i low m e d h go =
     let more : State _ → Tree _ = λ st. walks.claim_form s OfIndex true (minus (minus (terms.length_form s a) (constant (pos 1))) i) st go in
-    subst (λ x. Refused ⊥ e (collect m.found (walks.claim_form s OfIndex true x m.state more))) d (h more)
+    subst (λ x. Refused e (collect m.found (walks.claim_form s OfIndex true x m.state more))) d (h more)
 
-pub end_stops : {E : Type 0} (s : Setting E) (a : Array) (i low last room : Fact) (l m : Followed E) (e : WalkError) → low ≡ i → last ≡ minus (terms.length_form s a) (constant (pos 1)) → room ≡ minus last i → Steps l m (walks.claim_form s OfIndex true low) → StopsAtStep ⊥ m e (walks.claim_form s OfIndex true room) → StopsAtStep ⊥ l e (terms.in_array s a i)
+pub end_stops : {E : Type 0} (s : Setting E) (a : Array) (i low last room : Fact) (l m : Followed E) (e : WalkError) → low ≡ i → last ≡ minus (terms.length_form s a) (constant (pos 1)) → room ≡ minus last i → Steps l m (walks.claim_form s OfIndex true low) → StopsAtStep m e (walks.claim_form s OfIndex true room) → StopsAtStep l e (terms.in_array s a i)
 end_stops s a i low last room l m e d p q t h go =
-    refused_from ⊥ e _ _
+    refused_from e _ _
     ((λ j. collect l.found (walks.claim_form s OfIndex true (sym d j) l.state (λ st'. walks.claim_form s OfIndex true (sym (q ∙ ap (λ x. minus x i) p) j) st' go))) ∙ t (λ st'. walks.claim_form s OfIndex true room st' go))
     (h go)
 
@@ -49,16 +49,16 @@ module _ {E : Type 0} (s : Setting E) (is_store : Bool) (a : Array) (site : Site
       ∙ ap (λ x. collect (add_access n.found (record { is_store = is_store; array = a; spot = x }) i n.state.held) (go n.state)) (sym w)
       ∙ ap (λ (u : Followed _). collect u.found (go u.state)) (sym t)
 
-  pub access_stops : (p : Spot) (l m : Followed E) (e : WalkError) → p ≡ spot_at site l.state → m ≡ with_spot l p → StopsAtStep ⊥ m e (terms.in_array s a i) → StopsAtStep ⊥ l e (terms.access s is_store a site i)
-  access_stops p l m e d h b go = refused_from ⊥ e _ _ (reached p l m d h go) (b (λ st'. Touch (terms.target_at is_store a site st') i st'.held (go st')))
+  pub access_stops : (p : Spot) (l m : Followed E) (e : WalkError) → p ≡ spot_at site l.state → m ≡ with_spot l p → StopsAtStep m e (terms.in_array s a i) → StopsAtStep l e (terms.access s is_store a site i)
+  access_stops p l m e d h b go = refused_from e _ _ (reached p l m d h go) (b (λ st'. Touch (terms.target_at is_store a site st') i st'.held (go st')))
 
 -- a load behind its access
 module _ {E : Type 0} (s : Setting E) (a : Array) (site : Site) (i : Fact) where
   pub load_after : (k : Kind) (l m n : Followed E) (view : Value → values.Value) (r : Result Value WalkError) → k ≡ terms.array_kind s a → Steps l m (terms.access s false a site i) →
-      MatchResult r (λ v. Leads m n (walks.unknown s k) (view v)) (λ e. Stops ⊥ m e (walks.unknown s k)) →
-      MatchResult r (λ v. Leads l n (terms.load s a site i) (view v)) (λ e. Stops ⊥ l e (terms.load s a site i))
+      MatchResult r (λ v. Leads m n (walks.unknown s k) (view v)) (λ e. Stops m e (walks.unknown s k)) →
+      MatchResult r (λ v. Leads l n (terms.load s a site i) (view v)) (λ e. Stops l e (terms.load s a site i))
   load_after k l m n view (Ok v) d b h = λ go. b (λ st'. walks.unknown s (terms.array_kind s a) st' go) ∙ ap (λ x. collect m.found (walks.unknown s x m.state go)) (sym d) ∙ h go
-  load_after k l m n view (Err e) d b h = λ go. refused_from ⊥ e _ _ (b (λ st'. walks.unknown s (terms.array_kind s a) st' go) ∙ ap (λ x. collect m.found (walks.unknown s x m.state go)) (sym d)) (h go)
+  load_after k l m n view (Err e) d b h = λ go. refused_from e _ _ (b (λ st'. walks.unknown s (terms.array_kind s a) st' go) ∙ ap (λ x. collect m.found (walks.unknown s x m.state go)) (sym d)) (h go)
 
-  pub load_stops : (l : Followed E) (e : WalkError) → StopsAtStep ⊥ l e (terms.access s false a site i) → Stops ⊥ l e (terms.load s a site i)
+  pub load_stops : (l : Followed E) (e : WalkError) → StopsAtStep l e (terms.access s false a site i) → Stops l e (terms.load s a site i)
   load_stops l e h go = h (λ st'. walks.unknown s (terms.array_kind s a) st' go)

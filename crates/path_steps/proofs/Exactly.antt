@@ -2,7 +2,7 @@
 use Rattle.std.proofs.Common.{◌≡◌, ◌⊎◌, inl, inr, Bool, true, false, List, [], ◌∷◌, refl, sym, ap, subst, ◌∙◌}
 use Rattle.std.specs.Prelude.{Result, Ok, Err, MatchResult}
 use Rattle.semantics.specs.Word.{Kind, Int, Uint, Multiply}
-use Rattle.semantics.specs.Linear.{Weighted}
+use Rattle.linear.specs.Linear.{Weighted}
 use Rattle.linear.specs.Exact.{fits_i64, fits_terms, fits, multiple}
 use Rattle.linear.specs.Forms.{form}
 use Rattle.linear.specs.declared.form.Form.{Form}
@@ -21,25 +21,25 @@ use Rattle.path_steps.specs.declared.path.Value.{Value}
 use Rattle.path_steps.proofs.Refusing.{low_stops, high_stops, refused_from}
 use Rattle.path_steps.proofs.PastEnds.{ends_unfit}
 
-range_unfit : {E : Type 0} (s : Setting E) (needed : Bool) (k : Kind) (f : Fact) (m : Followed E) → (fits (low_end k f) ≡ false) ⊎ (fits (high_end k f) ≡ false) → StopsAtStep ⊥ m errors.TooLarge (walks.in_range s needed k f)
+range_unfit : {E : Type 0} (s : Setting E) (needed : Bool) (k : Kind) (f : Fact) (m : Followed E) → (fits (low_end k f) ≡ false) ⊎ (fits (high_end k f) ≡ false) → StopsAtStep m errors.TooLarge (walks.in_range s needed k f)
 range_unfit s needed k f m (inl h) = low_stops s needed k f m errors.TooLarge h
 range_unfit s needed k f m (inr h) = high_stops s needed k f m errors.TooLarge h
 
 -- a form that was not made is not in a kind's range
-unfit_ranged : {E : Type 0} (s : Setting E) (k : Kind) (f : Fact) (m : Followed E) → fits f ≡ false → Stops ⊥ m errors.TooLarge (walks.ranged s k f)
+unfit_ranged : {E : Type 0} (s : Setting E) (k : Kind) (f : Fact) (m : Followed E) → fits f ≡ false → Stops m errors.TooLarge (walks.ranged s k f)
 unfit_ranged s Int f m h go = range_unfit s true Int f m (ends_unfit Int f (fits_i64 f.constant) (fits_terms f.terms) refl refl h) (λ st. go (values.value Int f) st)
 unfit_ranged s Uint f m h go = range_unfit s (walks.is_kept s f m.state) Uint f m (ends_unfit Uint f (fits_i64 f.constant) (fits_terms f.terms) refl refl h) (λ st. walks.kept_or_new s (walks.is_kept s f m.state) f st go)
 
-pub ranged_unfit : {E : Type 0} (s : Setting E) (k : Kind) (f : Fact) (m : Followed E) (e : WalkError) → IsUnfit e f → Stops ⊥ m e (walks.ranged s k f)
+pub ranged_unfit : {E : Type 0} (s : Setting E) (k : Kind) (f : Fact) (m : Followed E) (e : WalkError) → IsUnfit e f → Stops m e (walks.ranged s k f)
 ranged_unfit s k f m errors.TooMany h go = absurd h
 ranged_unfit s k f m errors.TooLarge h go = unfit_ranged s k f m h go
 ranged_unfit s k f m errors.Memory h go = tt
 
 -- of a form that is it
 pub ranged_as : {E : Type 0} (s : Setting E) (k : Kind) (f fact : Fact) (m n : Followed E) (view : Value → values.Value) (r : Result Value WalkError) → fact ≡ f →
-    MatchResult r (λ v. Leads m n (walks.ranged s k fact) (view v)) (λ e. Stops ⊥ m e (walks.ranged s k fact)) →
-    MatchResult r (λ v. Leads m n (walks.ranged s k f) (view v)) (λ e. Stops ⊥ m e (walks.ranged s k f))
-ranged_as s k f fact m n view r d h = subst (λ x. MatchResult r (λ v. Leads m n (walks.ranged s k x) (view v)) (λ e. Stops ⊥ m e (walks.ranged s k x))) d h
+    MatchResult r (λ v. Leads m n (walks.ranged s k fact) (view v)) (λ e. Stops m e (walks.ranged s k fact)) →
+    MatchResult r (λ v. Leads m n (walks.ranged s k f) (view v)) (λ e. Stops m e (walks.ranged s k f))
+ranged_as s k f fact m n view r d h = subst (λ x. MatchResult r (λ v. Leads m n (walks.ranged s k x) (view v)) (λ e. Stops m e (walks.ranged s k x))) d h
 
 -- a product by a number whose form was not made, and one that is a new symbol
 pub right_leads : {E : Type 0} (s : Setting E) (ts us : List (Weighted _)) (f g h : Fact) (m : Followed E) → is_none us ≡ true → h ≡ multiple g.constant f → Leads m m (operators.product s ts us f g) h
@@ -51,25 +51,25 @@ left_leads s ts [] f g h m p d e = absurd cc
 left_leads s [] (u ∷ us) f g h m p d e = λ go. ap (λ x. collect m.found (go x m.state)) (sym e)
 left_leads s (t ∷ ts) (u ∷ us) f g h m p d e = absurd cc
 
-pub right_stops : {E : Type 0} (s : Setting E) (ts us : List (Weighted _)) (f g : Fact) (m : Followed E) (e : WalkError) → is_none us ≡ true → IsUnfit e (multiple g.constant f) → StopsAtForm ⊥ s m e (operators.product s ts us f g)
+pub right_stops : {E : Type 0} (s : Setting E) (ts us : List (Weighted _)) (f g : Fact) (m : Followed E) (e : WalkError) → is_none us ≡ true → IsUnfit e (multiple g.constant f) → StopsAtForm s m e (operators.product s ts us f g)
 right_stops s ts [] f g m e d h = λ k. ranged_unfit s k (multiple g.constant f) m e h
 right_stops s ts (u ∷ us) f g m e d h = absurd cc
 
-pub left_stops : {E : Type 0} (s : Setting E) (ts us : List (Weighted _)) (f g : Fact) (m : Followed E) (e : WalkError) → is_none us ≡ false → is_none ts ≡ true → IsUnfit e (multiple f.constant g) → StopsAtForm ⊥ s m e (operators.product s ts us f g)
+pub left_stops : {E : Type 0} (s : Setting E) (ts us : List (Weighted _)) (f g : Fact) (m : Followed E) (e : WalkError) → is_none us ≡ false → is_none ts ≡ true → IsUnfit e (multiple f.constant g) → StopsAtForm s m e (operators.product s ts us f g)
 left_stops s ts [] f g m e p d h = absurd cc
 left_stops s [] (u ∷ us) f g m e p d h = λ k. ranged_unfit s k (multiple f.constant g) m e h
 left_stops s (t ∷ ts) (u ∷ us) f g m e p d h = absurd cc
 
 pub new_product : {E : Type 0} (s : Setting E) (ts us : List (Weighted _)) (f g : Fact) (m n : Followed E) (x : E) (r : Result Form WalkError) → is_none us ≡ false → is_none ts ≡ false → x ≡ s.domain.mul_of (element_of s m.state f) (element_of s m.state g) →
-    MatchResult r (λ h. Leads m n (walks.invent s x) (form h)) (λ e. Stops ⊥ m e (walks.invent s x)) →
-    MatchResult r (λ h. Leads m n (operators.product s ts us f g) (form h)) (λ e. StopsAtForm ⊥ s m e (operators.product s ts us f g))
+    MatchResult r (λ h. Leads m n (walks.invent s x) (form h)) (λ e. Stops m e (walks.invent s x)) →
+    MatchResult r (λ h. Leads m n (operators.product s ts us f g) (form h)) (λ e. StopsAtForm s m e (operators.product s ts us f g))
 new_product s ts [] f g m n x r p q d h = absurd cc
 new_product s [] (u ∷ us) f g m n x r p q d h = absurd cc
 new_product s (t ∷ ts) (u ∷ us) f g m n x (Ok y) p q d h = λ go. subst (λ z. collect m.found (walks.invent s z m.state go) ≡ collect n.found (go (form y) n.state)) d (h go)
-new_product s (t ∷ ts) (u ∷ us) f g m n x (Err e) p q d h = λ k go. subst (λ z. Refused ⊥ e (collect m.found (walks.invent s z m.state (λ y st. walks.ranged s k y st go)))) d (h (λ y st. walks.ranged s k y st go))
+new_product s (t ∷ ts) (u ∷ us) f g m n x (Err e) p q d h = λ k go. subst (λ z. Refused e (collect m.found (walks.invent s z m.state (λ y st. walks.ranged s k y st go)))) d (h (λ y st. walks.ranged s k y st go))
 
 pub ranged_product : {E : Type 0} (s : Setting E) (k : Kind) (x y f : Fact) (l m n : Followed E) (view : Value → values.Value) (r : Result Value WalkError) → Leads l m (operators.product s x.terms y.terms x y) f →
-    MatchResult r (λ v. Leads m n (walks.ranged s k f) (view v)) (λ e. Stops ⊥ m e (walks.ranged s k f)) →
-    MatchResult r (λ v. Leads l n (operators.binary s Multiply k x y) (view v)) (λ e. Stops ⊥ l e (operators.binary s Multiply k x y))
+    MatchResult r (λ v. Leads m n (walks.ranged s k f) (view v)) (λ e. Stops m e (walks.ranged s k f)) →
+    MatchResult r (λ v. Leads l n (operators.binary s Multiply k x y) (view v)) (λ e. Stops l e (operators.binary s Multiply k x y))
 ranged_product s k x y f l m n view (Ok v) a h = λ go. a (λ g st. walks.ranged s k g st go) ∙ h go
-ranged_product s k x y f l m n view (Err e) a h = λ go. refused_from ⊥ e _ _ (a (λ g st. walks.ranged s k g st go)) (h go)
+ranged_product s k x y f l m n view (Err e) a h = λ go. refused_from e _ _ (a (λ g st. walks.ranged s k g st go)) (h go)

@@ -47,19 +47,19 @@ module _ {E : Type 0} (s : Setting E) (k : Kind) (x : Fact) (c : ℤ) where
       same : m.state ≡ o.state
       same = ap (λ (u : Followed E). u.state) (sym e) ∙ ap (λ (u : Followed E). u.state) (sym f)
 
-  pub quotient_new_stops : (element : E) (l : Followed E) (e : WalkError) → element ≡ walks.any_of s.domain k → Stops ⊥ l e (walks.invent s element) → StopsTwo ⊥ l e (operators.quotient s k x c)
+  pub quotient_new_stops : (element : E) (l : Followed E) (e : WalkError) → element ≡ walks.any_of s.domain k → Stops l e (walks.invent s element) → StopsTwo l e (operators.quotient s k x c)
   quotient_new_stops element l e a h go =
       let on : Fact → State E → Tree E = λ p st. Know (left_over x c p) (Know (minus (constant (c -ℤ pos 1)) (left_over x c p)) (go p (left_over x c p) st)) in
-      refused_from ⊥ e _ _ (ap (λ y. collect l.found (walks.invent s y l.state on)) (sym a)) (h on)
+      refused_from e _ _ (ap (λ y. collect l.found (walks.invent s y l.state on)) (sym a)) (h on)
 
-  pub quotient_left_stops : (element : E) (q : Fact) (l m : Followed E) (e : WalkError) → element ≡ walks.any_of s.domain k → Leads l m (walks.invent s element) q → IsUnfit e (left_over x c q) → StopsTwo ⊥ l e (operators.quotient s k x c)
+  pub quotient_left_stops : (element : E) (q : Fact) (l m : Followed E) (e : WalkError) → element ≡ walks.any_of s.domain k → Leads l m (walks.invent s element) q → IsUnfit e (left_over x c q) → StopsTwo l e (operators.quotient s k x c)
   quotient_left_stops element q l m e a h u go =
       let on : Fact → State E → Tree E = λ p st. Know (left_over x c p) (Know (minus (constant (c -ℤ pos 1)) (left_over x c p)) (go p (left_over x c p) st)) in
-      refused_from ⊥ e _ _ (ap (λ y. collect l.found (walks.invent s y l.state on)) (sym a) ∙ h on)
+      refused_from e _ _ (ap (λ y. collect l.found (walks.invent s y l.state on)) (sym a) ∙ h on)
       (unfit_fact e m.found (left_over x c q) (Know (minus (constant (c -ℤ pos 1)) (left_over x c q)) (go q (left_over x c q) m.state)) u)
 
-  pub quotient_under_stops : (element : E) (q left : Fact) (l m n : Followed E) (e : WalkError) → element ≡ walks.any_of s.domain k → Leads l m (walks.invent s element) q → left ≡ left_over x c q → n ≡ with_fact m (left_over x c q) → IsUnfit e (minus (constant (c -ℤ pos 1)) left) → StopsTwo ⊥ l e (operators.quotient s k x c)
+  pub quotient_under_stops : (element : E) (q left : Fact) (l m n : Followed E) (e : WalkError) → element ≡ walks.any_of s.domain k → Leads l m (walks.invent s element) q → left ≡ left_over x c q → n ≡ with_fact m (left_over x c q) → IsUnfit e (minus (constant (c -ℤ pos 1)) left) → StopsTwo l e (operators.quotient s k x c)
   quotient_under_stops element q left l m n e a h d t u go =
       let on : Fact → State E → Tree E = λ p st. Know (left_over x c p) (Know (minus (constant (c -ℤ pos 1)) (left_over x c p)) (go p (left_over x c p) st)) in
-      refused_from ⊥ e _ _ (ap (λ y. collect l.found (walks.invent s y l.state on)) (sym a) ∙ h on ∙ knows (left_over x c q) m n t (Know (minus (constant (c -ℤ pos 1)) (left_over x c q)) (go q (left_over x c q) m.state)))
+      refused_from e _ _ (ap (λ y. collect l.found (walks.invent s y l.state on)) (sym a) ∙ h on ∙ knows (left_over x c q) m n t (Know (minus (constant (c -ℤ pos 1)) (left_over x c q)) (go q (left_over x c q) m.state)))
       (unfit_fact e n.found (minus (constant (c -ℤ pos 1)) (left_over x c q)) (go q (left_over x c q) m.state) (subst (λ y. IsUnfit e (minus (constant (c -ℤ pos 1)) y)) d u))

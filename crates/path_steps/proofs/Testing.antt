@@ -50,16 +50,16 @@ unfit_alive f n d h = by f.terms refl
         one false k = refl
     by (t ∷ ts) e = ap (λ l. is_none l && (fits_i64 f.constant && int_lt f.constant (pos 0))) (sym e)
 
-pub unfit_test : {E : Type 0} (s : Setting E) (f : Fact) (m : Followed E) (e : WalkError) → IsUnfit e f → StopsAtStep ⊥ m e (know_test s f)
+pub unfit_test : {E : Type 0} (s : Setting E) (f : Fact) (m : Followed E) (e : WalkError) → IsUnfit e f → StopsAtStep m e (know_test s f)
 unfit_test s f m errors.TooMany h go = absurd h
 unfit_test s f m errors.TooLarge h go =
     let rest = go (holding (narrow s.domain s.known f m.state.held) m.state) in
-    subst (λ c. Refused ⊥ errors.TooLarge (collect m.found (unless_dead c f rest))) (sym (unfit_alive f (is_none f.terms) refl h)) (unfit_fact errors.TooLarge m.found f rest h)
+    subst (λ c. Refused errors.TooLarge (collect m.found (unless_dead c f rest))) (sym (unfit_alive f (is_none f.terms) refl h)) (unfit_fact errors.TooLarge m.found f rest h)
 unfit_test s f m errors.Memory h go = tt
 
 -- a step that went no further, behind another one
-pub ended_from : {E : Type 0} (o : Type 0) (n : Found E) (h : Halt) (x y : Found E) → x ≡ y → Ended o n h y → Ended o n h x
-ended_from o n h x y d e = subst (Ended o n h) (sym d) e
+pub ended_from : {E : Type 0} (n : Found E) (h : Halt) (x y : Found E) → x ≡ y → Ended n h y → Ended n h x
+ended_from n h x y d e = subst (Ended n h) (sym d) e
 
 -- the two ways of a fork, each with its fact
 pub chose_side : {E : Type 0} (s : Setting E) (p q b : Bool) (f g fact : Fact) (m n : Followed E) → Leads m n choosing b → fact ≡ chosen b f g → (go : Outcomes E) → collect m.found (split_below s p q f g m.state go) ≡ collect n.found (know_test s fact n.state (go (chosen b p q)))
@@ -82,27 +82,27 @@ pub sides_lead : {E : Type 0} (s : Setting E) (r : Relation) (b : Bool) (x y : F
 sides_lead s r b x y m n k h a go =
     chose_side s true false b (side r true x y) (side r false x y) (side r b x y) m n h (chosen_side r b x y) go ∙ a (go (chosen b true false)) ∙ ap (λ c. collect k.found (go c k.state)) (chosen_same b)
 
-pub sides_halt : {E : Type 0} (s : Setting E) (r : Relation) (b : Bool) (x y : Fact) (m n k : Followed E) (e : Halt) → Leads m n choosing b → HaltsAtStep ⊥ n k e (know_test s (side r b x y)) → Halts ⊥ m k e (split_sides s r x y)
+pub sides_halt : {E : Type 0} (s : Setting E) (r : Relation) (b : Bool) (x y : Fact) (m n k : Followed E) (e : Halt) → Leads m n choosing b → HaltsAtStep n k e (know_test s (side r b x y)) → Halts m k e (split_sides s r x y)
 sides_halt s r b x y m n k e h a go =
-    ended_from ⊥ k.found e _ _ (chose_side s true false b (side r true x y) (side r false x y) (side r b x y) m n h (chosen_side r b x y) go) (a (go (chosen b true false)))
+    ended_from k.found e _ _ (chose_side s true false b (side r true x y) (side r false x y) (side r b x y) m n h (chosen_side r b x y) go) (a (go (chosen b true false)))
 
 -- a fact that is known, by a form that is it
 pub know_as : {E : Type 0} (s : Setting E) (f fact : Fact) (m n : Followed E) (r : Result (Unit {0}) Halt) → fact ≡ f →
-    MatchResult r (λ _. Steps m n (know_test s fact)) (λ h. HaltsAtStep ⊥ m n h (know_test s fact)) →
-    MatchResult r (λ _. Steps m n (know_test s f)) (λ h. HaltsAtStep ⊥ m n h (know_test s f))
-know_as s f fact m n r d h = subst (λ x. MatchResult r (λ _. Steps m n (know_test s x)) (λ e. HaltsAtStep ⊥ m n e (know_test s x))) d h
+    MatchResult r (λ _. Steps m n (know_test s fact)) (λ h. HaltsAtStep m n h (know_test s fact)) →
+    MatchResult r (λ _. Steps m n (know_test s f)) (λ h. HaltsAtStep m n h (know_test s f))
+know_as s f fact m n r d h = subst (λ x. MatchResult r (λ _. Steps m n (know_test s x)) (λ e. HaltsAtStep m n e (know_test s x))) d h
 
-pub unfit_know : {E : Type 0} (s : Setting E) (f : Fact) (m n : Followed E) (e : WalkError) → IsUnfit e f → HaltsAtStep ⊥ m n (halts.Refused e) (know_test s f)
+pub unfit_know : {E : Type 0} (s : Setting E) (f : Fact) (m n : Followed E) (e : WalkError) → IsUnfit e f → HaltsAtStep m n (halts.Refused e) (know_test s f)
 unfit_know s f m n e u go = unfit_test s f m e u go
 
 -- two facts
 pub two_know : {E : Type 0} (s : Setting E) (f g : Fact) (m n k : Followed E) (r : Result (Unit {0}) Halt) → Steps m n (know_test s f) →
-    MatchResult r (λ _. Steps n k (know_test s g)) (λ h. HaltsAtStep ⊥ n k h (know_test s g)) →
-    MatchResult r (λ _. Steps m k (know_two s f g)) (λ h. HaltsAtStep ⊥ m k h (know_two s f g))
+    MatchResult r (λ _. Steps n k (know_test s g)) (λ h. HaltsAtStep n k h (know_test s g)) →
+    MatchResult r (λ _. Steps m k (know_two s f g)) (λ h. HaltsAtStep m k h (know_two s f g))
 two_know s f g m n k (Ok u) a h = λ go. a (λ st. know_test s g st go) ∙ h go
-two_know s f g m n k (Err e) a h = λ go. ended_from ⊥ k.found e _ _ (a (λ st. know_test s g st go)) (h go)
+two_know s f g m n k (Err e) a h = λ go. ended_from k.found e _ _ (a (λ st. know_test s g st go)) (h go)
 
-pub two_halts : {E : Type 0} (s : Setting E) (f g : Fact) (m n : Followed E) (e : Halt) → HaltsAtStep ⊥ m n e (know_test s f) → HaltsAtStep ⊥ m n e (know_two s f g)
+pub two_halts : {E : Type 0} (s : Setting E) (f g : Fact) (m n : Followed E) (e : Halt) → HaltsAtStep m n e (know_test s f) → HaltsAtStep m n e (know_two s f g)
 two_halts s f g m n e h go = h (λ st. know_test s g st go)
 
 -- the ways of a fork, whatever stands on them
@@ -116,8 +116,8 @@ module _ {E : Type 0} (s : Setting E) (x y : Fact) where
   pub equal_first : (b : Bool) (m n k : Followed E) → Leads m n choosing b → b ≡ true → Steps n k (know_two s (minus x y) (minus y x)) → Leads m k (split s Equal x y) true
   equal_first b m n k h d a go = first_way b m n (λ st. know_two s (minus x y) (minus y x) st (go true)) (λ st. split_below s false false (below x y) (below y x) st go) h d ∙ a (go true)
 
-  pub equal_first_halts : (b : Bool) (m n k : Followed E) (e : Halt) → Leads m n choosing b → b ≡ true → HaltsAtStep ⊥ n k e (know_two s (minus x y) (minus y x)) → Halts ⊥ m k e (split s Equal x y)
-  equal_first_halts b m n k e h d a go = ended_from ⊥ k.found e _ _ (first_way b m n (λ st. know_two s (minus x y) (minus y x) st (go true)) (λ st. split_below s false false (below x y) (below y x) st go) h d) (a (go true))
+  pub equal_first_halts : (b : Bool) (m n k : Followed E) (e : Halt) → Leads m n choosing b → b ≡ true → HaltsAtStep n k e (know_two s (minus x y) (minus y x)) → Halts m k e (split s Equal x y)
+  equal_first_halts b m n k e h d a go = ended_from k.found e _ _ (first_way b m n (λ st. know_two s (minus x y) (minus y x) st (go true)) (λ st. split_below s false false (below x y) (below y x) st go) h d) (a (go true))
 
   chosen_one : (b : Bool) → chosen b false false ≡ false
   chosen_one true = refl
@@ -131,8 +131,8 @@ module _ {E : Type 0} (s : Setting E) (x y : Fact) where
   pub equal_second : (b c : Bool) (m n o k : Followed E) → Leads m n choosing b → b ≡ false → Leads n o choosing c → Steps o k (know_test s (side Equal c x y)) → Leads m k (split s Equal x y) false
   equal_second b c m n o k h d l a go = equal_rest b c m n o go h d l ∙ a (go (chosen c false false)) ∙ ap (λ q. collect k.found (go q k.state)) (chosen_one c)
 
-  pub equal_second_halts : (b c : Bool) (m n o k : Followed E) (e : Halt) → Leads m n choosing b → b ≡ false → Leads n o choosing c → HaltsAtStep ⊥ o k e (know_test s (side Equal c x y)) → Halts ⊥ m k e (split s Equal x y)
-  equal_second_halts b c m n o k e h d l a go = ended_from ⊥ k.found e _ _ (equal_rest b c m n o go h d l) (a (go (chosen c false false)))
+  pub equal_second_halts : (b c : Bool) (m n o k : Followed E) (e : Halt) → Leads m n choosing b → b ≡ false → Leads n o choosing c → HaltsAtStep o k e (know_test s (side Equal c x y)) → Halts m k e (split s Equal x y)
+  equal_second_halts b c m n o k e h d l a go = ended_from k.found e _ _ (equal_rest b c m n o go h d l) (a (go (chosen c false false)))
 
 module _ {E : Type 0} (s : Setting E) (p q f g : Fact) where
   ways_rest : State E → Outcomes E → Tree E
@@ -142,9 +142,9 @@ module _ {E : Type 0} (s : Setting E) (p q f g : Fact) where
   unfolding ways_rest
   ways_first b m n k h d a go = first_way b m n (λ st. know_test s p st (go true)) (λ st. ways_rest st go) h d ∙ a (go true)
 
-  pub ways_first_halts : (b : Bool) (m n k : Followed E) (e : Halt) → Leads m n choosing b → b ≡ true → HaltsAtStep ⊥ n k e (know_test s p) → Halts ⊥ m k e (three_ways s p q f g)
+  pub ways_first_halts : (b : Bool) (m n k : Followed E) (e : Halt) → Leads m n choosing b → b ≡ true → HaltsAtStep n k e (know_test s p) → Halts m k e (three_ways s p q f g)
   unfolding ways_rest
-  ways_first_halts b m n k e h d a go = ended_from ⊥ k.found e _ _ (first_way b m n (λ st. know_test s p st (go true)) (λ st. ways_rest st go) h d) (a (go true))
+  ways_first_halts b m n k e h d a go = ended_from k.found e _ _ (first_way b m n (λ st. know_test s p st (go true)) (λ st. ways_rest st go) h d) (a (go true))
 
   pub ways_second : (b c : Bool) (m n o k : Followed E) → Leads m n choosing b → b ≡ false → Leads n o choosing c → c ≡ true → Steps o k (know_test s q) → Leads m k (three_ways s p q f g) true
   unfolding ways_rest
@@ -152,9 +152,9 @@ module _ {E : Type 0} (s : Setting E) (p q f g : Fact) where
       second_way b m n (λ st. know_test s p st (go true)) (λ st. ways_rest st go) h d
       ∙ first_way c n o (λ st. know_test s q st (go true)) (λ st. know_two s f g st (go false)) l z ∙ a (go true)
 
-  pub ways_second_halts : (b c : Bool) (m n o k : Followed E) (e : Halt) → Leads m n choosing b → b ≡ false → Leads n o choosing c → c ≡ true → HaltsAtStep ⊥ o k e (know_test s q) → Halts ⊥ m k e (three_ways s p q f g)
+  pub ways_second_halts : (b c : Bool) (m n o k : Followed E) (e : Halt) → Leads m n choosing b → b ≡ false → Leads n o choosing c → c ≡ true → HaltsAtStep o k e (know_test s q) → Halts m k e (three_ways s p q f g)
   unfolding ways_rest
-  ways_second_halts b c m n o k e h d l z a go = ended_from ⊥ k.found e _ _
+  ways_second_halts b c m n o k e h d l z a go = ended_from k.found e _ _
       (second_way b m n (λ st. know_test s p st (go true)) (λ st. ways_rest st go) h d
       ∙ first_way c n o (λ st. know_test s q st (go true)) (λ st. know_two s f g st (go false)) l z) (a (go true))
 
@@ -164,9 +164,9 @@ module _ {E : Type 0} (s : Setting E) (p q f g : Fact) where
       second_way b m n (λ st. know_test s p st (go true)) (λ st. ways_rest st go) h d
       ∙ second_way c n o (λ st. know_test s q st (go true)) (λ st. know_two s f g st (go false)) l z ∙ a (go false)
 
-  pub ways_third_halts : (b c : Bool) (m n o k : Followed E) (e : Halt) → Leads m n choosing b → b ≡ false → Leads n o choosing c → c ≡ false → HaltsAtStep ⊥ o k e (know_two s f g) → Halts ⊥ m k e (three_ways s p q f g)
+  pub ways_third_halts : (b c : Bool) (m n o k : Followed E) (e : Halt) → Leads m n choosing b → b ≡ false → Leads n o choosing c → c ≡ false → HaltsAtStep o k e (know_two s f g) → Halts m k e (three_ways s p q f g)
   unfolding ways_rest
-  ways_third_halts b c m n o k e h d l z a go = ended_from ⊥ k.found e _ _
+  ways_third_halts b c m n o k e h d l z a go = ended_from k.found e _ _
       (second_way b m n (λ st. know_test s p st (go true)) (λ st. ways_rest st go) h d
       ∙ second_way c n o (λ st. know_test s q st (go true)) (λ st. know_two s f g st (go false)) l z) (a (go false))
 

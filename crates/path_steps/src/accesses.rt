@@ -64,7 +64,7 @@ fn in_array<D: Domain>(
     array: Array,
     index: &Form,
 ) -> Result<(), WalkError>
-    ensures { MatchResult result (λ _. Steps (followed path.old) (followed path.new) (terms.in_array (seen D.Domain setting.now) (array_seen array) (form_seen index.now))) (λ e. StopsAtStep ⊥ (followed path.old) e (terms.in_array (seen D.Domain setting.now) (array_seen array) (form_seen index.now))) }
+    ensures { MatchResult result (λ _. Steps (followed path.old) (followed path.new) (terms.in_array (seen D.Domain setting.now) (array_seen array) (form_seen index.now))) (λ e. StopsAtStep (followed path.old) e (terms.in_array (seen D.Domain setting.now) (array_seen array) (form_seen index.now))) }
 {
     let last = last_form(alloc, setting, array)?;
     let room = last.sub(alloc, index)?;
@@ -74,7 +74,7 @@ fn in_array<D: Domain>(
     Ok(())
 }
 
-/// An access, where its array is named.
+/// Notes an access at the site where its array is named, behind the claims that its index is in the array.
 pub fn access<D: Domain>(
     alloc: Global,
     setting: &Setting<D>,
@@ -84,7 +84,7 @@ pub fn access<D: Domain>(
     site: Site,
     index: Form,
 ) -> Result<(), WalkError>
-    ensures { MatchResult result (λ _. Steps (followed path.old) (followed path.new) (terms.access (seen D.Domain setting.now) is_store (array_seen array) (site_seen site) (form_seen index))) (λ e. StopsAtStep ⊥ (followed path.old) e (terms.access (seen D.Domain setting.now) is_store (array_seen array) (site_seen site) (form_seen index))) }
+    ensures { MatchResult result (λ _. Steps (followed path.old) (followed path.new) (terms.access (seen D.Domain setting.now) is_store (array_seen array) (site_seen site) (form_seen index))) (λ e. StopsAtStep (followed path.old) e (terms.access (seen D.Domain setting.now) is_store (array_seen array) (site_seen site) (form_seen index))) }
 {
     let place = path.spot_at(site);
     path.stand(place);
@@ -128,7 +128,7 @@ pub fn load<D: Domain>(
     site: Site,
     index: Form,
 ) -> Result<Value, WalkError>
-    ensures { MatchResult result (λ v. Leads (followed path.old) (followed path.new) (terms.load (seen D.Domain setting.now) (array_seen array) (site_seen site) (form_seen index)) (value_seen v)) (λ e. Stops ⊥ (followed path.old) e (terms.load (seen D.Domain setting.now) (array_seen array) (site_seen site) (form_seen index))) }
+    ensures { MatchResult result (λ v. Leads (followed path.old) (followed path.new) (terms.load (seen D.Domain setting.now) (array_seen array) (site_seen site) (form_seen index)) (value_seen v)) (λ e. Stops (followed path.old) e (terms.load (seen D.Domain setting.now) (array_seen array) (site_seen site) (form_seen index))) }
 {
     access(alloc, setting, path, false, array, site, index)?;
     unknown(alloc, setting, path, array_kind(setting, array))

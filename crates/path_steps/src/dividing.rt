@@ -34,7 +34,7 @@ fn times(alloc: Global, number: i64, of: &Form) -> Result<Form, WalkError>
     Ok(form)
 }
 
-/// What a quotient leaves of a form.
+/// The remainder of a form by a number: the form less so many times its quotient.
 fn left_over(alloc: Global, of: &Form, number: i64, quotient: &Form) -> Result<Form, WalkError>
     requires above { pos 0 <ℤ number }
     requires small { size (form_seen quotient.now) ≡ 1 }
@@ -44,7 +44,7 @@ fn left_over(alloc: Global, of: &Form, number: i64, quotient: &Form) -> Result<F
     difference(alloc, of, &part)
 }
 
-/// What is left is at least 0.
+/// Adds the fact that the remainder of a form by a number is at least 0, and gives the remainder.
 fn know_left<D: Copy>(
     alloc: Global,
     path: &mut Path<D>,
@@ -62,7 +62,7 @@ fn know_left<D: Copy>(
     Ok(left)
 }
 
-/// What is left is below the number.
+/// Adds the fact that a remainder is below the number.
 fn know_under<D: Copy>(
     alloc: Global,
     path: &mut Path<D>,
@@ -87,7 +87,7 @@ pub fn quotient<D: Domain>(
     number: i64,
 ) -> Result<(Form, Form), WalkError>
     requires { pos 0 <ℤ number }
-    ensures { MatchResult result (λ v. LeadsTwo (followed path.old) (followed path.new) (operators.quotient (seen D.Domain setting.now) (kind_seen kind) (form_seen of.now) number) (form_seen v.0) (form_seen v.1)) (λ e. StopsTwo ⊥ (followed path.old) e (operators.quotient (seen D.Domain setting.now) (kind_seen kind) (form_seen of.now) number)) }
+    ensures { MatchResult result (λ v. LeadsTwo (followed path.old) (followed path.new) (operators.quotient (seen D.Domain setting.now) (kind_seen kind) (form_seen of.now) number) (form_seen v.0) (form_seen v.1)) (λ e. StopsTwo (followed path.old) e (operators.quotient (seen D.Domain setting.now) (kind_seen kind) (form_seen of.now) number)) }
 {
     let quotient = invent(alloc, setting, path, any_of(kind))?;
     let left = know_left(alloc, path, of, number, &quotient)?;

@@ -27,7 +27,7 @@ fn bounds_of<D: Domain>(setting: &Setting<D>, path: &Path<D>, form: &Form) -> Bo
     element_at(setting, path, form).bounds()
 }
 
-/// The ends leave out 0.
+/// The number 0 is below the low end or above the high one.
 fn lacks_zero(bounds: Bounds) -> bool
     ensures { result ≡ operators.lacks bounds (pos 0) }
 {
@@ -58,7 +58,7 @@ fn claim_nonzero<D: Domain>(
     path: &mut Path<D>,
     divisor: &Form,
 ) -> Result<(), WalkError>
-    ensures { MatchResult result (λ _. Steps (followed path.old) (followed path.new) (claim_nonzero (seen D.Domain setting.now) (form_seen divisor.now))) (λ e. StopsAtStep ⊥ (followed path.old) e (claim_nonzero (seen D.Domain setting.now) (form_seen divisor.now))) }
+    ensures { MatchResult result (λ _. Steps (followed path.old) (followed path.new) (claim_nonzero (seen D.Domain setting.now) (form_seen divisor.now))) (λ e. StopsAtStep (followed path.old) e (claim_nonzero (seen D.Domain setting.now) (form_seen divisor.now))) }
 {
     let settled = lacks_zero(bounds_of(setting, path, divisor));
     let goal = divisor_goal(alloc, divisor)?;
@@ -66,7 +66,7 @@ fn claim_nonzero<D: Domain>(
     Ok(())
 }
 
-/// The ends leave out -1.
+/// The number -1 is below the low end or above the high one.
 fn lacks_minus_one(bounds: Bounds) -> bool
     ensures { result ≡ operators.lacks bounds (negsuc 0) }
 {
@@ -126,7 +126,7 @@ fn claim_overflow<D: Domain>(
     dividend: &Form,
     divisor: &Form,
 ) -> Result<(), WalkError>
-    ensures { MatchResult result (λ _. Steps (followed path.old) (followed path.new) (claim_overflow (seen D.Domain setting.now) (form_seen dividend.now) (form_seen divisor.now))) (λ e. StopsAtStep ⊥ (followed path.old) e (claim_overflow (seen D.Domain setting.now) (form_seen dividend.now) (form_seen divisor.now))) }
+    ensures { MatchResult result (λ _. Steps (followed path.old) (followed path.new) (claim_overflow (seen D.Domain setting.now) (form_seen dividend.now) (form_seen divisor.now))) (λ e. StopsAtStep (followed path.old) e (claim_overflow (seen D.Domain setting.now) (form_seen dividend.now) (form_seen divisor.now))) }
 {
     let settled = is_quotient_settled(setting, path, dividend, divisor);
     let goal = quotient_goal(alloc, dividend, divisor)?;
@@ -143,7 +143,7 @@ fn claim_quotient<D: Domain>(
     dividend: &Form,
     divisor: &Form,
 ) -> Result<(), WalkError>
-    ensures { MatchResult result (λ _. Steps (followed path.old) (followed path.new) (operators.claim_quotient (seen D.Domain setting.now) (kind_seen kind) (form_seen dividend.now) (form_seen divisor.now))) (λ e. StopsAtStep ⊥ (followed path.old) e (operators.claim_quotient (seen D.Domain setting.now) (kind_seen kind) (form_seen dividend.now) (form_seen divisor.now))) }
+    ensures { MatchResult result (λ _. Steps (followed path.old) (followed path.new) (operators.claim_quotient (seen D.Domain setting.now) (kind_seen kind) (form_seen dividend.now) (form_seen divisor.now))) (λ e. StopsAtStep (followed path.old) e (operators.claim_quotient (seen D.Domain setting.now) (kind_seen kind) (form_seen dividend.now) (form_seen divisor.now))) }
 {
     match kind {
         Kind::Int => claim_overflow(alloc, setting, path, dividend, divisor),
@@ -160,7 +160,7 @@ pub fn claim_divisor<D: Domain>(
     dividend: &Form,
     divisor: &Form,
 ) -> Result<(), WalkError>
-    ensures { MatchResult result (λ _. Steps (followed path.old) (followed path.new) (operators.claim_divisor (seen D.Domain setting.now) (kind_seen kind) (form_seen dividend.now) (form_seen divisor.now))) (λ e. StopsAtStep ⊥ (followed path.old) e (operators.claim_divisor (seen D.Domain setting.now) (kind_seen kind) (form_seen dividend.now) (form_seen divisor.now))) }
+    ensures { MatchResult result (λ _. Steps (followed path.old) (followed path.new) (operators.claim_divisor (seen D.Domain setting.now) (kind_seen kind) (form_seen dividend.now) (form_seen divisor.now))) (λ e. StopsAtStep (followed path.old) e (operators.claim_divisor (seen D.Domain setting.now) (kind_seen kind) (form_seen dividend.now) (form_seen divisor.now))) }
 {
     claim_nonzero(alloc, setting, path, divisor)?;
     claim_quotient(alloc, setting, path, kind, dividend, divisor)

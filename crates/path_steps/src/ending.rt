@@ -40,7 +40,7 @@ impl<D: Copy> Path<D> {
         Ok(())
     }
 
-    /// This ranked a loop when its test was true.
+    /// Notes the value of a loop's ranking when the loop's test was true.
     pub fn rank(&mut self, number: u32, form: Form) -> Result<(), WalkError>
         ensures { MatchResult result (λ _. followed self.new ≡ with_ranked (followed self.old) number (form_seen form)) IsMemory }
     {

@@ -32,7 +32,7 @@ fn total(alloc: Global, left: &Form, right: &Form) -> Result<Form, WalkError>
     Ok(form)
 }
 
-/// A sum in its kind.
+/// The sum of two operands, claimed to be in the range of its kind or, of a `uint`, a new symbol.
 pub fn ranged_sum<D: Domain>(
     alloc: Global,
     setting: &Setting<D>,
@@ -41,13 +41,13 @@ pub fn ranged_sum<D: Domain>(
     left: &Form,
     right: &Form,
 ) -> Result<Value, WalkError>
-    ensures { MatchResult result (λ v. Leads (followed path.old) (followed path.new) (walks.ranged (seen D.Domain setting.now) (kind_seen kind) (sum (form_seen left.now) (form_seen right.now))) (value_seen v)) (λ e. Stops ⊥ (followed path.old) e (walks.ranged (seen D.Domain setting.now) (kind_seen kind) (sum (form_seen left.now) (form_seen right.now)))) }
+    ensures { MatchResult result (λ v. Leads (followed path.old) (followed path.new) (walks.ranged (seen D.Domain setting.now) (kind_seen kind) (sum (form_seen left.now) (form_seen right.now))) (value_seen v)) (λ e. Stops (followed path.old) e (walks.ranged (seen D.Domain setting.now) (kind_seen kind) (sum (form_seen left.now) (form_seen right.now)))) }
 {
     let form = total(alloc, left, right)?;
     ranged(alloc, setting, path, kind, form)
 }
 
-/// A difference in its kind.
+/// The difference of two operands, claimed to be in the range of its kind or, of a `uint`, a new symbol.
 pub fn ranged_difference<D: Domain>(
     alloc: Global,
     setting: &Setting<D>,
@@ -56,13 +56,13 @@ pub fn ranged_difference<D: Domain>(
     left: &Form,
     right: &Form,
 ) -> Result<Value, WalkError>
-    ensures { MatchResult result (λ v. Leads (followed path.old) (followed path.new) (walks.ranged (seen D.Domain setting.now) (kind_seen kind) (minus (form_seen left.now) (form_seen right.now))) (value_seen v)) (λ e. Stops ⊥ (followed path.old) e (walks.ranged (seen D.Domain setting.now) (kind_seen kind) (minus (form_seen left.now) (form_seen right.now)))) }
+    ensures { MatchResult result (λ v. Leads (followed path.old) (followed path.new) (walks.ranged (seen D.Domain setting.now) (kind_seen kind) (minus (form_seen left.now) (form_seen right.now))) (value_seen v)) (λ e. Stops (followed path.old) e (walks.ranged (seen D.Domain setting.now) (kind_seen kind) (minus (form_seen left.now) (form_seen right.now)))) }
 {
     let form = difference(alloc, left, right)?;
     ranged(alloc, setting, path, kind, form)
 }
 
-/// A negation in its kind.
+/// The negation of an operand, claimed to be in the range of its kind or, of a `uint`, a new symbol.
 pub fn ranged_negation<D: Domain>(
     alloc: Global,
     setting: &Setting<D>,
@@ -70,7 +70,7 @@ pub fn ranged_negation<D: Domain>(
     kind: Kind,
     of: &Form,
 ) -> Result<Value, WalkError>
-    ensures { MatchResult result (λ v. Leads (followed path.old) (followed path.new) (walks.ranged (seen D.Domain setting.now) (kind_seen kind) (multiple (negsuc 0) (form_seen of.now))) (value_seen v)) (λ e. Stops ⊥ (followed path.old) e (walks.ranged (seen D.Domain setting.now) (kind_seen kind) (multiple (negsuc 0) (form_seen of.now)))) }
+    ensures { MatchResult result (λ v. Leads (followed path.old) (followed path.new) (walks.ranged (seen D.Domain setting.now) (kind_seen kind) (multiple (negsuc 0) (form_seen of.now))) (value_seen v)) (λ e. Stops (followed path.old) e (walks.ranged (seen D.Domain setting.now) (kind_seen kind) (multiple (negsuc 0) (form_seen of.now)))) }
 {
     let form = negated(alloc, of)?;
     ranged(alloc, setting, path, kind, form)
@@ -86,7 +86,7 @@ fn complement(alloc: Global, kind: Kind, of: &Form) -> Result<Form, WalkError>
     }
 }
 
-/// A complement in its kind.
+/// The complement of an operand, claimed to be in the range of its kind or, of a `uint`, a new symbol.
 pub fn ranged_complement<D: Domain>(
     alloc: Global,
     setting: &Setting<D>,
@@ -94,13 +94,13 @@ pub fn ranged_complement<D: Domain>(
     kind: Kind,
     of: &Form,
 ) -> Result<Value, WalkError>
-    ensures { MatchResult result (λ v. Leads (followed path.old) (followed path.new) (walks.ranged (seen D.Domain setting.now) (kind_seen kind) (operators.complement (kind_seen kind) (form_seen of.now))) (value_seen v)) (λ e. Stops ⊥ (followed path.old) e (walks.ranged (seen D.Domain setting.now) (kind_seen kind) (operators.complement (kind_seen kind) (form_seen of.now)))) }
+    ensures { MatchResult result (λ v. Leads (followed path.old) (followed path.new) (walks.ranged (seen D.Domain setting.now) (kind_seen kind) (operators.complement (kind_seen kind) (form_seen of.now))) (value_seen v)) (λ e. Stops (followed path.old) e (walks.ranged (seen D.Domain setting.now) (kind_seen kind) (operators.complement (kind_seen kind) (form_seen of.now)))) }
 {
     let form = complement(alloc, kind, of)?;
     ranged(alloc, setting, path, kind, form)
 }
 
-/// By a constant form exactly, else a new symbol.
+/// The product of two forms: exact where one of them is a number, else a new symbol.
 fn product<D: Domain>(
     alloc: Global,
     setting: &Setting<D>,
@@ -108,7 +108,7 @@ fn product<D: Domain>(
     left: &Form,
     right: &Form,
 ) -> Result<Form, WalkError>
-    ensures { MatchResult result (λ f. Leads (followed path.old) (followed path.new) (operators.product (seen D.Domain setting.now) (form_seen left.now).terms (form_seen right.now).terms (form_seen left.now) (form_seen right.now)) (form_seen f)) (λ e. StopsAtForm ⊥ (seen D.Domain setting.now) (followed path.old) e (operators.product (seen D.Domain setting.now) (form_seen left.now).terms (form_seen right.now).terms (form_seen left.now) (form_seen right.now))) }
+    ensures { MatchResult result (λ f. Leads (followed path.old) (followed path.new) (operators.product (seen D.Domain setting.now) (form_seen left.now).terms (form_seen right.now).terms (form_seen left.now) (form_seen right.now)) (form_seen f)) (λ e. StopsAtForm (seen D.Domain setting.now) (followed path.old) e (operators.product (seen D.Domain setting.now) (form_seen left.now).terms (form_seen right.now).terms (form_seen left.now) (form_seen right.now))) }
 {
     if is_number(right) {
         let form = left.times(alloc, right.constant_part())?;
@@ -122,7 +122,7 @@ fn product<D: Domain>(
     invent(alloc, setting, path, element)
 }
 
-/// A product in its kind.
+/// The product of two operands, claimed to be in the range of its kind or, of a `uint`, a new symbol.
 pub fn ranged_product<D: Domain>(
     alloc: Global,
     setting: &Setting<D>,
@@ -131,7 +131,7 @@ pub fn ranged_product<D: Domain>(
     left: &Form,
     right: &Form,
 ) -> Result<Value, WalkError>
-    ensures { MatchResult result (λ v. Leads (followed path.old) (followed path.new) (operators.binary (seen D.Domain setting.now) Multiply (kind_seen kind) (form_seen left.now) (form_seen right.now)) (value_seen v)) (λ e. Stops ⊥ (followed path.old) e (operators.binary (seen D.Domain setting.now) Multiply (kind_seen kind) (form_seen left.now) (form_seen right.now))) }
+    ensures { MatchResult result (λ v. Leads (followed path.old) (followed path.new) (operators.binary (seen D.Domain setting.now) Multiply (kind_seen kind) (form_seen left.now) (form_seen right.now)) (value_seen v)) (λ e. Stops (followed path.old) e (operators.binary (seen D.Domain setting.now) Multiply (kind_seen kind) (form_seen left.now) (form_seen right.now))) }
 {
     let form = product(alloc, setting, path, left, right)?;
     ranged(alloc, setting, path, kind, form)

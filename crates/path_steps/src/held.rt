@@ -16,7 +16,7 @@ ghost use Rattle.path_steps.specs.View.{followed, held_seen, invented_seen, narr
 use crate::path::{Invented, Narrowed, Path};
 use crate::setting::Setting;
 use domain::Domain;
-use facts::{Known, WalkError};
+use facts::{Family, Known, Side, WalkError};
 use linear::{Form, Symbol, Term};
 
 /// The element at an index, and past the end all numbers.
@@ -29,7 +29,7 @@ fn nth<D: Domain>(of: &[D], index: u64) -> D
     }
 }
 
-/// The same of the elements of new symbols.
+/// The element of the new symbol at an index, and past the end all numbers.
 fn nth_new<D: Domain>(of: &[Invented<D>], index: u64) -> D
     ensures { result ≡ elements.nth D.Domain (map invented_seen of.now) index }
 {
@@ -39,20 +39,20 @@ fn nth_new<D: Domain>(of: &[Invented<D>], index: u64) -> D
     }
 }
 
-#[tactic(auto, unfolding(facts::specs::Symbols::symbol_of), using(facts::proofs::Families::families))]
 /// A symbol's element beforehand, with those of the new symbols.
 fn known_element<D: Domain>(known: &Known<D>, news: &[Invented<D>], symbol: Symbol) -> D
     ensures { result ≡ elements.element D.Domain (elements_seen known.now (map invented_seen news.now) []) (symbol_of symbol.number) }
 {
     let index = symbol.number / 16;
-    match symbol.number % 16 {
-        0 => nth(known.counts.as_slice(), index),
-        1 => nth(known.arguments.as_slice(), index),
-        2 => nth(known.lengths.as_slice(), index),
-        3 | 9 => nth(known.locals.as_slice(), index),
-        4 | 10 => nth(known.groups.as_slice(), index),
-        5 => nth_new(news, index),
-        _ => D::top(),
+    match Family::of(symbol) {
+        Family::Groups => nth(known.counts.as_slice(), index),
+        Family::Argument => nth(known.arguments.as_slice(), index),
+        Family::Length => nth(known.lengths.as_slice(), index),
+        Family::Local(_) => nth(known.locals.as_slice(), index),
+        Family::Group(_) => nth(known.groups.as_slice(), index),
+        Family::New(Side::First) => nth_new(news, index),
+        Family::New(Side::Second) | Family::Variable(_) | Family::AtAnchor(_) | Family::Turns(_) =>
+            D::top(),
     }
 }
 
@@ -97,7 +97,7 @@ pub fn element_at<D: Domain>(setting: &Setting<D>, path: &Path<D>, form: &Form) 
     so_far
 }
 
-/// The same without the term of a symbol.
+/// A form's element on the path, by its constant and its terms in their order, but without the term of one symbol.
 pub fn element_without<D: Domain>(
     setting: &Setting<D>,
     path: &Path<D>,

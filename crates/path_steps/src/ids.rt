@@ -14,7 +14,7 @@ use facts::{Side, WalkError, once_group, once_groups, once_local};
 use linear::Form;
 use std::alloc::Global;
 
-/// What a work-item function gives in a dimension below the third.
+/// The form of what a work-item function answers in a dimension below 3 (OpenCL 1.2, 6.12.1).
 fn id_inside<D: Domain>(
     alloc: Global,
     setting: &Setting<D>,
@@ -42,7 +42,7 @@ fn id_inside<D: Domain>(
     }
 }
 
-/// What a work-item function gives past the third dimension.
+/// The form of what a work-item function answers in a dimension of 3 or more: 0 for an id, 1 for a size (OpenCL 1.2, 6.12.1).
 fn id_outside(alloc: Global, function: Function) -> Form
     ensures { form_seen result ≡ terms.id_outside (function_seen function) }
 {
@@ -54,7 +54,7 @@ fn id_outside(alloc: Global, function: Function) -> Form
     }
 }
 
-/// What a work-item function gives.
+/// The form of what a work-item function answers in a dimension (OpenCL 1.2, 6.12.1).
 pub fn id_form<D: Domain>(
     alloc: Global,
     setting: &Setting<D>,

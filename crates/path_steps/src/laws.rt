@@ -29,7 +29,7 @@ pub fn the_last_path_counts_all<D: Domain>()
 {}
 
 #[tactic(auto, using(crate::proofs::Collecting::found_claims, crate::proofs::Collecting::found_accesses, crate::proofs::Collecting::found_ends, crate::proofs::Collecting::found_taken, crate::proofs::Collecting::found_count))]
-/// What is found along a path is what is listed along it.
+/// Of a tree, collecting along one path finds exactly the claims, accesses, ends and choices that are listed along it.
 pub fn what_is_found_is_listed<D: Domain>()
     ensures claims { (m : Found D) (t : Tree D) → (collect m t).claims ≡ m.claims ++ along listed_claims m.facts m.left m.count t }
     ensures accesses { (m : Found D) (t : Tree D) → (collect m t).accesses ≡ m.accesses ++ along listed_accesses m.facts m.left m.count t }
@@ -48,7 +48,7 @@ pub fn all_paths_list_the_tree<D: Domain>()
 {}
 
 #[tactic(auto, using(crate::proofs::Collecting::too_many, crate::proofs::Collecting::too_large))]
-/// What is refused of a path is true of the tree.
+/// If collecting along a path refuses, the tree has more obligations than 65,536, or a number in it that is too large for `i64`.
 pub fn refusals_are_of_the_tree<D: Domain>()
     ensures too_many { (m : Found D) (t : Tree D) → (collect m t).is_few ≡ false → m.is_few ≡ true → AreRight m.left m.count t → 65536 < after m.count t }
     ensures too_large { (m : Found D) (t : Tree D) → (collect m t).is_fit ≡ false → m.is_fit ≡ true → AreRight m.left m.count t → is_tree_fit m.count t ≡ false }

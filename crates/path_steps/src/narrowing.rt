@@ -33,7 +33,7 @@ fn narrow_below<D: Domain>(
     Ok(())
 }
 
-/// What a term and the upper end of the rest of its form narrow.
+/// Narrows the symbol of a term with coefficient 1 or -1 in a form that is at least 0, where the rest of the form is at most `high`.
 fn narrow_by<D: Domain>(
     path: &mut Path<D>,
     term: Term,
@@ -51,7 +51,7 @@ fn narrow_by<D: Domain>(
     Ok(())
 }
 
-/// What a term of a form that is at least 0 narrows.
+/// Narrows the symbol of one term of a form that is at least 0, by the upper end of the form's other terms.
 fn narrow_one<D: Domain>(
     setting: &Setting<D>,
     path: &mut Path<D>,
@@ -68,7 +68,7 @@ fn narrow_one<D: Domain>(
     }
 }
 
-/// What a form that is at least 0 narrows, symbol by symbol.
+/// Narrows the symbols of a form that is at least 0, one after another.
 pub fn narrow<D: Domain>(
     setting: &Setting<D>,
     path: &mut Path<D>,

@@ -8,9 +8,9 @@ use core_code::tree::{Array, Site};
 use linear::{Form, Symbol};
 use words::Kind;
 
-/// What is to be shown: an end of a kind's range, a place in an array, that a divisor is not 0, that a quotient is an `int`, that a
-/// loop's ranking is as it was said, that a fact or a congruence of a place holds where an item comes to it; of two items, that they do
-/// not meet in an element, that they have a variable alike at a barrier, or that they do not come to two stops.
+/// The sorts of obligations: an end of a kind's range, a place in an array, that a divisor is not 0, that a quotient is an `int`, that a
+/// loop's ranking is as it was said, that a fact or a congruence of a place holds where an item comes to it; of two items, that they do not
+/// meet in an element, that they have a variable alike at a barrier, or that they do not come to two stops.
 #[derive(Clone, Copy)]
 pub enum Sort {
     OfRange(Kind),
@@ -40,8 +40,9 @@ pub struct Target {
     pub spot: Spot,
 }
 
-/// That a form is at least 0; of a divisor, that one of two is: one where it is positive, one where it is negative; of what is said of a
-/// place or a loop, that a form is at least 0 that is put together of others; of a congruence likewise, with a quotient that is named.
+/// The goal of a claim: that a form is at least 0; of a divisor, that one of two is, one where it is positive, one where it is negative; of
+/// what is said of a place or a loop, that a form is at least 0 that is put together of others; of a congruence likewise, with a quotient
+/// that is named.
 #[derive(Drop)]
 pub enum Goal {
     AtLeastZero(Form),
@@ -50,8 +51,8 @@ pub enum Goal {
     Divided { made: Vec<Form>, form: Form },
 }
 
-/// What is to be shown, with the number of the item's facts before it. An obligation that is not needed is shown only where it has an
-/// entry.
+/// A claim: what is to be shown of one item, with the number of the item's facts before it. One that is not needed is shown only where it
+/// has an entry.
 #[derive(Drop)]
 pub struct Claim {
     pub sort: Sort,
@@ -100,14 +101,14 @@ pub struct Value {
     pub form: Form,
 }
 
-/// What ranked a loop, by its number, when its test was last true.
+/// The value of a loop's ranking when its test was last true, with the loop's number.
 #[derive(Drop)]
 pub struct Ranked {
     pub number: u32,
     pub form: Form,
 }
 
-/// Where an item stops: at a barrier, at the head of a loop that has turned or has not, or at its end.
+/// The point at which an item stops: a barrier, the head of a loop that has turned (`again`) or has not, or the end of the kernel.
 #[derive(Clone, Copy)]
 pub enum Stop {
     Barrier(u32),
@@ -115,7 +116,7 @@ pub enum Stop {
     End,
 }
 
-/// Where a path stops, with the loops that turned since the anchor, where that is one list, the variables there, and the numbers of the
+/// The end of a path: its stop, the loops that turned since the anchor, where that is one list, the variables there, and the numbers of the
 /// item's facts, new symbols and narrowed elements.
 #[derive(Drop)]
 pub struct Arrived {
@@ -127,8 +128,8 @@ pub struct Arrived {
     pub narrowed: usize,
 }
 
-/// What an item finds along a path, and where its walk stands. The choices that were given are taken first, and nothing is noted before
-/// the last of them.
+/// A path of one item, with all that is found along it, and where its walk stands. The choices that were given are taken first, and nothing
+/// is noted before the last of them.
 #[derive(Drop)]
 pub struct Path<D> {
     pub facts: Vec<Form>,

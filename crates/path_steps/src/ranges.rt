@@ -31,7 +31,7 @@ pub fn claim_form<D: Domain>(
     needed: bool,
     form: Form,
 ) -> Result<(), WalkError>
-    ensures { MatchResult result (λ _. Steps (followed path.old) (followed path.new) (walks.claim_form (seen D.Domain setting.now) (sort_seen sort) needed (form_seen form))) (λ e. StopsAtStep ⊥ (followed path.old) e (walks.claim_form (seen D.Domain setting.now) (sort_seen sort) needed (form_seen form))) }
+    ensures { MatchResult result (λ _. Steps (followed path.old) (followed path.new) (walks.claim_form (seen D.Domain setting.now) (sort_seen sort) needed (form_seen form))) (λ e. StopsAtStep (followed path.old) e (walks.claim_form (seen D.Domain setting.now) (sort_seen sort) needed (form_seen form))) }
 {
     let settled = settles(setting, path, &form);
     path.claim(sort, needed, settled, Goal::AtLeastZero(form))?;
@@ -39,7 +39,7 @@ pub fn claim_form<D: Domain>(
 }
 
 #[tactic(auto, unfolding(crate::specs::View::followed))]
-/// How many new symbols there are.
+/// The number of new symbols on a path.
 fn count_of_news<D: Copy>(path: &Path<D>) -> usize
     ensures exact { result ≡ length (followed path.now).state.held.news }
     ensures small { result < 2 ^ 60 }
@@ -54,7 +54,7 @@ pub fn invent<D: Domain>(
     path: &mut Path<D>,
     element: D,
 ) -> Result<Form, WalkError>
-    ensures leads { MatchResult result (λ f. Leads (followed path.old) (followed path.new) (walks.invent (seen D.Domain setting.now) element) (form_seen f)) (λ e. Stops ⊥ (followed path.old) e (walks.invent (seen D.Domain setting.now) element)) }
+    ensures leads { MatchResult result (λ f. Leads (followed path.old) (followed path.new) (walks.invent (seen D.Domain setting.now) element) (form_seen f)) (λ e. Stops (followed path.old) e (walks.invent (seen D.Domain setting.now) element)) }
     ensures small { IfOk result (λ f. size (form_seen f) ≡ 1) }
 {
     let index = count_of_news(path);
@@ -66,7 +66,7 @@ pub fn invent<D: Domain>(
     Ok(newest)
 }
 
-/// Any number of a kind.
+/// The element of all numbers of a kind.
 pub fn any_of<D: Domain>(kind: Kind) -> D
     ensures { result ≡ walks.any_of D.Domain (kind_seen kind) }
 {
@@ -83,7 +83,7 @@ pub fn unknown<D: Domain>(
     path: &mut Path<D>,
     kind: Kind,
 ) -> Result<Value, WalkError>
-    ensures { MatchResult result (λ v. Leads (followed path.old) (followed path.new) (walks.unknown (seen D.Domain setting.now) (kind_seen kind)) (value_seen v)) (λ e. Stops ⊥ (followed path.old) e (walks.unknown (seen D.Domain setting.now) (kind_seen kind))) }
+    ensures { MatchResult result (λ v. Leads (followed path.old) (followed path.new) (walks.unknown (seen D.Domain setting.now) (kind_seen kind)) (value_seen v)) (λ e. Stops (followed path.old) e (walks.unknown (seen D.Domain setting.now) (kind_seen kind))) }
 {
     let form = invent(alloc, setting, path, any_of(kind))?;
     Ok(Value { kind, form })
@@ -98,7 +98,7 @@ fn know_low<D: Copy>(
 ) -> Result<(), WalkError>
     ensures leads { IfOk result (λ _. (more : List Fact) (rest : Tree D) → collect (followed path.old).found (walks.know_all (walks.lower_fact (form_seen of.now) low more) rest) ≡ collect (followed path.new).found (walks.know_all more rest)) }
     ensures state { IfOk result (λ _. (followed path.new).state ≡ (followed path.old).state) }
-    ensures refused { IfErr result (λ e. (more : List Fact) (rest : Tree D) → Refused ⊥ e (collect (followed path.old).found (walks.know_all (walks.lower_fact (form_seen of.now) low more) rest))) }
+    ensures refused { IfErr result (λ e. (more : List Fact) (rest : Tree D) → Refused e (collect (followed path.old).found (walks.know_all (walks.lower_fact (form_seen of.now) low more) rest))) }
 {
     if let Some(low) = low {
         let fact = less_number(alloc, of, low)?;
@@ -116,7 +116,7 @@ fn know_high<D: Copy>(
 ) -> Result<(), WalkError>
     ensures leads { IfOk result (λ _. (rest : Tree D) → collect (followed path.old).found (walks.know_all (walks.upper_fact (form_seen of.now) high) rest) ≡ collect (followed path.new).found rest) }
     ensures state { IfOk result (λ _. (followed path.new).state ≡ (followed path.old).state) }
-    ensures refused { IfErr result (λ e. (rest : Tree D) → Refused ⊥ e (collect (followed path.old).found (walks.know_all (walks.upper_fact (form_seen of.now) high) rest))) }
+    ensures refused { IfErr result (λ e. (rest : Tree D) → Refused e (collect (followed path.old).found (walks.know_all (walks.upper_fact (form_seen of.now) high) rest))) }
 {
     if let Some(high) = high {
         let fact = number_less(alloc, high, of)?;
@@ -144,7 +144,7 @@ fn in_range<D: Domain>(
     kind: Kind,
     form: &Form,
 ) -> Result<(), WalkError>
-    ensures { MatchResult result (λ _. Steps (followed path.old) (followed path.new) (walks.in_range (seen D.Domain setting.now) needed (kind_seen kind) (form_seen form.now))) (λ e. StopsAtStep ⊥ (followed path.old) e (walks.in_range (seen D.Domain setting.now) needed (kind_seen kind) (form_seen form.now))) }
+    ensures { MatchResult result (λ _. Steps (followed path.old) (followed path.new) (walks.in_range (seen D.Domain setting.now) needed (kind_seen kind) (form_seen form.now))) (λ e. StopsAtStep (followed path.old) e (walks.in_range (seen D.Domain setting.now) needed (kind_seen kind) (form_seen form.now))) }
 {
     let low = low_end(alloc, kind, form)?;
     let high = high_end(alloc, kind, form)?;
@@ -174,7 +174,7 @@ fn high_end(alloc: Global, kind: Kind, of: &Form) -> Result<Form, WalkError>
 }
 
 #[tactic(auto, unfolding(crate::specs::View::followed))]
-/// Both claims of a `uint` are settled or have an entry.
+/// The two claims that a form is in the range of `uint` are each settled by the domain or have an entry.
 fn is_kept<D: Domain>(
     alloc: Global,
     setting: &Setting<D>,
@@ -191,7 +191,7 @@ fn is_kept<D: Domain>(
     Ok(keeps_low && keeps_high)
 }
 
-/// An exact result in its kind.
+/// An exact result as a value of its kind: an `int` is claimed to be in range, a `uint` that may not be is a new symbol.
 pub fn ranged<D: Domain>(
     alloc: Global,
     setting: &Setting<D>,
@@ -199,7 +199,7 @@ pub fn ranged<D: Domain>(
     kind: Kind,
     form: Form,
 ) -> Result<Value, WalkError>
-    ensures { MatchResult result (λ v. Leads (followed path.old) (followed path.new) (walks.ranged (seen D.Domain setting.now) (kind_seen kind) (form_seen form)) (value_seen v)) (λ e. Stops ⊥ (followed path.old) e (walks.ranged (seen D.Domain setting.now) (kind_seen kind) (form_seen form))) }
+    ensures { MatchResult result (λ v. Leads (followed path.old) (followed path.new) (walks.ranged (seen D.Domain setting.now) (kind_seen kind) (form_seen form)) (value_seen v)) (λ e. Stops (followed path.old) e (walks.ranged (seen D.Domain setting.now) (kind_seen kind) (form_seen form))) }
 {
     match kind {
         Kind::Int => {
@@ -217,7 +217,7 @@ fn ranged_uint<D: Domain>(
     path: &mut Path<D>,
     form: Form,
 ) -> Result<Value, WalkError>
-    ensures { MatchResult result (λ v. Leads (followed path.old) (followed path.new) (walks.ranged (seen D.Domain setting.now) Uint (form_seen form)) (value_seen v)) (λ e. Stops ⊥ (followed path.old) e (walks.ranged (seen D.Domain setting.now) Uint (form_seen form))) }
+    ensures { MatchResult result (λ v. Leads (followed path.old) (followed path.new) (walks.ranged (seen D.Domain setting.now) Uint (form_seen form)) (value_seen v)) (λ e. Stops (followed path.old) e (walks.ranged (seen D.Domain setting.now) Uint (form_seen form))) }
 {
     let kept = is_kept(alloc, setting, path, &form)?;
     in_range(alloc, setting, path, kept, Kind::Uint, &form)?;
@@ -238,7 +238,7 @@ pub fn brought<D: Domain>(
     kind: Kind,
     value: Value,
 ) -> Result<Value, WalkError>
-    ensures { MatchResult result (λ v. Leads (followed path.old) (followed path.new) (walks.brought (seen D.Domain setting.now) (kind_seen kind) (value_seen value)) (value_seen v)) (λ e. Stops ⊥ (followed path.old) e (walks.brought (seen D.Domain setting.now) (kind_seen kind) (value_seen value))) }
+    ensures { MatchResult result (λ v. Leads (followed path.old) (followed path.new) (walks.brought (seen D.Domain setting.now) (kind_seen kind) (value_seen value)) (value_seen v)) (λ e. Stops (followed path.old) e (walks.brought (seen D.Domain setting.now) (kind_seen kind) (value_seen value))) }
 {
     match (kind, value.kind) {
         (Kind::Int, Kind::Int) => Ok(value),
@@ -257,7 +257,7 @@ pub fn both_brought<D: Domain>(
     left: Value,
     right: Value,
 ) -> Result<(Value, Value), WalkError>
-    ensures { MatchResult result (λ v. LeadsTwo (followed path.old) (followed path.new) (walks.both_brought (seen D.Domain setting.now) (kind_seen kind) (value_seen left) (value_seen right)) (value_seen v.0) (value_seen v.1)) (λ e. StopsTwo ⊥ (followed path.old) e (walks.both_brought (seen D.Domain setting.now) (kind_seen kind) (value_seen left) (value_seen right))) }
+    ensures { MatchResult result (λ v. LeadsTwo (followed path.old) (followed path.new) (walks.both_brought (seen D.Domain setting.now) (kind_seen kind) (value_seen left) (value_seen right)) (value_seen v.0) (value_seen v.1)) (λ e. StopsTwo (followed path.old) e (walks.both_brought (seen D.Domain setting.now) (kind_seen kind) (value_seen left) (value_seen right))) }
 {
     let first = brought(alloc, setting, path, kind, left)?;
     let second = brought(alloc, setting, path, kind, right)?;

@@ -4,8 +4,8 @@ use core_code::tree::LocalArray;
 use facts::Known;
 use words::Kind;
 
-/// What the domain knows, the local sizes, the kinds of the buffers, the local arrays, and, by its number, whether an obligation has an
-/// entry.
+/// The setting of a walk: what the domain knows, the local sizes, the kinds of the buffers, the local arrays, and, by its number, whether
+/// an obligation has an entry.
 #[derive(Drop)]
 pub struct Setting<D> {
     pub known: Known<D>,

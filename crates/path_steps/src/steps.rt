@@ -20,7 +20,7 @@ use std::alloc::Global;
 
 impl<D: Copy> Path<D> {
     #[tactic(auto, unfolding(crate::specs::View::followed))]
-    /// With these facts and variables, before the first step along these choices.
+    /// A path with these facts and variables, before its first step along these choices.
     pub fn opening(
         alloc: Global,
         facts: Vec<Form>,
@@ -49,7 +49,7 @@ impl<D: Copy> Path<D> {
     }
 
     #[tactic(auto, unfolding(crate::specs::View::followed))]
-    /// The walk stands there.
+    /// Puts the walk at a place in the source.
     pub fn stand(&mut self, spot: Spot)
         ensures { followed self.new ≡ with_spot (followed self.old) (spot_seen spot) }
     {
@@ -57,7 +57,7 @@ impl<D: Copy> Path<D> {
     }
 
     #[tactic(auto, unfolding(crate::specs::View::followed))]
-    /// At this site of its statement.
+    /// The place of a site in the statement at which the walk stands.
     pub fn spot_at(&self, site: Site) -> Spot
         ensures { spot_seen result ≡ spot_at (site_seen site) (followed self.now).state }
     {
@@ -67,7 +67,7 @@ impl<D: Copy> Path<D> {
         }
     }
 
-    /// No choice is left.
+    /// All choices that were given are taken, so that what is found now is noted.
     pub(crate) fn is_new(&self) -> bool
         ensures { result ≡ is_none (followed self.now).found.left }
     {
@@ -82,7 +82,7 @@ impl<D: Copy> Path<D> {
         settled: bool,
         goal: Goal,
     ) -> Result<(), WalkError>
-        ensures { MatchResult result (λ _. followed self.new ≡ with_claim (followed self.old) (sort_seen sort) needed settled (goal_seen goal)) (λ e. Refused ⊥ e (with_claim (followed self.old) (sort_seen sort) needed settled (goal_seen goal)).found) }
+        ensures { MatchResult result (λ _. followed self.new ≡ with_claim (followed self.old) (sort_seen sort) needed settled (goal_seen goal)) (λ e. Refused e (with_claim (followed self.old) (sort_seen sort) needed settled (goal_seen goal)).found) }
     {
         if self.count >= 65_536 {
             return Err(WalkError::TooMany);
@@ -104,7 +104,7 @@ impl<D: Copy> Path<D> {
         Ok(())
     }
 
-    /// One fact more.
+    /// Adds a fact to those that the item knows.
     pub fn know(&mut self, fact: Form) -> Result<(), WalkError>
         ensures { MatchResult result (λ _. followed self.new ≡ with_fact (followed self.old) (form_seen fact)) IsMemory }
     {
@@ -112,7 +112,7 @@ impl<D: Copy> Path<D> {
         Ok(())
     }
 
-    /// One new symbol more.
+    /// Adds a new symbol with its element, made where the walk stands.
     pub fn invent(&mut self, element: D) -> Result<(), WalkError>
         ensures { MatchResult result (λ _. followed self.new ≡ with_element (followed self.old) element) IsMemory }
     {
@@ -131,7 +131,7 @@ impl<D: Copy> Path<D> {
         Ok(())
     }
 
-    /// One access more.
+    /// Notes an access with the path's facts, new symbols and narrowed elements so far, unless the given choices are still being taken.
     pub fn touch(&mut self, target: Target, index: Form) -> Result<(), WalkError>
         ensures { MatchResult result (λ _. followed self.new ≡ with_access (followed self.old) (target_seen target) (form_seen index)) IsMemory }
     {

@@ -24,7 +24,7 @@ use facts::{WalkError, less_number, number_less};
 use linear::Form;
 use std::alloc::Global;
 
-/// A form without terms.
+/// The form has no terms, so that it is a number.
 pub fn is_number(form: &Form) -> bool
     ensures { result ≡ walks.is_number (form_seen form.now) }
 {
@@ -47,7 +47,7 @@ fn is_dead(form: &Form) -> bool
 
 /// A fact of a test, which narrows.
 fn know_test<D: Domain>(setting: &Setting<D>, path: &mut Path<D>, fact: Form) -> Result<(), Halt>
-    ensures { MatchResult result (λ _. Steps (followed path.old) (followed path.new) (walks.know_test (seen D.Domain setting.now) (form_seen fact))) (λ h. HaltsAtStep ⊥ (followed path.old) (followed path.new) h (walks.know_test (seen D.Domain setting.now) (form_seen fact))) }
+    ensures { MatchResult result (λ _. Steps (followed path.old) (followed path.new) (walks.know_test (seen D.Domain setting.now) (form_seen fact))) (λ h. HaltsAtStep (followed path.old) (followed path.new) h (walks.know_test (seen D.Domain setting.now) (form_seen fact))) }
 {
     if is_dead(&fact) {
         return Err(Halt::Dead);
@@ -77,7 +77,7 @@ fn below(alloc: Global, left: &Form, right: &Form) -> Result<Form, WalkError>
     difference(alloc, &most, left)
 }
 
-/// What holds on a way of a comparison.
+/// The fact that begins a way of a comparison; of `==` and `!=`, the two ways on which the values differ.
 fn side_fact(
     alloc: Global,
     relation: Relation,
@@ -107,7 +107,7 @@ fn know_side<D: Domain>(
     left: &Form,
     right: &Form,
 ) -> Result<(), Halt>
-    ensures { MatchResult result (λ _. Steps (followed path.old) (followed path.new) (walks.know_test (seen D.Domain setting.now) (side (relation_seen relation) first (form_seen left.now) (form_seen right.now)))) (λ h. HaltsAtStep ⊥ (followed path.old) (followed path.new) h (walks.know_test (seen D.Domain setting.now) (side (relation_seen relation) first (form_seen left.now) (form_seen right.now)))) }
+    ensures { MatchResult result (λ _. Steps (followed path.old) (followed path.new) (walks.know_test (seen D.Domain setting.now) (side (relation_seen relation) first (form_seen left.now) (form_seen right.now)))) (λ h. HaltsAtStep (followed path.old) (followed path.new) h (walks.know_test (seen D.Domain setting.now) (side (relation_seen relation) first (form_seen left.now) (form_seen right.now)))) }
 {
     let fact = side_fact(alloc, relation, first, left, right)?;
     know_test(setting, path, fact)
@@ -121,7 +121,7 @@ fn know_equal<D: Domain>(
     left: &Form,
     right: &Form,
 ) -> Result<(), Halt>
-    ensures { MatchResult result (λ _. Steps (followed path.old) (followed path.new) (walks.know_two (seen D.Domain setting.now) (minus (form_seen left.now) (form_seen right.now)) (minus (form_seen right.now) (form_seen left.now)))) (λ h. HaltsAtStep ⊥ (followed path.old) (followed path.new) h (walks.know_two (seen D.Domain setting.now) (minus (form_seen left.now) (form_seen right.now)) (minus (form_seen right.now) (form_seen left.now)))) }
+    ensures { MatchResult result (λ _. Steps (followed path.old) (followed path.new) (walks.know_two (seen D.Domain setting.now) (minus (form_seen left.now) (form_seen right.now)) (minus (form_seen right.now) (form_seen left.now)))) (λ h. HaltsAtStep (followed path.old) (followed path.new) h (walks.know_two (seen D.Domain setting.now) (minus (form_seen left.now) (form_seen right.now)) (minus (form_seen right.now) (form_seen left.now)))) }
 {
     know_side(alloc, setting, path, Relation::AtLeast, true, left, right)?;
     know_side(alloc, setting, path, Relation::AtLeast, true, right, left)
@@ -136,7 +136,7 @@ fn split_sides<D: Domain>(
     left: &Form,
     right: &Form,
 ) -> Result<bool, Halt>
-    ensures { MatchResult result (λ b. Leads (followed path.old) (followed path.new) (split_sides (seen D.Domain setting.now) (relation_seen relation) (form_seen left.now) (form_seen right.now)) b) (λ h. Halts ⊥ (followed path.old) (followed path.new) h (split_sides (seen D.Domain setting.now) (relation_seen relation) (form_seen left.now) (form_seen right.now))) }
+    ensures { MatchResult result (λ b. Leads (followed path.old) (followed path.new) (split_sides (seen D.Domain setting.now) (relation_seen relation) (form_seen left.now) (form_seen right.now)) b) (λ h. Halts (followed path.old) (followed path.new) h (split_sides (seen D.Domain setting.now) (relation_seen relation) (form_seen left.now) (form_seen right.now))) }
 {
     let first = path.choose()?;
     know_side(alloc, setting, path, relation, first, left, right)?;
@@ -151,7 +151,7 @@ fn split_equal<D: Domain>(
     left: &Form,
     right: &Form,
 ) -> Result<bool, Halt>
-    ensures { MatchResult result (λ b. Leads (followed path.old) (followed path.new) (tests.split (seen D.Domain setting.now) Equal (form_seen left.now) (form_seen right.now)) b) (λ h. Halts ⊥ (followed path.old) (followed path.new) h (tests.split (seen D.Domain setting.now) Equal (form_seen left.now) (form_seen right.now))) }
+    ensures { MatchResult result (λ b. Leads (followed path.old) (followed path.new) (tests.split (seen D.Domain setting.now) Equal (form_seen left.now) (form_seen right.now)) b) (λ h. Halts (followed path.old) (followed path.new) h (tests.split (seen D.Domain setting.now) Equal (form_seen left.now) (form_seen right.now))) }
 {
     if path.choose()? {
         know_equal(alloc, setting, path, left, right)?;
@@ -170,7 +170,7 @@ fn split_unequal<D: Domain>(
     left: &Form,
     right: &Form,
 ) -> Result<bool, Halt>
-    ensures { MatchResult result (λ b. Leads (followed path.old) (followed path.new) (tests.split (seen D.Domain setting.now) Unequal (form_seen left.now) (form_seen right.now)) b) (λ h. Halts ⊥ (followed path.old) (followed path.new) h (tests.split (seen D.Domain setting.now) Unequal (form_seen left.now) (form_seen right.now))) }
+    ensures { MatchResult result (λ b. Leads (followed path.old) (followed path.new) (tests.split (seen D.Domain setting.now) Unequal (form_seen left.now) (form_seen right.now)) b) (λ h. Halts (followed path.old) (followed path.new) h (tests.split (seen D.Domain setting.now) Unequal (form_seen left.now) (form_seen right.now))) }
 {
     if path.choose()? {
         know_side(alloc, setting, path, Relation::Unequal, true, left, right)?;
@@ -193,7 +193,7 @@ pub fn split<D: Domain>(
     left: &Form,
     right: &Form,
 ) -> Result<bool, Halt>
-    ensures { MatchResult result (λ b. Leads (followed path.old) (followed path.new) (tests.split (seen D.Domain setting.now) (relation_seen relation) (form_seen left.now) (form_seen right.now)) b) (λ h. Halts ⊥ (followed path.old) (followed path.new) h (tests.split (seen D.Domain setting.now) (relation_seen relation) (form_seen left.now) (form_seen right.now))) }
+    ensures { MatchResult result (λ b. Leads (followed path.old) (followed path.new) (tests.split (seen D.Domain setting.now) (relation_seen relation) (form_seen left.now) (form_seen right.now)) b) (λ h. Halts (followed path.old) (followed path.new) h (tests.split (seen D.Domain setting.now) (relation_seen relation) (form_seen left.now) (form_seen right.now))) }
 {
     match relation {
         Relation::Less => split_sides(alloc, setting, path, Relation::Less, left, right),
@@ -205,7 +205,7 @@ pub fn split<D: Domain>(
     }
 }
 
-/// The same form again.
+/// A copy of a form.
 pub fn copied(alloc: Global, form: &Form) -> Result<Form, WalkError>
     ensures { MatchResult result (λ f. form_seen f ≡ form_seen form.now) IsMemory }
 {
@@ -213,7 +213,7 @@ pub fn copied(alloc: Global, form: &Form) -> Result<Form, WalkError>
     Ok(copy)
 }
 
-/// A form's negation.
+/// The negation of a form; an error where a number is too large for `i64`.
 pub fn negated(alloc: Global, form: &Form) -> Result<Form, WalkError>
     ensures { MatchResult result (λ f. form_seen f ≡ multiple (negsuc 0) (form_seen form.now)) (λ e. IsUnfit e (multiple (negsuc 0) (form_seen form.now))) }
 {
@@ -221,27 +221,27 @@ pub fn negated(alloc: Global, form: &Form) -> Result<Form, WalkError>
     Ok(negation)
 }
 
-/// A form is above 0.
+/// Goes on where a form is above 0: that is known, and the domain is narrowed by it.
 fn know_above<D: Domain>(
     alloc: Global,
     setting: &Setting<D>,
     path: &mut Path<D>,
     form: &Form,
 ) -> Result<(), Halt>
-    ensures { MatchResult result (λ _. Steps (followed path.old) (followed path.new) (walks.know_test (seen D.Domain setting.now) (minus (form_seen form.now) (constant (pos 1))))) (λ h. HaltsAtStep ⊥ (followed path.old) (followed path.new) h (walks.know_test (seen D.Domain setting.now) (minus (form_seen form.now) (constant (pos 1))))) }
+    ensures { MatchResult result (λ _. Steps (followed path.old) (followed path.new) (walks.know_test (seen D.Domain setting.now) (minus (form_seen form.now) (constant (pos 1))))) (λ h. HaltsAtStep (followed path.old) (followed path.new) h (walks.know_test (seen D.Domain setting.now) (minus (form_seen form.now) (constant (pos 1))))) }
 {
     let fact = less_number(alloc, form, 1)?;
     know_test(setting, path, fact)
 }
 
-/// A form is below 0.
+/// Goes on where a form is below 0: that is known, and the domain is narrowed by it.
 fn know_below<D: Domain>(
     alloc: Global,
     setting: &Setting<D>,
     path: &mut Path<D>,
     form: &Form,
 ) -> Result<(), Halt>
-    ensures { MatchResult result (λ _. Steps (followed path.old) (followed path.new) (walks.know_test (seen D.Domain setting.now) (minus (constant (negsuc 0)) (form_seen form.now)))) (λ h. HaltsAtStep ⊥ (followed path.old) (followed path.new) h (walks.know_test (seen D.Domain setting.now) (minus (constant (negsuc 0)) (form_seen form.now)))) }
+    ensures { MatchResult result (λ _. Steps (followed path.old) (followed path.new) (walks.know_test (seen D.Domain setting.now) (minus (constant (negsuc 0)) (form_seen form.now)))) (λ h. HaltsAtStep (followed path.old) (followed path.new) h (walks.know_test (seen D.Domain setting.now) (minus (constant (negsuc 0)) (form_seen form.now)))) }
 {
     let fact = number_less(alloc, -1, form)?;
     know_test(setting, path, fact)
@@ -254,7 +254,7 @@ fn know_form<D: Domain>(
     path: &mut Path<D>,
     form: &Form,
 ) -> Result<(), Halt>
-    ensures { MatchResult result (λ _. Steps (followed path.old) (followed path.new) (walks.know_test (seen D.Domain setting.now) (form_seen form.now))) (λ h. HaltsAtStep ⊥ (followed path.old) (followed path.new) h (walks.know_test (seen D.Domain setting.now) (form_seen form.now))) }
+    ensures { MatchResult result (λ _. Steps (followed path.old) (followed path.new) (walks.know_test (seen D.Domain setting.now) (form_seen form.now))) (λ h. HaltsAtStep (followed path.old) (followed path.new) h (walks.know_test (seen D.Domain setting.now) (form_seen form.now))) }
 {
     let fact = copied(alloc, form)?;
     know_test(setting, path, fact)
@@ -267,7 +267,7 @@ fn know_negated<D: Domain>(
     path: &mut Path<D>,
     form: &Form,
 ) -> Result<(), Halt>
-    ensures { MatchResult result (λ _. Steps (followed path.old) (followed path.new) (walks.know_test (seen D.Domain setting.now) (multiple (negsuc 0) (form_seen form.now)))) (λ h. HaltsAtStep ⊥ (followed path.old) (followed path.new) h (walks.know_test (seen D.Domain setting.now) (multiple (negsuc 0) (form_seen form.now)))) }
+    ensures { MatchResult result (λ _. Steps (followed path.old) (followed path.new) (walks.know_test (seen D.Domain setting.now) (multiple (negsuc 0) (form_seen form.now)))) (λ h. HaltsAtStep (followed path.old) (followed path.new) h (walks.know_test (seen D.Domain setting.now) (multiple (negsuc 0) (form_seen form.now)))) }
 {
     let fact = negated(alloc, form)?;
     know_test(setting, path, fact)
@@ -280,7 +280,7 @@ fn know_zero<D: Domain>(
     path: &mut Path<D>,
     form: &Form,
 ) -> Result<(), Halt>
-    ensures { MatchResult result (λ _. Steps (followed path.old) (followed path.new) (walks.know_two (seen D.Domain setting.now) (form_seen form.now) (multiple (negsuc 0) (form_seen form.now)))) (λ h. HaltsAtStep ⊥ (followed path.old) (followed path.new) h (walks.know_two (seen D.Domain setting.now) (form_seen form.now) (multiple (negsuc 0) (form_seen form.now)))) }
+    ensures { MatchResult result (λ _. Steps (followed path.old) (followed path.new) (walks.know_two (seen D.Domain setting.now) (form_seen form.now) (multiple (negsuc 0) (form_seen form.now)))) (λ h. HaltsAtStep (followed path.old) (followed path.new) h (walks.know_two (seen D.Domain setting.now) (form_seen form.now) (multiple (negsuc 0) (form_seen form.now)))) }
 {
     know_form(alloc, setting, path, form)?;
     know_negated(alloc, setting, path, form)
@@ -293,7 +293,7 @@ pub fn split_number<D: Domain>(
     path: &mut Path<D>,
     form: &Form,
 ) -> Result<bool, Halt>
-    ensures { MatchResult result (λ b. Leads (followed path.old) (followed path.new) (tests.split_number (seen D.Domain setting.now) (form_seen form.now)) b) (λ h. Halts ⊥ (followed path.old) (followed path.new) h (tests.split_number (seen D.Domain setting.now) (form_seen form.now))) }
+    ensures { MatchResult result (λ b. Leads (followed path.old) (followed path.new) (tests.split_number (seen D.Domain setting.now) (form_seen form.now)) b) (λ h. Halts (followed path.old) (followed path.new) h (tests.split_number (seen D.Domain setting.now) (form_seen form.now))) }
 {
     if path.choose()? {
         know_above(alloc, setting, path, form)?;

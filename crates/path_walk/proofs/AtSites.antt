@@ -26,8 +26,8 @@ module _ {E A : Type 0} (walk : State E → (A → State E → Tree E) → Tree 
   pub site_leads : (v : A) → Leads m n walk v → Leads l n (λ st go. walk (at_site site st) go) v
   site_leads v h = subst (λ u. Leads u n walk v) d h
 
-  pub site_stops : {T : Type 0} (view : T → A) (r : Result T Halt) (e : WalkError) → IsErr r × IsErrAnd r (λ h. h ≡ halts.Refused e) → Stops ⊥ m e walk → Says l n (λ st go. walk (at_site site st) go) view r
-  site_stops view r e i h = halted r (halts.Refused e) _ _ i (subst (λ u. Stops ⊥ u e walk) d h)
+  pub site_stops : {T : Type 0} (view : T → A) (r : Result T Halt) (e : WalkError) → IsErr r × IsErrAnd r (λ h. h ≡ halts.Refused e) → Stops m e walk → Says l n (λ st go. walk (at_site site st) go) view r
+  site_stops view r e i h = halted r (halts.Refused e) _ _ i (subst (λ u. Stops u e walk) d h)
 
 -- an operator with two
 module _ {E : Type 0} (s : Setting E) (op : Operator) (k : Kind) (site : Site) (x y x' y' : Value) (l m n o : Followed E) where
@@ -39,10 +39,10 @@ module _ {E : Type 0} (s : Setting E) (op : Operator) (k : Kind) (site : Site) (
   pub binary_leads : (v : Value) → m ≡ with_spot l (spot_at site l.state) → LeadsTwo m n (both_brought s k x y) x' y' → Leads n o (binary s op k x'.form y'.form) v → Leads l o (binary_at s op k site x y) v
   binary_leads v d a b go = both d a go ∙ b go
 
-  pub binary_stops : {T : Type 0} (view : T → Value) (r : Result T Halt) (e : WalkError) → m ≡ with_spot l (spot_at site l.state) → IsErr r × IsErrAnd r (λ h. h ≡ halts.Refused e) → LeadsTwo m n (both_brought s k x y) x' y' → Stops ⊥ n e (binary s op k x'.form y'.form) → Says l o (binary_at s op k site x y) view r
-  binary_stops view r e d i a b = halted r (halts.Refused e) _ _ i (λ go. refused_from ⊥ e _ _ (both d a go) (b go))
+  pub binary_stops : {T : Type 0} (view : T → Value) (r : Result T Halt) (e : WalkError) → m ≡ with_spot l (spot_at site l.state) → IsErr r × IsErrAnd r (λ h. h ≡ halts.Refused e) → LeadsTwo m n (both_brought s k x y) x' y' → Stops n e (binary s op k x'.form y'.form) → Says l o (binary_at s op k site x y) view r
+  binary_stops view r e d i a b = halted r (halts.Refused e) _ _ i (λ go. refused_from e _ _ (both d a go) (b go))
 
-pub both_stop : {E T : Type 0} (s : Setting E) (op : Operator) (k : Kind) (site : Site) (x y : Value) (l m n : Followed E) (view : T → Value) (r : Result T Halt) (e : WalkError) → m ≡ with_spot l (spot_at site l.state) → IsErr r × IsErrAnd r (λ h. h ≡ halts.Refused e) → StopsTwo ⊥ m e (both_brought s k x y) → Says l n (binary_at s op k site x y) view r
+pub both_stop : {E T : Type 0} (s : Setting E) (op : Operator) (k : Kind) (site : Site) (x y : Value) (l m n : Followed E) (view : T → Value) (r : Result T Halt) (e : WalkError) → m ≡ with_spot l (spot_at site l.state) → IsErr r × IsErrAnd r (λ h. h ≡ halts.Refused e) → StopsTwo m e (both_brought s k x y) → Says l n (binary_at s op k site x y) view r
 both_stop {E} s op k site x y l m n view r e d i h =
     let walk : State E → Onward E → Tree E = λ st go. both_brought s k x y st (λ v w st'. binary s op k v.form w.form st' go) in
     site_stops walk site l m n d view r e i (λ go. h (λ v w st. binary s op k v.form w.form st go))
@@ -52,5 +52,5 @@ module _ {E : Type 0} (s : Setting E) (x y second first : Value) (l m : Followed
   pub picks : (b c : Bool) → Leads l m (split s Less x.form y.form) b → b ≡ c → Leads l m (pick s x y second first) (chosen c second first)
   picks b c a d go = a (λ h st. go (chosen h second first) st) ∙ ap (λ h. collect m.found (go (chosen h second first) m.state)) d
 
-  pub pick_halts : {T : Type 0} (view : T → Value) (r : Result T Halt) (h : Halt) → IsErr r × IsErrAnd r (λ e. e ≡ h) → Halts ⊥ l m h (split s Less x.form y.form) → Says l m (pick s x y second first) view r
+  pub pick_halts : {T : Type 0} (view : T → Value) (r : Result T Halt) (h : Halt) → IsErr r × IsErrAnd r (λ e. e ≡ h) → Halts l m h (split s Less x.form y.form) → Says l m (pick s x y second first) view r
   pick_halts view r h i a = halted r h _ _ i (λ go. a (λ b st. go (chosen b second first) st))

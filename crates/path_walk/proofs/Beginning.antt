@@ -40,19 +40,19 @@ module _ {E : Type 0} (p : Placed E) (b v : Statements) (s : Statement) (l m n o
   in_front around = ap (λ c. flows Through c t l) (courses_join p b (join v (turning s ∷ around)) ∙ ap (fronted p b) (courses_join p v (turning s ∷ around)))
 
   pub body_fails : (h : Halt) (r : Result Flow Halt) → IsErr r × IsErrAnd r (λ y. y ≡ h) → NoPass p b Through l t h o → TurnSays r
-  body_fails h r i f = halted r h _ _ i (λ around. ended_from ⊥ o.found h _ _ (in_front around) (f (fronted p v (loop_again around))))
+  body_fails h r i f = halted r h _ _ i (λ around. ended_from o.found h _ _ (in_front around) (f (fronted p v (loop_again around))))
 
   module _ (f : Flow) (a : PassAll p b Through l t f m u) where
     past_body : (around : List Left) → found_along p (turned_on b v s around) Through l t ≡ flows f (fronted p v (loop_again around)) u m
     past_body around = in_front around ∙ a (fronted p v (loop_again around))
 
     pub update_fails : (h : Halt) (r : Result Flow Halt) → IsErr r × IsErrAnd r (λ y. y ≡ h) → NoPass p v f m u h o → TurnSays r
-    update_fails h r i k = halted r h _ _ i (λ around. ended_from ⊥ o.found h _ _ (past_body around) (k (loop_again around)))
+    update_fails h r i k = halted r h _ _ i (λ around. ended_from o.found h _ _ (past_body around) (k (loop_again around)))
 
     pub turn_says : (g : Flow) → PassAll p v f m u g n w → (r : Result Flow Halt) → MatchResult r (λ y. Passes p true s g n w y o x) (λ h. NotPassed p true s g n w h o) → TurnSays r
     unfolding loop_again
     turn_says g c (Ok y) h = λ around. past_body around ∙ c (loop_again around) ∙ h (courses (course p) around)
-    turn_says g c (Err y) h = λ around. ended_from ⊥ o.found y _ _ (past_body around ∙ c (loop_again around)) (h (courses (course p) around))
+    turn_says g c (Err y) h = λ around. ended_from o.found y _ _ (past_body around ∙ c (loop_again around)) (h (courses (course p) around))
 
 -- a head that is a loop
 module _ {E : Type 0} (p : Placed E) (n : ℕ) (e : Term) (b v : Statements) (s : Statement) (d : s ≡ Loop n e b v) (more : List Left) (l m o : Followed E) (t : Turns) where
@@ -62,7 +62,7 @@ module _ {E : Type 0} (p : Placed E) (n : ℕ) (e : Term) (b v : Statements) (s 
       ∙ ap (λ y. collect l.found ((course p).test n e l.state (λ st. (course p).enter n st (λ st'. (courses (course p) (turned_on b v y more)).go t st')) (λ st. (courses (course p) more).go t st))) (sym d)
 
   pub head_fails : (h : Halt) (r : Result (Unit {0}) Halt) → IsErr r × IsErrAnd r (λ y. y ≡ h) → NotTested p n e l h o → HeadSays p s more l t o r
-  head_fails h r i f = halted r h _ _ i (ended_from ⊥ o.found h _ _ at_head (f (λ st. (courses (course p) (turned_on b v s more)).go t st) (λ st. (courses (course p) more).go t st)))
+  head_fails h r i f = halted r h _ _ i (ended_from o.found h _ _ at_head (f (λ st. (courses (course p) (turned_on b v s more)).go t st) (λ st. (courses (course p) more).go t st)))
 
   module _ (k : Bool) (q : Tested p n e l k m) where
     tested : (c : Bool) → k ≡ c → collect l.found (draw_head (course p) s more t l.state) ≡ cond c (found_along p (turned_on b v s more) Through m t) (found_along p more Through m t)
@@ -73,11 +73,11 @@ module _ {E : Type 0} (p : Placed E) (n : ℕ) (e : Term) (b v : Statements) (s 
 
     pub past_head : (r : Result (Unit {0}) Halt) → k ≡ false → LeftSays p more Through m t o r → HeadSays p s more l t o r
     past_head (Ok y) c h = h ∙ sym (tested false c)
-    past_head (Err y) c h = ended_from ⊥ o.found y _ _ (tested false c) h
+    past_head (Err y) c h = ended_from o.found y _ _ (tested false c) h
 
     pub turn_fails : (h : Halt) (r : Result (Unit {0}) Halt) → k ≡ true → IsErr r × IsErrAnd r (λ y. y ≡ h) → NotTurned p b v s m t h o → HeadSays p s more l t o r
-    turn_fails h r c i f = halted r h _ _ i (ended_from ⊥ o.found h _ _ (tested true c) (f more))
+    turn_fails h r c i f = halted r h _ _ i (ended_from o.found h _ _ (tested true c) (f more))
 
     pub turn_goes : (x : Followed E) (u : Turns) (f : Flow) (r : Result (Unit {0}) Halt) → k ≡ true → TurnsOn p b v s m t f x u → LeftSays p more f x u o r → HeadSays p s more l t o r
     turn_goes x u f (Ok y) c a h = h ∙ sym (tested true c ∙ a more)
-    turn_goes x u f (Err y) c a h = ended_from ⊥ o.found y _ _ (tested true c ∙ a more) h
+    turn_goes x u f (Err y) c a h = ended_from o.found y _ _ (tested true c ∙ a more) h

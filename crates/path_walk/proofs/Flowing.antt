@@ -41,16 +41,16 @@ module _ {E : Type 0} (p : Placed E) (a : Bool) (s s' : core.Statement) (d : s �
     pub step_goes : Steps l m one → Goes l t (draw_one (course p) a s) Through m t
     step_goes q w = along_step w ∙ q (λ st. w.go t st)
 
-    pub step_fails : (h : Halt) (r : Result Flow Halt) → IsErr r × IsErrAnd r (λ x. x ≡ h) → HaltsAtStep ⊥ l m h one → Says l t (draw_one (course p) a s) m u r
-    step_fails h r i f = halted r h _ _ i (λ w. ended_from ⊥ m.found h _ _ (along_step w) (f (λ st. w.go t st)))
+    pub step_fails : (h : Halt) (r : Result Flow Halt) → IsErr r × IsErrAnd r (λ x. x ≡ h) → HaltsAtStep l m h one → Says l t (draw_one (course p) a s) m u r
+    step_fails h r i f = halted r h _ _ i (λ w. ended_from m.found h _ _ (along_step w) (f (λ st. w.go t st)))
 
 -- an `if`
 module _ {E : Type 0} (p : Placed E) (a : Bool) (n : ℕ) (e : core.Term) (y z : core.Statements) (s : core.Statement) (d : s ≡ core.If n e y z) (l m : Followed E) (t : Turns) where
   at_if : (w : Courses (Tree E) (State E)) → collect l.found (draw_one (course p) a s w t l.state) ≡ collect l.found (test_at p n e l.state (λ c st. cond c (draw (course p) y w t st) (draw (course p) z w t st)))
   at_if w = ap (λ x. collect l.found (draw_one (course p) a x w t l.state)) d
 
-  pub if_fails : (u : Turns) (h : Halt) (r : Result Flow Halt) → IsErr r × IsErrAnd r (λ x. x ≡ h) → Halts ⊥ l m h (test_at p n e) → Says l t (draw_one (course p) a s) m u r
-  if_fails u h r i f = halted r h _ _ i (λ w. ended_from ⊥ m.found h _ _ (at_if w) (f (λ c st. cond c (draw (course p) y w t st) (draw (course p) z w t st))))
+  pub if_fails : (u : Turns) (h : Halt) (r : Result Flow Halt) → IsErr r × IsErrAnd r (λ x. x ≡ h) → Halts l m h (test_at p n e) → Says l t (draw_one (course p) a s) m u r
+  if_fails u h r i f = halted r h _ _ i (λ w. ended_from m.found h _ _ (at_if w) (f (λ c st. cond c (draw (course p) y w t st) (draw (course p) z w t st))))
 
   module _ (b : Bool) (q : Leads l m (test_at p n e) b) (o : Followed E) (u : Turns) where
     through_if : (c : Bool) → b ≡ c → (w : Courses (Tree E) (State E)) → collect l.found (draw_one (course p) a s w t l.state) ≡ collect m.found (cond c (draw (course p) y w t m.state) (draw (course p) z w t m.state))
@@ -58,11 +58,11 @@ module _ {E : Type 0} (p : Placed E) (a : Bool) (n : ℕ) (e : core.Term) (y z :
 
     pub taken_says : (r : Result Flow Halt) → b ≡ true → Says m t (draw (course p) y) o u r → Says l t (draw_one (course p) a s) o u r
     taken_says (Ok f) c h = λ w. through_if true c w ∙ h w
-    taken_says (Err x) c h = λ w. ended_from ⊥ o.found x _ _ (through_if true c w) (h w)
+    taken_says (Err x) c h = λ w. ended_from o.found x _ _ (through_if true c w) (h w)
 
     pub skipped_says : (r : Result Flow Halt) → b ≡ false → Says m t (draw (course p) z) o u r → Says l t (draw_one (course p) a s) o u r
     skipped_says (Ok f) c h = λ w. through_if false c w ∙ h w
-    skipped_says (Err x) c h = λ w. ended_from ⊥ o.found x _ _ (through_if false c w) (h w)
+    skipped_says (Err x) c h = λ w. ended_from o.found x _ _ (through_if false c w) (h w)
 
 -- a loop
 module _ {E : Type 0} (p : Placed E) (a : Bool) (n : ℕ) (e : core.Term) (b v : core.Statements) (s : core.Statement) (d : s ≡ core.Loop n e b v) (x : Bool) (bar : x ≡ (have_barrier b || have_barrier v)) (l : Followed E) (t : Turns) where
@@ -73,10 +73,10 @@ module _ {E : Type 0} (p : Placed E) (a : Bool) (n : ℕ) (e : core.Term) (b v :
   head_goes m u q h w = at_loop false q w ∙ sym h
 
   pub head_fails : (m : Followed E) (u : Turns) (y : WalkError) (r : Result Flow Halt) → x ≡ false → IsErr r × IsErrAnd r (λ z. z ≡ halts.Refused y) → IsRefusedAt l (head_of p n a t) y → Says l t (draw_one (course p) a s) m u r
-  head_fails m u y r q i h = halted r (halts.Refused y) _ _ i (λ w. refused_from ⊥ y _ _ (at_loop false q w) h)
+  head_fails m u y r q i h = halted r (halts.Refused y) _ _ i (λ w. refused_from y _ _ (at_loop false q w) h)
 
   pub open_fails : (m : Followed E) (u : Turns) (h : Halt) (r : Result Flow Halt) → x ≡ true → IsErr r × IsErrAnd r (λ z. z ≡ h) → NotOpened p n a e l t h m → Says l t (draw_one (course p) a s) m u r
-  open_fails m u h r q i f = halted r h _ _ i (λ w. ended_from ⊥ m.found h _ _ (at_loop true q w) (f (λ t' st'. draw (course p) b (inside (course p) w.go) t' st') w.go))
+  open_fails m u h r q i f = halted r h _ _ i (λ w. ended_from m.found h _ _ (at_loop true q w) (f (λ t' st'. draw (course p) b (inside (course p) w.go) t' st') w.go))
 
   module _ (m : Followed E) (t' : Turns) (c : Bool) (o : Opens p n a e l t c m t') (q : x ≡ true) where
     opened : (k : Bool) → c ≡ k → (w : Courses (Tree E) (State E)) → collect l.found (draw_one (course p) a s w t l.state) ≡ cond k (collect m.found (draw (course p) b (inside (course p) w.go) t' m.state)) (collect m.found (w.go t' m.state))
@@ -86,8 +86,8 @@ module _ {E : Type 0} (p : Placed E) (a : Bool) (n : ℕ) (e : core.Term) (b v :
     past_loop f w = opened false f w
 
     pub body_fails : (y : Followed E) (u : Turns) (h : Halt) (r : Result Flow Halt) → c ≡ true → IsErr r × IsErrAnd r (λ z. z ≡ h) → Fails m t' (draw (course p) b) h y → Says l t (draw_one (course p) a s) y u r
-    body_fails y u h r f i g = halted r h _ _ i (λ w. ended_from ⊥ y.found h _ _ (opened true f w) (g (inside (course p) w.go)))
+    body_fails y u h r f i g = halted r h _ _ i (λ w. ended_from y.found h _ _ (opened true f w) (g (inside (course p) w.go)))
 
     pub body_says : (y z : Followed E) (t2 u : Turns) (flow : Flow) (r : Result Flow Halt) → c ≡ true → Goes m t' (draw (course p) b) flow y t2 → MatchResult r (λ f. Closes p flow y t2 f z u) (λ h. NotClosed p flow y t2 h z) → Says l t (draw_one (course p) a s) z u r
     body_says y z t2 u flow (Ok g) f h k = λ w. opened true f w ∙ h (inside (course p) w.go) ∙ k w
-    body_says y z t2 u flow (Err g) f h k = λ w. ended_from ⊥ z.found g _ _ (opened true f w ∙ h (inside (course p) w.go)) (k w)
+    body_says y z t2 u flow (Err g) f h k = λ w. ended_from z.found g _ _ (opened true f w ∙ h (inside (course p) w.go)) (k w)

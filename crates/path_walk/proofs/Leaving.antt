@@ -34,7 +34,7 @@ module _ {E : Type 0} (p : Placed E) (f : Flow) (l m : Followed E) (t u : Turns)
   -- statements, and a loop that has turned
   pub fresh_says : (ss : Statements) → ((around : List Left) → opened q around ≡ join ss around) → (r : Result Flow Halt) → MatchResult r (λ g. PassAll p ss f l t g m u) (λ h. NoPass p ss f l t h m) → OneSays r
   fresh_says ss d (Ok g) h = λ around. ap (λ x. found_along p x f l t) (d around) ∙ ap (λ w. flows f w t l) (courses_join p ss around) ∙ h (courses (course p) around)
-  fresh_says ss d (Err x) h = λ around. ended_from ⊥ m.found x _ _ (ap (λ y. found_along p y f l t) (d around) ∙ ap (λ w. flows f w t l) (courses_join p ss around)) (h (courses (course p) around))
+  fresh_says ss d (Err x) h = λ around. ended_from m.found x _ _ (ap (λ y. found_along p y f l t) (d around) ∙ ap (λ w. flows f w t l) (courses_join p ss around)) (h (courses (course p) around))
 
 -- one list of several, the innermost
 module _ {E : Type 0} (p : Placed E) (rs : List Rest) (f : Flow) (l m n : Followed E) (t u v : Turns) (g : Flow) (i k : ℕ) (a : PassesTo p rs f l t g m u i) (q : Rest) (d : left (take i rs) ≡ opened q (left (take k rs))) where
@@ -45,4 +45,4 @@ module _ {E : Type 0} (p : Placed E) (rs : List Rest) (f : Flow) (l m n : Follow
   passes_more x h = up_to ∙ h (left (take k rs))
 
   pub passes_no_more : (r : Result Flow Halt) (x : Halt) → IsErr r × IsErrAnd r (λ y. y ≡ x) → NotOne p q g m u x n → MatchResult r (λ y. PassesLeft p (left rs) f l t y n v) (λ y. NotLeft p (left rs) f l t y n)
-  passes_no_more r x z h = halted r x _ _ z (ended_from ⊥ n.found x _ _ up_to (h (left (take k rs))))
+  passes_no_more r x z h = halted r x _ _ z (ended_from n.found x _ _ up_to (h (left (take k rs))))

@@ -18,7 +18,7 @@ use Rattle.path_walk.specs.Steps.{test_at}
 use Rattle.path_walk.specs.Flows.{Tested, NotTested}
 
 module _ {E : Type 0} (w : Placed E) (n : ℕ) (e : Term) (l m : Followed E) where
-  pub head_halts : {T : Type 0} (h : Halt) (P : T → Type 0) (r : Result T Halt) → IsErr r × IsErrAnd r (λ x. x ≡ h) → Halts ⊥ l m h (test_at w n e) → MatchResult r P (λ x. NotTested w n e l x m)
+  pub head_halts : {T : Type 0} (h : Halt) (P : T → Type 0) (r : Result T Halt) → IsErr r × IsErrAnd r (λ x. x ≡ h) → Halts l m h (test_at w n e) → MatchResult r P (λ x. NotTested w n e l x m)
   head_halts h P r i f = halted r h _ _ i (λ body go. f (λ c st. cond c (enter w n st (λ st'. body st')) (go st)))
 
   module _ (b : Bool) (q : Leads l m (test_at w n e) b) where
@@ -31,5 +31,5 @@ module _ {E : Type 0} (w : Placed E) (n : ℕ) (e : Term) (l m : Followed E) whe
     pub head_into : (o : Followed E) → b ≡ true → Steps m o (enter w n) → Tested w n e l true o
     head_into o d s body go = tested true d body go ∙ s body
 
-    pub head_stops : {T : Type 0} (o : Followed E) (y : WalkError) (P : T → Type 0) (r : Result T Halt) → IsErr r × IsErrAnd r (λ z. z ≡ halts.Refused y) → b ≡ true → StopsAtStep ⊥ m y (enter w n) → MatchResult r P (λ z. NotTested w n e l z o)
-    head_stops o y P r i d s = halted r (halts.Refused y) _ _ i (λ body go. refused_from ⊥ y _ _ (tested true d body go) (s body))
+    pub head_stops : {T : Type 0} (o : Followed E) (y : WalkError) (P : T → Type 0) (r : Result T Halt) → IsErr r × IsErrAnd r (λ z. z ≡ halts.Refused y) → b ≡ true → StopsAtStep m y (enter w n) → MatchResult r P (λ z. NotTested w n e l z o)
+    head_stops o y P r i d s = halted r (halts.Refused y) _ _ i (λ body go. refused_from y _ _ (tested true d body go) (s body))

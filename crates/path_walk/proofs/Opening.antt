@@ -23,8 +23,8 @@ module _ {E : Type 0} (w : Placed E) (n : ℕ) (a : Bool) (e : Term) (t : Turns)
   at_its_test : (body go : Drawn (Tree E) (State E)) → collect l.found (draw_loop (course w) true n a e body go t l.state) ≡ collect m.found (test_at w n e m.state (λ c st. cond c (enter w n st (λ st'. body (turned n t) st')) (go t st)))
   at_its_test body go = p (λ st. test_at w n e st (λ c st1. cond c (enter w n st1 (λ st2. body (turned n t) st2)) (go t st1)))
 
-  pub test_halts : {T : Type 0} (o : Followed E) (h : Halt) (P : T → Type 0) (r : Result T Halt) → IsErr r × IsErrAnd r (λ x. x ≡ h) → Halts ⊥ m o h (test_at w n e) → MatchResult r P (λ x. NotOpened w n a e l t x o)
-  test_halts o h P r i f = halted r h _ _ i (λ body go. ended_from ⊥ o.found h _ _ (at_its_test body go) (f (λ c st. cond c (enter w n st (λ st'. body (turned n t) st')) (go t st))))
+  pub test_halts : {T : Type 0} (o : Followed E) (h : Halt) (P : T → Type 0) (r : Result T Halt) → IsErr r × IsErrAnd r (λ x. x ≡ h) → Halts m o h (test_at w n e) → MatchResult r P (λ x. NotOpened w n a e l t x o)
+  test_halts o h P r i f = halted r h _ _ i (λ body go. ended_from o.found h _ _ (at_its_test body go) (f (λ c st. cond c (enter w n st (λ st'. body (turned n t) st')) (go t st))))
 
   module _ (o : Followed E) (b : Bool) (q : Leads m o (test_at w n e) b) where
     tested : (c : Bool) → b ≡ c → (body go : Drawn (Tree E) (State E)) → collect l.found (draw_loop (course w) true n a e body go t l.state) ≡ collect o.found (cond c (enter w n o.state (λ st'. body (turned n t) st')) (go t o.state))
@@ -36,5 +36,5 @@ module _ {E : Type 0} (w : Placed E) (n : ℕ) (a : Bool) (e : Term) (t : Turns)
     pub into_it : (x : Followed E) (t' : Turns) → b ≡ true → Steps o x (enter w n) → t' ≡ turned n t → Opens w n a e l t true x t'
     into_it x t' d s f body go = tested true d body go ∙ s (λ st'. body (turned n t) st') ∙ ap (λ u. collect x.found (body u x.state)) (sym f)
 
-    pub enter_stops : {T : Type 0} (x : Followed E) (y : WalkError) (P : T → Type 0) (r : Result T Halt) → IsErr r × IsErrAnd r (λ z. z ≡ halts.Refused y) → b ≡ true → StopsAtStep ⊥ o y (enter w n) → MatchResult r P (λ z. NotOpened w n a e l t z x)
-    enter_stops x y P r i d s = halted r (halts.Refused y) _ _ i (λ body go. refused_from ⊥ y _ _ (tested true d body go) (s (λ st'. body (turned n t) st')))
+    pub enter_stops : {T : Type 0} (x : Followed E) (y : WalkError) (P : T → Type 0) (r : Result T Halt) → IsErr r × IsErrAnd r (λ z. z ≡ halts.Refused y) → b ≡ true → StopsAtStep o y (enter w n) → MatchResult r P (λ z. NotOpened w n a e l t z x)
+    enter_stops x y P r i d s = halted r (halts.Refused y) _ _ i (λ body go. refused_from y _ _ (tested true d body go) (s (λ st'. body (turned n t) st')))

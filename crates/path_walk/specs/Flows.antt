@@ -23,21 +23,21 @@ abbrev pub Goes : {E : Type 0} → (from : Followed E) → Turns → (Courses (T
 Goes {E} l t drawn f m t' = (w : Courses (Tree E) (State E)) → collect l.found (drawn w t l.state) ≡ flows f w t' m
 
 abbrev pub Fails : {E : Type 0} → (from : Followed E) → Turns → (Courses (Tree E) (State E) → Drawn (Tree E) (State E)) → Halt → (to : Followed E) → Type 0
-Fails {E} l t drawn h m = (w : Courses (Tree E) (State E)) → Ended ⊥ m.found h (collect l.found (drawn w t l.state))
+Fails {E} l t drawn h m = (w : Courses (Tree E) (State E)) → Ended m.found h (collect l.found (drawn w t l.state))
 
 -- a loop with a barrier up to its body, or past it: whatever its body is and whatever goes on
 abbrev pub Opens : {E : Type 0} → Placed E → (loop : ℕ) (again : Bool) → Term → (from : Followed E) → Turns → Bool → (to : Followed E) → Turns → Type 0
 Opens {E} p n a e l t b m t' = (body go : Drawn (Tree E) (State E)) → collect l.found (draw_loop (course p) true n a e body go t l.state) ≡ cond b (collect m.found (body t' m.state)) (collect m.found (go t' m.state))
 
 abbrev pub NotOpened : {E : Type 0} → Placed E → (loop : ℕ) (again : Bool) → Term → (from : Followed E) → Turns → Halt → (to : Followed E) → Type 0
-NotOpened {E} p n a e l t h m = (body go : Drawn (Tree E) (State E)) → Ended ⊥ m.found h (collect l.found (draw_loop (course p) true n a e body go t l.state))
+NotOpened {E} p n a e l t h m = (body go : Drawn (Tree E) (State E)) → Ended m.found h (collect l.found (draw_loop (course p) true n a e body go t l.state))
 
 -- behind the body of a loop with a barrier
 abbrev pub Closes : {E : Type 0} → Placed E → Flow → (from : Followed E) → Turns → Flow → (to : Followed E) → Turns → Type 0
 Closes {E} p f l t f' m t' = (w : Courses (Tree E) (State E)) → flows f (inside (course p) w.go) t l ≡ flows f' w t' m
 
 abbrev pub NotClosed : {E : Type 0} → Placed E → Flow → (from : Followed E) → Turns → Halt → (to : Followed E) → Type 0
-NotClosed {E} p f l t h m = (w : Courses (Tree E) (State E)) → Ended ⊥ m.found h (flows f (inside (course p) w.go) t l)
+NotClosed {E} p f l t h m = (w : Courses (Tree E) (State E)) → Ended m.found h (flows f (inside (course p) w.go) t l)
 
 -- the test of a loop without one
 abbrev pub head_of : {E : Type 0} → Placed E → (loop : ℕ) (again : Bool) → Turns → State E → Tree E
@@ -48,4 +48,4 @@ abbrev pub Tested : {E : Type 0} → Placed E → (loop : ℕ) → Term → (fro
 Tested {E} p n e l b m = (body go : State E → Tree E) → collect l.found ((course p).test n e l.state (λ st. (course p).enter n st (λ st'. body st')) (λ st. go st)) ≡ cond b (collect m.found (body m.state)) (collect m.found (go m.state))
 
 abbrev pub NotTested : {E : Type 0} → Placed E → (loop : ℕ) → Term → (from : Followed E) → Halt → (to : Followed E) → Type 0
-NotTested {E} p n e l h m = (body go : State E → Tree E) → Ended ⊥ m.found h (collect l.found ((course p).test n e l.state (λ st. (course p).enter n st (λ st'. body st')) (λ st. go st)))
+NotTested {E} p n e l h m = (body go : State E → Tree E) → Ended m.found h (collect l.found ((course p).test n e l.state (λ st. (course p).enter n st (λ st'. body st')) (λ st. go st)))

@@ -22,7 +22,7 @@ abbrev pub Passes : {E : Type 0} → Placed E → (again : Bool) → Statement �
 Passes {E} p a s f l t f' m t' = (w : Courses (Tree E) (State E)) → flows f (ahead (course p) (record { statement = s; again = a }) w) t l ≡ flows f' w t' m
 
 abbrev pub NotPassed : {E : Type 0} → Placed E → (again : Bool) → Statement → Flow → (from : Followed E) → Turns → Halt → (to : Followed E) → Type 0
-NotPassed {E} p a s f l t h m = (w : Courses (Tree E) (State E)) → Ended ⊥ m.found h (flows f (ahead (course p) (record { statement = s; again = a }) w) t l)
+NotPassed {E} p a s f l t h m = (w : Courses (Tree E) (State E)) → Ended m.found h (flows f (ahead (course p) (record { statement = s; again = a }) w) t l)
 
 -- statements in front
 abbrev pub fronted : {E : Type 0} → Placed E → Statements → Courses (Tree E) (State E) → Courses (Tree E) (State E)
@@ -33,4 +33,4 @@ abbrev pub PassAll : {E : Type 0} → Placed E → Statements → Flow → (from
 PassAll {E} p ss f l t f' m t' = (w : Courses (Tree E) (State E)) → flows f (fronted p ss w) t l ≡ flows f' w t' m
 
 abbrev pub NoPass : {E : Type 0} → Placed E → Statements → Flow → (from : Followed E) → Turns → Halt → (to : Followed E) → Type 0
-NoPass {E} p ss f l t h m = (w : Courses (Tree E) (State E)) → Ended ⊥ m.found h (flows f (fronted p ss w) t l)
+NoPass {E} p ss f l t h m = (w : Courses (Tree E) (State E)) → Ended m.found h (flows f (fronted p ss w) t l)

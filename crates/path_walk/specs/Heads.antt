@@ -21,8 +21,8 @@ abbrev pub TurnsOn : {E : Type 0} → Placed E → (body update : Statements) �
 TurnsOn p b u s l t f m t' = (around : List Left) → found_along p (turned_on b u s around) Through l t ≡ found_along p around f m t'
 
 abbrev pub NotTurned : {E : Type 0} → Placed E → (body update : Statements) → Statement → (from : Followed E) → Turns → Halt → (to : Followed E) → Type 0
-NotTurned p b u s l t h m = (around : List Left) → Ended ⊥ m.found h (found_along p (turned_on b u s around) Through l t)
+NotTurned p b u s l t h m = (around : List Left) → Ended m.found h (found_along p (turned_on b u s around) Through l t)
 
 -- a path that went no further
 abbrev pub EndsAt : {E : Type 0} → Followed E → (State E → Tree E) → Halt → (to : Followed E) → Type 0
-EndsAt l walk h m = Ended ⊥ m.found h (collect l.found (walk l.state))
+EndsAt l walk h m = Ended m.found h (collect l.found (walk l.state))

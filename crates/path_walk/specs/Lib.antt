@@ -1,4 +1,3 @@
-pub mod Families
 pub mod Flows
 pub mod Fronts
 pub mod Heads

@@ -29,5 +29,5 @@ abbrev pub both_values : {E : Type 0} → Setting E → (left right : Term) → 
 both_values s a b st go = (walk s a).value st (λ x st1. (walk s b).value st1 (λ y st2. go x y st2))
 
 -- a step with two answers went no further
-abbrev pub HaltsTwo : {E A B : Type 0} → (outside : Type 0) → (from to : Followed E) → Halt → (State E → (A → B → State E → Tree E) → Tree E) → Type 0
-HaltsTwo {E} {A} {B} o from to h walk = (go : A → B → State E → Tree E) → Ended o to.found h (collect from.found (walk from.state go))
+abbrev pub HaltsTwo : {E A B : Type 0} → (from to : Followed E) → Halt → (State E → (A → B → State E → Tree E) → Tree E) → Type 0
+HaltsTwo {E} {A} {B} from to h walk = (go : A → B → State E → Tree E) → Ended to.found h (collect from.found (walk from.state go))

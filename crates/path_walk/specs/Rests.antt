@@ -23,18 +23,18 @@ abbrev pub PassesOne : {E : Type 0} → Placed E → Rest → Flow → (from : F
 PassesOne p r f l t f' m t' = (around : List Left) → found_along p (opened r around) f l t ≡ found_along p around f' m t'
 
 abbrev pub NotOne : {E : Type 0} → Placed E → Rest → Flow → (from : Followed E) → Turns → Halt → (to : Followed E) → Type 0
-NotOne p r f l t h m = (around : List Left) → Ended ⊥ m.found h (found_along p (opened r around) f l t)
+NotOne p r f l t h m = (around : List Left) → Ended m.found h (found_along p (opened r around) f l t)
 
 -- all of it
 abbrev pub PassesLeft : {E : Type 0} → Placed E → List Left → Flow → (from : Followed E) → Turns → Flow → (to : Followed E) → Turns → Type 0
 PassesLeft p more f l t f' m t' = found_along p more f l t ≡ found_along p [] f' m t'
 
 abbrev pub NotLeft : {E : Type 0} → Placed E → List Left → Flow → (from : Followed E) → Turns → Halt → (to : Followed E) → Type 0
-NotLeft p more f l t h m = Ended ⊥ m.found h (found_along p more f l t)
+NotLeft p more f l t h m = Ended m.found h (found_along p more f l t)
 
 -- to the item's end
 abbrev pub ComesAlong : {E : Type 0} → Placed E → List Left → Flow → (from : Followed E) → Turns → (to : Followed E) → Type 0
 ComesAlong p more f l t m = m.found ≡ found_along p more f l t
 
 abbrev pub IsRefusedAlong : {E : Type 0} → Placed E → List Left → Flow → (from : Followed E) → Turns → WalkError → Type 0
-IsRefusedAlong p more f l t e = Refused ⊥ e (found_along p more f l t)
+IsRefusedAlong p more f l t e = Refused e (found_along p more f l t)

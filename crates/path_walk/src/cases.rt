@@ -41,7 +41,7 @@ pub fn is_mask(kind: Kind, form: &Form) -> bool
     }
 }
 
-/// Both forms are known to be at least 0.
+/// The domain knows two forms to be at least 0.
 pub fn are_from_zero<D: Domain>(
     setting: &Setting<D>,
     path: &Path<D>,

@@ -24,7 +24,7 @@ pub fn value_at<D: Domain>(
     statement: u32,
     term: &Term,
 ) -> Result<Value, Halt>
-    ensures { MatchResult result (λ v. Leads (followed path.old) (followed path.new) (steps.value_at (placed D.Domain placing.now) statement (term_seen term.now)) (value_seen v)) (λ h. Halts ⊥ (followed path.old) (followed path.new) h (steps.value_at (placed D.Domain placing.now) statement (term_seen term.now))) }
+    ensures { MatchResult result (λ v. Leads (followed path.old) (followed path.new) (steps.value_at (placed D.Domain placing.now) statement (term_seen term.now)) (value_seen v)) (λ h. Halts (followed path.old) (followed path.new) h (steps.value_at (placed D.Domain placing.now) statement (term_seen term.now))) }
 {
     if !is_lawful(term) {
         refuse(alloc, path)?;
@@ -34,7 +34,7 @@ pub fn value_at<D: Domain>(
     value_of(alloc, placing.setting, path, term)
 }
 
-/// A test at a statement.
+/// Walks a test at a statement, and gives its truth on this path.
 pub fn test_at<D: Domain>(
     alloc: Global,
     placing: &Placing<'_, D>,
@@ -42,7 +42,7 @@ pub fn test_at<D: Domain>(
     statement: u32,
     term: &Term,
 ) -> Result<bool, Halt>
-    ensures { MatchResult result (λ b. Leads (followed path.old) (followed path.new) (steps.test_at (placed D.Domain placing.now) statement (term_seen term.now)) b) (λ h. Halts ⊥ (followed path.old) (followed path.new) h (steps.test_at (placed D.Domain placing.now) statement (term_seen term.now))) }
+    ensures { MatchResult result (λ b. Leads (followed path.old) (followed path.new) (steps.test_at (placed D.Domain placing.now) statement (term_seen term.now)) b) (λ h. Halts (followed path.old) (followed path.new) h (steps.test_at (placed D.Domain placing.now) statement (term_seen term.now))) }
 {
     if !is_lawful(term) {
         refuse(alloc, path)?;
@@ -70,7 +70,7 @@ fn assign<D: Domain>(path: &mut Path<D>, slot: u32, value: Value)
     set_value(&mut path.variables, slot, value);
 }
 
-/// An assignment.
+/// Walks an assignment: its value is walked, and its variable has that value from there on.
 pub fn walk_set<D: Domain>(
     alloc: Global,
     placing: &Placing<'_, D>,
@@ -79,7 +79,7 @@ pub fn walk_set<D: Domain>(
     slot: u32,
     value: &Term,
 ) -> Result<(), Halt>
-    ensures { MatchResult result (λ _. Steps (followed path.old) (followed path.new) (steps.set_at (placed D.Domain placing.now) statement slot (term_seen value.now))) (λ h. HaltsAtStep ⊥ (followed path.old) (followed path.new) h (steps.set_at (placed D.Domain placing.now) statement slot (term_seen value.now))) }
+    ensures { MatchResult result (λ _. Steps (followed path.old) (followed path.new) (steps.set_at (placed D.Domain placing.now) statement slot (term_seen value.now))) (λ h. HaltsAtStep (followed path.old) (followed path.new) h (steps.set_at (placed D.Domain placing.now) statement slot (term_seen value.now))) }
 {
     let value = value_at(alloc, placing, path, statement, value)?;
     assign(path, slot, value);
@@ -97,7 +97,7 @@ pub fn walk_store<D: Domain>(
     index: &Term,
     value: &Term,
 ) -> Result<(), Halt>
-    ensures { MatchResult result (λ _. Steps (followed path.old) (followed path.new) (steps.store_at (placed D.Domain placing.now) statement (array_seen array) (site_seen site) (term_seen index.now) (term_seen value.now))) (λ h. HaltsAtStep ⊥ (followed path.old) (followed path.new) h (steps.store_at (placed D.Domain placing.now) statement (array_seen array) (site_seen site) (term_seen index.now) (term_seen value.now))) }
+    ensures { MatchResult result (λ _. Steps (followed path.old) (followed path.new) (steps.store_at (placed D.Domain placing.now) statement (array_seen array) (site_seen site) (term_seen index.now) (term_seen value.now))) (λ h. HaltsAtStep (followed path.old) (followed path.new) h (steps.store_at (placed D.Domain placing.now) statement (array_seen array) (site_seen site) (term_seen index.now) (term_seen value.now))) }
 {
     let place = value_at(alloc, placing, path, statement, index)?;
     value_at(alloc, placing, path, statement, value)?;

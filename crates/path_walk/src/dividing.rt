@@ -28,13 +28,13 @@ pub fn quotient_alone<D: Domain>(
     number: i64,
 ) -> Result<Form, WalkError>
     requires { pos 0 <ℤ number }
-    ensures { MatchResult result (λ f. Leads (followed path.old) (followed path.new) (quotient_alone (seen D.Domain setting.now) (kind_seen kind) (form_seen of.now) number) (form_seen f)) (λ e. Stops ⊥ (followed path.old) e (quotient_alone (seen D.Domain setting.now) (kind_seen kind) (form_seen of.now) number)) }
+    ensures { MatchResult result (λ f. Leads (followed path.old) (followed path.new) (quotient_alone (seen D.Domain setting.now) (kind_seen kind) (form_seen of.now) number) (form_seen f)) (λ e. Stops (followed path.old) e (quotient_alone (seen D.Domain setting.now) (kind_seen kind) (form_seen of.now) number)) }
 {
     let parts = quotient(alloc, setting, path, kind, of, number)?;
     Ok(parts.0)
 }
 
-/// What is left of a form that is at least 0 by a number above 0.
+/// The remainder of a form that is at least 0 by a number above 0.
 pub fn left_alone<D: Domain>(
     alloc: Global,
     setting: &Setting<D>,
@@ -44,7 +44,7 @@ pub fn left_alone<D: Domain>(
     number: i64,
 ) -> Result<Form, WalkError>
     requires { pos 0 <ℤ number }
-    ensures { MatchResult result (λ f. Leads (followed path.old) (followed path.new) (left_alone (seen D.Domain setting.now) (kind_seen kind) (form_seen of.now) number) (form_seen f)) (λ e. Stops ⊥ (followed path.old) e (left_alone (seen D.Domain setting.now) (kind_seen kind) (form_seen of.now) number)) }
+    ensures { MatchResult result (λ f. Leads (followed path.old) (followed path.new) (left_alone (seen D.Domain setting.now) (kind_seen kind) (form_seen of.now) number) (form_seen f)) (λ e. Stops (followed path.old) e (left_alone (seen D.Domain setting.now) (kind_seen kind) (form_seen of.now) number)) }
 {
     let parts = quotient(alloc, setting, path, kind, of, number)?;
     Ok(parts.1)
@@ -59,7 +59,7 @@ fn divided<D: Domain>(
     dividend: &Form,
     divisor: &Form,
 ) -> Result<Form, WalkError>
-    ensures { MatchResult result (λ f. Leads (followed path.old) (followed path.new) (divided_here (seen D.Domain setting.now) (kind_seen kind) (form_seen dividend.now) (form_seen divisor.now)) (form_seen f)) (λ e. Stops ⊥ (followed path.old) e (divided_here (seen D.Domain setting.now) (kind_seen kind) (form_seen dividend.now) (form_seen divisor.now))) }
+    ensures { MatchResult result (λ f. Leads (followed path.old) (followed path.new) (divided_here (seen D.Domain setting.now) (kind_seen kind) (form_seen dividend.now) (form_seen divisor.now)) (form_seen f)) (λ e. Stops (followed path.old) e (divided_here (seen D.Domain setting.now) (kind_seen kind) (form_seen dividend.now) (form_seen divisor.now))) }
 {
     if is_exact(setting, path, dividend, divisor) {
         let number = divisor.constant_part();
@@ -78,7 +78,7 @@ pub fn divide<D: Domain>(
     left: &Form,
     right: &Form,
 ) -> Result<Value, WalkError>
-    ensures { MatchResult result (λ v. Leads (followed path.old) (followed path.new) (operators.binary (seen D.Domain setting.now) Divide (kind_seen kind) (form_seen left.now) (form_seen right.now)) (value_seen v)) (λ e. Stops ⊥ (followed path.old) e (operators.binary (seen D.Domain setting.now) Divide (kind_seen kind) (form_seen left.now) (form_seen right.now))) }
+    ensures { MatchResult result (λ v. Leads (followed path.old) (followed path.new) (operators.binary (seen D.Domain setting.now) Divide (kind_seen kind) (form_seen left.now) (form_seen right.now)) (value_seen v)) (λ e. Stops (followed path.old) e (operators.binary (seen D.Domain setting.now) Divide (kind_seen kind) (form_seen left.now) (form_seen right.now))) }
 {
     claim_divisor(alloc, setting, path, kind, left, right)?;
     let form = divided(alloc, setting, path, kind, left, right)?;

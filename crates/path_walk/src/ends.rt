@@ -4,17 +4,16 @@ ghost use Rattle.std.specs.Prelude.{◌≡◌, ◌++◌, ◌∷◌, [], MatchRes
 ghost use Rattle.linear.specs.Forms.{form as form_seen, forms};
 ghost use Rattle.core_code.specs.View.{kernel as core_seen};
 ghost use Rattle.facts.specs.Refusals.{IsMemory};
-ghost use Rattle.facts.specs.Symbols.{constant, minus, once};
+ghost use Rattle.facts.specs.Symbols.{First, Variable, AtAnchor, constant, minus, once};
 ghost use Rattle.walk_trees.specs.Walks.{least, greatest};
 ghost use Rattle.obligations.specs.View.{seen};
 ghost use Rattle.obligations.specs.Roots as roots;
-ghost use Rattle.path_walk.specs.Families.{slot_symbol};
+ghost use Rattle.facts.specs.Families.{symbol_in};
 
-use crate::family::Family;
-use crate::slots::{kind_at, once_slot};
-use arrival_claims::visible_of;
+use crate::slots::once_slot;
+use arrival_claims::{kind_at, visible_of};
 use core_code::tree::Core;
-use facts::{WalkError, less_number, number_less};
+use facts::{Family, Side, WalkError, less_number, number_less};
 use linear::Form;
 use obligations::Notes;
 use std::alloc::Global;
@@ -22,7 +21,7 @@ use words::Kind;
 
 /// A variable less its kind's least number.
 fn low_end(alloc: Global, core: &Core, family: Family, slot: u32) -> Result<Form, WalkError>
-    ensures { MatchResult result (λ f. form_seen f ≡ minus (once (slot_symbol family slot)) (constant (least (roots.kind_of (core_seen core.now) slot)))) IsMemory }
+    ensures { MatchResult result (λ f. form_seen f ≡ minus (once (symbol_in family slot)) (constant (least (roots.kind_of (core_seen core.now) slot)))) IsMemory }
 {
     let of = once_slot(alloc, family, slot as u64)?;
     match kind_at(core, slot as usize) {
@@ -31,9 +30,9 @@ fn low_end(alloc: Global, core: &Core, family: Family, slot: u32) -> Result<Form
     }
 }
 
-/// Its kind's greatest number less a variable.
+/// The greatest number of a variable's kind, less the variable.
 fn high_end(alloc: Global, core: &Core, family: Family, slot: u32) -> Result<Form, WalkError>
-    ensures { MatchResult result (λ f. form_seen f ≡ minus (constant (greatest (roots.kind_of (core_seen core.now) slot))) (once (slot_symbol family slot))) IsMemory }
+    ensures { MatchResult result (λ f. form_seen f ≡ minus (constant (greatest (roots.kind_of (core_seen core.now) slot))) (once (symbol_in family slot))) IsMemory }
 {
     let of = once_slot(alloc, family, slot as u64)?;
     match kind_at(core, slot as usize) {
@@ -43,7 +42,7 @@ fn high_end(alloc: Global, core: &Core, family: Family, slot: u32) -> Result<For
 }
 
 #[tactic(auto, using(facts::proofs::Facts::facts))]
-/// Two facts more.
+/// Adds two facts, the low end before the high end.
 pub fn push_two(into: &mut Vec<Form>, low: Form, high: Form) -> Result<(), WalkError>
     ensures { MatchResult result (λ _. forms into.new.items ≡ forms into.old.items ++ form_seen low ∷ form_seen high ∷ []) IsMemory }
 {
@@ -60,7 +59,7 @@ fn push_ends(
     family: Family,
     slot: u32,
 ) -> Result<(), WalkError>
-    ensures { MatchResult result (λ _. forms into.new.items ≡ forms into.old.items ++ roots.ends_of (core_seen core.now) (slot_symbol family) slot) IsMemory }
+    ensures { MatchResult result (λ _. forms into.new.items ≡ forms into.old.items ++ roots.ends_of (core_seen core.now) (symbol_in family) slot) IsMemory }
 {
     let low = low_end(alloc, core, family, slot)?;
     let high = high_end(alloc, core, family, slot)?;
@@ -68,7 +67,7 @@ fn push_ends(
 }
 
 #[tactic(auto, using(facts::proofs::Facts::carried))]
-/// Those of all of them.
+/// Adds the facts that these variables are in the ranges of their kinds.
 fn push_all_ends(
     alloc: Global,
     into: &mut Vec<Form>,
@@ -76,7 +75,7 @@ fn push_all_ends(
     family: Family,
     slots: &[u32],
 ) -> Result<(), WalkError>
-    ensures { MatchResult result (λ _. forms into.new.items ≡ forms into.old.items ++ roots.all_ends (core_seen core.now) (slot_symbol family) slots.now) IsMemory }
+    ensures { MatchResult result (λ _. forms into.new.items ≡ forms into.old.items ++ roots.all_ends (core_seen core.now) (symbol_in family) slots.now) IsMemory }
 {
     for slot in slots {
         push_ends(alloc, into, core, family, *slot)?;
@@ -84,7 +83,7 @@ fn push_all_ends(
     Ok(())
 }
 
-/// Those of the variables that are visible at a loop, and at the anchor before it.
+/// Adds the facts that the variables visible at a loop are in the ranges of their kinds, and so those visible at the anchor before it.
 fn push_both_ends(
     alloc: Global,
     into: &mut Vec<Form>,
@@ -92,13 +91,13 @@ fn push_both_ends(
     here: &[u32],
     at_anchor: &[u32],
 ) -> Result<(), WalkError>
-    ensures { MatchResult result (λ _. forms into.new.items ≡ forms into.old.items ++ (roots.all_ends (core_seen core.now) (slot_symbol Family.Here) here.now ++ roots.all_ends (core_seen core.now) (slot_symbol Family.AtAnchor) at_anchor.now)) IsMemory }
+    ensures { MatchResult result (λ _. forms into.new.items ≡ forms into.old.items ++ (roots.all_ends (core_seen core.now) (Variable First) here.now ++ roots.all_ends (core_seen core.now) (AtAnchor First) at_anchor.now)) IsMemory }
 {
-    push_all_ends(alloc, into, core, Family::Here, here)?;
-    push_all_ends(alloc, into, core, Family::AtAnchor, at_anchor)
+    push_all_ends(alloc, into, core, Family::Variable(Side::First), here)?;
+    push_all_ends(alloc, into, core, Family::AtAnchor(Side::First), at_anchor)
 }
 
-/// Those of the variables that are visible at a place.
+/// Adds the facts that the variables visible at a place are in the ranges of their kinds: none at the entry.
 pub fn push_ranges(
     alloc: Global,
     into: &mut Vec<Form>,
@@ -113,7 +112,7 @@ pub fn push_ranges(
     let before = visible_of(notes.visible.as_slice(), anchor);
     match (anchor, head) {
         (None, None) => Ok(()),
-        (Some(_), None) => push_all_ends(alloc, into, core, Family::Here, before),
+        (Some(_), None) => push_all_ends(alloc, into, core, Family::Variable(Side::First), before),
         (_, Some(_)) => push_both_ends(alloc, into, core, here, before),
     }
 }

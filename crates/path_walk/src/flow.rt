@@ -14,7 +14,7 @@ use facts::WalkError;
 use path_steps::{Path, Stop};
 use std::alloc::Global;
 
-/// Behind them, by a `break` or a `continue` of the loop of that number, or the path stopped in them.
+/// The ways in which statements are left: through, by a `break` or a `continue` of the loop of that number, or the path stopped in them.
 #[derive(Clone, Copy)]
 pub enum Flow {
     Through,
@@ -34,7 +34,7 @@ pub fn turn(turns: &mut Option<Vec<u32>>, number: u32) -> Result<(), WalkError>
     Ok(())
 }
 
-/// The path stops, after these turns.
+/// Stops the path at a place, with the loops that turned since its anchor.
 pub fn stop_here<D: Domain>(
     alloc: Global,
     placing: &Placing<'_, D>,

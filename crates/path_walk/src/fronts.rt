@@ -1,8 +1,6 @@
 //! A statement in front of what is left.
 
 ghost use Rattle.std.specs.Prelude.{◌≡◌, MatchResult};
-ghost use Rattle.semantics.specs.Core as core;
-ghost use Rattle.semantics.specs.Item as items;
 ghost use Rattle.core_code.specs.View.{statement as statement_seen, statements as statements_seen};
 ghost use Rattle.path_steps.specs.View.{followed, turns as turns_seen};
 ghost use Rattle.arrival_claims.specs.View.{placed};
@@ -17,33 +15,7 @@ use domain::Domain;
 use path_steps::{Halt, Path};
 use std::alloc::Global;
 
-/// The number of a statement.
-pub fn number_of(statement: &Statement) -> u32
-    ensures { result ≡ core.number (statement_seen statement.now) }
-{
-    match statement {
-        Statement::Set { number, .. }
-        | Statement::Store { number, .. }
-        | Statement::If { number, .. }
-        | Statement::Loop { number, .. }
-        | Statement::Barrier { number, .. }
-        | Statement::Return { number }
-        | Statement::Break { number, .. }
-        | Statement::Continue { number, .. } => *number,
-    }
-}
-
-/// The update of a loop.
-pub fn update_of(statement: &Statement) -> &[Statement]
-    ensures { statements_seen result.now ≡ items.update_of (statement_seen statement.now) }
-{
-    match statement {
-        Statement::Loop { update, .. } => update.as_slice(),
-        _ => &[],
-    }
-}
-
-/// After a `continue` of it: its update, then the statement itself.
+/// Goes on after a `continue` of a loop: with its update, then the loop itself.
 pub fn walk_again<D: Domain>(
     alloc: Global,
     placing: &Placing<'_, D>,
@@ -54,7 +26,7 @@ pub fn walk_again<D: Domain>(
 ) -> Result<Flow, Halt>
     ensures { MatchResult result (λ f. Goes (followed path.old) (turns_seen turns.old) (updated (placed D.Domain placing.now) again (statement_seen statement.now)) f (followed path.new) (turns_seen turns.new)) (λ h. Fails (followed path.old) (turns_seen turns.old) (updated (placed D.Domain placing.now) again (statement_seen statement.now)) h (followed path.new)) }
 {
-    match walk_statements(alloc, placing, path, update_of(statement), turns)? {
+    match walk_statements(alloc, placing, path, statement.update(), turns)? {
         Flow::Through => walk_statement(alloc, placing, path, again, statement, turns),
         Flow::Broke(number) => Ok(Flow::Broke(number)),
         Flow::Continued(number) => Ok(Flow::Continued(number)),
@@ -77,13 +49,13 @@ pub fn walk_front<D: Domain>(
     match flow {
         Flow::Through => walk_statement(alloc, placing, path, again, statement, turns),
         Flow::Broke(number) => {
-            if number_of(statement) == number {
+            if statement.number() == number {
                 return Ok(Flow::Through);
             }
             Ok(Flow::Broke(number))
         }
         Flow::Continued(number) => {
-            if number_of(statement) == number {
+            if statement.number() == number {
                 return walk_again(alloc, placing, path, again, statement, turns);
             }
             Ok(Flow::Continued(number))

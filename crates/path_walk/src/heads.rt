@@ -56,7 +56,7 @@ fn walk_fresh<D: Domain>(
     walk_left(alloc, placing, path, flow, rests, turns)
 }
 
-/// A head: its test comes first, then what is really left.
+/// Walks from a loop's head: its test comes first, then a turn or what is left behind the loop.
 pub fn walk_head<D: Domain>(
     alloc: Global,
     placing: &Placing<'_, D>,

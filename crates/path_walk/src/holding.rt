@@ -8,16 +8,14 @@ ghost use Rattle.walk_trees.specs.Walks.{any_of};
 ghost use Rattle.path_steps.specs.View.{invented_seen, narrowed_seen};
 ghost use Rattle.obligations.specs.View.{congruence as congruence_seen};
 ghost use Rattle.obligations.specs.Roots as roots;
-ghost use Rattle.path_walk.specs.Families.{slot_symbol};
+ghost use Rattle.facts.specs.Families.{symbol_in};
 ghost use Rattle.path_walk.specs.Slots.{HasSlots};
 
-use crate::family::Family;
-use crate::slots::{kind_at, slot_number};
 use crate::variables::count_of;
+use arrival_claims::kind_at;
 use core_code::tree::{Core, Site};
 use domain::Domain;
-use facts::WalkError;
-use linear::Symbol;
+use facts::{Family, Side, WalkError};
 use obligations::Congruence;
 use path_steps::{Invented, Narrowed, Spot, Value, any_of};
 use std::alloc::Global;
@@ -35,7 +33,7 @@ fn invented_at_root<D: Domain>(element: D) -> Invented<D>
     }
 }
 
-/// Of a quotient nothing is known.
+/// The elements of the quotients of congruences, of which nothing is known.
 pub fn tops<D: Domain>(
     alloc: Global,
     congruences: &[Congruence],
@@ -52,17 +50,16 @@ pub fn tops<D: Domain>(
 /// A variable is a number of its kind.
 fn slot_narrowed<D: Domain>(core: &Core, family: Family, slot: usize) -> Narrowed<D>
     requires { slot < 576460752303423488 }
-    ensures { narrowed_seen result ≡ record { symbol = number (slot_symbol family slot); element = any_of D.Domain (roots.kind_of (core_seen core.now) slot) } }
+    ensures { narrowed_seen result ≡ record { symbol = number (symbol_in family slot); element = any_of D.Domain (roots.kind_of (core_seen core.now) slot) } }
 {
-    let number = slot_number(family, slot as u64);
     let element = any_of(kind_at(core, slot));
     Narrowed {
-        symbol: Symbol { number },
+        symbol: family.symbol(slot as u64),
         element,
     }
 }
 
-/// Each variable is.
+/// Adds, for each variable, that the domain holds it to be a number of its kind.
 fn push_narrowed<D: Domain>(
     narrowed: &mut Vec<Narrowed<D>>,
     core: &Core,
@@ -70,7 +67,7 @@ fn push_narrowed<D: Domain>(
     family: Family,
 ) -> Result<(), WalkError>
     requires { length variables.now ≡ length (roots.kinds (core_seen core.now)) }
-    ensures { MatchResult result (λ _. map narrowed_seen narrowed.new.items ≡ map narrowed_seen narrowed.old.items ++ roots.narrowed_from D.Domain (slot_symbol family) 0 (roots.kinds (core_seen core.now))) IsMemory }
+    ensures { MatchResult result (λ _. map narrowed_seen narrowed.new.items ≡ map narrowed_seen narrowed.old.items ++ roots.narrowed_from D.Domain (symbol_in family) 0 (roots.kinds (core_seen core.now))) IsMemory }
 {
     for slot in 0..count_of(variables) {
         narrowed.push(slot_narrowed(core, family, slot))?;
@@ -91,10 +88,20 @@ pub fn root_narrowed<D: Domain>(
 {
     let mut narrowed = Vec::new(alloc);
     if anchor.is_some() || head.is_some() {
-        push_narrowed(&mut narrowed, core, variables, Family::Here)?;
+        push_narrowed(
+            &mut narrowed,
+            core,
+            variables,
+            Family::Variable(Side::First),
+        )?;
     }
     if head.is_some() {
-        push_narrowed(&mut narrowed, core, variables, Family::AtAnchor)?;
+        push_narrowed(
+            &mut narrowed,
+            core,
+            variables,
+            Family::AtAnchor(Side::First),
+        )?;
     }
     Ok(narrowed)
 }

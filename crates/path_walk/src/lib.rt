@@ -10,12 +10,10 @@
 //! what is true of all that is found along the path. Statements tell how they are left (`specs/Flows.antt`).
 #![tactic(auto)]
 
-mod barriers;
 mod cases;
 mod course;
 mod dividing;
 mod ends;
-mod family;
 mod flow;
 mod fronts;
 mod heads;
@@ -39,6 +37,5 @@ mod terms;
 mod variables;
 mod walking;
 
-pub use fronts::number_of;
 pub use root::root_of;
 pub use walking::walk_place;

@@ -53,7 +53,8 @@ pub fn open_loop<D: Domain>(
     Ok(true)
 }
 
-/// Behind its body nobody goes on but by a `break`.
+/// Leaves the body of a loop with a barrier: a `break` goes on behind the loop, and a path that comes to the body's end without a barrier
+/// stops.
 pub fn close_loop<D: Domain>(
     alloc: Global,
     placing: &Placing<'_, D>,

@@ -29,7 +29,7 @@ fn masked_by<D: Domain>(
     left: &Form,
     right: &Form,
 ) -> Result<Form, WalkError>
-    ensures { MatchResult result (λ f. Leads (followed path.old) (followed path.new) (masked_here (seen D.Domain setting.now) (kind_seen kind) (form_seen left.now) (form_seen right.now)) (form_seen f)) (λ e. Stops ⊥ (followed path.old) e (masked_here (seen D.Domain setting.now) (kind_seen kind) (form_seen left.now) (form_seen right.now))) }
+    ensures { MatchResult result (λ f. Leads (followed path.old) (followed path.new) (masked_here (seen D.Domain setting.now) (kind_seen kind) (form_seen left.now) (form_seen right.now)) (form_seen f)) (λ e. Stops (followed path.old) e (masked_here (seen D.Domain setting.now) (kind_seen kind) (form_seen left.now) (form_seen right.now))) }
 {
     if are_from_zero(setting, path, left, right) {
         let element = element_at(setting, path, left).mask(element_at(setting, path, right));
@@ -47,7 +47,7 @@ fn masked<D: Domain>(
     left: &Form,
     right: &Form,
 ) -> Result<Form, WalkError>
-    ensures { MatchResult result (λ f. Leads (followed path.old) (followed path.new) (operators.masked (seen D.Domain setting.now) (operators.is_mask (kind_seen kind) (form_seen right.now)) (kind_seen kind) (form_seen left.now) (form_seen right.now)) (form_seen f)) (λ e. Stops ⊥ (followed path.old) e (operators.masked (seen D.Domain setting.now) (operators.is_mask (kind_seen kind) (form_seen right.now)) (kind_seen kind) (form_seen left.now) (form_seen right.now))) }
+    ensures { MatchResult result (λ f. Leads (followed path.old) (followed path.new) (operators.masked (seen D.Domain setting.now) (operators.is_mask (kind_seen kind) (form_seen right.now)) (kind_seen kind) (form_seen left.now) (form_seen right.now)) (form_seen f)) (λ e. Stops (followed path.old) e (operators.masked (seen D.Domain setting.now) (operators.is_mask (kind_seen kind) (form_seen right.now)) (kind_seen kind) (form_seen left.now) (form_seen right.now))) }
 {
     if is_mask(kind, right) {
         let number = above_bits(right.constant_part());
@@ -56,7 +56,7 @@ fn masked<D: Domain>(
     masked_by(alloc, setting, path, kind, left, right)
 }
 
-/// The bits of both.
+/// The value of the bits that two operands both have.
 pub fn mask<D: Domain>(
     alloc: Global,
     setting: &Setting<D>,
@@ -65,7 +65,7 @@ pub fn mask<D: Domain>(
     left: &Form,
     right: &Form,
 ) -> Result<Value, WalkError>
-    ensures { MatchResult result (λ v. Leads (followed path.old) (followed path.new) (operators.binary (seen D.Domain setting.now) BitAnd (kind_seen kind) (form_seen left.now) (form_seen right.now)) (value_seen v)) (λ e. Stops ⊥ (followed path.old) e (operators.binary (seen D.Domain setting.now) BitAnd (kind_seen kind) (form_seen left.now) (form_seen right.now))) }
+    ensures { MatchResult result (λ v. Leads (followed path.old) (followed path.new) (operators.binary (seen D.Domain setting.now) BitAnd (kind_seen kind) (form_seen left.now) (form_seen right.now)) (value_seen v)) (λ e. Stops (followed path.old) e (operators.binary (seen D.Domain setting.now) BitAnd (kind_seen kind) (form_seen left.now) (form_seen right.now))) }
 {
     let form = masked(alloc, setting, path, kind, left, right)?;
     Ok(Value { kind, form })

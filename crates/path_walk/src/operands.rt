@@ -25,7 +25,7 @@ use path_steps::{Halt, Path, Setting, Value, both_brought, brought, id_form, loa
 use std::alloc::Global;
 use words::Kind;
 
-/// A number of a kind.
+/// The value of a number that is of this kind.
 pub fn literal(alloc: Global, kind: Kind, number: u32) -> Value
     ensures { value_seen result ≡ values.value (kind_seen kind) (constant (pos number)) }
 {
@@ -43,7 +43,7 @@ pub fn truth(alloc: Global, holds: bool) -> Value
     literal(alloc, Kind::Int, number)
 }
 
-/// The same value again.
+/// A copy of a value.
 fn copied(alloc: Global, value: &Value) -> Result<Value, WalkError>
     ensures { MatchResult result (λ v. value_seen v ≡ value_seen value.now) IsMemory }
 {
@@ -65,14 +65,14 @@ fn value_at(alloc: Global, variables: &[Value], slot: u32) -> Result<Value, Walk
 }
 
 #[tactic(auto, unfolding(path_steps::specs::View::followed))]
-/// What a variable is on the path.
+/// The value that a variable has on the path.
 pub fn variable<D: Domain>(alloc: Global, path: &Path<D>, slot: u32) -> Result<Value, WalkError>
     ensures { MatchResult result (λ v. value_seen v ≡ terms.variable (followed path.now).state slot) IsMemory }
 {
     value_at(alloc, path.variables.as_slice(), slot)
 }
 
-/// What a work-item function gives.
+/// The value of what a work-item function answers in a dimension, a `uint`.
 pub fn id_value<D: Domain>(
     alloc: Global,
     setting: &Setting<D>,
@@ -105,7 +105,7 @@ pub fn loaded<D: Domain>(
     site: Site,
     index: Value,
 ) -> Result<Value, Halt>
-    ensures { MatchResult result (λ v. Leads (followed path.old) (followed path.new) (terms.load (seen D.Domain setting.now) (array_seen array) (site_seen site) (value_seen index).form) (value_seen v)) (λ h. Halts ⊥ (followed path.old) (followed path.new) h (terms.load (seen D.Domain setting.now) (array_seen array) (site_seen site) (value_seen index).form)) }
+    ensures { MatchResult result (λ v. Leads (followed path.old) (followed path.new) (terms.load (seen D.Domain setting.now) (array_seen array) (site_seen site) (value_seen index).form) (value_seen v)) (λ h. Halts (followed path.old) (followed path.new) h (terms.load (seen D.Domain setting.now) (array_seen array) (site_seen site) (value_seen index).form)) }
 {
     let value = load(alloc, setting, path, array, site, index.form)?;
     Ok(value)
@@ -122,14 +122,14 @@ pub fn unary_at<D: Domain>(
     of: Value,
 ) -> Result<Value, Halt>
     requires { is_covered_unary (unary_seen operator) (kind_seen kind) ≡ true }
-    ensures { MatchResult result (λ v. Leads (followed path.old) (followed path.new) (unary_at (seen D.Domain setting.now) (unary_seen operator) (kind_seen kind) (site_seen site) (value_seen of)) (value_seen v)) (λ h. Halts ⊥ (followed path.old) (followed path.new) h (unary_at (seen D.Domain setting.now) (unary_seen operator) (kind_seen kind) (site_seen site) (value_seen of))) }
+    ensures { MatchResult result (λ v. Leads (followed path.old) (followed path.new) (unary_at (seen D.Domain setting.now) (unary_seen operator) (kind_seen kind) (site_seen site) (value_seen of)) (value_seen v)) (λ h. Halts (followed path.old) (followed path.new) h (unary_at (seen D.Domain setting.now) (unary_seen operator) (kind_seen kind) (site_seen site) (value_seen of))) }
 {
     stand_at(path, site);
     let value = unary(alloc, setting, path, operator, kind, &of)?;
     Ok(value)
 }
 
-/// A conversion, at its site.
+/// A value that is converted to a kind, at the site of the conversion.
 pub fn brought_at<D: Domain>(
     alloc: Global,
     setting: &Setting<D>,
@@ -138,7 +138,7 @@ pub fn brought_at<D: Domain>(
     site: Site,
     of: Value,
 ) -> Result<Value, Halt>
-    ensures { MatchResult result (λ v. Leads (followed path.old) (followed path.new) (brought_at (seen D.Domain setting.now) (kind_seen kind) (site_seen site) (value_seen of)) (value_seen v)) (λ h. Halts ⊥ (followed path.old) (followed path.new) h (brought_at (seen D.Domain setting.now) (kind_seen kind) (site_seen site) (value_seen of))) }
+    ensures { MatchResult result (λ v. Leads (followed path.old) (followed path.new) (brought_at (seen D.Domain setting.now) (kind_seen kind) (site_seen site) (value_seen of)) (value_seen v)) (λ h. Halts (followed path.old) (followed path.new) h (brought_at (seen D.Domain setting.now) (kind_seen kind) (site_seen site) (value_seen of))) }
 {
     stand_at(path, site);
     let value = brought(alloc, setting, path, kind, of)?;
@@ -156,7 +156,7 @@ pub fn binary_at<D: Domain>(
     left: Value,
     right: Value,
 ) -> Result<Value, Halt>
-    ensures { MatchResult result (λ v. Leads (followed path.old) (followed path.new) (binary_at (seen D.Domain setting.now) (operator_seen operator) (kind_seen kind) (site_seen site) (value_seen left) (value_seen right)) (value_seen v)) (λ h. Halts ⊥ (followed path.old) (followed path.new) h (binary_at (seen D.Domain setting.now) (operator_seen operator) (kind_seen kind) (site_seen site) (value_seen left) (value_seen right))) }
+    ensures { MatchResult result (λ v. Leads (followed path.old) (followed path.new) (binary_at (seen D.Domain setting.now) (operator_seen operator) (kind_seen kind) (site_seen site) (value_seen left) (value_seen right)) (value_seen v)) (λ h. Halts (followed path.old) (followed path.new) h (binary_at (seen D.Domain setting.now) (operator_seen operator) (kind_seen kind) (site_seen site) (value_seen left) (value_seen right))) }
 {
     stand_at(path, site);
     let (first, second) = both_brought(alloc, setting, path, kind, left, right)?;
@@ -182,7 +182,7 @@ pub fn compare_values<D: Domain>(
     left: Value,
     right: Value,
 ) -> Result<bool, Halt>
-    ensures { MatchResult result (λ b. Leads (followed path.old) (followed path.new) (compare_values (seen D.Domain setting.now) (relation_seen relation) (kind_seen kind) (value_seen left) (value_seen right)) b) (λ h. Halts ⊥ (followed path.old) (followed path.new) h (compare_values (seen D.Domain setting.now) (relation_seen relation) (kind_seen kind) (value_seen left) (value_seen right))) }
+    ensures { MatchResult result (λ b. Leads (followed path.old) (followed path.new) (compare_values (seen D.Domain setting.now) (relation_seen relation) (kind_seen kind) (value_seen left) (value_seen right)) b) (λ h. Halts (followed path.old) (followed path.new) h (compare_values (seen D.Domain setting.now) (relation_seen relation) (kind_seen kind) (value_seen left) (value_seen right))) }
 {
     let (first, second) = both_brought(alloc, setting, path, kind, left, right)?;
     split(alloc, setting, path, relation, &first.form, &second.form)
@@ -196,7 +196,7 @@ pub fn smaller<D: Domain>(
     left: Value,
     right: Value,
 ) -> Result<Value, Halt>
-    ensures { MatchResult result (λ v. Leads (followed path.old) (followed path.new) (terms.pick (seen D.Domain setting.now) (value_seen right) (value_seen left) (value_seen right) (value_seen left)) (value_seen v)) (λ h. Halts ⊥ (followed path.old) (followed path.new) h (terms.pick (seen D.Domain setting.now) (value_seen right) (value_seen left) (value_seen right) (value_seen left))) }
+    ensures { MatchResult result (λ v. Leads (followed path.old) (followed path.new) (terms.pick (seen D.Domain setting.now) (value_seen right) (value_seen left) (value_seen right) (value_seen left)) (value_seen v)) (λ h. Halts (followed path.old) (followed path.new) h (terms.pick (seen D.Domain setting.now) (value_seen right) (value_seen left) (value_seen right) (value_seen left))) }
 {
     let is_less = split(
         alloc,
@@ -217,7 +217,7 @@ pub fn larger<D: Domain>(
     left: Value,
     right: Value,
 ) -> Result<Value, Halt>
-    ensures { MatchResult result (λ v. Leads (followed path.old) (followed path.new) (terms.pick (seen D.Domain setting.now) (value_seen left) (value_seen right) (value_seen right) (value_seen left)) (value_seen v)) (λ h. Halts ⊥ (followed path.old) (followed path.new) h (terms.pick (seen D.Domain setting.now) (value_seen left) (value_seen right) (value_seen right) (value_seen left))) }
+    ensures { MatchResult result (λ v. Leads (followed path.old) (followed path.new) (terms.pick (seen D.Domain setting.now) (value_seen left) (value_seen right) (value_seen right) (value_seen left)) (value_seen v)) (λ h. Halts (followed path.old) (followed path.new) h (terms.pick (seen D.Domain setting.now) (value_seen left) (value_seen right) (value_seen right) (value_seen left))) }
 {
     let is_less = split(
         alloc,

@@ -25,7 +25,7 @@ use path_steps::{
 use std::alloc::Global;
 use words::Kind;
 
-/// What an operator makes of two operands that were brought to its kind.
+/// The result of an operator with two operands that were brought to its kind.
 pub fn binary<D: Domain>(
     alloc: Global,
     setting: &Setting<D>,
@@ -35,7 +35,7 @@ pub fn binary<D: Domain>(
     left: &Form,
     right: &Form,
 ) -> Result<Value, WalkError>
-    ensures { MatchResult result (λ v. Leads (followed path.old) (followed path.new) (operators.binary (seen D.Domain setting.now) (operator_seen operator) (kind_seen kind) (form_seen left.now) (form_seen right.now)) (value_seen v)) (λ e. Stops ⊥ (followed path.old) e (operators.binary (seen D.Domain setting.now) (operator_seen operator) (kind_seen kind) (form_seen left.now) (form_seen right.now))) }
+    ensures { MatchResult result (λ v. Leads (followed path.old) (followed path.new) (operators.binary (seen D.Domain setting.now) (operator_seen operator) (kind_seen kind) (form_seen left.now) (form_seen right.now)) (value_seen v)) (λ e. Stops (followed path.old) e (operators.binary (seen D.Domain setting.now) (operator_seen operator) (kind_seen kind) (form_seen left.now) (form_seen right.now))) }
 {
     match operator {
         Operator::Add => ranged_sum(alloc, setting, path, kind, left, right),
@@ -48,7 +48,7 @@ pub fn binary<D: Domain>(
     }
 }
 
-/// What an operator makes of one operand that was brought to its kind.
+/// The result of an operator with one operand that was brought to its kind.
 pub fn unary<D: Domain>(
     alloc: Global,
     setting: &Setting<D>,
@@ -58,7 +58,7 @@ pub fn unary<D: Domain>(
     of: &Value,
 ) -> Result<Value, WalkError>
     requires { is_covered_unary (unary_seen operator) (kind_seen kind) ≡ true }
-    ensures { MatchResult result (λ v. Leads (followed path.old) (followed path.new) (operators.unary (seen D.Domain setting.now) (unary_seen operator) (kind_seen kind) (value_seen of.now)) (value_seen v)) (λ e. Stops ⊥ (followed path.old) e (operators.unary (seen D.Domain setting.now) (unary_seen operator) (kind_seen kind) (value_seen of.now))) }
+    ensures { MatchResult result (λ v. Leads (followed path.old) (followed path.new) (operators.unary (seen D.Domain setting.now) (unary_seen operator) (kind_seen kind) (value_seen of.now)) (value_seen v)) (λ e. Stops (followed path.old) e (operators.unary (seen D.Domain setting.now) (unary_seen operator) (kind_seen kind) (value_seen of.now))) }
 {
     match operator {
         UnaryOperator::Negate => ranged_negation(alloc, setting, path, kind, &of.form),

@@ -12,7 +12,7 @@ fn power(count: u32) -> u64
     1 << count
 }
 
-/// The same as a signed number.
+/// A power of 2, by its exponent, as a signed number.
 pub fn power_of(count: u32) -> i64
     requires { count ≤ 32 }
     ensures exact { result ≡ pos (2 ^ count) }
@@ -21,7 +21,7 @@ pub fn power_of(count: u32) -> i64
     power(count) as i64
 }
 
-/// This number is 2 to the power of a count.
+/// A number is 2 to the power of a count.
 fn is_power_of(number: i64, count: u32) -> bool
     requires { count ≤ 32 }
     ensures { result ≡ int_eq number (pos (2 ^ count)) }
@@ -29,7 +29,7 @@ fn is_power_of(number: i64, count: u32) -> bool
     number == power_of(count)
 }
 
-/// One of 2^0 to 2^32.
+/// The number is one of the powers from 2^0 to 2^32.
 fn is_power(number: i64) -> bool
     ensures { result ≡ operators.is_power 32 number }
 {

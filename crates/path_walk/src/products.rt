@@ -16,7 +16,7 @@ use linear::Form;
 use obligations::Congruence;
 use std::alloc::Global;
 
-/// How many quotients there are. A congruence takes more than 16 bytes.
+/// The number of quotients of congruences. A congruence takes more than 16 bytes.
 fn quotients(congruences: &[Congruence]) -> usize
     ensures exact { result ≡ length congruences.now }
     ensures small { result < 576460752303423488 }
@@ -24,7 +24,7 @@ fn quotients(congruences: &[Congruence]) -> usize
     congruences.len()
 }
 
-/// A quotient so many times.
+/// The form that is so many times the quotient of a congruence, by the congruence's index.
 fn product(alloc: Global, modulus: u64, index: usize) -> Result<Form, WalkError>
     requires modulus { modulus < 2 ^ 63 }
     requires index { index < 576460752303423488 }
@@ -35,7 +35,7 @@ fn product(alloc: Global, modulus: u64, index: usize) -> Result<Form, WalkError>
     Ok(product)
 }
 
-/// Two forms are equal.
+/// Adds the two facts that two forms are equal.
 fn push_equal(
     alloc: Global,
     into: &mut Vec<Form>,
@@ -63,7 +63,7 @@ fn push_congruence(
     push_equal(alloc, into, &congruence.form, &product)
 }
 
-/// All of them.
+/// Adds, for each congruence, that its form is the product of its modulus and a quotient, which is a new symbol.
 pub fn push_congruences(
     alloc: Global,
     into: &mut Vec<Form>,

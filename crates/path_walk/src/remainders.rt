@@ -28,7 +28,7 @@ fn remaining<D: Domain>(
     dividend: &Form,
     divisor: &Form,
 ) -> Result<Form, WalkError>
-    ensures { MatchResult result (λ f. Leads (followed path.old) (followed path.new) (remaining_here (seen D.Domain setting.now) (kind_seen kind) (form_seen dividend.now) (form_seen divisor.now)) (form_seen f)) (λ e. Stops ⊥ (followed path.old) e (remaining_here (seen D.Domain setting.now) (kind_seen kind) (form_seen dividend.now) (form_seen divisor.now))) }
+    ensures { MatchResult result (λ f. Leads (followed path.old) (followed path.new) (remaining_here (seen D.Domain setting.now) (kind_seen kind) (form_seen dividend.now) (form_seen divisor.now)) (form_seen f)) (λ e. Stops (followed path.old) e (remaining_here (seen D.Domain setting.now) (kind_seen kind) (form_seen dividend.now) (form_seen divisor.now))) }
 {
     if is_exact(setting, path, dividend, divisor) {
         let number = divisor.constant_part();
@@ -47,7 +47,7 @@ pub fn remain<D: Domain>(
     left: &Form,
     right: &Form,
 ) -> Result<Value, WalkError>
-    ensures { MatchResult result (λ v. Leads (followed path.old) (followed path.new) (operators.binary (seen D.Domain setting.now) Remainder (kind_seen kind) (form_seen left.now) (form_seen right.now)) (value_seen v)) (λ e. Stops ⊥ (followed path.old) e (operators.binary (seen D.Domain setting.now) Remainder (kind_seen kind) (form_seen left.now) (form_seen right.now))) }
+    ensures { MatchResult result (λ v. Leads (followed path.old) (followed path.new) (operators.binary (seen D.Domain setting.now) Remainder (kind_seen kind) (form_seen left.now) (form_seen right.now)) (value_seen v)) (λ e. Stops (followed path.old) e (operators.binary (seen D.Domain setting.now) Remainder (kind_seen kind) (form_seen left.now) (form_seen right.now))) }
 {
     claim_divisor(alloc, setting, path, kind, left, right)?;
     let form = remaining(alloc, setting, path, kind, left, right)?;

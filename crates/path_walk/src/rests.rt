@@ -34,7 +34,7 @@ fn walk_rest<D: Domain>(
     }
 }
 
-/// All of them, from the last one.
+/// Walks the lists of statements that are left behind a point, from the innermost list, which is the last one, and says how they are left.
 fn walk_rests<D: Domain>(
     alloc: Global,
     placing: &Placing<'_, D>,
@@ -54,7 +54,7 @@ fn walk_rests<D: Domain>(
     Ok(here)
 }
 
-/// Behind all of it the path comes to the item's end, unless it was stopped before.
+/// Stops the path at the item's end behind all that was left, unless it was stopped before.
 fn end<D: Domain>(
     alloc: Global,
     placing: &Placing<'_, D>,
@@ -72,7 +72,7 @@ fn end<D: Domain>(
     }
 }
 
-/// What is left, to the path's end.
+/// Walks what is left behind a point, to the path's end.
 pub fn walk_left<D: Domain>(
     alloc: Global,
     placing: &Placing<'_, D>,

@@ -22,7 +22,7 @@ use obligations::Notes;
 use path_steps::{Choice, Invented, Narrowed, Path, Spot, Value};
 use std::alloc::Global;
 
-/// What is known and held where a path begins.
+/// The facts, the values of variables, and what the domain holds, with which the paths of a place begin.
 #[derive(Drop)]
 pub struct Root<D> {
     pub known: Vec<Form>,

@@ -9,7 +9,7 @@ use arrival_claims::{congruences_of, facts_of};
 use linear::Form;
 use obligations::{Congruence, Notes};
 
-/// The facts of a place.
+/// The facts that notes say of a place, by its anchor and its loop.
 pub fn facts_at<'n>(notes: &'n Notes, anchor: Option<u32>, head: Option<u32>) -> &'n [Form]
     ensures { forms result.now ≡ roots.facts_at (seen notes.now []) anchor head }
 {
@@ -19,7 +19,7 @@ pub fn facts_at<'n>(notes: &'n Notes, anchor: Option<u32>, head: Option<u32>) ->
     }
 }
 
-/// The congruences of a place.
+/// The congruences that notes say of a place, by its anchor and its loop.
 pub fn congruences_at<'n>(
     notes: &'n Notes,
     anchor: Option<u32>,

@@ -30,7 +30,7 @@ pub fn shifted_left<D: Domain>(
     count: u32,
 ) -> Result<Value, WalkError>
     requires { count ≤ 31 }
-    ensures { MatchResult result (λ v. Leads (followed path.old) (followed path.new) (walks.ranged (seen D.Domain setting.now) (kind_seen kind) (multiple (pos (2 ^ count)) (form_seen of.now))) (value_seen v)) (λ e. Stops ⊥ (followed path.old) e (walks.ranged (seen D.Domain setting.now) (kind_seen kind) (multiple (pos (2 ^ count)) (form_seen of.now)))) }
+    ensures { MatchResult result (λ v. Leads (followed path.old) (followed path.new) (walks.ranged (seen D.Domain setting.now) (kind_seen kind) (multiple (pos (2 ^ count)) (form_seen of.now))) (value_seen v)) (λ e. Stops (followed path.old) e (walks.ranged (seen D.Domain setting.now) (kind_seen kind) (multiple (pos (2 ^ count)) (form_seen of.now)))) }
 {
     let factor = Form::constant(alloc, power_of(count));
     ranged_product(alloc, setting, path, kind, of, &factor)
@@ -46,14 +46,14 @@ fn halved<D: Domain>(
     count: u32,
 ) -> Result<Value, WalkError>
     requires { count ≤ 31 }
-    ensures { MatchResult result (λ v. Leads (followed path.old) (followed path.new) (operators.shifted (seen D.Domain setting.now) Uint (kind_seen kind) (form_seen of.now) count) (value_seen v)) (λ e. Stops ⊥ (followed path.old) e (operators.shifted (seen D.Domain setting.now) Uint (kind_seen kind) (form_seen of.now) count)) }
+    ensures { MatchResult result (λ v. Leads (followed path.old) (followed path.new) (operators.shifted (seen D.Domain setting.now) Uint (kind_seen kind) (form_seen of.now) count) (value_seen v)) (λ e. Stops (followed path.old) e (operators.shifted (seen D.Domain setting.now) Uint (kind_seen kind) (form_seen of.now) count)) }
 {
     let divisor = power_of(count);
     let form = quotient_alone(alloc, setting, path, kind, of, divisor)?;
     Ok(Value { kind, form })
 }
 
-/// Of a form that was of kind `uint` the quotient by a power of 2, else any number.
+/// The value of a shift to the right: of a `uint` the quotient by a power of 2, else any number of the kind.
 pub fn shifted_right<D: Domain>(
     alloc: Global,
     setting: &Setting<D>,
@@ -64,7 +64,7 @@ pub fn shifted_right<D: Domain>(
     count: u32,
 ) -> Result<Value, WalkError>
     requires { count ≤ 31 }
-    ensures { MatchResult result (λ v. Leads (followed path.old) (followed path.new) (operators.shifted (seen D.Domain setting.now) (kind_seen from) (kind_seen kind) (form_seen of.now) count) (value_seen v)) (λ e. Stops ⊥ (followed path.old) e (operators.shifted (seen D.Domain setting.now) (kind_seen from) (kind_seen kind) (form_seen of.now) count)) }
+    ensures { MatchResult result (λ v. Leads (followed path.old) (followed path.new) (operators.shifted (seen D.Domain setting.now) (kind_seen from) (kind_seen kind) (form_seen of.now) count) (value_seen v)) (λ e. Stops (followed path.old) e (operators.shifted (seen D.Domain setting.now) (kind_seen from) (kind_seen kind) (form_seen of.now) count)) }
 {
     match from {
         Kind::Uint => halved(alloc, setting, path, kind, of, count),

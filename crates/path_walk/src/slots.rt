@@ -2,64 +2,36 @@
 
 ghost use Rattle.std.specs.Prelude.{◌≡◌, ◌<◌, length, MatchResult};
 ghost use Rattle.linear.specs.Forms.{form as form_seen};
-ghost use Rattle.words.specs.View.{kind as kind_seen};
 ghost use Rattle.core_code.specs.View.{kernel as core_seen};
 ghost use Rattle.facts.specs.Refusals.{IsMemory};
-ghost use Rattle.facts.specs.Symbols.{number, once};
+ghost use Rattle.facts.specs.Symbols.{once};
 ghost use Rattle.obligations.specs.Roots as roots;
-ghost use Rattle.path_walk.specs.Families.{slot_symbol};
+ghost use Rattle.facts.specs.Families.{symbol_in};
 
-use crate::family::Family;
 use arrival_claims::is_kept;
 use core_code::tree::Core;
-use facts::{WalkError, once_given};
-use linear::{Form, Symbol};
+use facts::{Family, Side, WalkError, once_given};
+use linear::Form;
 use std::alloc::Global;
-use words::Kind;
 
-/// The kind of a variable; past the last one `int`.
-pub fn kind_at(core: &Core, slot: usize) -> Kind
-    ensures { kind_seen result ≡ roots.kind_of (core_seen core.now) slot }
-{
-    let first = core.arguments.len();
-    if slot < first {
-        return core.arguments[slot];
-    }
-    match core.variables.get(slot - first) {
-        Some(kind) => *kind,
-        None => Kind::Int,
-    }
-}
-
-/// How many variables there are.
+/// The number of a kernel's variables, parameters included.
 pub fn slot_count(core: &Core) -> usize
     ensures { result ≡ length (roots.kinds (core_seen core.now)) }
 {
     core.arguments.len() + core.variables.len()
 }
 
-/// The number of a variable's symbol.
-pub fn slot_number(family: Family, slot: u64) -> u64
-    requires { slot < 1152921504606846976 }
-    ensures { result ≡ number (slot_symbol family slot) }
-{
-    match family {
-        Family::Here => 6 + 16 * slot,
-        Family::AtAnchor => 7 + 16 * slot,
-    }
-}
-
-/// A variable's symbol, once.
+/// The form that is a variable's symbol, once.
 pub fn once_slot(alloc: Global, family: Family, slot: u64) -> Result<Form, WalkError>
     requires { slot < 1152921504606846976 }
-    ensures { MatchResult result (λ f. form_seen f ≡ once (slot_symbol family slot)) IsMemory }
+    ensures { MatchResult result (λ f. form_seen f ≡ once (symbol_in family slot)) IsMemory }
 {
-    let number = slot_number(family, slot);
-    let form = Form::symbol(alloc, Symbol { number })?;
+    let form = Form::symbol(alloc, family.symbol(slot))?;
     Ok(form)
 }
 
-/// What a variable is where a path begins elsewhere than at the entry.
+/// The form of a variable where a path begins at a barrier or a loop's head: an argument where nothing assigns it, else a symbol of its
+/// own.
 pub fn root_form(alloc: Global, core: &Core, slot: usize) -> Result<Form, WalkError>
     requires { slot < 576460752303423488 }
     ensures { MatchResult result (λ f. form_seen f ≡ roots.root_form (core_seen core.now) slot) IsMemory }
@@ -67,6 +39,6 @@ pub fn root_form(alloc: Global, core: &Core, slot: usize) -> Result<Form, WalkEr
     if is_kept(core, slot as u64) {
         once_given(alloc, slot)
     } else {
-        once_slot(alloc, Family::Here, slot as u64)
+        once_slot(alloc, Family::Variable(Side::First), slot as u64)
     }
 }

@@ -8,7 +8,6 @@ ghost use Rattle.path_steps.specs.View.{followed, turns as turns_seen};
 ghost use Rattle.arrival_claims.specs.View.{placed};
 ghost use Rattle.path_walk.specs.Flows.{Goes, Fails};
 
-use crate::barriers::holds_barrier;
 use crate::course::{test_at, walk_set, walk_store};
 use crate::flow::{Flow, stop_here};
 use crate::loops::{close_loop, open_loop, stop_at_head};
@@ -16,6 +15,7 @@ use arrival_claims::Placing;
 use core_code::tree::Statement;
 use domain::Domain;
 use path_steps::{Halt, Path, Stop};
+use places::holds_barrier;
 use std::alloc::Global;
 
 /// One statement, a loop where it has turned or has not.
@@ -91,7 +91,7 @@ pub fn walk_statement<D: Domain>(
     }
 }
 
-/// Statements, one after the other.
+/// Walks statements one after the other, and says how they are left.
 #[cycle(statements)]
 pub fn walk_statements<D: Domain>(
     alloc: Global,

@@ -32,14 +32,14 @@ fn both_values<D: Domain>(
 ) -> Result<(Value, Value), Halt>
     requires left { is_lawful (term_seen left.now) ≡ true }
     requires right { is_lawful (term_seen right.now) ≡ true }
-    ensures { MatchResult result (λ v. LeadsTwo (followed path.old) (followed path.new) (both_values (seen D.Domain setting.now) (term_seen left.now) (term_seen right.now)) (value_seen v.0) (value_seen v.1)) (λ h. HaltsTwo ⊥ (followed path.old) (followed path.new) h (both_values (seen D.Domain setting.now) (term_seen left.now) (term_seen right.now))) }
+    ensures { MatchResult result (λ v. LeadsTwo (followed path.old) (followed path.new) (both_values (seen D.Domain setting.now) (term_seen left.now) (term_seen right.now)) (value_seen v.0) (value_seen v.1)) (λ h. HaltsTwo (followed path.old) (followed path.new) h (both_values (seen D.Domain setting.now) (term_seen left.now) (term_seen right.now))) }
 {
     let first = value_of(alloc, setting, path, left)?;
     let second = value_of(alloc, setting, path, right)?;
     Ok((first, second))
 }
 
-/// A comparison of two terms.
+/// Walks a comparison of two terms, and gives its truth on this path.
 #[cycle(terms)]
 fn compared<D: Domain>(
     alloc: Global,
@@ -52,13 +52,13 @@ fn compared<D: Domain>(
 ) -> Result<bool, Halt>
     requires left { is_lawful (term_seen left.now) ≡ true }
     requires right { is_lawful (term_seen right.now) ≡ true }
-    ensures { MatchResult result (λ b. Leads (followed path.old) (followed path.new) (terms.walk (seen D.Domain setting.now) (core.Compare (relation_seen relation) (kind_seen kind) (term_seen left.now) (term_seen right.now))).test b) (λ h. Halts ⊥ (followed path.old) (followed path.new) h (terms.walk (seen D.Domain setting.now) (core.Compare (relation_seen relation) (kind_seen kind) (term_seen left.now) (term_seen right.now))).test) }
+    ensures { MatchResult result (λ b. Leads (followed path.old) (followed path.new) (terms.walk (seen D.Domain setting.now) (core.Compare (relation_seen relation) (kind_seen kind) (term_seen left.now) (term_seen right.now))).test b) (λ h. Halts (followed path.old) (followed path.new) h (terms.walk (seen D.Domain setting.now) (core.Compare (relation_seen relation) (kind_seen kind) (term_seen left.now) (term_seen right.now))).test) }
 {
     let (first, second) = both_values(alloc, setting, path, left, right)?;
     compare_values(alloc, setting, path, relation, kind, first, second)
 }
 
-/// Both tests hold; the right one is walked where the left one holds.
+/// Walks a test with `&&` and gives its truth on this path: the right test is walked only where the left one holds.
 #[cycle(terms)]
 fn both_hold<D: Domain>(
     alloc: Global,
@@ -69,7 +69,7 @@ fn both_hold<D: Domain>(
 ) -> Result<bool, Halt>
     requires left { is_lawful (term_seen left.now) ≡ true }
     requires right { is_lawful (term_seen right.now) ≡ true }
-    ensures { MatchResult result (λ b. Leads (followed path.old) (followed path.new) (terms.walk (seen D.Domain setting.now) (core.And (term_seen left.now) (term_seen right.now))).test b) (λ h. Halts ⊥ (followed path.old) (followed path.new) h (terms.walk (seen D.Domain setting.now) (core.And (term_seen left.now) (term_seen right.now))).test) }
+    ensures { MatchResult result (λ b. Leads (followed path.old) (followed path.new) (terms.walk (seen D.Domain setting.now) (core.And (term_seen left.now) (term_seen right.now))).test b) (λ h. Halts (followed path.old) (followed path.new) h (terms.walk (seen D.Domain setting.now) (core.And (term_seen left.now) (term_seen right.now))).test) }
 {
     let holds = test_of(alloc, setting, path, left)?;
     if holds {
@@ -78,7 +78,7 @@ fn both_hold<D: Domain>(
     Ok(false)
 }
 
-/// One of two tests holds; the right one is walked where the left one does not hold.
+/// Walks a test with `||` and gives its truth on this path: the right test is walked only where the left one does not hold.
 #[cycle(terms)]
 fn either_holds<D: Domain>(
     alloc: Global,
@@ -89,7 +89,7 @@ fn either_holds<D: Domain>(
 ) -> Result<bool, Halt>
     requires left { is_lawful (term_seen left.now) ≡ true }
     requires right { is_lawful (term_seen right.now) ≡ true }
-    ensures { MatchResult result (λ b. Leads (followed path.old) (followed path.new) (terms.walk (seen D.Domain setting.now) (core.Or (term_seen left.now) (term_seen right.now))).test b) (λ h. Halts ⊥ (followed path.old) (followed path.new) h (terms.walk (seen D.Domain setting.now) (core.Or (term_seen left.now) (term_seen right.now))).test) }
+    ensures { MatchResult result (λ b. Leads (followed path.old) (followed path.new) (terms.walk (seen D.Domain setting.now) (core.Or (term_seen left.now) (term_seen right.now))).test b) (λ h. Halts (followed path.old) (followed path.new) h (terms.walk (seen D.Domain setting.now) (core.Or (term_seen left.now) (term_seen right.now))).test) }
 {
     let holds = test_of(alloc, setting, path, left)?;
     if holds {
@@ -107,7 +107,7 @@ pub fn value_of<D: Domain>(
     term: &Term,
 ) -> Result<Value, Halt>
     requires { is_lawful (term_seen term.now) ≡ true }
-    ensures { MatchResult result (λ v. Leads (followed path.old) (followed path.new) ((terms.walk (seen D.Domain setting.now) (term_seen term.now)).value) (value_seen v)) (λ h. Halts ⊥ (followed path.old) (followed path.new) h ((terms.walk (seen D.Domain setting.now) (term_seen term.now)).value)) }
+    ensures { MatchResult result (λ v. Leads (followed path.old) (followed path.new) ((terms.walk (seen D.Domain setting.now) (term_seen term.now)).value) (value_seen v)) (λ h. Halts (followed path.old) (followed path.new) h ((terms.walk (seen D.Domain setting.now) (term_seen term.now)).value)) }
 {
     match term {
         Term::Literal { kind, value } => Ok(literal(alloc, *kind, *value)),
@@ -202,7 +202,7 @@ pub fn test_of<D: Domain>(
     term: &Term,
 ) -> Result<bool, Halt>
     requires { is_lawful (term_seen term.now) ≡ true }
-    ensures { MatchResult result (λ b. Leads (followed path.old) (followed path.new) ((terms.walk (seen D.Domain setting.now) (term_seen term.now)).test) b) (λ h. Halts ⊥ (followed path.old) (followed path.new) h ((terms.walk (seen D.Domain setting.now) (term_seen term.now)).test)) }
+    ensures { MatchResult result (λ b. Leads (followed path.old) (followed path.new) ((terms.walk (seen D.Domain setting.now) (term_seen term.now)).test) b) (λ h. Halts (followed path.old) (followed path.new) h ((terms.walk (seen D.Domain setting.now) (term_seen term.now)).test)) }
 {
     match term {
         Term::Compare {

@@ -11,7 +11,8 @@ ghost use Rattle.path_steps.specs.View.{value as value_seen};
 ghost use Rattle.obligations.specs.Roots as roots;
 ghost use Rattle.path_walk.specs.Slots.{HasSlots};
 
-use crate::slots::{kind_at, root_form, slot_count};
+use crate::slots::{root_form, slot_count};
+use arrival_claims::kind_at;
 use core_code::tree::Core;
 use facts::{WalkError, once_given};
 use linear::Form;
@@ -19,7 +20,7 @@ use path_steps::Value;
 use std::alloc::Global;
 use words::Kind;
 
-/// How many values there are. A value takes more than 16 bytes.
+/// The number of values. A value takes more than 16 bytes.
 pub fn count_of(values: &[Value]) -> usize
     ensures exact { result ≡ length values.now }
     ensures small { result < 576460752303423488 }
@@ -27,7 +28,7 @@ pub fn count_of(values: &[Value]) -> usize
     values.len()
 }
 
-/// A value parameter is its argument.
+/// The value of a value parameter where an item begins: its argument.
 fn argument(alloc: Global, kind: Kind, parameter: usize) -> Result<Value, WalkError>
     requires { parameter < 576460752303423488 }
     ensures { MatchResult result (λ v. value_seen v ≡ value (kind_seen kind) (once (ArgumentOf parameter))) IsMemory }
@@ -36,7 +37,7 @@ fn argument(alloc: Global, kind: Kind, parameter: usize) -> Result<Value, WalkEr
     Ok(Value { kind, form })
 }
 
-/// The value parameters.
+/// The values of the value parameters where an item begins: their arguments.
 fn argument_values(alloc: Global, kinds: &[Kind]) -> Result<Vec<Value>, WalkError>
     ensures { MatchResult result (λ vs. map value_seen vs.items ≡ statements.argument_values 0 (map kind_seen kinds.now)) IsMemory }
 {
@@ -48,7 +49,7 @@ fn argument_values(alloc: Global, kinds: &[Kind]) -> Result<Vec<Value>, WalkErro
     Ok(values)
 }
 
-/// 0 of a kind.
+/// The value 0 of a kind.
 fn zero(alloc: Global, kind: Kind) -> Value
     ensures { value_seen result ≡ statements.zero_value (kind_seen kind) }
 {
@@ -58,7 +59,7 @@ fn zero(alloc: Global, kind: Kind) -> Value
     }
 }
 
-/// With the private variables, each 0 of its kind.
+/// Adds the values of the private variables where an item begins, each 0 of its kind.
 fn push_zeros(alloc: Global, values: &mut Vec<Value>, kinds: &[Kind]) -> Result<(), WalkError>
     ensures { MatchResult result (λ _. map value_seen values.new.items ≡ map value_seen values.old.items ++ map statements.zero_value (map kind_seen kinds.now)) IsMemory }
 {
@@ -68,7 +69,7 @@ fn push_zeros(alloc: Global, values: &mut Vec<Value>, kinds: &[Kind]) -> Result<
     Ok(())
 }
 
-/// The variables of an item that begins.
+/// The values of all variables where an item begins: arguments, then zeros.
 fn opening_values(alloc: Global, core: &Core) -> Result<Vec<Value>, WalkError>
     ensures { MatchResult result (λ vs. map value_seen vs.items ≡ statements.opening_values (core_seen core.now)) IsMemory }
 {
@@ -77,7 +78,7 @@ fn opening_values(alloc: Global, core: &Core) -> Result<Vec<Value>, WalkError>
     Ok(values)
 }
 
-/// A variable elsewhere.
+/// The value of a variable where a path begins at a barrier or a loop's head.
 fn slot_value(alloc: Global, core: &Core, slot: usize) -> Result<Value, WalkError>
     requires { slot < 576460752303423488 }
     ensures { MatchResult result (λ v. value_seen v ≡ value (roots.kind_of (core_seen core.now) slot) (roots.root_form (core_seen core.now) slot)) IsMemory }
@@ -87,7 +88,7 @@ fn slot_value(alloc: Global, core: &Core, slot: usize) -> Result<Value, WalkErro
     Ok(Value { kind, form })
 }
 
-/// The variables elsewhere.
+/// The values of all variables where a path begins at a barrier or a loop's head.
 fn slot_values(alloc: Global, core: &Core) -> Result<Vec<Value>, WalkError>
     ensures count { IfOk result (λ vs. length vs.items ≡ length (roots.kinds (core_seen core.now))) }
     ensures values { MatchResult result (λ vs. map value_seen vs.items ≡ roots.values_from (core_seen core.now) 0 (roots.kinds (core_seen core.now))) IsMemory }
@@ -100,7 +101,7 @@ fn slot_values(alloc: Global, core: &Core) -> Result<Vec<Value>, WalkError>
     Ok(values)
 }
 
-/// The variables of a place.
+/// The values of all variables where the paths of a place begin.
 pub fn root_values(
     alloc: Global,
     core: &Core,

@@ -62,7 +62,7 @@ fn walk_anchor<D: Domain>(
     }
 }
 
-/// From where the place stands.
+/// Walks from a place to the path's end: from behind its anchor, or from the test of its loop.
 fn walk_from<D: Domain>(
     alloc: Global,
     placing: &Placing<'_, D>,
@@ -85,7 +85,7 @@ pub fn walk_place<D: Domain>(
     place: &Place<'_>,
     path: Path<D>,
 ) -> Result<Path<D>, WalkError>
-    ensures { MatchResult result (λ p. (followed p).found ≡ collect (followed path).found (sketch (course (placed D.Domain placing.now)) (core_seen placing.now.core.now).body (place_seen place.now) (followed path).state)) (λ e. Refused ⊥ e (collect (followed path).found (sketch (course (placed D.Domain placing.now)) (core_seen placing.now.core.now).body (place_seen place.now) (followed path).state))) }
+    ensures { MatchResult result (λ p. (followed p).found ≡ collect (followed path).found (sketch (course (placed D.Domain placing.now)) (core_seen placing.now.core.now).body (place_seen place.now) (followed path).state)) (λ e. Refused e (collect (followed path).found (sketch (course (placed D.Domain placing.now)) (core_seen placing.now.core.now).body (place_seen place.now) (followed path).state))) }
 {
     let mut path = path;
     let mut turns = oldest_first(alloc, &place.turns)?;

@@ -6,14 +6,14 @@ ghost use Rattle.arrivals.specs.Loops as loops;
 
 use core_code::tree::Statement;
 
-/// One of two; both are asked beforehand.
+/// The disjunction of two truth values; both are asked beforehand.
 pub fn either(first: bool, second: bool) -> bool
     ensures { result ≡ (first || second) }
 {
     first || second
 }
 
-/// The statement holds a barrier.
+/// The statement is a barrier, or one stands in it.
 #[cycle(barriers)]
 fn has_barrier(statement: &Statement) -> bool
     ensures { result ≡ loops.has_barrier (statement_seen statement.now) }
@@ -40,7 +40,7 @@ fn has_barrier(statement: &Statement) -> bool
     }
 }
 
-/// One of the statements holds a barrier.
+/// One of the statements is a barrier, or one stands in it.
 #[cycle(barriers)]
 fn have_barrier(body: &[Statement]) -> bool
     ensures { result ≡ loops.have_barrier (statements_seen body.now) }

@@ -11,13 +11,12 @@ ghost use Rattle.places.specs.View.{lists as lists_seen, left};
 
 use crate::exits::{Exits, Frame};
 use crate::lists::Lists;
-use crate::parts::{number_of, update_of};
 use crate::point::Rest;
 use crate::reaching::{from_statement, from_statements};
 use core_code::tree::Statement;
 use std::alloc::{AllocError, Global};
 
-/// With which lists from its front, and past each statement of it and from its update, the innermost last.
+/// The lists with which a head is reached: from the front, and past each statement of it and from its update, the innermost last.
 #[derive(Drop)]
 pub struct Found {
     pub go: Lists,
@@ -25,7 +24,7 @@ pub struct Found {
 }
 
 #[tactic(auto, using(crate::proofs::Framing::frames_more))]
-/// A statement in front, by what the head is reached with from there and from its update.
+/// The lists with one statement more in front, by those with which the head is reached from there and from its update.
 fn passed(number: u32, go: Lists, back: Lists, found: Found) -> Result<Found, AllocError>
     ensures { IfOk result (λ f. found_seen f ≡ reaching.passed number (lists_seen go) (lists_seen back) (found_seen found)) }
 {
@@ -39,7 +38,7 @@ fn passed(number: u32, go: Lists, back: Lists, found: Found) -> Result<Found, Al
     Ok(Found { go, frames })
 }
 
-/// From a statement in front.
+/// The lists with which a head is reached from a statement that stands in front of what was found.
 fn go_before(
     alloc: Global,
     head: u32,
@@ -58,7 +57,7 @@ fn go_before(
     )
 }
 
-/// From the update of a statement in front.
+/// The lists with which a head is reached from the update of a statement that stands in front of what was found.
 fn back_before(
     alloc: Global,
     head: u32,
@@ -69,7 +68,7 @@ fn back_before(
     ensures { IfOk result (λ l. lists_seen l ≡ reaching.by_statements head (items.update_of (statement_seen statement.now)) (lists_seen go.now) (found_seen found.now).exits) }
 {
     let go = go.copy(alloc)?;
-    let update = update_of(statement);
+    let update = statement.update();
     from_statements(
         alloc,
         head,
@@ -79,7 +78,7 @@ fn back_before(
     )
 }
 
-/// A statement in front.
+/// The lists with one statement more in front of what was found.
 fn before(
     alloc: Global,
     head: u32,
@@ -90,10 +89,10 @@ fn before(
 {
     let go = go_before(alloc, head, statement, &found)?;
     let back = back_before(alloc, head, statement, &go, &found)?;
-    passed(number_of(statement), go, back, found)
+    passed(statement.number(), go, back, found)
 }
 
-/// Statements in front.
+/// Goes in front of a list of statements, from the last one to the first.
 fn all_before(
     alloc: Global,
     head: u32,
@@ -121,7 +120,7 @@ fn rest_before(alloc: Global, head: u32, rest: Rest<'_>, found: Found) -> Result
     }
 }
 
-/// All of them, the outermost first.
+/// Goes in front of all lists that are left behind a point, the outermost first.
 fn all_rest(alloc: Global, head: u32, rest: &[Rest<'_>]) -> Result<Found, AllocError>
     ensures { IfOk result (λ f. found_seen f ≡ rests_before head rest.now reaching.nothing) }
 {
@@ -136,7 +135,7 @@ fn all_rest(alloc: Global, head: u32, rest: &[Rest<'_>]) -> Result<Found, AllocE
 }
 
 #[tactic(auto, using(crate::proofs::Reached::found_reached, crate::proofs::Framing::rests_found))]
-/// With which lists the head of that number is reached from what is left.
+/// The lists with which the head of that number is reached from what is left behind a point.
 pub fn reached_from(alloc: Global, head: u32, rest: &[Rest<'_>]) -> Result<Lists, AllocError>
     ensures { IfOk result (λ l. lists_seen l ≡ lists_of head (reached (left rest.now))) }
 {

@@ -23,7 +23,7 @@ pub enum Exits<'b> {
     Around(&'b [Frame]),
 }
 
-/// Past the innermost statement of that number.
+/// The lists with which a head is reached from behind the innermost statement of that number among the frames.
 fn frame_out(alloc: Global, frames: &[Frame], number: u32) -> Result<Lists, AllocError>
     ensures { IfOk result (λ l. lists_seen l ≡ (with_frames frames.now no_exits).out number) }
 {
@@ -36,7 +36,7 @@ fn frame_out(alloc: Global, frames: &[Frame], number: u32) -> Result<Lists, Allo
     Ok(found)
 }
 
-/// From the update of the innermost statement of that number.
+/// The lists with which a head is reached from the update of the innermost statement of that number among the frames.
 fn frame_back(alloc: Global, frames: &[Frame], number: u32) -> Result<Lists, AllocError>
     ensures { IfOk result (λ l. lists_seen l ≡ (with_frames frames.now no_exits).back number) }
 {
@@ -49,7 +49,7 @@ fn frame_back(alloc: Global, frames: &[Frame], number: u32) -> Result<Lists, All
     Ok(found)
 }
 
-/// Past the loop of that number.
+/// The lists with which a head is reached from behind the loop of that number.
 pub fn out_of(alloc: Global, exits: Exits<'_>, number: u32) -> Result<Lists, AllocError>
     ensures { IfOk result (λ l. lists_seen l ≡ (exits_seen exits.entry).out number) }
 {
@@ -59,7 +59,7 @@ pub fn out_of(alloc: Global, exits: Exits<'_>, number: u32) -> Result<Lists, All
     }
 }
 
-/// From the update of the loop of that number.
+/// The lists with which a head is reached from the update of the loop of that number.
 pub fn back_of(alloc: Global, exits: Exits<'_>, number: u32) -> Result<Lists, AllocError>
     ensures { IfOk result (λ l. lists_seen l ≡ (exits_seen exits.entry).back number) }
 {

@@ -72,7 +72,7 @@ fn skip(body: &[Statement]) -> bool
     false
 }
 
-/// The first of two.
+/// The first of two numbers that may be there.
 fn first_of(first: Option<u32>, second: Option<u32>) -> Option<u32>
     ensures { result ≡ loops.first_of first second }
 {
@@ -89,7 +89,7 @@ fn loop_fault(holds: bool, misses: bool, number: u32) -> Option<u32>
     if holds && misses { Some(number) } else { None }
 }
 
-/// That of a loop itself, by its body and its update.
+/// The number of a loop itself, if its body or its update has a barrier and a turn may miss it.
 fn own_fault(number: u32, body: &[Statement], update: &[Statement]) -> Option<u32>
     ensures { result ≡ loops.loop_fault (loops.have_barrier (statements_seen body.now) || loops.have_barrier (statements_seen update.now)) (loops.slip (statements_seen body.now) || loops.skip (statements_seen body.now)) number }
 {

@@ -2,7 +2,7 @@
 //! `core_code`.
 //!
 //! The places of a kernel, in order: its entry and each barrier, each with the loops without a barrier that are reached from there, and the
-//! loops with a barrier that have turned on the way.
+//! loops with a barrier that have turned on the way. Which loops hold a barrier is told for walks above as well.
 #![tactic(auto)]
 
 mod barriers;
@@ -11,13 +11,13 @@ mod error;
 mod exits;
 mod faults;
 mod lists;
-mod parts;
 mod place;
 mod placing;
 mod point;
 mod pointing;
 mod reaching;
 
+pub use barriers::holds_barrier;
 pub use error::PlaceError;
 pub use faults::unmet;
 pub use place::Place;

@@ -7,7 +7,7 @@ ghost use Rattle.places.specs.View.{lists as lists_seen};
 
 use std::alloc::{AllocError, Global};
 
-/// With none, with one, the newest first, or with two at least.
+/// The lists of loops turned with which a head is reached: none, one, the newest first, or two at least.
 #[derive(Drop)]
 pub enum Lists {
     NoList,
@@ -15,7 +15,7 @@ pub enum Lists {
     TwoLists,
 }
 
-/// The numbers are the same.
+/// Two lists of numbers are the same, in order.
 fn same_numbers(left: &[u32], right: &[u32]) -> bool
     ensures { result ≡ meaning.same_numbers left.now right.now }
 {
@@ -31,7 +31,7 @@ fn same_numbers(left: &[u32], right: &[u32]) -> bool
 }
 
 impl Lists {
-    /// The same once more.
+    /// A copy of the lists.
     pub fn copy(&self, alloc: Global) -> Result<Lists, AllocError>
         ensures { IfOk result (λ l. lists_seen l ≡ lists_seen self.now) }
     {
@@ -62,7 +62,7 @@ impl Lists {
         }
     }
 
-    /// It is reached on two ways.
+    /// The lists of a head that is reached both with these and with others.
     pub fn join(self, other: Lists) -> Lists
         ensures { lists_seen result ≡ reaching.join (lists_seen self) (lists_seen other) }
     {
@@ -88,7 +88,7 @@ impl Lists {
         }
     }
 
-    /// The head itself, or another.
+    /// The lists with which a head is reached from a loop: one without turns from the head itself, none from another loop.
     pub fn at_head(alloc: Global, is: bool) -> Lists
         ensures { lists_seen result ≡ reaching.at_head is }
     {

@@ -18,7 +18,7 @@ pub struct Place<'a> {
     pub turns: Option<Vec<u32>>,
 }
 
-/// The same anchor once more.
+/// A copy of an anchor.
 fn copy_anchor<'a>(
     alloc: Global,
     anchor: &Option<Point<'a>>,
@@ -34,7 +34,7 @@ fn copy_anchor<'a>(
     }
 }
 
-/// The anchor itself.
+/// Adds the place that is the anchor itself.
 pub fn push_own<'a>(
     alloc: Global,
     anchor: &Option<Point<'a>>,
@@ -70,7 +70,7 @@ fn head_at<'a>(
     })
 }
 
-/// A head, where it is reached.
+/// Adds the place of a loop's head under an anchor, if it is reached from there.
 pub fn push_head<'a>(
     alloc: Global,
     anchor: &Option<Point<'a>>,

@@ -12,14 +12,13 @@ use crate::barriers::holds_barrier;
 use crate::behind::reached_from;
 use crate::error::PlaceError;
 use crate::faults::unmet;
-use crate::parts::number_of;
 use crate::place::{Place, push_head, push_own};
 use crate::point::{Point, Rest};
 use crate::pointing::points_of;
 use core_code::tree::{Core, Statement};
 use std::alloc::{AllocError, Global};
 
-/// A loop without a barrier.
+/// The statement is a loop without a barrier.
 fn is_head(statement: &Statement) -> bool
     ensures { result ≡ meaning.is_head (statement_seen statement.now) }
 {
@@ -29,7 +28,7 @@ fn is_head(statement: &Statement) -> bool
     }
 }
 
-/// A barrier.
+/// The statement is a barrier.
 fn is_barrier(statement: &Statement) -> bool
     ensures { result ≡ meaning.is_barrier (statement_seen statement.now) }
 {
@@ -39,7 +38,7 @@ fn is_barrier(statement: &Statement) -> bool
     }
 }
 
-/// A point, where it is a head that is reached.
+/// Adds the place of a point under an anchor, if it is a head that is reached from there.
 fn push_if_head<'a>(
     alloc: Global,
     anchor: &Option<Point<'a>>,
@@ -50,7 +49,7 @@ fn push_if_head<'a>(
     ensures { OnOk result (map place_seen places.new.items ≡ map place_seen places.old.items ++ heads_among (maybe_point anchor.now) (reached (left rest.now)) (point_seen point.now ∷ [])) }
 {
     if is_head(point.statement) {
-        let found = reached_from(alloc, number_of(point.statement), rest)?;
+        let found = reached_from(alloc, point.statement.number(), rest)?;
         push_head(alloc, anchor, point, found, places)?;
     }
     Ok(())
@@ -74,7 +73,7 @@ fn push_placed<'a>(
     Ok(())
 }
 
-/// Those of a barrier.
+/// Adds the places of a barrier: the barrier itself, and the loops without a barrier that are reached from it.
 fn push_barrier<'a>(
     alloc: Global,
     barrier: &Point<'a>,
@@ -87,7 +86,7 @@ fn push_barrier<'a>(
     push_placed(alloc, &Some(anchor), barrier.rest.as_slice(), all, places)
 }
 
-/// Those of the barriers.
+/// Adds the places of all barriers among the points of a kernel, in order.
 fn push_barriers<'a>(
     alloc: Global,
     all: &[Point<'a>],
@@ -103,7 +102,7 @@ fn push_barriers<'a>(
     Ok(())
 }
 
-/// All of them.
+/// The places of a kernel, of its entry first and then of each barrier, in order.
 fn all_places<'a>(alloc: Global, body: &'a [Statement]) -> Result<Vec<Place<'a>>, AllocError>
     ensures { IfOk result (λ v. map place_seen v.items ≡ meaning.places (statements_seen body.now)) }
 {

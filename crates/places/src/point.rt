@@ -23,7 +23,7 @@ pub struct Point<'a> {
 }
 
 impl<'a> Point<'a> {
-    /// The same point once more.
+    /// A copy of the point.
     pub fn copy(&self, alloc: Global) -> Result<Point<'a>, AllocError>
         ensures { IfOk result (λ p. point_seen p ≡ point_seen self.now) }
     {
@@ -43,7 +43,7 @@ fn point_at<'a>(
     Ok(Point { statement, rest })
 }
 
-/// One point more.
+/// Adds a point: a statement, with what is left behind it.
 pub fn push_point<'a>(
     alloc: Global,
     statement: &'a Statement,
@@ -58,7 +58,7 @@ pub fn push_point<'a>(
 }
 
 #[tactic(auto, using(crate::proofs::Stacking::stacked_more))]
-/// What is left where these stand in front of it.
+/// The list of what is left, with `front` to be done before the rest.
 pub fn inside<'a>(
     alloc: Global,
     rest: &[Rest<'a>],

@@ -9,7 +9,7 @@ use crate::point::{Point, Rest, inside, push_point};
 use core_code::tree::Statement;
 use std::alloc::{AllocError, Global};
 
-/// Those of a statement.
+/// Adds the points, loops and barriers, of a statement, in the order of the source.
 #[cycle(points)]
 fn points_one<'a>(
     alloc: Global,
@@ -47,7 +47,7 @@ fn points_one<'a>(
     }
 }
 
-/// Those of a loop's body, by what is left when the loop has turned.
+/// Adds the points of a loop's body, by what is left when the loop has turned.
 #[cycle(points)]
 fn points_body<'a>(
     alloc: Global,
@@ -62,7 +62,7 @@ fn points_body<'a>(
     points_in(alloc, body, rest.as_slice(), points)
 }
 
-/// Those of statements one after the other.
+/// Adds the points of statements one after the other.
 #[cycle(points)]
 fn points_in<'a>(
     alloc: Global,
@@ -79,7 +79,7 @@ fn points_in<'a>(
     Ok(())
 }
 
-/// Those of a kernel's body.
+/// The points, loops and barriers, of a kernel's body, in the order of the source.
 pub fn points_of<'a>(alloc: Global, body: &'a [Statement]) -> Result<Vec<Point<'a>>, AllocError>
     ensures { IfOk result (λ v. map point_seen v.items ≡ meaning.points (statements_seen body.now) []) }
 {

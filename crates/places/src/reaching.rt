@@ -14,7 +14,7 @@ use crate::lists::Lists;
 use core_code::tree::Statement;
 use std::alloc::{AllocError, Global};
 
-/// From a loop with a barrier, by what the head is reached with from its body and behind it.
+/// The lists with which a head is reached from a loop with a barrier, by those from its body and from behind it.
 fn by_turn(number: u32, body: Lists, go: Lists) -> Result<Lists, AllocError>
     ensures { IfOk result (λ l. lists_seen l ≡ reaching.join (reaching.after (lists_seen body) (number ∷ [])) (lists_seen go)) }
 {
@@ -22,14 +22,14 @@ fn by_turn(number: u32, body: Lists, go: Lists) -> Result<Lists, AllocError>
     Ok(turned.join(go))
 }
 
-/// From a loop without a barrier, which is the head itself or another.
+/// The lists with which a head is reached from a loop without a barrier, which is the head itself or another.
 fn by_head(alloc: Global, is: bool, body: Lists, update: Lists, go: Lists) -> Lists
     ensures { lists_seen result ≡ reaching.join (reaching.at_head is) (reaching.join (reaching.join (lists_seen body) (lists_seen update)) (lists_seen go)) }
 {
     Lists::at_head(alloc, is).join(body.join(update).join(go))
 }
 
-/// From a statement, by what the head is reached with behind it and from the ways out.
+/// The lists with which a head is reached from a statement, by those from behind it and from the ways out.
 #[cycle(reaching)]
 pub fn from_statement(
     alloc: Global,
@@ -68,7 +68,7 @@ pub fn from_statement(
     }
 }
 
-/// From the body of a loop, or its update, where the head is reached so behind it.
+/// The lists with which a head is reached from the body or the update of a loop, by those from behind that.
 #[cycle(reaching)]
 fn from_body(alloc: Global, head: u32, body: &[Statement], go: &Lists) -> Result<Lists, AllocError>
     ensures { IfOk result (λ l. lists_seen l ≡ reaching.by_statements head (statements_seen body.now) NoList (reaching.in_body (lists_seen go.now))) }
@@ -76,7 +76,7 @@ fn from_body(alloc: Global, head: u32, body: &[Statement], go: &Lists) -> Result
     from_statements(alloc, head, body, Lists::NoList, Exits::Inside(go))
 }
 
-/// From statements one after the other.
+/// The lists with which a head is reached from statements one after the other.
 #[cycle(reaching)]
 pub fn from_statements(
     alloc: Global,

@@ -2,7 +2,7 @@
 use Rattle.std.proofs.Common.{◌≡◌, ℕ, suc, ◌+◌, ◌&&◌, Bool, true, false, List, [], ◌∷◌, ◌++◌, map, arith, refl, ap}
 use Rattle.std.specs.Prelude.{unsigned_abs}
 use Rattle.semantics.specs.Core.{Space, Global, Local, Array}
-use Rattle.semantics.specs.Linear.{Weighted}
+use Rattle.linear.specs.Linear.{Weighted}
 use Rattle.semantics.specs.Launch.{Three, Kernel}
 use Rattle.semantics.specs.Conditions.{Conditions}
 use Rattle.linear.specs.Exact.{fits}

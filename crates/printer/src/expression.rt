@@ -45,7 +45,7 @@ fn push_arguments(out: &mut String, arguments: &[Expr]) -> Result<(), AllocError
     Ok(())
 }
 
-/// An expression, without parentheses round it.
+/// Writes an expression, without parentheses round it.
 #[cycle(expression)]
 #[tactic(auto, using(syntax::proofs::Rows::seen_call))]
 pub fn push_expression(out: &mut String, e: &Expr) -> Result<(), AllocError>

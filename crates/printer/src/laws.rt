@@ -16,13 +16,13 @@ ghost use Rattle.texts.specs.Elaboration.{elaborate};
 ghost use Rattle.texts.specs.Spelling.{AreNumbered};
 ghost use Rattle.texts.specs.Surface as surface;
 
-/// What was read can be printed: names are names, numbers are of their kinds, statements are numbered in the order of the source, and
-/// their canonical text opens no more brackets at once than a text may.
+/// A kernel that is read can be printed: names are names, numbers are of their kinds, statements are numbered in the order of the source,
+/// and their canonical text opens no more brackets at once than a text may.
 pub fn what_is_read_can_be_printed()
     ensures { (bytes : List ℕ) (k : Kernel) → read bytes ≡ Ok k → IsPrintableKernel k.tree × AreNumbered 1 k.tree.body × AllOpenStatements 63 k.tree.body }
 {}
 
-/// Its canonical text says the same kernel, positions aside, however long that text is.
+/// The canonical text of a kernel that is read says the same kernel, positions aside, however long that text is.
 pub fn a_canonical_text_says_what_was_read()
     ensures { (bytes : List ℕ) (k : Kernel) → read bytes ≡ Ok k → (l : Kernel) × IsTextAtAnyLength (canonical k.tree) l × AreAlike l k }
 {}
@@ -32,12 +32,12 @@ pub fn a_canonical_text_is_read_back()
     ensures { (bytes : List ℕ) (k : Kernel) → read bytes ≡ Ok k → length (canonical k.tree) ≤ 65536 → (l : Kernel) × (read (canonical k.tree) ≡ Ok l) × AreAlike l k }
 {}
 
-/// What is read of a canonical text is the same kernel, positions aside.
+/// If a canonical text of a kernel that is read is read in turn, it is the same kernel, positions aside.
 pub fn what_is_read_of_a_canonical_text_is_its_kernel()
     ensures { (bytes : List ℕ) (k l : Kernel) → read bytes ≡ Ok k → read (canonical k.tree) ≡ Ok l → AreAlike l k }
 {}
 
-/// Printed again, it gives the same bytes.
+/// If a canonical text is read and printed again, it gives the same bytes.
 pub fn a_canonical_text_is_its_own()
     ensures { (bytes : List ℕ) (k l : Kernel) → read bytes ≡ Ok k → read (canonical k.tree) ≡ Ok l → canonical l.tree ≡ canonical k.tree }
 {}
@@ -47,7 +47,7 @@ pub fn trees_that_are_alike_have_one_text()
     ensures { (k l : surface.Kernel) → bare_kernel k ≡ bare_kernel l → canonical k ≡ canonical l }
 {}
 
-/// And kernels that were read and have one canonical text are the same but for positions.
+/// Kernels that are read and have one canonical text are the same but for positions.
 pub fn kernels_of_one_text_are_alike()
     ensures { (a b : List ℕ) (k l : Kernel) → read a ≡ Ok k → read b ≡ Ok l → canonical k.tree ≡ canonical l.tree → AreAlike k l }
 {}
@@ -57,17 +57,17 @@ pub fn elaboration_heeds_no_position()
     ensures { (k : surface.Kernel) → elaborate (bare_kernel k) ≡ bare_checked bare_core (elaborate k) }
 {}
 
-/// Nor does what kernels mean: of cores that are the same but for positions both have the headline at a launch, or neither has.
+/// Cores that are the same but for positions have the headline at the same launches, within the same bounds.
 pub fn the_headline_heeds_no_position()
     ensures { (k l : launch.Kernel) (given : launch.Launch) (bound : ℕ) → bare_core k ≡ bare_core l → Headline (at_launch k given) bound → Headline (at_launch l given) bound }
 {}
 
-/// And their result by rounds is the same.
+/// Kernels that are the same but for positions have the same result by rounds, at each launch and within each bound.
 pub fn the_result_heeds_no_position()
     ensures { (k l : launch.Kernel) (given : launch.Launch) (bound : ℕ) → bare_core k ≡ bare_core l → result_by_rounds (at_launch k given) bound ≡ result_by_rounds (at_launch l given) bound }
 {}
 
-/// So what is read of a canonical text means what its kernel means, at each launch of it.
+/// A kernel that is read of a canonical text means what the text's kernel means, at each launch of it.
 pub fn a_canonical_text_means_what_its_kernel_means()
     ensures { (bytes : List ℕ) (k l : Kernel) (given : launch.Launch) (bound : ℕ) → read bytes ≡ Ok k → read (canonical k.tree) ≡ Ok l → MeansTheSame k.core l.core given bound }
 {}

@@ -120,7 +120,7 @@ fn push_else(alloc: Global, out: &mut String, pad: &str, skipped: &[Stmt]) -> Re
     push_body(alloc, out, pad, skipped)
 }
 
-/// Statements one level deeper than `pad`.
+/// Writes statements one level deeper than `pad`.
 #[cycle(statement)]
 fn push_body(alloc: Global, out: &mut String, pad: &str, body: &[Stmt]) -> Result<(), AllocError>
     ensures { OnOk result (string_bytes out.new ≡ string_bytes out.old ++ text.statements_text (text.deeper pad.now) (statements body.now)) }
@@ -146,7 +146,7 @@ pub fn push_statements(
     Ok(())
 }
 
-/// Statements one level deeper than `pad`, and the brace that closes them.
+/// Writes statements one level deeper than `pad`.
 #[cycle(statement)]
 fn push_block(alloc: Global, out: &mut String, pad: &str, body: &[Stmt]) -> Result<(), AllocError>
     ensures { OnOk result (string_bytes out.new ≡ string_bytes out.old ++ (text.statements_text (text.deeper pad.now) (statements body.now) ++ text.line pad.now (codes "}"))) }
@@ -155,7 +155,7 @@ fn push_block(alloc: Global, out: &mut String, pad: &str, body: &[Stmt]) -> Resu
     writeln!(out, "{pad}}}")
 }
 
-/// What follows the taken part of an `if`.
+/// Writes the part of an `if` behind its taken statements: its `else`, if it has one, and the closing brace.
 #[cycle(statement)]
 fn push_rest(alloc: Global, out: &mut String, pad: &str, skipped: &[Stmt]) -> Result<(), AllocError>
     ensures { OnOk result (string_bytes out.new ≡ string_bytes out.old ++ (text.else_text pad.now (statements skipped.now) ++ text.line pad.now (codes "}"))) }

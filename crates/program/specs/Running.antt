@@ -4,7 +4,7 @@ use Rattle.std.specs.Io.KnownBytes.{Appends, Keeps}
 use Rattle.semantics.specs.Launch.{Launch, Fits}
 use Rattle.semantics.specs.Conditions.{Conditions, Meets}
 use Rattle.reading.specs.Kernels.{Kernel}
-use Rattle.telling.specs.Telling.{IsSafe, IsAcceptedText, IsResultText, IsPrintedText, accepted_line}
+use Rattle.telling.specs.Telling.{AreSafeTexts, IsAcceptedText, IsResultText, IsPrintedText, accepted_line}
 use Rattle.telling.specs.Proving.{no_launch_line}
 use Rattle.telling.specs.Refusals.{IsRefusalLine}
 use Rattle.command_line.specs.Words.{operands, HasWord, AsksWorkers, saved_as}
@@ -127,7 +127,7 @@ pub record Answered (given : List Read → Option Write → Type 0) (ws : List (
 -- the headline holds at each launch that meets the conditions: `accepted` where some launch of the kernel does, or else a line more
 abbrev pub IsSafeText : (kernel conditions written : List ℕ) → Type 0
 IsSafeText kernel conditions written =
-    (k : Kernel) × (c : Conditions) × IsSafe kernel conditions k c × (((l : Launch) × Fits k.core l × Meets c l × (written ≡ accepted_line)) ⊎ (written ≡ accepted_line ++ no_launch_line))
+    (k : Kernel) × (c : Conditions) × AreSafeTexts kernel conditions k c × (((l : Launch) × Fits k.core l × Meets c l × (written ≡ accepted_line)) ⊎ (written ≡ accepted_line ++ no_launch_line))
 
 -- and what was found, a certificate, was written to the file behind `--out`, where there is one; `proof` says of it that it is one
 abbrev pub IsFound : (proof : (kernel conditions certificate written : List ℕ) → Type 0) (out : Option (List ℕ)) (kernel conditions written : List ℕ) → Option Write → Type 0

@@ -2,20 +2,20 @@
 
 ghost use Rattle.std.specs.Prelude.{◌≡◌, ◌≢◌, ◌≤◌, ◌+◌, ℕ, List, Option, IfOk, IfSome, OnOk, length, take};
 
-/// Why there are no bytes.
+/// The reasons for which a read or a write of a file fails.
 #[derive(Clone, Copy, Debug, PartialEq, Eq)]
 pub enum FileFault {
-    /// There is no such file, or it cannot be read or written.
+    /// The file is not there, or it cannot be read or written.
     Failed,
     Memory,
 }
 
 /// Files by their names.
 pub trait Files {
-    /// What a file has, where that is known.
+    /// The bytes of a file, by its name, where they are known.
     ghost contents: { Self → List ℕ → Option (List ℕ) };
 
-    /// What a read gives: the files before it, the name, the limit, the bytes, and the files behind it.
+    /// The outcomes of a read: the files before it, the name, the limit, the bytes, and the files behind it.
     ghost gives: { Self → List ℕ → ℕ → List ℕ → Self → Type 0 };
 
     /// The bytes of a file, at most one more than `limit`.

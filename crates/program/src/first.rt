@@ -18,7 +18,7 @@ const CERTIFICATE: &[u8] = b"certificate 1\n\
     ob 6 show\ng 9\ng 22\ng 33\ng 35\ns 1 1 1 2 64 3 1 4\n\
     end\n";
 
-/// The texts.
+/// The texts of the kernel, the conditions and the certificate that the program checks where it is given no word.
 pub fn first_texts() -> Texts<'static>
     ensures kernel { result.kernel.now ≡ first_kernel }
     ensures conditions { result.conditions.now ≡ first_conditions }

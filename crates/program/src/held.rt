@@ -16,7 +16,7 @@ pub struct Held {
 }
 
 impl Held {
-    /// No file.
+    /// Files in memory, none of which is there yet.
     pub fn new(alloc: Global) -> Held
         ensures { (name : List ℕ) → option_map (λ v. v.items) (get_by_text result.files name) ≡ None }
     {

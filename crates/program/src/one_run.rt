@@ -27,10 +27,10 @@ use telling::{
 /// The line on the standard error where words are no command line.
 pub const USAGE: &str = "usage: kverify prove | check | run | print\n";
 
-/// Why there is no verdict.
+/// The reasons for which there is no verdict.
 #[derive(Clone, Copy)]
 enum Stop<'a> {
-    /// The file of this name.
+    /// The file of this name cannot be read or written.
     File(&'a str),
     Memory,
     Usage,
@@ -71,7 +71,7 @@ fn text_of<'a, F: Files>(files: &mut F, name: &'a str, limit: u64) -> Result<Vec
     }
 }
 
-/// The three texts, in this order.
+/// Reads the files of the kernel, the conditions and the certificate, in this order.
 fn texts_of<'a, F: Files>(files: &mut F, names: Names<'a>) -> Result<Found, Stop<'a>>
     ensures reads { IfOk result (λ t. Reads F.contents F.gives files.old files.new (kernel_read names.entry.kernel.now t.kernel.items ∷ conditions_read names.entry.conditions.now t.conditions.items ∷ certificate_read names.entry.certificate.now t.certificate.items ∷ [])) }
     ensures same { (n : List ℕ) → F.contents files.new n ≡ F.contents files.old n }
@@ -93,7 +93,7 @@ fn first_verdict(alloc: Global) -> Verdict
     check_texts(alloc, first_texts())
 }
 
-/// The check of files.
+/// The verdict of `check` on files.
 fn checked<'a, F: Files>(
     alloc: Global,
     names: Names<'a>,
@@ -106,7 +106,7 @@ fn checked<'a, F: Files>(
     Ok(check_texts(alloc, found.texts()))
 }
 
-/// The run of files.
+/// The verdict of `run` on files.
 fn ran<'a, R: Threads + Wait + Sync, F: Files>(
     rt: &R,
     alloc: Global,
@@ -197,7 +197,7 @@ fn proved<'a, R: Threads + Wait + Sync, F: Files>(
     kept(files, search.out, sought)
 }
 
-/// The check of files, its refusal explained.
+/// The verdict of `explain` on files with a certificate: the check of it, its refusal explained.
 fn explained_check<'a, F: Files>(
     alloc: Global,
     names: Names<'a>,
@@ -225,7 +225,7 @@ fn explained_search<'a, R: Threads + Wait + Sync, F: Files>(
     Ok(explain_texts(rt, alloc, &kernel, &conditions))
 }
 
-/// Of files, a refusal with its meaning: that of the check, where a certificate is named, else that of the search.
+/// The verdict of `explain` on files, a refusal with its meaning: that of the check, where a certificate is named, else that of the search.
 fn explained<'a, R: Threads + Wait + Sync, F: Files>(
     rt: &R,
     alloc: Global,
@@ -307,7 +307,7 @@ fn warned<E: Write>(status: u8, text: &[u8], err: &mut E) -> u8
     }
 }
 
-/// Tells why there is no verdict.
+/// Writes the reason for which there is no verdict, and gives its status.
 fn stopped<E: Write>(stop: Stop, err: &mut E) -> u8
     ensures { IsStopped result }
 {

@@ -18,7 +18,7 @@ impl End {
         }
     }
 
-    /// It has ended: whoever waits for it goes on.
+    /// Makes the end known: whoever waits for it goes on.
     pub fn come(&self, rt: &impl Wait) {
         *self.has_come.lock(rt) = true;
         self.news.notify_all();

@@ -2,15 +2,15 @@
 
 ghost use Rattle.std.specs.Prelude.{◌≡◌};
 
-use cert_check::error::{CheckError, Place};
+use cert_check::error::{CheckError, Pointer};
 use diagnostics::Finding;
 
 /// Why a kernel is not proved, or want of memory.
 #[derive(Drop)]
 pub enum VerifyError {
-    /// What the check says of the kernel or its conditions, or of all certificates that were tried.
+    /// The refusal by the check, of the kernel or its conditions, or of all certificates that were tried.
     Check(CheckError),
-    /// There are 1 to 64 workers.
+    /// The number of workers is not 1 to 64.
     Workers,
     /// No certificate was found. The kernel may be safe all the same, but for what a finding confirms.
     NotShown(Vec<Finding>),
@@ -22,7 +22,7 @@ pub enum VerifyError {
 impl VerifyError {
     ghost use Rattle.proof_search.specs.Numbers.{error_number, error_place};
 
-    /// The number that it is printed under.
+    /// The number under which the error is printed.
     pub fn number(&self) -> u8
         ensures { result ≡ error_number self.now }
     {
@@ -35,13 +35,13 @@ impl VerifyError {
         }
     }
 
-    /// Where it points.
-    pub fn place(&self) -> Option<Place>
+    /// The place or the number that a refusal tells; none where it tells neither.
+    pub fn place(&self) -> Option<Pointer>
         ensures { result ≡ error_place self.now }
     {
         match self {
             VerifyError::Check(error) => error.place(),
-            VerifyError::TooLong => Some(Place::Number(1)),
+            VerifyError::TooLong => Some(Pointer::Number(1)),
             VerifyError::Workers | VerifyError::NotShown(_) | VerifyError::Memory => None,
         }
     }

@@ -1,4 +1,4 @@
-//! The text of a certificate that is looked for.
+//! The certificate that is looked for, with its text.
 
 ghost use Rattle.std.specs.Prelude.{◌≡◌, ℕ, List, true, IfOk, IfErr, MatchResult};
 ghost use Rattle.core_code.specs.View.{kernel as core_seen};
@@ -11,6 +11,8 @@ ghost use Rattle.work_item.specs.Proper.{is_proper};
 ghost use Rattle.facts.specs.Launching.{are_sizes};
 ghost use Rattle.places.specs.Answers.{IsRefused};
 ghost use Rattle.texts.specs.ConditionsReading.{Lined};
+ghost use Rattle.certificate_text.specs.Text.{text_of};
+ghost use Rattle.certificate.specs.Certificates.{certificate as certificate_seen};
 ghost use Rattle.cert_check.specs.Refusing.{AreRead};
 ghost use Rattle.proof_search.specs.Searching.{IsCount, IsNoCount, Ends, TellsOf};
 ghost use Rattle.proof_search.specs.declared.error.VerifyError.TheVariants as errors;
@@ -34,6 +36,13 @@ use std::thread::Threads;
 use syntax::site_at;
 use types::typed::Typed;
 use walk::FindError;
+
+/// A certificate that was found, with its text.
+#[derive(Drop)]
+pub struct Found {
+    pub certificate: Certificate,
+    pub text: Vec<u8>,
+}
 
 /// The refusal of a kernel whose places cannot be walked to an end.
 fn unwalked(typed: &Typed, error: FindError) -> VerifyError
@@ -91,7 +100,7 @@ fn unplaced(typed: &Typed, error: PlaceError) -> VerifyError
     }
 }
 
-/// There are 1 to 64 workers.
+/// Fails where the number of workers is not 1 to 64.
 fn counted(workers: u32) -> Result<(), VerifyError>
     ensures { MatchResult result (λ _. IsCount workers) (λ e. (e ≡ errors.Workers) × IsNoCount workers) }
 {
@@ -102,20 +111,21 @@ fn counted(workers: u32) -> Result<(), VerifyError>
     }
 }
 
-/// A certificate's text, of at most so many bytes as are read.
-fn text_of(alloc: Global, certificate: &Certificate) -> Result<Vec<u8>, VerifyError>
-    ensures { IfErr result (λ e. (t : trees.Kernel × Core) (c : code.Conditions) → Ends t c e) }
+/// A certificate with its text, of at most so many bytes as are read.
+fn with_text(alloc: Global, certificate: Certificate) -> Result<Found, VerifyError>
+    ensures written { IfOk result (λ f. f.text.items ≡ text_of (certificate_seen f.certificate)) }
+    ensures ends { IfErr result (λ e. (t : trees.Kernel × Core) (c : code.Conditions) → Ends t c e) }
 {
-    let Ok(text) = write(alloc, certificate) else {
+    let Ok(text) = write(alloc, &certificate) else {
         return Err(VerifyError::Memory);
     };
     if text.len() > LIMIT {
         return Err(VerifyError::TooLong);
     }
-    Ok(text)
+    Ok(Found { certificate, text })
 }
 
-/// The certificate that is found for a kernel under conditions, as text.
+/// The certificate that is found for a kernel under conditions, with its text.
 fn searched<R: Threads + Sync>(
     rt: &R,
     alloc: Global,
@@ -123,11 +133,12 @@ fn searched<R: Threads + Sync>(
     conditions: &Conditions,
     places: &[Place<'_>],
     workers: u32,
-) -> Result<Vec<u8>, VerifyError>
+) -> Result<Found, VerifyError>
     requires sizes { are_sizes (core_seen typed.now.1).sizes ≡ true }
     requires proper { is_proper (core_seen typed.now.1) ≡ true }
     requires of { IsOf (core_seen typed.now.1) (lined conditions.now) }
-    ensures { IfErr result (Ends typed.now conditions.now) }
+    ensures written { IfOk result (λ f. f.text.items ≡ text_of (certificate_seen f.certificate)) }
+    ensures ends { IfErr result (Ends typed.now conditions.now) }
 {
     let subject = Subject {
         typed,
@@ -135,20 +146,21 @@ fn searched<R: Threads + Sync>(
         places,
     };
     match search(rt, alloc, subject, workers) {
-        Ok(certificate) => text_of(alloc, &certificate),
+        Ok(certificate) => with_text(alloc, certificate),
         Err(error) => Err(unfound(alloc, typed, conditions, error)),
     }
 }
 
-/// The text of a certificate for a kernel and launch conditions, each by its text. What is refused first, in this order: the kernel, the
+/// A certificate with its text for a kernel and launch conditions, each by its text. What is refused first, in this order: the kernel, the
 /// conditions, a loop whose barrier an iteration can miss, the number of workers; and then what the search finds.
-pub fn find_text<R: Threads + Sync>(
+pub fn find<R: Threads + Sync>(
     rt: &R,
     alloc: Global,
     kernel: &[u8],
     conditions: &[u8],
     workers: u32,
-) -> Result<Vec<u8>, VerifyError>
+) -> Result<Found, VerifyError>
+    ensures written { IfOk result (λ f. f.text.items ≡ text_of (certificate_seen f.certificate)) }
     ensures workers { IfOk result (λ _. IsCount workers) }
     ensures told { IfErr result (λ e. TellsOf e workers kernel.now conditions.now) }
 {

@@ -1,8 +1,8 @@
 //! Section: Answers. Promises that what its findings confirm is true, and nothing of what it finds; stands on `certificate_search` and
 //! `diagnostics`.
 //!
-//! The bytes of a kernel and of its conditions to the text of a certificate, which nothing believes until it is checked, or to what is not
-//! shown.
+//! The bytes of a kernel and of its conditions to a certificate with its text, which nothing believes until it is checked, or to what is
+//! not shown.
 #![tactic(auto)]
 
 mod error;
@@ -10,4 +10,4 @@ mod finding;
 mod shortfall;
 
 pub use error::VerifyError;
-pub use finding::find_text;
+pub use finding::{Found, find};

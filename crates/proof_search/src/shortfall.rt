@@ -29,16 +29,16 @@ const MOST: usize = 16;
 
 /// The kind of finding that an obligation of this sort leaves where it is not shown. None of those that a safe kernel may fail: that a
 /// value of `uint` was not wrapped round, and that a guess holds.
-fn kind_of(sort: Sort) -> Option<diagnostics::Kind> {
+fn kind_of(sort: Sort) -> Option<diagnostics::FindingKind> {
     match sort {
         Sort::OfRange(Kind::Int) | Sort::OfQuotient => {
-            Some(diagnostics::Kind::Fault(Fault::Overflow))
+            Some(diagnostics::FindingKind::Fault(Fault::Overflow))
         }
-        Sort::OfIndex => Some(diagnostics::Kind::Fault(Fault::OutOfBounds)),
-        Sort::OfDivisor => Some(diagnostics::Kind::Fault(Fault::DivisionByZero)),
-        Sort::OfRanking => Some(diagnostics::Kind::Bound),
-        Sort::OfPair => Some(diagnostics::Kind::Race),
-        Sort::OfSame | Sort::OfMeeting => Some(diagnostics::Kind::Divergence),
+        Sort::OfIndex => Some(diagnostics::FindingKind::Fault(Fault::OutOfBounds)),
+        Sort::OfDivisor => Some(diagnostics::FindingKind::Fault(Fault::DivisionByZero)),
+        Sort::OfRanking => Some(diagnostics::FindingKind::Bound),
+        Sort::OfPair => Some(diagnostics::FindingKind::Race),
+        Sort::OfSame | Sort::OfMeeting => Some(diagnostics::FindingKind::Divergence),
         Sort::OfRange(Kind::Uint) | Sort::OfFact | Sort::OfCongruence => None,
     }
 }

@@ -17,13 +17,12 @@ ghost use Rattle.rankings.specs.Within.{was_stopped, AreWithin, AlwaysWithin};
 
 use arrivals::laws::shown_is_pair_safe;
 
-/// Where what is owed of ranks is shown, no loop has turned more often than its limit says, at any moment of a solo run that was not
-/// stopped.
+/// If what is owed of ranks is shown, no loop has turned more often than its limit says, at any moment of a solo run that was not stopped.
 pub fn turns_are_within_bounds()
     ensures { (s : Setup) (k : Notes) (limit : ℕ → Limit) → IsSound s → Shown s k → RanksShown s k limit → (i : ℕ) (ws : List ℤ) → i < item_count s → was_stopped (after s i ws).status ≡ false → AreWithin (λ n. turns_within (limit n)) (after s i ws).left }
 {}
 
-/// So no solo run has more steps than the kernel's body costs with that many turns.
+/// If what is owed of ranks is shown, no solo run has more steps than the kernel's body costs with as many turns as the limits say.
 pub fn ranked_runs_are_short()
     ensures { (s : Setup) (k : Notes) (limit : ℕ → Limit) → IsSound s → Shown s k → RanksShown s k limit → IsShort s (cost (λ n. turns_within (limit n)) s.kernel.body) }
 {}
@@ -41,7 +40,7 @@ pub fn listed_bounds_are_enough()
     ensures fitting { (bounds : List LoopBound) → AreFitting bounds → (n : ℕ) → IsLimit (limits bounds n) }
 {}
 
-/// With what is owed of leaves, accesses and faults all of it is pair-safety, within that cost.
+/// If what is owed of leaves, accesses and faults is shown too, a ranked kernel is pair-safe within its cost.
 pub fn ranked_kernels_are_pair_safe()
     ensures { (s : Setup) (k : Notes) (bounds : List LoopBound) → IsSound s → Shown s k → AccessesShown s k → FaultsShown s k → RanksShown s k (limits bounds) → IsPairSafe s (cost (turns_of bounds) s.kernel.body) }
 {

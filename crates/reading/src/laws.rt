@@ -12,13 +12,12 @@ pub fn bytes_are_the_text_of_what_is_read()
     ensures { (bytes : List ℕ) (k : Kernel) → read bytes ≡ Ok k → IsTextOf bytes k }
 {}
 
-/// And each kernel whose text the bytes are is read of them: so they are the text of one kernel at most, and of none where they are
-/// refused.
+/// Each kernel whose text the bytes are is read of them: they are the text of one kernel at most, and of none where they are refused.
 pub fn a_kernel_is_read_of_its_text()
     ensures { (bytes : List ℕ) (k : Kernel) → IsTextOf bytes k → read bytes ≡ Ok k }
 {}
 
-/// Its names are identifiers, its numbers of their kinds, its statements numbered in the order of the source.
+/// A kernel that is read has identifiers as names, numbers of their kinds, and statements numbered in the order of the source.
 pub fn what_is_read_is_the_tree_of_a_text()
     ensures { (bytes : List ℕ) (k : Kernel) → read bytes ≡ Ok k → IsTextTree k.tree }
 {}

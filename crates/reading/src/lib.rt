@@ -32,7 +32,7 @@ pub enum KernelError {
 impl KernelError {
     ghost use Rattle.reading.specs.Answers.{error_number, error_place};
 
-    /// The number that it is printed under.
+    /// The number under which the error is printed.
     pub fn number(&self) -> u8
         ensures { result ≡ error_number self.now }
     {

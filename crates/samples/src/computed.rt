@@ -47,8 +47,8 @@ pub fn loops_are_counted()
     ensures endless { (bound : ℕ) → IsPairSafe for_ever bound → ⊥ }
 {}
 
-/// Where half of a group waits and an item of the other half has ended, they diverge; where all wait at one statement in
-/// different iterations, nothing is released.
+/// If half of a group waits and an item of the other half has ended, they diverge; if all wait at one statement in different iterations,
+/// nothing is released.
 pub fn barriers_are_uniform()
     ensures half { after_run half_waits (Step 0 ∷ Step 0 ∷ Step 32 ∷ []) (λ w. diverges half_waits w 0 32 && not (is_possible half_waits w (Release 0))) ≡ true }
     ensures turns { after_run other_turns turned (λ w. front_is 0 (6 ∷ 0 ∷ 1 ∷ 0 ∷ 4 ∷ 0 ∷ 0 ∷ 0 ∷ 2 ∷ 1 ∷ 0 ∷ 0 ∷ []) w && front_is 1 (6 ∷ 0 ∷ 1 ∷ 0 ∷ 4 ∷ 0 ∷ 0 ∷ 0 ∷ 2 ∷ 2 ∷ 0 ∷ 0 ∷ []) w && waits (w.items 2).status && waits (w.items 3).status && not (is_possible other_turns w (Release 0))) ≡ true }

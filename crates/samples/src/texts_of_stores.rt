@@ -9,8 +9,8 @@ ghost use Rattle.samples.specs.Stores.{stores, kernel_of};
 
 use reading::laws::bytes_are_the_text_of_what_is_read;
 
-/// These bytes are the text of a kernel, which is plain wherever there are at most 1,024 groups: a store to the element of the global
-/// id, one with a factor, one with a number more, one with both, and an `int` number.
+/// The bytes of five stores are the text of a kernel, which is plain wherever there are at most 1,024 groups: a store to the element of the
+/// global id, one with a factor, one with a number more, one with both, and an `int` number.
 pub fn stores_are_plain()
     ensures text { IsTextOf stores (kernel_of (read stores)) }
     ensures plain { (c : Conditions) → c.groups.x.high ≡ pos 1024 → IsPlain (kernel_of (read stores)).core c }

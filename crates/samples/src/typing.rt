@@ -16,9 +16,9 @@ pub fn kernels_are_elaborated()
     ensures hidden { arguments_of (elaborate hidden) ≡ Uint ∷ [] }
 {}
 
-/// A name in its own initialiser, a visible name declared again, a store to `const`, a load in the index of a compound assignment,
-/// and a local array in a block are no kernels. Nor is one with the name of a function that it may call, or that a compiler may call, or with
-/// a name that is the compiler's.
+/// A name in its own initialiser, a visible name declared again, a store to `const`, a load in the index of a compound assignment, and a
+/// local array in a block are no kernels. Nor is one with the name of a function that it may call, or that a compiler may call, or with a
+/// name that is the compiler's.
 pub fn others_are_refused()
     ensures own_initialiser { elaborate own_initialiser ≡ refused UnknownName (at 4) }
     ensures shadowed { elaborate shadowed ≡ refused NameTwice (at 2) }

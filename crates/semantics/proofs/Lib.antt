@@ -8,10 +8,10 @@ pub mod Turns
 pub mod Basics
 pub mod Arrivals
 pub mod Events
+pub mod Releases
 pub mod MoreAnswers
 pub mod LoadKinds
 pub mod Deciding
 pub mod MemoryKinds
 pub mod Places
 pub mod Logs
-pub mod Standing

@@ -13,5 +13,3 @@ pub mod Tests
 pub mod Rounds
 pub mod Headline
 pub mod Conditions
-pub mod Linear
-pub mod Candidates

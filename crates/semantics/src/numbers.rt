@@ -11,7 +11,7 @@ pub fn products_distribute()
     ensures { (a b c : ℤ) → a *ℤ (b +ℤ c) ≡ a *ℤ b +ℤ a *ℤ c }
 {}
 
-/// Products associate.
+/// Products of whole numbers associate.
 pub fn products_associate()
     ensures { (a b c : ℤ) → (a *ℤ b) *ℤ c ≡ a *ℤ (b *ℤ c) }
 {}

@@ -33,7 +33,8 @@ pub fn what_is_read_and_shown_has_the_headline<D: Domain>()
     what_is_shown_by_places_is_safe_within_its_cost::<D>();
 }
 
-/// Such a kernel is pair-safe at each launch that meets the conditions, within each budget that its cost does not pass.
+/// A kernel which is read and of which all is shown is pair-safe at each launch that meets the conditions, within each budget that its cost
+/// does not pass.
 pub fn what_is_read_and_shown_is_pair_safe<D: Domain>()
     ensures { (bytes : List ℕ) (k : Kernel) (c : Conditions) (n : Notes) (l : Launch) (budget : ℕ) → read bytes ≡ Ok k → unmet k.core.body ≡ None → TellsOfItems n → AreLimits n → All IsShown (obligations D.Domain k.core c n) → cost (turns_at n) k.core.body ≤ budget → Fits k.core l → Meets c l → IsPairSafe (record { kernel = k.core; launch = l }) budget }
 {

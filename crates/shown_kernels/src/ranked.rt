@@ -12,13 +12,13 @@ ghost use Rattle.obligations.specs.Limits.{turns_at, AreLimits};
 use loop_bounds::{Bound, LoopBound};
 use obligations::Notes;
 
-/// What is noted of rankings has the turns of its bounds, and is limits where their numbers are of 64 bits.
+/// The rankings of notes have the turns of their bounds, and are limits where their numbers are of 64 bits.
 pub fn noted_rankings_have_their_turns()
     ensures turns { (n : Notes) (entries : List Bool) (m : ℕ) → turns_at (seen n entries) m ≡ turns_of n.rankings.items m }
     ensures limits { (n : Notes) (entries : List Bool) → AreFitting n.rankings.items → AreLimits (seen n entries) }
 {}
 
-/// The number of one is of 64 bits, which is known once it is read.
+/// The number of a bound is of 64 bits, which is known once it is read.
 fn reads_number(bound: &Bound)
     ensures { fits_i64 (most bound.now) ≡ true }
 {
@@ -29,7 +29,7 @@ fn reads_number(bound: &Bound)
     }
 }
 
-/// Those of all.
+/// Says of each bound that its numbers are of 64 bits, which reading them shows.
 fn reads_numbers(bounds: &[LoopBound])
     ensures { AreFitting bounds.now }
 {
@@ -38,7 +38,7 @@ fn reads_numbers(bounds: &[LoopBound])
     }
 }
 
-/// What is noted of rankings is limits, for each of their numbers is of 64 bits; they are read to know it.
+/// The rankings of notes are limits, for each of their numbers is of 64 bits; they are read to know it.
 pub fn noted_rankings_are_limits(notes: &Notes)
     ensures limits { (entries : List Bool) → AreLimits (seen notes.now entries) }
     ensures turns { (entries : List Bool) (m : ℕ) → turns_at (seen notes.now entries) m ≡ turns_of notes.now.rankings.items m }

@@ -30,7 +30,7 @@ pub fn what_is_elaborated_rises()
     ensures told { (t : Tree) (k : Core) → AreNumbered 1 t.body → elaborate t ≡ Ok k → AreTold k.body }
 {}
 
-/// So it is of each kernel that is read of bytes.
+/// The statements of each kernel that is read are numbered in rising order, and their numbers tell them apart.
 pub fn what_is_read_rises()
     ensures rises { (bytes : List ℕ) (k : Kernel) → read bytes ≡ Ok k → (low : ℕ) × (high : ℕ) × AllNumbered [] low high k.core.body }
     ensures told { (bytes : List ℕ) (k : Kernel) → read bytes ≡ Ok k → AreTold k.core.body }
@@ -41,7 +41,7 @@ pub fn what_is_read_is_formed()
     ensures { (bytes : List ℕ) (k : Kernel) → read bytes ≡ Ok k → AreFormed k.core.body × IsNumbered (points k.core.body []) }
 {}
 
-/// So all that such a kernel has to be is that each of its loops with a barrier meets one on each way through.
+/// A kernel that is read is sound wherever each of its loops with a barrier meets one on each way through.
 pub fn what_is_read_is_sound_where_barriers_are_met()
     ensures { (bytes : List ℕ) (k : Kernel) (s : Setup) → read bytes ≡ Ok k → s.kernel ≡ k.core → unmet k.core.body ≡ None → IsSound s }
 {}
@@ -51,12 +51,12 @@ pub fn what_is_elaborated_is_within()
     ensures { (t : Tree) (k : Core) → elaborate t ≡ Ok k → AllWithin (declared_by k) k.body }
 {}
 
-/// So do those of each kernel that is read of bytes.
+/// A kernel that is read names only what it declares.
 pub fn what_is_read_is_within()
     ensures { (bytes : List ℕ) (k : Kernel) → read bytes ≡ Ok k → AllWithin (declared_by k.core) k.core.body }
 {}
 
-/// So each kernel that is read of bytes is orderly: it has lane code that stores what its work-groups do.
+/// A kernel that is read is orderly: it has lane code that stores what its work-groups do.
 pub fn what_is_read_is_orderly()
     ensures { (bytes : List ℕ) (k : Kernel) → read bytes ≡ Ok k → IsOrderly k.core }
 {}

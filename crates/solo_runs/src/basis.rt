@@ -48,7 +48,7 @@ fn multiply(entries: &mut Vec<u64>, factor: u64) {
 }
 
 impl Basis {
-    /// No rows.
+    /// A basis without rows.
     pub fn new(alloc: Global) -> Basis {
         Basis {
             rows: Vec::new(alloc),
@@ -69,7 +69,7 @@ impl Basis {
         }
     }
 
-    /// Takes in a row.
+    /// Takes in a row: reduced by the others, it becomes one of them unless nothing of it is left.
     pub fn enter(&mut self, entries: Vec<u64>) -> Result<(), AllocError> {
         let mut entries = entries;
         self.reduce(&mut entries);

@@ -7,16 +7,16 @@ use guesses::{is_global, one_of, try_multiple, try_sum, value_in};
 use linear::{Form, Symbol};
 use std::alloc::{AllocError, Global};
 
-/// So many terms an equality has, at most.
+/// The most terms that an equality has.
 const TERMS: usize = 5;
 
-/// So large a coefficient is, at most.
+/// The largest coefficient, in size, that an equality has.
 const COEFFICIENT: u64 = 65_536;
 
-/// So large a constant is, at most.
+/// The largest constant, in size, that an equality has.
 const CONSTANT: u64 = 0x2_0000_0000;
 
-/// By so much weights are multiplied to make them whole, at most.
+/// The largest number by which weights are multiplied to make them whole.
 const SCALE: u64 = 4_096;
 
 fn value_of(values: &[(Symbol, i64)], symbol: Symbol) -> Option<i64> {
@@ -109,7 +109,7 @@ fn scale_of(weights: &[(usize, u64)]) -> Option<u64> {
     None
 }
 
-/// The form of a weight.
+/// The form of a column's weight: so many times its symbol, or the constant; none where a number is too large.
 fn part_of(
     alloc: Global,
     weight: &(usize, u64),
@@ -173,7 +173,7 @@ fn is_zero_in(states: &[State], place: usize, form: &Form) -> bool {
     true
 }
 
-/// What is 0 by the dependency of a column, if there is one.
+/// The form that is 0 by the dependency of a column on earlier ones; none where there is none, or its numbers are too many or too large.
 fn equality_of(
     alloc: Global,
     basis: &Basis,

@@ -29,14 +29,21 @@ pub fn along(numbers: &Triple, dimension: u32) -> i64 {
     }
 }
 
-/// So many from a group's start, or all in the groups before.
+/// A place by its number within a group and the groups before it: `group * size + local`.
 fn placed(group: i64, size: i64, local: i64) -> i64 {
     group.wrapping_mul(size).wrapping_add(local)
 }
 
 impl Item<'_> {
-    /// What a work-item function answers.
+    /// The number that a work-item function answers in a dimension; past the third one each size and count is 1, and each id 0 (OpenCL 1.2,
+    /// 6.12.1).
     fn id(&self, function: Function, dimension: u32) -> i64 {
+        if dimension > 2 {
+            return match function {
+                Function::GlobalSize | Function::LocalSize | Function::NumGroups => 1,
+                Function::GlobalId | Function::LocalId | Function::GroupId => 0,
+            };
+        }
         let size = along(&self.core.sizes, dimension);
         let count = along(&self.counts, dimension);
         let group = along(&self.group, dimension);

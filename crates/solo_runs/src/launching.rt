@@ -9,13 +9,13 @@ use launch::values::sum_of;
 use std::alloc::{AllocError, Global};
 use words::Word;
 
-/// So many launches, at most.
+/// The most launches under which work-items run.
 const LAUNCHES: usize = 6;
 
-/// So many are tried for them.
+/// The number of launches that are tried at most for the mixed ones.
 const TRIES: u32 = 16;
 
-/// So long a buffer may be.
+/// The most elements that a buffer has.
 const LONGEST: u128 = 0xffff_ffff;
 
 fn mixed(random: &mut Random, low: i64, high: i64) -> i64 {

@@ -3,17 +3,17 @@
 /// The prime, 2^61 - 1.
 const PRIME: u64 = 0x1fff_ffff_ffff_ffff;
 
-/// What is left of a number.
+/// The remainder of a number by the prime, from 0 on.
 pub fn residue(value: i64) -> u64 {
     value.rem_euclid(0x1fff_ffff_ffff_ffff).unsigned_abs()
 }
 
-/// Of a sum below twice the prime.
+/// The remainder by the prime of a sum below twice the prime.
 fn folded(sum: u64) -> u64 {
     if sum >= PRIME { sum - PRIME } else { sum }
 }
 
-/// Of a product of two.
+/// The remainder of a product of two remainders by the prime.
 pub fn product(left: u64, right: u64) -> u64 {
     let exact = u128::from(left).wrapping_mul(u128::from(right));
     let low = exact & 0x1fff_ffff_ffff_ffff;
@@ -22,7 +22,7 @@ pub fn product(left: u64, right: u64) -> u64 {
     folded(u64::try_from(sum).unwrap_or(0))
 }
 
-/// Of a difference of two.
+/// The remainder of a difference of two remainders by the prime.
 pub fn difference(left: u64, right: u64) -> u64 {
     if left >= right {
         left - right
@@ -31,7 +31,7 @@ pub fn difference(left: u64, right: u64) -> u64 {
     }
 }
 
-/// What gives 1 in a product with a number that is not 0: its power by the prime less 2.
+/// The inverse of a number by the prime, that is, what gives 1 in a product with it: its power by the prime less 2. The number is not 0.
 pub fn inverse(number: u64) -> u64 {
     let mut found = 1;
     let mut square = number;

@@ -31,7 +31,7 @@ fn one_below(random: &mut Random, end: u32) -> u32 {
     u32::try_from(found).unwrap_or(0)
 }
 
-/// Some number below each.
+/// A triple of random numbers, each below one of the ends.
 fn anywhere(random: &mut Random, ends: Triple) -> Triple {
     let [x, y, z] = ends;
     let x = one_below(random, x);

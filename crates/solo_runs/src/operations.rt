@@ -3,7 +3,7 @@
 use core_code::tree::{Operator, Relation, UnaryOperator};
 use words::Kind;
 
-/// An exact result in its kind.
+/// The word of a kind that an exact result gives: a `uint` wraps; none of an `int` that is out of range.
 pub fn settled(kind: Kind, exact: i64) -> Option<i64> {
     match kind {
         Kind::Int => {
@@ -42,7 +42,7 @@ pub fn calculated(operator: Operator, kind: Kind, left: i64, right: i64) -> Opti
     settled(kind, exact)
 }
 
-/// One operand and its operator.
+/// The result of an operator with one operand; none where it is an `int` that is out of range.
 pub fn changed(operator: UnaryOperator, kind: Kind, value: i64) -> Option<i64> {
     let value = brought(kind, value);
     let exact = match operator {
@@ -84,7 +84,7 @@ pub fn compared(relation: Relation, kind: Kind, left: i64, right: i64) -> i64 {
     truth(holds)
 }
 
-/// 1 for true.
+/// The word of a truth value: 1 for true, 0 for false.
 pub fn truth(holds: bool) -> i64 {
     if holds { 1 } else { 0 }
 }

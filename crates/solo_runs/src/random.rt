@@ -9,14 +9,14 @@ pub struct Random {
 }
 
 impl Random {
-    /// At their start.
+    /// The numbers at their start, the same on each run.
     pub fn new() -> Random {
         Random {
             state: 0x9e37_79b9_7f4a_7c15,
         }
     }
 
-    /// The next one (Marsaglia's xorshift).
+    /// The next number (Marsaglia's xorshift).
     fn next(&mut self) -> u64 {
         let mut state = self.state;
         state ^= state << 13;
@@ -26,13 +26,13 @@ impl Random {
         state
     }
 
-    /// One below `end`, or 0.
+    /// A random number below `end`, or 0 where that is 0.
     pub fn below(&mut self, end: u64) -> u64 {
         let next = self.next() >> 11;
         next.checked_rem(end).unwrap_or(0)
     }
 
-    /// One from `low` to `high`.
+    /// A random number from `low` to `high`.
     pub fn between(&mut self, low: i64, high: i64) -> i64 {
         let Some(span) = high.checked_sub(low) else {
             return low;
@@ -44,7 +44,7 @@ impl Random {
         }
     }
 
-    /// What a load of that kind gives: most often a small number, now and then one near the kind's ends.
+    /// The number that a load of that kind gives: most often a small one, now and then one near the kind's ends.
     pub fn loaded(&mut self, kind: Kind) -> i64 {
         let (low, high) = match kind {
             Kind::Int => (-0x8000_0000, 0x7fff_ffff),

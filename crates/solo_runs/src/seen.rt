@@ -1,21 +1,22 @@
 //! What was seen of places and of tests, and what that refutes.
 
-use guesses::{Candidate, Descent, Line, Ranking, Sight, family, index_of, value_in, variable};
+use certificate::tree::Descent;
+use guesses::{Candidate, Line, Ranking, Sight, index_of, is_variable, value_in};
 use linear::{Form, Symbol};
 use std::alloc::{AllocError, Global};
 
-/// So many different states are kept of a place, of the first steps of all runs, and so many more for each run, so that the first ones do
-/// not take the room of the others.
+/// The number of different states of a place that are kept from the first steps of all runs. Each run may add `STATES_OF_RUN`, so that the
+/// first runs do not take the room of the others.
 const STATES: u64 = 96;
 
 const STATES_OF_RUN: u64 = 8;
 
-/// And so many of their later steps.
+/// The number of different states of a place that are kept from later steps of all runs. Each run may add `LATE_OF_RUN`.
 const LATE: u64 = 96;
 
 const LATE_OF_RUN: u64 = 6;
 
-/// So much for all runs, and so much for each one that has begun.
+/// The number of states that may be kept: so many for all runs, and so many for each one that has begun.
 fn room(all: u64, of_run: u64, runs: u64) -> u64 {
     of_run.saturating_mul(runs).saturating_add(all)
 }
@@ -47,7 +48,7 @@ pub struct Arrival {
 /// A place with marks of the states that are kept of it: how often the run came there, at which time it is looked at again among its later
 /// steps, and how often that was done in all runs.
 #[derive(Drop)]
-struct Place {
+struct MarkedPlace {
     anchor: Option<u32>,
     head: Option<u32>,
     marks: Vec<u64>,
@@ -56,14 +57,14 @@ struct Place {
     late: u64,
 }
 
-impl Place {
+impl MarkedPlace {
     /// A state of a run's early steps is to be kept.
     fn is_open(&self, runs: u64) -> bool {
         (self.marks.len() as u64) < room(STATES, STATES_OF_RUN, runs).saturating_add(self.late)
     }
 
-    /// The same among a run's later steps: at each visit up to the 32nd, then at one of two, of three and so on, so that also a loop's last
-    /// turns are seen.
+    /// A state of a run's later steps is to be kept: at each visit up to the 32nd, then at one of two, of three and so on, so that also a
+    /// loop's last turns are seen.
     fn is_open_late(&mut self, runs: u64) -> bool {
         if self.late >= room(LATE, LATE_OF_RUN, runs) || self.visits < self.next {
             return false;
@@ -74,10 +75,10 @@ impl Place {
     }
 }
 
-/// What the runs have shown.
+/// The states, the tests and the slots whose values differ that all runs have shown.
 #[derive(Drop)]
 pub struct Observed {
-    places: Vec<Place>,
+    places: Vec<MarkedPlace>,
     states: Vec<State>,
     unequal: Vec<(u32, u32)>,
     runs: Vec<Vec<(Symbol, i64)>>,
@@ -102,7 +103,7 @@ fn mark_of(values: &[(Symbol, i64)]) -> u64 {
 
 /// The value of a symbol at a loop's test.
 fn symbol_at(symbol: Symbol, globals: &[(Symbol, i64)], slots: &[i64]) -> Option<i64> {
-    if family(symbol) == family(variable(0)) {
+    if is_variable(symbol) {
         return slots.get(index_of(symbol) as usize).copied();
     }
     for entry in globals {
@@ -124,7 +125,7 @@ pub fn value_at(form: &Form, globals: &[(Symbol, i64)], slots: &[i64]) -> Option
     Some(sum)
 }
 
-/// The line is false of these values.
+/// A line is false where symbols have these values; not where a value is missing or the line speaks of two items.
 fn is_false(line: &Line, values: &[(Symbol, i64)]) -> bool {
     match line {
         Line::Same(_) => false,
@@ -143,16 +144,16 @@ fn falls(descent: Descent, before: i64, after: i64) -> bool {
             None => false,
             Some(fall) => fall >= 0 && fall.unsigned_abs() >= step,
         },
-        Descent::Halving => after <= before.div_euclid(2),
+        Descent::Halve => after <= before.div_euclid(2),
     }
 }
 
 impl Observed {
-    /// Nothing yet, of these places.
+    /// Observations in which nothing of these places is seen yet.
     pub fn new(alloc: Global, sights: &[Sight]) -> Result<Observed, AllocError> {
         let mut places = Vec::new(alloc);
         for sight in sights {
-            places.push(Place {
+            places.push(MarkedPlace {
                 anchor: sight.anchor,
                 head: sight.head,
                 marks: Vec::new(alloc),
@@ -170,7 +171,7 @@ impl Observed {
         })
     }
 
-    /// The states that were kept.
+    /// The states that are kept of all places and runs.
     pub fn states(&self) -> &[State] {
         self.states.as_slice()
     }
@@ -203,7 +204,7 @@ impl Observed {
         if is_open { Some(at) } else { None }
     }
 
-    /// Keeps a state, unless it is kept already.
+    /// Keeps a state of a place, unless it is kept already.
     pub fn note(&mut self, at: usize, values: Vec<(Symbol, i64)>) -> Result<(), AllocError> {
         let mark = mark_of(values.as_slice());
         let Some(place) = self.places.get_mut(at) else {
@@ -227,7 +228,7 @@ impl Observed {
         Ok(())
     }
 
-    /// What stays as it is in the last run.
+    /// The values of the symbols that stay as they are in the last run: those of the launch and of its item.
     pub fn globals(&self) -> &[(Symbol, i64)] {
         match self.runs.last() {
             None => &[],
@@ -333,7 +334,7 @@ impl Observed {
         value_at(form, globals.as_slice(), test.slots.as_slice())
     }
 
-    /// In a run the form was not above 0 at a true test, or did not fall between two tests of one visit.
+    /// The runs refute a ranking: in one the form was not above 0 at a true test, or did not fall between two tests of one visit.
     pub fn refutes_ranking(&self, ranking: &Ranking) -> bool {
         let mut last: Option<i64> = None;
         for test in self.tests.iter() {

@@ -9,13 +9,13 @@ use linear::Symbol;
 use std::alloc::{AllocError, Global};
 use words::Word;
 
-/// So many steps a work-item makes, at most, so that it comes to the end of long loops and behind them.
+/// The most steps of one work-item, so many that it comes to the end of long loops and behind them.
 const STEPS: u32 = 200_000;
 
-/// So many steps all work-items make together, at most, but for the early ones.
+/// The most steps of all work-items together, but for the early ones.
 const TOGETHER: u32 = 400_000;
 
-/// So many steps are early: each work-item may make these. Each state and each loop's test before the last of them is kept, of what comes
+/// The number of early steps, which each work-item may make. Each state and each loop's test before the last of them is kept, of what comes
 /// later some states.
 const EARLY: u32 = 400;
 
@@ -47,9 +47,9 @@ pub struct Solo<'a> {
     anchor: Option<u32>,
     anchored: Vec<i64>,
     turned: Vec<(u32, i64)>,
-    /// How many steps it has made.
+    /// The number of steps that the present work-item has made.
     made: u32,
-    /// How many it may make.
+    /// The number of steps that the present work-item may make.
     room: u32,
     /// How many all may make that come after it.
     left: u32,
@@ -141,7 +141,7 @@ fn ranking_of(rankings: &[Ranking], number: u32) -> Option<&Ranking> {
 }
 
 impl<'a> Solo<'a> {
-    /// Nobody yet.
+    /// A run before the first work-item, with nothing seen.
     pub fn new(
         alloc: Global,
         core: &'a Core,
@@ -174,7 +174,7 @@ impl<'a> Solo<'a> {
         })
     }
 
-    /// Makes it another work-item, at its start.
+    /// Turns to another work-item, by its group and its local id, at its start.
     pub fn enter(
         &mut self,
         group: Triple,
@@ -206,7 +206,7 @@ impl<'a> Solo<'a> {
         Vec::from_slice(self.alloc, self.item.slots.as_slice())
     }
 
-    /// Makes one more step, if it may.
+    /// Counts one more step of the work-item; false where it may make no more.
     fn steps(&mut self) -> bool {
         if self.made >= self.room {
             return false;
@@ -229,7 +229,7 @@ impl<'a> Solo<'a> {
         Flow::Next
     }
 
-    /// Evaluates what a store evaluates.
+    /// Evaluates the index and the value of a store; the run ends where one of them has no value.
     fn store(&mut self, index: &Term, value: &Term) -> Flow {
         let index = value_of(&mut self.item, index);
         let value = value_of(&mut self.item, value);
@@ -302,7 +302,7 @@ impl<'a> Solo<'a> {
         Ok(Flow::Next)
     }
 
-    /// What ranks a loop now.
+    /// The value of a loop's ranking in the present state; none where the loop has no ranking or a number is too large.
     fn rank_of(&self, number: u32) -> Option<i64> {
         let ranking = ranking_of(self.rankings, number)?;
         value_at(
@@ -347,7 +347,7 @@ impl<'a> Solo<'a> {
         Ok(value)
     }
 
-    /// Comes to a loop's test.
+    /// Comes to a loop's test, and gives whether it is true; none where the run ends there.
     fn test(&mut self, visit: Visit, test: &Term, first: bool) -> Result<Option<bool>, AllocError> {
         if visit.is_head {
             self.note(self.anchor, Some(visit.number))?;
@@ -371,7 +371,7 @@ pub fn run_all(solo: &mut Solo<'_>, body: &[Statement]) -> Result<Flow, AllocErr
     Ok(Flow::Next)
 }
 
-/// Runs a statement.
+/// Runs a statement, and says how it is left.
 #[cycle(running)]
 fn run_one(solo: &mut Solo<'_>, statement: &Statement) -> Result<Flow, AllocError> {
     if !solo.steps() {

@@ -4,7 +4,7 @@ use crate::seen::State;
 use guesses::{divisor_of, value_in};
 use linear::Form;
 
-/// What is known of the values of a form.
+/// The values of a form in the states seen so far: what divides all of them, the first one, and whether they differ.
 #[derive(Clone, Copy)]
 struct Spacing {
     divisor: u64,

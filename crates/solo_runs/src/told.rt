@@ -11,7 +11,7 @@ use guesses::{
 use linear::Form;
 use std::alloc::{AllocError, Global};
 
-/// So many states tell something.
+/// The fewest states of a place that tell something.
 const ENOUGH: usize = 4;
 
 /// The rank of what is told.
@@ -27,7 +27,7 @@ fn push_line(found: &mut Vec<Candidate>, sight: &Sight, line: Line) -> Result<()
     Ok(())
 }
 
-/// Says that a form is 0.
+/// Adds that a form is 0, as two facts; nothing where a number is too large.
 fn push_equality(
     alloc: Global,
     found: &mut Vec<Candidate>,
@@ -53,7 +53,7 @@ fn push_equalities(
     Ok(())
 }
 
-/// Says that a number divides a form.
+/// Adds that a number divides a form.
 fn push_multiple(
     alloc: Global,
     found: &mut Vec<Candidate>,
@@ -80,7 +80,7 @@ fn push_multiples(
     Ok(())
 }
 
-/// A global id.
+/// The global id of an item in a dimension, as a form; none where a number is too large.
 fn global_of(alloc: Global, dimension: u32, size: u32) -> Result<Option<Form>, AllocError> {
     let once = one_of(alloc, group(dimension))?;
     let Some(before) = try_multiple(alloc, &once, size as i64)? else {
@@ -90,7 +90,7 @@ fn global_of(alloc: Global, dimension: u32, size: u32) -> Result<Option<Form>, A
     try_sum(alloc, &before, &inside)
 }
 
-/// The ids along a dimension.
+/// Adds the group id, the local id and the global id of a dimension, as forms.
 fn push_ids(
     alloc: Global,
     ids: &mut Vec<Form>,
@@ -107,7 +107,7 @@ fn push_ids(
     Ok(())
 }
 
-/// 0 and all ids.
+/// The forms to which values are compared: 0, and the ids of all dimensions.
 fn ids_of(alloc: Global, core: &Core) -> Result<Vec<Form>, AllocError> {
     let [x, y, z] = core.sizes;
     let mut ids = Vec::new(alloc);

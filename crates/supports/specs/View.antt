@@ -1,7 +1,7 @@
 -- Supports as the code has them, in vectors of numbers.
 use Rattle.std.specs.Prelude.{ℕ, List, map, Vec}
 use Rattle.std.specs.declared.alloc.Global.{Global}
-use Rattle.semantics.specs.Candidates.{Supports}
+use Rattle.supports.specs.Candidates.{Supports}
 
 abbrev pub sets : List (Vec ℕ Global) → List (List ℕ)
 sets = map (λ set. set.items)

@@ -1,4 +1,4 @@
-//! Section: Search. Promises exactly which candidates a set supports, and sets of candidates; stands on `semantics`.
+//! Section: Search. Promises exactly which candidates a set supports, and sets of candidates; stands on nothing.
 //!
 //! Candidate facts that support one another: of each candidate its obligations, of each obligation the sets of candidates that suffice
 //! for it, and a set of at most 512 candidates, a bit each.
@@ -8,6 +8,7 @@
 #![tactic(auto)]
 
 mod error;
+pub mod laws;
 mod set;
 mod table;
 

@@ -28,7 +28,7 @@ impl Set {
         (self.words[(candidate / 64) as usize] >> (candidate % 64)) & 1 == 1
     }
 
-    /// Takes the candidate in.
+    /// Takes a candidate into the set.
     pub fn insert(&mut self, candidate: u32)
         requires { candidate < 512 }
         ensures { (c : ℕ) → members self.new.words c ≡ (c == candidate || members self.old.words c) }
@@ -36,7 +36,7 @@ impl Set {
         self.words[(candidate / 64) as usize] |= 1u64 << (candidate % 64);
     }
 
-    /// All candidates below a number.
+    /// The set of all candidates below a number.
     pub fn below(count: u32) -> Set
         requires { count ≤ 512 }
         ensures { (c : ℕ) → members result.words c ≡ nat_lt c count }

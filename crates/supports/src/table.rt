@@ -2,7 +2,7 @@
 
 ghost use Rattle.std.specs.Prelude.{◌≡◌, ◌<◌, ◌≤◌, [], length, slice_index_or, true, false, IfOk};
 ghost use Rattle.std.specs.List.{All};
-ghost use Rattle.semantics.specs.Candidates.{IsSupported};
+ghost use Rattle.supports.specs.Candidates.{IsSupported};
 ghost use Rattle.supports.specs.Sets.{members, all, any, each_in, IsUnsupported};
 ghost use Rattle.supports.specs.View.{sets, obligations as obligations_seen, supports};
 
@@ -12,7 +12,7 @@ use std::alloc::Global;
 use std::marker::Model;
 use std::sync::Arc;
 
-/// Of each candidate its obligations, of each obligation the sets of candidates that suffice for it.
+/// The supports of candidates: of each its obligations, of each obligation the sets of candidates that suffice for it.
 #[derive(Drop)]
 pub struct Supports {
     count: u32,
@@ -84,7 +84,7 @@ impl Supports {
         })
     }
 
-    /// The same table once more. Both share its lists.
+    /// Another handle of the table; both share its lists.
     pub fn again(&self) -> Result<Supports, SupportError>
         ensures { IfOk result (λ s. s ≡ self.now) }
     {
@@ -94,7 +94,7 @@ impl Supports {
         })
     }
 
-    /// How many candidates there are.
+    /// The number of candidates, at most 512.
     pub fn count(&self) -> u32
         ensures { (result ≡ length self.now) × (result ≤ 512) }
     {

@@ -16,7 +16,7 @@ fn by_number(wanted: u32, own: u32, site: Site, behind: Option<Site>) -> Option<
     if own == wanted { Some(site) } else { behind }
 }
 
-/// In the first part of a `for`.
+/// The site of the statement of a number, where it is the first part of a `for`; else the site found behind.
 fn in_first(wanted: u32, first: &First, behind: Option<Site>) -> Option<Site>
     ensures { option_map site_seen result ≡ sites.in_first wanted (first_seen first.now) (option_map site_seen behind) }
 {
@@ -31,7 +31,7 @@ fn in_first(wanted: u32, first: &First, behind: Option<Site>) -> Option<Site>
     }
 }
 
-/// In a statement.
+/// The site of the statement of a number, where it is this one or stands in it; else the site found behind.
 #[cycle(sites)]
 fn in_statement(wanted: u32, statement: &Stmt, behind: Option<Site>) -> Option<Site>
     ensures { option_map site_seen result ≡ sites.in_statement wanted (statement_seen statement.now) (option_map site_seen behind) }
@@ -91,7 +91,7 @@ fn in_statement(wanted: u32, statement: &Stmt, behind: Option<Site>) -> Option<S
     }
 }
 
-/// In statements.
+/// The site of the statement of a number, where it stands among these or in them; else the site found behind.
 #[cycle(sites)]
 fn in_statements(wanted: u32, body: &[Stmt], behind: Option<Site>) -> Option<Site>
     ensures { option_map site_seen result ≡ sites.in_statements wanted (statements_seen body.now) (option_map site_seen behind) }
@@ -105,7 +105,7 @@ fn in_statements(wanted: u32, body: &[Stmt], behind: Option<Site>) -> Option<Sit
     found
 }
 
-/// Where the statement of a number begins; of the kernel itself, and of a number that it does not have, its start.
+/// The site at which the statement of a number begins; the start of the text for the kernel itself, and for a number that it does not have.
 pub fn site_at(kernel: &Kernel, number: Option<u32>) -> Site
     ensures { site_seen result ≡ sites.site_at (tree_seen kernel.now) number }
 {

@@ -95,7 +95,7 @@ pub struct Declaration {
     pub value: Expr,
 }
 
-/// To a variable, or with an index to an element; the site is that of the name.
+/// An assignment to a variable, or with an index to an element; the site is that of the name.
 #[derive(Drop)]
 pub struct Assignment {
     pub number: u32,
@@ -114,7 +114,7 @@ pub enum First {
     Assigns(Assignment),
 }
 
-/// Which jump statement it is.
+/// The word of a jump statement.
 #[derive(Clone, Copy)]
 pub enum JumpWord {
     Return,
@@ -173,7 +173,7 @@ pub enum Stmt {
     },
 }
 
-/// A parameter.
+/// A parameter of a kernel: a buffer, or a value.
 #[derive(Drop)]
 pub enum Parameter {
     Buffer {
@@ -218,7 +218,7 @@ impl Expr {
 }
 
 impl Stmt {
-    /// Where the statement begins.
+    /// The site at which the statement begins.
     pub fn site(&self) -> Site
         ensures { site result ≡ surface.begins_at (statement self.now) }
     {

@@ -29,7 +29,7 @@ use Rattle.reading.specs.Texts.{IsTextOf}
 use Rattle.cert_check.specs.Accepting.{at_launch, HasHeadline}
 use Rattle.write_log.specs.Written.{words_of}
 use Rattle.executor.specs.Ends.{IsResultOf, EndsEvery, HaveKinds}
-use Rattle.telling.specs.Telling.{IsSafe, IsRun}
+use Rattle.telling.specs.Telling.{AreSafeTexts, IsRun}
 
 row_seen : (ws : List Word) → map number (map word ws) ≡ map value_of ws
 row_seen [] = refl
@@ -40,7 +40,7 @@ rows_seen [] = refl
 rows_seen (b ∷ bs) = ap (λ x. x ∷ map (map number) (map view.words bs)) (row_seen b.items) ∙ ap (λ xs. buffer b ∷ xs) (rows_seen bs)
 
 pub is_safe : (kernel conditions : List ℕ) (t : Kernel × Core) (c : Conditions) → IsTextOf kernel (kernel_seen t) → IsConditionsText (tree_seen t.0).parameters conditions (meant (lined c)) → HasHeadline (core_seen t.1) (conditions_seen c)
-    → IsSafe kernel conditions (kernel_seen t) (conditions_seen c)
+    → AreSafeTexts kernel conditions (kernel_seen t) (conditions_seen c)
 is_safe kernel conditions t c text said h = record { kernel_text = text; conditions_text = subst (IsConditionsText (tree_seen t.0).parameters conditions) (conditions_meant c) said; headline = h }
 
 pub is_run : (t : Kernel × Core) (c : Conditions) (launch written : List ℕ) (l : Launch) (b : Buffers) → IsLaunchText (tree_seen t.0).parameters launch (given.meant (view.launch l)) → Fits (core_seen t.1) (launch_seen l)

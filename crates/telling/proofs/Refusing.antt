@@ -17,7 +17,7 @@ use Rattle.cert_check.specs.declared.error.CheckError.{CheckError}
 use Rattle.executor.specs.Numbers as runs
 use Rattle.executor.specs.Results.{Answers}
 use Rattle.executor.specs.declared.error.RunError.{RunError}
-use Rattle.telling.specs.Telling.{IsSafe}
+use Rattle.telling.specs.Telling.{AreSafeTexts}
 use Rattle.telling.specs.Verdicts.{IsRefusal, Checks, Runs}
 use Rattle.telling.specs.declared.Verdict.{Verdict}
 use Rattle.telling.specs.declared.Verdict.TheVariants as verdicts
@@ -33,13 +33,13 @@ module _ (k c p l : List ℕ) where
   unaccepted_run workers (verdicts.Refused line) e r h = inl (e, r, h)
   unaccepted_run workers verdicts.OutOfMemory e r h = tt
 
-  pub unread_run : (workers : ℕ) (v : Verdict) (e : LaunchTextError) (kernel : Kernel) (conditions : meaning.Conditions) → IsSafe k c kernel conditions → launches.Refuses e (launch_of kernel.tree.parameters l)
+  pub unread_run : (workers : ℕ) (v : Verdict) (e : LaunchTextError) (kernel : Kernel) (conditions : meaning.Conditions) → AreSafeTexts k c kernel conditions → launches.Refuses e (launch_of kernel.tree.parameters l)
       → IsRefusal (launches.error_number e) (at_line (launches.error_place e)) v → Runs v workers k c p l
   unread_run workers (verdicts.Done text) e kernel conditions s r h = absurd h
   unread_run workers (verdicts.Refused line) e kernel conditions s r h = inr (inl (e, kernel, conditions, s, r, h))
   unread_run workers verdicts.OutOfMemory e kernel conditions s r h = tt
 
-  pub not_run : (v : Verdict) (e : RunError) (kernel : Kernel) (conditions : Conditions) (launch : Launch) (workers : ℕ) → IsSafe k c kernel (conditions_seen conditions) → launch_of kernel.tree.parameters l ≡ Ok (reading.launch launch)
+  pub not_run : (v : Verdict) (e : RunError) (kernel : Kernel) (conditions : Conditions) (launch : Launch) (workers : ℕ) → AreSafeTexts k c kernel (conditions_seen conditions) → launch_of kernel.tree.parameters l ≡ Ok (reading.launch launch)
       → Answers conditions (launch_seen launch) workers (Err e) → IsRefusal (runs.error_number e) (at_line (runs.error_line e)) v → Runs v workers k c p l
   not_run (verdicts.Done text) e kernel conditions launch workers s q r h = absurd h
   not_run (verdicts.Refused line) e kernel conditions launch workers s q r h = inr (inr (e, kernel, conditions, launch, s, q, r, h))

@@ -4,8 +4,8 @@ use Rattle.std.specs.List.{flat_map}
 use Rattle.semantics.specs.Launch.{Launch, Fits}
 use Rattle.semantics.specs.Conditions as meaning
 use Rattle.semantics.specs.Conditions.{Meets}
-use Rattle.texts.specs.Certificate.{Certificate}
-use Rattle.texts.specs.CertificateReading.{certificate_of}
+use Rattle.certificate_text.specs.Certificate.{Certificate}
+use Rattle.certificate_text.specs.Reading.{certificate_of}
 use Rattle.arrivals.specs.Loops.{unmet}
 use Rattle.launch.specs.Least.{probe}
 use Rattle.launch.specs.View.{conditions as conditions_seen}
@@ -21,7 +21,7 @@ use Rattle.proof_search.specs.Numbers.{error_number, error_place}
 use Rattle.proof_search.specs.declared.error.VerifyError.{VerifyError}
 use Rattle.proof_search.specs.declared.error.VerifyError.TheVariants as errors
 use Rattle.telling.specs.Refusals.{refusal_line, place_seen}
-use Rattle.telling.specs.Telling.{IsSafe, accepted_line}
+use Rattle.telling.specs.Telling.{AreSafeTexts, accepted_line}
 
 -- the check accepts the kernel with the certificate of these bytes: no loop misses its barrier, the bytes say a certificate, and with it
 -- nothing stops the check
@@ -39,7 +39,7 @@ proved_lines None = accepted_line ++ no_launch_line
 -- the headline holds at each launch that meets the conditions, and the check accepts this certificate; the launch at the least values is one
 -- of the kernel and meets them, where there is one
 pub record IsProved (kernel conditions certificate written : List ℕ) (k : Kernel) (c : Conditions) : Type 0 where
-  pub safe : IsSafe kernel conditions k (conditions_seen c)
+  pub safe : AreSafeTexts kernel conditions k (conditions_seen c)
   pub proof : IsProof k (conditions_seen c) certificate
   pub least : IfSome (probe c) (λ l. Fits k.core l × Meets (conditions_seen c) l)
   pub text : written ≡ proved_lines (probe c)

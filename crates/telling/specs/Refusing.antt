@@ -14,16 +14,16 @@ use Rattle.launch_text.specs.declared.error.LaunchTextError.{LaunchTextError}
 use Rattle.cert_check.specs.Numbers as checks
 use Rattle.cert_check.specs.Numbers.{at_line}
 use Rattle.cert_check.specs.Refusing.{Refuses}
-use Rattle.entry_check.specs.declared.error.Place as code
+use Rattle.entry_check.specs.declared.error.Pointer as code
 use Rattle.cert_check.specs.declared.error.CheckError.{CheckError}
 use Rattle.executor.specs.Numbers as runs
 use Rattle.executor.specs.Results.{Answers}
 use Rattle.executor.specs.declared.error.RunError.{RunError}
 use Rattle.telling.specs.Refusals.{refusal_line, place_seen}
-use Rattle.telling.specs.Telling.{IsSafe}
+use Rattle.telling.specs.Telling.{AreSafeTexts}
 
 -- the line has this number and this place
-abbrev pub IsLineOf : (number : ℕ) → Option code.Place → (line : List ℕ) → Type 0
+abbrev pub IsLineOf : (number : ℕ) → Option code.Pointer → (line : List ℕ) → Type 0
 IsLineOf number place line = line ≡ refusal_line number (place_seen place)
 
 -- the text of the kernel is refused
@@ -37,13 +37,13 @@ IsRefusedText kernel conditions certificate line = (e : CheckError) × Refuses e
 -- the kernel is accepted, and the launch's text is refused
 abbrev pub IsUnreadText : (kernel conditions launch line : List ℕ) → Type 0
 IsUnreadText kernel conditions launch line =
-    (e : LaunchTextError) × (k : Kernel) × (c : meaning.Conditions) × IsSafe kernel conditions k c × launches.Refuses e (launch_of k.tree.parameters launch)
+    (e : LaunchTextError) × (k : Kernel) × (c : meaning.Conditions) × AreSafeTexts kernel conditions k c × launches.Refuses e (launch_of k.tree.parameters launch)
     × IsLineOf (launches.error_number e) (at_line (launches.error_place e)) line
 
 -- the launch is read, and is not run with so many workers: the first condition that it does not meet, or their number
 abbrev pub IsUnrunText : (workers : ℕ) → (kernel conditions launch line : List ℕ) → Type 0
 IsUnrunText workers kernel conditions launch line =
-    (e : RunError) × (k : Kernel) × (c : Conditions) × (l : Launch) × IsSafe kernel conditions k (conditions_seen c) × (launch_of k.tree.parameters launch ≡ Ok (reading.launch l))
+    (e : RunError) × (k : Kernel) × (c : Conditions) × (l : Launch) × AreSafeTexts kernel conditions k (conditions_seen c) × (launch_of k.tree.parameters launch ≡ Ok (reading.launch l))
     × Answers c (launch_seen l) workers (Err e) × IsLineOf (runs.error_number e) (at_line (runs.error_line e)) line
 
 -- one of these

@@ -18,7 +18,7 @@ use Rattle.executor.specs.Ends.{IsResultOf, EndsEvery, HaveKinds}
 
 -- the bytes are the text of the kernel, by the grammar, and the text of the conditions, case by case; and at each launch that meets these
 -- the headline holds
-pub record IsSafe (kernel conditions : List ℕ) (k : Kernel) (c : Conditions) : Type 0 where
+pub record AreSafeTexts (kernel conditions : List ℕ) (k : Kernel) (c : Conditions) : Type 0 where
   pub kernel_text : IsTextOf kernel k
   pub conditions_text : IsConditionsText k.tree.parameters conditions c
   pub headline : HasHeadline k.core c
@@ -43,11 +43,11 @@ pub record IsRun (k : Kernel) (c : Conditions) (launch written : List ℕ) (l : 
   pub text : written ≡ buffers_text k.tree.parameters b
 
 abbrev pub IsAcceptedText : (kernel conditions written : List ℕ) → Type 0
-IsAcceptedText kernel conditions written = (k : Kernel) × (c : Conditions) × IsSafe kernel conditions k c × (written ≡ accepted_line)
+IsAcceptedText kernel conditions written = (k : Kernel) × (c : Conditions) × AreSafeTexts kernel conditions k c × (written ≡ accepted_line)
 
 abbrev pub IsResultText : (kernel conditions launch written : List ℕ) → Type 0
 IsResultText kernel conditions launch written =
-    (k : Kernel) × (c : Conditions) × (l : Launch) × (b : List (List Word)) × IsSafe kernel conditions k c × IsRun k c launch written l b
+    (k : Kernel) × (c : Conditions) × (l : Launch) × (b : List (List Word)) × AreSafeTexts kernel conditions k c × IsRun k c launch written l b
 
 -- the bytes are the text of a kernel, by the grammar, and what is written is the canonical text of its tree
 abbrev pub IsPrintedText : (kernel written : List ℕ) → Type 0

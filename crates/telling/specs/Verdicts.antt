@@ -1,14 +1,14 @@
 -- What a verdict of the code says.
 use Rattle.std.specs.Prelude.{ℕ, List, Option}
 use Rattle.std.specs.String.{string_bytes}
-use Rattle.entry_check.specs.declared.error.Place as code
+use Rattle.entry_check.specs.declared.error.Pointer as code
 use Rattle.telling.specs.Refusing.{IsLineOf, IsRefusedText, IsRefusedKernel, IsUnanswered}
 use Rattle.telling.specs.Telling.{IsAcceptedText, IsResultText, IsPrintedText}
 use Rattle.telling.specs.declared.Verdict.{Verdict}
 use Rattle.telling.specs.declared.Verdict.TheVariants as verdicts
 
 -- a refusal by this number and place, or want of memory
-abbrev pub IsRefusal : (number : ℕ) → Option code.Place → Verdict → Type 0
+abbrev pub IsRefusal : (number : ℕ) → Option code.Pointer → Verdict → Type 0
 IsRefusal number place (verdicts.Done text) = ⊥
 IsRefusal number place (verdicts.Refused line) = IsLineOf number place (string_bytes line)
 IsRefusal number place verdicts.OutOfMemory = Unit {0}

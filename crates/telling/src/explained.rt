@@ -13,7 +13,7 @@ use cert_check::check;
 use cert_check::error::CheckError;
 use explaining::{Refused, explain};
 use launch_text::laws::what_is_read_of_conditions_is_their_text;
-use proof_search::find_text;
+use proof_search::{Found, find};
 use reading::laws::bytes_are_the_text_of_what_is_read;
 use std::alloc::Global;
 use std::sync::Wait;
@@ -61,7 +61,7 @@ fn unfound(
     }
 }
 
-/// The certificate that is found, where a refusal of that number is of its steps.
+/// The text of the certificate that is found, where a refusal of that number is of its steps.
 fn found_over_budget<R: Threads + Sync>(
     rt: &R,
     alloc: Global,
@@ -72,7 +72,10 @@ fn found_over_budget<R: Threads + Sync>(
     if number != OVER_BUDGET {
         return None;
     }
-    find_text(rt, alloc, kernel, conditions, 1).ok()
+    match find(rt, alloc, kernel, conditions, 1) {
+        Ok(Found { text, .. }) => Some(text),
+        Err(_) => None,
+    }
 }
 
 /// Looks for a certificate as `prove` does, with one worker: `accepted`, or why there is none and what that means.

@@ -17,7 +17,7 @@ mod proving;
 mod refusal;
 
 use cert_check::check;
-use cert_check::error::{CheckError, Place};
+use cert_check::error::{CheckError, Pointer};
 use executor::{RunError, run};
 pub use explained::{explain_check, explain_texts};
 use launch_text::error::LaunchTextError;
@@ -52,7 +52,7 @@ pub struct Texts<'a> {
 }
 
 /// A refusal by a number and where it points, or want of memory.
-fn refused(alloc: Global, number: u8, place: Option<Place>) -> Verdict
+fn refused(alloc: Global, number: u8, place: Option<Pointer>) -> Verdict
     ensures { IsRefusal number place result }
 {
     match (Refusal { number, place }).told(alloc) {
@@ -61,12 +61,12 @@ fn refused(alloc: Global, number: u8, place: Option<Place>) -> Verdict
     }
 }
 
-/// Where a refusal points that points to a line.
-fn line_of(line: Option<u32>) -> Option<Place>
+/// The point of a refusal that tells a line of a text.
+fn line_of(line: Option<u32>) -> Option<Pointer>
     ensures { result ≡ at_line line }
 {
     match line {
-        Some(line) => Some(Place::Number(line as u64)),
+        Some(line) => Some(Pointer::Number(line as u64)),
         None => None,
     }
 }
@@ -136,7 +136,7 @@ pub fn run_texts<R: Threads + Wait + Sync>(
         Err(error) => return not_run(alloc, &error),
     };
     match write_buffers(alloc, accepted.typed(), &buffers) {
-        Ok(text) => Verdict::Done(text),
+        Ok(text) => Verdict::Done(text.into_bytes()),
         Err(_) => Verdict::OutOfMemory,
     }
 }

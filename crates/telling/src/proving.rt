@@ -12,6 +12,7 @@ ghost use Rattle.telling.specs.Proving.{IsProvedText, proved_lines, found as fou
 ghost use Rattle.telling.specs.ProvingVerdicts.{Proves};
 
 use crate::refusal::Refusal;
+use certificate::write;
 use diagnostics::{Finding, line};
 use launch::conditions::Conditions;
 use launch::probe::probe;
@@ -121,6 +122,10 @@ pub fn found<R: Threads + Wait + Sync>(
     } = match verify(rt, alloc, kernel, conditions, workers) {
         Ok(verified) => verified,
         Err(error) => return Err(error),
+    };
+    let certificate = match write(alloc, &certificate) {
+        Ok(text) => text,
+        Err(_) => return Err(VerifyError::Memory),
     };
     match lines(alloc, accepted.conditions()) {
         Ok(written) => Ok(Proved {

@@ -4,7 +4,7 @@ ghost use Rattle.std.specs.Prelude.{◌≡◌, IfOk, IfSome};
 ghost use Rattle.std.specs.String.{string_bytes};
 ghost use Rattle.telling.specs.Refusals.{refusal_line, pointed, place_seen};
 
-use cert_check::error::Place;
+use cert_check::error::Pointer;
 use std::alloc::{AllocError, Global};
 
 /// The number of want of memory.
@@ -14,21 +14,21 @@ const MEMORY: u8 = 90;
 #[derive(Clone, Copy)]
 pub struct Refusal {
     pub number: u8,
-    pub place: Option<Place>,
+    pub place: Option<Pointer>,
 }
 
 /// The line of a refusal that points somewhere.
-fn line_at(alloc: Global, number: u8, place: Place) -> Result<String, AllocError>
+fn line_at(alloc: Global, number: u8, place: Pointer) -> Result<String, AllocError>
     ensures { IfOk result (λ line. string_bytes line ≡ refusal_line number (pointed place)) }
 {
     match place {
-        Place::Number(place) => format!(in alloc; "refused {number} {place}\n"),
-        Place::At { line, column } => format!(in alloc; "refused {number} {line}:{column}\n"),
+        Pointer::Number(place) => format!(in alloc; "refused {number} {place}\n"),
+        Pointer::At { line, column } => format!(in alloc; "refused {number} {line}:{column}\n"),
     }
 }
 
 impl Refusal {
-    /// The line that tells it.
+    /// The line that is printed of the refusal.
     pub fn line(self, alloc: Global) -> Result<String, AllocError>
         ensures { IfOk result (λ line. string_bytes line ≡ refusal_line self.number (place_seen self.place)) }
     {

@@ -7,7 +7,7 @@ use linear::Form;
 use std::alloc::{AllocError, Global};
 use words::Kind;
 
-/// What a literal's bits stand for.
+/// The number that a literal's bits stand for in its kind.
 pub fn literal(kind: Kind, value: u32) -> i64 {
     let plain = i64::from(value);
     match kind {
@@ -40,13 +40,13 @@ fn global_id(alloc: Global, size: i64, dimension: u32) -> Result<Option<Form>, A
     try_sum(alloc, &start, &local)
 }
 
-/// All items along a dimension.
+/// The form of the number of all items along a dimension; none where it is too large.
 fn global_size(alloc: Global, size: i64, dimension: u32) -> Result<Option<Form>, AllocError> {
     let count = one_of(alloc, groups(dimension))?;
     try_multiple(alloc, &count, size)
 }
 
-/// What a work-item function answers.
+/// The form of what a work-item function answers in a dimension; none where the dimension is above 2 or it is linear in no symbol.
 pub fn id_form(
     alloc: Global,
     frame: &Frame,
@@ -103,7 +103,7 @@ fn joined(
     }
 }
 
-/// By what an operator multiplies.
+/// The number by which an operator with one operand multiplies; none where it does not.
 fn factor(operator: UnaryOperator) -> Option<i64> {
     match operator {
         UnaryOperator::Negate => Some(-1),
@@ -169,7 +169,7 @@ pub fn affine(alloc: Global, frame: &Frame, term: &Term) -> Result<Option<Form>,
     }
 }
 
-/// The number that a term is.
+/// The number that a term always has; none where it is not linear or depends on a symbol.
 pub fn constant_of(alloc: Global, frame: &Frame, term: &Term) -> Result<Option<i64>, AllocError> {
     match affine(alloc, frame, term)? {
         Some(form) => Ok(number_of(&form)),

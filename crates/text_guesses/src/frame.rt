@@ -14,7 +14,7 @@ pub struct Frame {
 }
 
 impl Frame {
-    /// A kernel's.
+    /// The local sizes, the parameters and the assigned slots of a kernel.
     pub fn of(alloc: Global, core: &Core) -> Result<Frame, AllocError> {
         let mut assigned = Vec::new(alloc);
         enter_all(core.body.as_slice(), &mut assigned)?;
@@ -40,7 +40,7 @@ impl Frame {
         self.is_parameter(slot) && !self.assigned.as_slice().contains(&slot)
     }
 
-    /// What stands for a slot.
+    /// The symbol that stands for a slot: an argument where nothing assigns the parameter, else a variable.
     pub fn symbol(&self, slot: u32) -> Symbol {
         if self.is_kept(slot) {
             argument(slot)
@@ -84,7 +84,7 @@ fn enter(statement: &Statement, assigned: &mut Vec<u32>) -> Result<(), AllocErro
     }
 }
 
-/// Takes up the slots that statements assign.
+/// Notes the slots that statements assign.
 #[cycle(enters)]
 fn enter_all(body: &[Statement], assigned: &mut Vec<u32>) -> Result<(), AllocError> {
     for statement in body {

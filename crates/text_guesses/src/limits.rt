@@ -17,14 +17,14 @@ pub struct Limit {
     pub form: Form,
 }
 
-/// On which side of the term the limits are.
+/// The side of a term on which its limits are.
 #[derive(Clone, Copy, PartialEq, Eq)]
 pub enum Side {
     Above,
     Below,
 }
 
-/// The other side.
+/// The opposite side of a term.
 fn other(side: Side) -> Side {
     match side {
         Side::Above => Side::Below,
@@ -55,7 +55,7 @@ fn single(alloc: Global, form: Form) -> Result<Vec<Limit>, AllocError> {
     Ok(limits)
 }
 
-/// Takes up limits once more.
+/// Adds copies of limits, while there is room.
 fn keep_all(alloc: Global, limits: &mut Vec<Limit>, more: &[Limit]) -> Result<(), AllocError> {
     for limit in more {
         let form = copied(alloc, &limit.form)?;
@@ -64,7 +64,7 @@ fn keep_all(alloc: Global, limits: &mut Vec<Limit>, more: &[Limit]) -> Result<()
     Ok(())
 }
 
-/// Those of the negated term.
+/// The limits of the negated term, from the other side's limits of the term.
 fn negated(alloc: Global, limits: &[Limit]) -> Result<Vec<Limit>, AllocError> {
     let mut out = Vec::new(alloc);
     for limit in limits {
@@ -85,7 +85,7 @@ fn sum_of(alloc: Global, left: &Limit, right: &Limit) -> Result<Option<Form>, Al
     try_sum(alloc, &first, &second)
 }
 
-/// Those of a sum, by those of its parts.
+/// The limits of a sum, by those of its parts on the same side.
 fn sums(alloc: Global, left: &[Limit], right: &[Limit]) -> Result<Vec<Limit>, AllocError> {
     let mut out = Vec::new(alloc);
     for first in left {
@@ -99,7 +99,7 @@ fn sums(alloc: Global, left: &[Limit], right: &[Limit]) -> Result<Vec<Limit>, Al
     Ok(out)
 }
 
-/// What the division of a multiple loses at most, below 0.
+/// The most that the division of a multiple loses, as a number of at most 0; none where it is too large for `i64`.
 fn lost(factor: i64, divisor: i64) -> Option<i64> {
     let rest = 1i64.checked_sub(divisor)?;
     factor.checked_mul(rest)
@@ -121,7 +121,7 @@ fn quotient_form(
     }
 }
 
-/// Those of a quotient by a number above 0.
+/// The limits of the quotient by a number above 0, by those of the dividend.
 fn quotients(
     alloc: Global,
     limits: &[Limit],
@@ -141,7 +141,7 @@ fn quotients(
     Ok(out)
 }
 
-/// Those of a part of a term's value that is at most a number: a remainder, or bits.
+/// The limits of a part of a term's value that is from 0 to a number: a remainder, or bits.
 fn parts(alloc: Global, limits: &[Limit], most: i64, side: Side) -> Result<Vec<Limit>, AllocError> {
     match side {
         Side::Below => number(alloc, 0),
@@ -153,7 +153,7 @@ fn parts(alloc: Global, limits: &[Limit], most: i64, side: Side) -> Result<Vec<L
     }
 }
 
-/// Those of a quotient, a remainder or bits by a number.
+/// The limits of a quotient, a remainder or bits by a number, by those of the first operand; none for other operators.
 fn by_number(
     alloc: Global,
     operator: Operator,
@@ -176,7 +176,7 @@ fn by_number(
     }
 }
 
-/// Those of what an operator with one operand makes of a term.
+/// The limits of what an operator with one operand makes of a term, by those of the term.
 fn changed(
     alloc: Global,
     operator: UnaryOperator,
@@ -193,7 +193,7 @@ fn changed(
     }
 }
 
-/// On which side the limits of the operand have to be.
+/// The side of the operand on which limits are needed for limits of the result on this side.
 fn side_within(operator: UnaryOperator, side: Side) -> Side {
     match operator {
         UnaryOperator::Negate => other(side),
@@ -202,7 +202,7 @@ fn side_within(operator: UnaryOperator, side: Side) -> Side {
     }
 }
 
-/// Those of a smaller or a greater one of two, if they limit it on that side.
+/// The limits of the smaller or the greater one of two terms, by those of both, if they limit it on that side.
 fn either(
     alloc: Global,
     left: Vec<Limit>,
@@ -217,13 +217,13 @@ fn either(
     Ok(left)
 }
 
-/// Those of the difference, by those of its parts.
+/// The limits of a difference, by those of its first part and of its second part on the other side.
 fn differences(alloc: Global, left: &[Limit], right: &[Limit]) -> Result<Vec<Limit>, AllocError> {
     let right = negated(alloc, right)?;
     sums(alloc, left, right.as_slice())
 }
 
-/// The number that limits alone stand for.
+/// The number that a single limit without symbols is; none of other limits.
 fn number_in(limits: &[Limit]) -> Option<i64> {
     match limits {
         [only] => number_of(&only.form),
@@ -231,7 +231,7 @@ fn number_in(limits: &[Limit]) -> Option<i64> {
     }
 }
 
-/// On which side the limits of the second operand have to be.
+/// The side of the second operand on which limits are needed for limits of the result on this side.
 fn second_side(operator: Operator, side: Side) -> Side {
     match operator {
         Operator::Subtract => other(side),
@@ -245,7 +245,7 @@ fn second_side(operator: Operator, side: Side) -> Side {
     }
 }
 
-/// Those of what an operator makes of two terms, by theirs.
+/// The limits of what an operator makes of two terms, by theirs.
 fn joined(
     alloc: Global,
     operator: Operator,
@@ -263,7 +263,7 @@ fn joined(
     }
 }
 
-/// Of a term `t` on a side: `factor * t <= form` above, `factor * t >= form` below.
+/// The limits of a term `t` on a side: `factor * t <= form` above, `factor * t >= form` below.
 pub fn limits_of(
     alloc: Global,
     frame: &Frame,

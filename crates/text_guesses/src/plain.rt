@@ -11,10 +11,10 @@ use guesses::{
 use linear::Form;
 use std::alloc::{AllocError, Global};
 
-/// How many guesses there are at most.
+/// The most guesses of all places together.
 const MOST: usize = 2_048;
 
-/// What is at hand anywhere in a kernel.
+/// The numbers, moduli, ids and arguments that guesses of a kernel may use at any place.
 #[derive(Drop)]
 struct AtHand {
     frame: Frame,
@@ -142,7 +142,7 @@ fn keep_forms(
     Ok(())
 }
 
-/// Differences of two variables, both ways.
+/// Keeps, for each two variables, that each is at least the other one, as two guesses.
 fn keep_pairs(
     alloc: Global,
     sight: &Sight,
@@ -161,7 +161,7 @@ fn keep_pairs(
     Ok(())
 }
 
-/// That slots are alike, at a barrier; and how they stand to what they were there, at a loop.
+/// Keeps that slots are the same for all items, at a barrier, and that they equal their values at the barrier before, at a loop.
 fn keep_anchored(
     alloc: Global,
     sight: &Sight,
@@ -198,7 +198,7 @@ fn keep_ranks(
     Ok(())
 }
 
-/// What divides a variable, or its distance from an id.
+/// Keeps that numbers of the text divide a variable, or its distance from an id.
 fn keep_multiples(
     alloc: Global,
     sight: &Sight,
@@ -218,7 +218,7 @@ fn keep_multiples(
     Ok(())
 }
 
-/// That a variable is more than an earlier one or an argument by a number at least, or less.
+/// Keeps that a variable is more than an earlier one, or than an argument, by at least a number, or less by at least that.
 fn keep_orders(
     alloc: Global,
     sight: &Sight,
@@ -242,7 +242,7 @@ fn keep_orders(
     Ok(())
 }
 
-/// All guesses of a place.
+/// Keeps all guesses of one place.
 fn keep_place(
     alloc: Global,
     sight: &Sight,
@@ -266,7 +266,7 @@ fn keep_place(
     keep_orders(alloc, sight, slots, arguments, -1, shelf)
 }
 
-/// It is not the kernel's entry.
+/// The place is a barrier or a loop's test, not the kernel's entry.
 fn is_place(sight: &Sight) -> bool {
     sight.anchor.is_some() || sight.head.is_some()
 }

@@ -13,7 +13,7 @@ pub struct Found {
 }
 
 impl Found {
-    /// Takes up a number.
+    /// Notes a number, once.
     fn enter(&mut self, number: u64) -> Result<(), AllocError> {
         if !self.numbers.as_slice().contains(&number) {
             self.numbers.push(number)?;
@@ -35,7 +35,7 @@ impl Found {
         }
     }
 
-    /// Takes up a work-item function.
+    /// Notes the dimension of an id that a work-item function answers.
     fn enter_id(&mut self, function: Function, dimension: u32) {
         let (local, group) = match function {
             Function::GlobalId => (true, true),
@@ -55,7 +55,7 @@ fn mark(marks: &mut [bool; 3], dimension: u32, is_asked: bool) {
     }
 }
 
-/// Takes up a term.
+/// Notes the numbers and ids that stand in a term.
 fn scan_term(term: &Term, found: &mut Found) -> Result<(), AllocError> {
     match term {
         Term::Literal { kind, value } => found.enter(literal(*kind, *value).unsigned_abs()),
@@ -95,7 +95,7 @@ fn scan_term(term: &Term, found: &mut Found) -> Result<(), AllocError> {
     }
 }
 
-/// Takes up a statement.
+/// Notes the numbers and ids that stand in a statement.
 #[cycle(scans)]
 fn scan(statement: &Statement, found: &mut Found) -> Result<(), AllocError> {
     match statement {
@@ -131,7 +131,7 @@ fn scan(statement: &Statement, found: &mut Found) -> Result<(), AllocError> {
     }
 }
 
-/// Takes up statements.
+/// Notes the numbers and ids that stand in statements, one after another.
 #[cycle(scans)]
 fn scan_all(body: &[Statement], found: &mut Found) -> Result<(), AllocError> {
     for statement in body {
@@ -140,7 +140,7 @@ fn scan_all(body: &[Statement], found: &mut Found) -> Result<(), AllocError> {
     Ok(())
 }
 
-/// Takes up what is declared.
+/// Notes the local sizes of a kernel and the lengths of its local arrays.
 fn scan_declared(core: &Core, found: &mut Found) -> Result<(), AllocError> {
     for size in core.sizes.iter() {
         found.enter(u64::from(*size))?;
@@ -151,7 +151,7 @@ fn scan_declared(core: &Core, found: &mut Found) -> Result<(), AllocError> {
     Ok(())
 }
 
-/// What stands in the kernel's text.
+/// The numbers that stand in a kernel's text, rising, and the dimensions of which it uses local and group ids.
 pub fn found_in(alloc: Global, core: &Core) -> Result<Found, AllocError> {
     let mut found = Found {
         numbers: Vec::new(alloc),

@@ -7,7 +7,7 @@ use std::alloc::{AllocError, Global};
 /// How late the guesses are tried.
 const RANK: u32 = 4;
 
-/// Guesses, and how many there may be.
+/// Guesses in the order in which they are kept, and how many there may be.
 #[derive(Drop)]
 pub struct Shelf {
     pub candidates: Vec<Candidate>,
@@ -23,7 +23,7 @@ impl Shelf {
         self.room = held.saturating_add(share);
     }
 
-    /// No more fit.
+    /// The shelf has no room for another guess.
     pub fn is_full(&self) -> bool {
         self.candidates.len() >= self.room
     }
@@ -59,7 +59,7 @@ impl Shelf {
         }
     }
 
-    /// Each is at least the other one.
+    /// Keeps that the first form is at least the second one, and, as another guess, the other way round.
     pub fn keep_both(
         &mut self,
         alloc: Global,
@@ -89,7 +89,7 @@ impl Shelf {
         }
     }
 
-    /// Each is at least the other one and a number.
+    /// Keeps that the first form is at least the second one and a number, and, as another guess, the other way round.
     pub fn keep_apart(
         &mut self,
         alloc: Global,
@@ -102,7 +102,7 @@ impl Shelf {
         self.keep_beyond(alloc, sight, right, left, number)
     }
 
-    /// A number divides a form.
+    /// Keeps that a number divides a form.
     pub fn keep_multiple(
         &mut self,
         alloc: Global,

@@ -36,7 +36,7 @@ fn keep(forms: &mut Vec<TestForm>, form: Form, scale: i64) -> Result<(), AllocEr
     Ok(())
 }
 
-/// By how much the difference of two limits has to be more than it is.
+/// The number to add to the difference of two limits, so that it is above 0 where the test goes that way.
 fn added(scale: i64, strict: bool) -> Option<i64> {
     if strict {
         1i64.checked_sub(scale)
@@ -97,7 +97,7 @@ fn keep_less(
     Ok(())
 }
 
-/// What holds where the relation does not.
+/// The relation that holds exactly where the given one does not.
 fn opposite(relation: Relation) -> Relation {
     match relation {
         Relation::Less => Relation::AtLeast,
@@ -130,7 +130,7 @@ fn keep_related(
     }
 }
 
-/// A number that is not 0.
+/// Keeps the form of a term that is a test by itself, where the test is true: not 0, it is taken to be above 0.
 fn keep_number(
     alloc: Global,
     frame: &Frame,

@@ -6,7 +6,7 @@ use core_code::tree::{Operator, Statement, Term, UnaryOperator};
 use guesses::{one_of, try_difference, variable};
 use std::alloc::{AllocError, Global};
 
-/// By how much a variable steps.
+/// The size of the step that a variable makes in a turn, in either direction.
 #[derive(Clone, Copy)]
 pub struct Stride {
     pub slot: u32,
@@ -21,7 +21,7 @@ pub struct Turning {
 }
 
 impl Turning {
-    /// Nothing as yet.
+    /// A turn of a loop of which nothing is known.
     pub fn new(alloc: Global) -> Turning {
         Turning {
             strides: Vec::new(alloc),
@@ -42,7 +42,7 @@ impl Turning {
     }
 }
 
-/// By how much the value is more than the variable, if that is a number.
+/// The number by which a value is more than the variable was; none where that is no number.
 fn step_of(
     alloc: Global,
     frame: &Frame,
@@ -148,7 +148,7 @@ fn turn(
     }
 }
 
-/// Takes up what statements do.
+/// Notes the steps of variables in statements, and what is halved there.
 #[cycle(turns)]
 pub fn turn_all(
     alloc: Global,

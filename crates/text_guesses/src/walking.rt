@@ -8,7 +8,7 @@ use crate::ways::{Options, are_seen};
 use core_code::tree::{Core, Statement, Term};
 use std::alloc::{AllocError, Global};
 
-/// What is known of the whole kernel.
+/// The kernel's frame, the numbers of its text, and the numbers by which walks saw variables step.
 #[derive(Drop)]
 struct Given<'a> {
     frame: Frame,
@@ -16,7 +16,7 @@ struct Given<'a> {
     strides: &'a [(u32, i64)],
 }
 
-/// A loop's text.
+/// The number, the test and the statements of a loop, as they stand in the kernel.
 #[derive(Clone, Copy)]
 struct LoopText<'a> {
     number: u32,
@@ -32,7 +32,7 @@ struct Walk {
     found: Vec<Options>,
 }
 
-/// What a turn does.
+/// The steps of variables in a turn of a loop, by its statements and by what walks saw, and whether something is halved.
 fn turning_of(alloc: Global, given: &Given, text: LoopText) -> Result<Turning, AllocError> {
     let mut turning = Turning::new(alloc);
     turn_all(alloc, &given.frame, text.body, &mut turning)?;
@@ -43,7 +43,7 @@ fn turning_of(alloc: Global, given: &Given, text: LoopText) -> Result<Turning, A
     Ok(turning)
 }
 
-/// What the test at the head tells.
+/// Keeps the rankings that the test at a loop's head gives.
 fn keep_head(
     alloc: Global,
     given: &Given,
@@ -56,7 +56,7 @@ fn keep_head(
     options.keep_tests(alloc, forms.as_slice(), turning)
 }
 
-/// What the test at the head tells of a queue.
+/// Keeps the rankings that the test at a loop's head gives of a queue, both of whose ends move.
 fn keep_ends(
     alloc: Global,
     given: &Given,
@@ -78,18 +78,24 @@ fn leaves(number: u32, arm: &[Statement]) -> bool {
     }
 }
 
-/// What a test tells that leaves the loop where it does not go that way.
+/// A test that leaves the loop where it does not go that way.
+#[derive(Clone, Copy)]
+struct Exit<'a> {
+    test: &'a Term,
+    truth: bool,
+}
+
+/// Keeps the rankings that a test in a loop's body gives, which leaves the loop where it does not go the way that `truth` says.
 fn keep_exit(
     alloc: Global,
     given: &Given,
     seen: &[u32],
-    test: &Term,
-    truth: bool,
+    exit: Exit,
     turning: &Turning,
     options: &mut Options,
 ) -> Result<(), AllocError> {
     let mut forms = Vec::new(alloc);
-    keep_test(alloc, &given.frame, test, truth, &mut forms)?;
+    keep_test(alloc, &given.frame, exit.test, exit.truth, &mut forms)?;
     for form in forms.as_slice() {
         if are_seen(&given.frame, seen, &form.form) {
             options.keep_exit(alloc, form, turning)?;
@@ -98,7 +104,7 @@ fn keep_exit(
     Ok(())
 }
 
-/// What the tests tell that stand in the body itself and leave the loop.
+/// Keeps the rankings that those tests give which stand in the loop's body itself and leave the loop.
 fn keep_exits(
     alloc: Global,
     given: &Given,
@@ -116,10 +122,12 @@ fn keep_exits(
         } = statement
         {
             if leaves(text.number, taken.as_slice()) {
-                keep_exit(alloc, given, seen, test, false, turning, options)?;
+                let exit = Exit { test, truth: false };
+                keep_exit(alloc, given, seen, exit, turning, options)?;
             }
             if leaves(text.number, skipped.as_slice()) {
-                keep_exit(alloc, given, seen, test, true, turning, options)?;
+                let exit = Exit { test, truth: true };
+                keep_exit(alloc, given, seen, exit, turning, options)?;
             }
         }
     }
@@ -205,8 +213,8 @@ fn visit_all(
     Ok(())
 }
 
-/// Of each loop of the kernel, in the order of their numbers, what its tests and its steps tell. `strides` has steps of slots that are known
-/// beside those that are written.
+/// The options of each loop of the kernel, in the order of their numbers, that its tests and its steps tell. `strides` has steps of slots
+/// that are known beside those of the text.
 pub fn guess_rankings(
     alloc: Global,
     core: &Core,

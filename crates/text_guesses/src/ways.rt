@@ -3,18 +3,16 @@
 use crate::frame::Frame;
 use crate::test_forms::TestForm;
 use crate::turning::Turning;
+use certificate::tree::Descent;
 use guesses::{
-    Descent, Ranking, copied, family, index_of, is_same, one_of, plus, try_difference,
-    try_multiple, try_sum, variable,
+    Ranking, copied, index_of, is_same, is_variable, one_of, plus, try_difference, try_multiple,
+    try_sum, variable,
 };
 use linear::{Form, Symbol};
 use std::alloc::{AllocError, Global};
 
 /// How many ways of a loop are tried.
 const MOST: usize = 40;
-
-/// The family of private variables.
-const VARIABLES: u64 = 6;
 
 /// The ways in which a loop may end, in the order in which they are tried.
 #[derive(Drop)]
@@ -24,7 +22,7 @@ pub struct Options {
 }
 
 impl Options {
-    /// None as yet.
+    /// The options of a loop, by its number, without any ranking.
     pub fn new(alloc: Global, number: u32) -> Options {
         Options {
             number,
@@ -53,7 +51,7 @@ impl Options {
         Ok(())
     }
 
-    /// What a test at the head tells, but steps by 1.
+    /// Keeps the rankings that a test at the head gives by the steps of its variables, or by halving, but for steps by 1.
     fn keep_large(
         &mut self,
         alloc: Global,
@@ -67,12 +65,12 @@ impl Options {
         }
         if turning.halves && given.scale == 1 {
             let form = copied(alloc, &given.form)?;
-            self.keep(Descent::Halving, form)?;
+            self.keep(Descent::Halve, form)?;
         }
         Ok(())
     }
 
-    /// What the test at the head tells.
+    /// Keeps the rankings that the forms of the test at a loop's head give: larger steps first, then steps by 1, then sums of two forms.
     pub fn keep_tests(
         &mut self,
         alloc: Global,
@@ -89,7 +87,7 @@ impl Options {
         self.keep_sums(alloc, forms)
     }
 
-    /// What a test tells of a queue: where both of its ends move, `tail - head`, as of room for 32, `32 - head`.
+    /// Keeps the rankings that a test gives of a queue: where both of its ends move, `tail - head`, as of room for 32, `32 - head`.
     pub fn keep_rooms(
         &mut self,
         alloc: Global,
@@ -140,18 +138,18 @@ impl Options {
         }
     }
 
-    /// Likewise of a form that is halved.
+    /// Keeps, of a form that is halved, that twice the form and one more is halved in each turn: before the last halving it was no larger.
     fn keep_twice(&mut self, alloc: Global, form: &Form) -> Result<(), AllocError> {
         let Some(twice) = try_multiple(alloc, form, 2)? else {
             return Ok(());
         };
         match plus(alloc, &twice, 1)? {
-            Some(form) => self.keep(Descent::Halving, form),
+            Some(form) => self.keep(Descent::Halve, form),
             None => Ok(()),
         }
     }
 
-    /// What a test tells that leaves the loop in the middle of a turn.
+    /// Keeps the rankings that a test in the middle of a turn gives which leaves the loop.
     pub fn keep_exit(
         &mut self,
         alloc: Global,
@@ -169,7 +167,7 @@ impl Options {
     }
 }
 
-/// A variable that steps in the loop.
+/// The symbol is of a variable that steps in the loop.
 fn is_moving(symbol: Symbol, turning: &Turning) -> bool {
     for stride in turning.strides.as_slice() {
         if variable(stride.slot) == symbol {
@@ -227,11 +225,11 @@ fn enter_term(
     Ok(())
 }
 
-/// By how much more than 1 a form may fall in a turn, largest first.
+/// The numbers above 1 by which a form may fall in a turn, largest first.
 fn falls(alloc: Global, form: &Form, turning: &Turning) -> Result<Vec<u64>, AllocError> {
     let mut falls = Vec::new(alloc);
     for term in form.terms() {
-        if family(term.symbol) == VARIABLES {
+        if is_variable(term.symbol) {
             enter_term(
                 &mut falls,
                 term.symbol,
@@ -256,7 +254,7 @@ fn is_seen(frame: &Frame, seen: &[u32], symbol: Symbol) -> bool {
 /// Each variable of the form was assigned before, or is a parameter.
 pub fn are_seen(frame: &Frame, seen: &[u32], form: &Form) -> bool {
     for term in form.terms() {
-        if family(term.symbol) == VARIABLES && !is_seen(frame, seen, term.symbol) {
+        if is_variable(term.symbol) && !is_seen(frame, seen, term.symbol) {
             return false;
         }
     }

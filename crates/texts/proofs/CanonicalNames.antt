@@ -17,7 +17,7 @@ use Rattle.texts.proofs.Decimals.{decimal_is_decimal, decimal_value, below_of}
 use Rattle.texts.specs.Canonical.{number_text}
 use Rattle.texts.specs.Reserved.{reserved_words}
 use Rattle.texts.specs.Tokens.{TokenKind, Name, Number, Has, piece, is_blank, is_letter, is_word_byte, is_exponent}
-use Rattle.texts.specs.CertificateForms.{all_word_bytes}
+use Rattle.texts.specs.Identifiers.{all_word_bytes}
 use Rattle.texts.specs.CanonicalTokens.{IsName, number_token}
 use Rattle.texts.proofs.CanonicalPieces.{Lexes, lex_piece}
 use Rattle.texts.proofs.CanonicalSigns.{IsFirst}

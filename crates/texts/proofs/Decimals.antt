@@ -10,7 +10,7 @@ use Rattle.std.proofs.lemmas.Fmt.{decimal_digit, first_decimal, decimal_nonempty
 use Rattle.std.proofs.lemmas.Str.Parse.{IsNumeralModel, numerals_by_fold, tells_all_ascii_digits}
 use Rattle.texts.specs.Numbers.{is_well_spelt}
 use Rattle.texts.specs.Lines.{NumberFault, NoDecimal, TooLarge, is_decimal, value_of, within, natural_of, negative_of, positive_of, integer_of}
-use Rattle.texts.specs.CertificateRules.{is_natural, is_integer}
+use Rattle.texts.specs.Lines.{is_natural, is_integer}
 use Rattle.texts.proofs.Fits.{both, begins}
 
 own : IsNumeralModel (λ ds. all_ascii_digits ds ≡ true) value_of

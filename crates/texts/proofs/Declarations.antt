@@ -1,8 +1,7 @@
 -- A kernel within the limits has few names.
-use Rattle.std.proofs.Common.{◌≡◌, ◌≤◌, ◌<◌, ℕ, ◌+◌, Bool, true, false, List, [], ◌∷◌, length, cond, nat_lt, Option, None, Some, Result, Ok, Err, refl, subst, arith}
+use Rattle.std.proofs.Common.{◌≡◌, ◌≤◌, ℕ, ◌+◌, Bool, true, false, List, [], ◌∷◌, length, cond, nat_lt, Option, None, Some, Result, Ok, Err, refl, subst, arith}
 use Rattle.std.proofs.lemmas.Bool.{ltb-true}
 use Rattle.semantics.specs.Core.{Site}
-use Rattle.texts.specs.ParseFaults.{ParseFault}
 use Rattle.texts.specs.Surface.{First, FirstDeclares, FirstAssigns, Statement, Declare, DeclareArray, Assign, If, While, For, Barrier, Jump, Block, Statements, none, one, Parameter, Buffer, Value, Kernel}
 use Rattle.texts.specs.Limits.{Counts, nothing_declared, one_buffer, one_variable, one_array, next, count_parameter, count_parameters, count_first, count_statement, count_statements, measured, deep_statements, within_limits}
 use Rattle.texts.specs.Declarations.{declared_first, declared_in, declared_by, HasFewNames}

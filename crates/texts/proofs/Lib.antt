@@ -5,15 +5,7 @@ pub mod Order
 pub mod Unique
 pub mod Sites
 pub mod Decimals
-pub mod Cuts
-pub mod FormsRead
-pub mod ItemsRead
-pub mod DraftsRead
-pub mod CertificateRead
-pub mod FormsWritten
-pub mod ItemsWritten
 pub mod KernelNames
-pub mod CertificateWritten
 pub mod Endings
 pub mod Spellings
 pub mod Declarations

@@ -8,7 +8,7 @@ use Rattle.texts.specs.Numbers.{Literal, value_of, is_digit, is_well_spelt, size
 use Rattle.texts.specs.Tokens as token
 use Rattle.texts.specs.Tokens.{TokenKind, Token, tokens_of, is_letter, is_word_byte}
 use Rattle.texts.specs.Lexemes.{lexemes}
-use Rattle.texts.specs.CertificateForms.{all_word_bytes, is_identifier}
+use Rattle.texts.specs.Identifiers.{all_word_bytes, is_identifier}
 use Rattle.texts.specs.Reading.{IsText, IsWord, Reads, ends, gap, token as one_token}
 use Rattle.texts.specs.Spelling.{IsSpelt, AreSpelt}
 use Rattle.texts.proofs.Reading.{tokens_read}

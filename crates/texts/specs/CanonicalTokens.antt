@@ -9,7 +9,7 @@ use Rattle.texts.specs.Reserved as words
 use Rattle.texts.specs.Reserved.{Reserved, reserved_words}
 use Rattle.texts.specs.Tokens as token
 use Rattle.texts.specs.Tokens.{TokenKind, Word, Mark}
-use Rattle.texts.specs.CertificateForms.{is_identifier}
+use Rattle.texts.specs.Identifiers.{is_identifier}
 use Rattle.texts.specs.Canonical.{is_compound}
 use Rattle.texts.specs.Surface.{PrefixSign, Minus, LogicalNot, BitNot, InfixSign, Arithmetic, LeftShift, RightShift, Comparison, LogicalAnd, LogicalOr, AssignSign, Plain, With, WithLeftShift, WithRightShift, Expression, Number, Name, Element, Call, Prefix, Cast, Infix, Conditional, Expressions, nothing, also, Declaration, Assignment, First, FirstDeclares, FirstAssigns, JumpWord, Return, Break, Continue, Statement, Declare, DeclareArray, Assign, If, While, For, Barrier, Jump, Block, Statements, none, one, Parameter, Buffer, Value, Kernel}
 

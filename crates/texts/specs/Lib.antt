@@ -4,6 +4,7 @@ pub mod Reserved
 pub mod Numbers
 pub mod Tokens
 pub mod Reading
+pub mod Identifiers
 pub mod Surface
 pub mod TypeFaults
 pub mod Scope
@@ -18,13 +19,6 @@ pub mod KernelLimits
 pub mod Declarations
 pub mod Ended
 pub mod Lines
-pub mod Certificate
-pub mod CertificateText
-pub mod CertificateForms
-pub mod CertificateLines
-pub mod CertificateDrafts
-pub mod CertificateReading
-pub mod CertificateRules
 pub mod LaunchFaults
 pub mod LaunchWords
 pub mod LaunchSums

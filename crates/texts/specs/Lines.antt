@@ -80,3 +80,11 @@ positive_of (Err fault) = Err fault
 -- a number of either sign
 unfoldable pub integer_of : List ℕ → Result ℤ NumberFault
 integer_of word = cond (starts_with nat_eq word (codes "-")) (negative_of (drop 1 word)) (positive_of (natural_of word))
+
+-- numbers of `i64`
+abbrev pub is_natural : ℕ → Bool
+is_natural n = nat_lt n (2 ^ 63)
+
+abbrev pub is_integer : ℤ → Bool
+is_integer (pos n) = nat_lt n (2 ^ 63)
+is_integer (negsuc n) = nat_lt n (2 ^ 63)

@@ -17,18 +17,18 @@ pub fn tokens_are_a_reading()
     ensures { (text : List ℕ) (tokens : List Token) → tokens_of text ≡ Ok tokens → (length text ≤ 65536) × Reads text 0 text tokens }
 {}
 
-/// Their spans are in order and within the text, and the last one, and no other, is `End`, empty, at the text's end.
+/// The spans of a text's tokens are in order and within the text, and the last one, and no other, is `End`, empty, at the text's end.
 #[tactic(auto, using(crate::proofs::Order::tokens_ordered))]
 pub fn tokens_are_in_order()
     ensures { (text : List ℕ) (tokens : List Token) → tokens_of text ≡ Ok tokens → IsInOrder (length text) 0 tokens }
 {}
 
-/// What the grammar reads of them ends in its only end, and is no longer than a text within its limit gives.
+/// The lexemes of a text's tokens end in their only end, and are no more than a text within its limit gives.
 pub fn lexemes_end_once()
     ensures { (text : List ℕ) (tokens : List Token) → tokens_of text ≡ Ok tokens → EndsOnce (lexemes tokens) × IsShort (lexemes tokens) }
 {}
 
-/// Their names are identifiers, and their numbers are of their kinds.
+/// The names among a text's lexemes are identifiers, and their numbers are of their kinds.
 pub fn lexemes_are_spelt()
     ensures { (text : List ℕ) (tokens : List Token) → tokens_of text ≡ Ok tokens → AreSpelt (lexemes tokens) }
 {}

@@ -4,7 +4,6 @@
 //! with an empty body.
 #![tactic(auto)]
 
-pub mod certificates;
 pub mod laws;
 pub mod naming;
 pub mod printing;

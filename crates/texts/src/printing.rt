@@ -37,7 +37,7 @@ pub fn tokens_of_a_kernel_stand_for_it()
     ensures { (k : Kernel) (room : ℕ) (ts : List Lexeme) → IsPrintableKernel k → AreNumbered 1 k.body → AllOpenStatements (suc (suc room)) k.body → map (λ t. t.kind) ts ≡ kernel_tokens k → (tree : Kernel) × IsKernel (suc (suc (suc room))) ts tree × (bare_kernel tree ≡ bare_kernel k) }
 {}
 
-/// So a canonical text says its kernel, positions aside.
+/// A canonical text says its kernel, positions aside.
 #[tactic(auto, using(crate::proofs::CanonicalText::text_stands_for))]
 pub fn a_canonical_text_says_its_kernel()
     ensures { (k : Kernel) (room : ℕ) → IsPrintableKernel k → AreNumbered 1 k.body → AllOpenStatements (suc (suc room)) k.body → (ts : List Token) × Reads (canonical k) 0 (canonical k) ts × ((tree : Kernel) × IsKernel (suc (suc (suc room))) (lexemes ts) tree × (bare_kernel tree ≡ bare_kernel k)) }

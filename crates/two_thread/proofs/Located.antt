@@ -3,13 +3,13 @@ use Rattle.std.proofs.Common.{◌≡◌, ℕ, zero, suc, ◌+◌, ◌-◌, ◌<�
 use Rattle.std.proofs.lemmas.Bool.{cases_lt}
 use Rattle.std.proofs.lemmas.List.{length-append, get_or_append_left, get_or-append-add}
 use Rattle.two_thread.specs.Places.{row, rows, joined}
-use Rattle.two_thread.specs.declared.places.Place.{Place}
+use Rattle.two_thread.specs.declared.on_path.OnPath.{OnPath}
 
 length-row : (p i n : ℕ) → length (row p i n) ≡ n
 length-row p i zero = refl
 length-row p i (suc n) = ap suc (length-row p (suc i) n)
 
-nth-row : (p i n j : ℕ) (d : Place) → j < n → get_or (row p i n) j d ≡ record { path = p; item = i + j }
+nth-row : (p i n j : ℕ) (d : OnPath) → j < n → get_or (row p i n) j d ≡ record { path = p; item = i + j }
 nth-row p i zero j d h = absurd (omega arith)
 nth-row p i (suc n) zero d h = let e : i ≡ i + 0 = omega arith in ap (λ k. record { path = p; item = k }) e
 nth-row p i (suc n) (suc j) d h = let e : suc i + j ≡ i + suc j = omega arith in nth-row p (suc i) n j d (omega arith) ∙ ap (λ k. record { path = p; item = k }) e
@@ -19,7 +19,7 @@ no_more n = omega arith
 
 module _ {P X : Type 0} (count : P → ℕ) (seen : P → List X) (counts : (p : P) → length (seen p) ≡ count p) (past : X) where
   -- a place of paths from the path `base` on
-  pub record Located (ps : List P) (base i : ℕ) (place : Place) : Type 0 where
+  pub record Located (ps : List P) (base i : ℕ) (place : OnPath) : Type 0 where
     pub first : base ≤ place.path
     pub last : place.path < base + length ps
     pub inside : (p : P) → p ≡ get_or ps (place.path - base) p → (place.item < count p) × (get_or (seen p) place.item past ≡ get_or (joined (map seen ps)) i past)
@@ -34,7 +34,7 @@ module _ {P X : Type 0} (count : P → ℕ) (seen : P → List X) (counts : (p :
       of p e = subst (λ r. (i < count r) × (get_or (seen r) i past ≡ get_or (seen q ++ joined (map seen ps)) i past)) (sym e)
           (h, sym (get_or_append_left (seen q) (joined (map seen ps)) past i (let c = counts q in omega (arith, c, h))))
 
-  later : (q : P) (ps : List P) (base i n : ℕ) (place : Place) → n ≡ count q + i → Located ps (suc base) i place → Located (q ∷ ps) base n place
+  later : (q : P) (ps : List P) (base i n : ℕ) (place : OnPath) → n ≡ count q + i → Located ps (suc base) i place → Located (q ∷ ps) base n place
   later q ps base i n place e l = record { first = omega (arith, l.first); last = omega (arith, l.last); inside = λ p d. of p (d ∙ ap (λ k. get_or (q ∷ ps) k p) (less place.path base l.first)) }
     where
       less : (a b : ℕ) → suc b ≤ a → a - b ≡ suc (a - suc b)
@@ -46,7 +46,7 @@ module _ {P X : Type 0} (count : P → ℕ) (seen : P → List X) (counts : (p :
       of : (p : P) → p ≡ get_or ps (place.path - suc base) p → (place.item < count p) × (get_or (seen p) place.item past ≡ get_or (seen q ++ joined (map seen ps)) n past)
       of p d = let m = l.inside p d in (m.0, m.1 ∙ all)
 
-  pub located : (ps : List P) (base i : ℕ) (d : Place) → i < length (rows base (map count ps)) → Located ps base i (get_or (rows base (map count ps)) i d)
+  pub located : (ps : List P) (base i : ℕ) (d : OnPath) → i < length (rows base (map count ps)) → Located ps base i (get_or (rows base (map count ps)) i d)
   located [] base i d h = absurd (omega arith)
   located (q ∷ ps) base i d h = by (λ j k. located ps (suc base) j d k) (cases_lt i (count q))
     where

@@ -14,7 +14,7 @@ use Rattle.obligations.specs.Listing.{Of}
 use Rattle.two_thread.specs.Places.{rows, claim_count, access_count}
 use Rattle.two_thread.specs.Paths.{claims_on, accesses_on, tagged, claims_seen, accesses_seen, no_claim, no_access}
 use Rattle.two_thread.specs.View.{met_claims, nth_claim, met_accesses, met_access, IsPlaceOf, IsPlaceOfClaim}
-use Rattle.two_thread.specs.declared.places.Place.{Place}
+use Rattle.two_thread.specs.declared.on_path.OnPath.{OnPath}
 use Rattle.two_thread.specs.declared.met.Met.{Met}
 use Rattle.two_thread.specs.declared.walked.Tagged.{Tagged}
 use Rattle.two_thread.proofs.Copies.{own-access}
@@ -49,7 +49,7 @@ zero_less n = omega arith
 pub length_met : {E : Type 0} (m : Met E) → length m.accesses.items ≡ length (met_accesses m)
 length_met m = ap length m.accesses_are ∙ located-length access_count accesses_seen length_seen no_access m.paths.items 0
 
-pub is_place : {E : Type 0} (m : Met E) (i : ℕ) (x : Place) → i < length m.accesses.items → x ≡ get_or m.accesses.items i x → IsPlaceOf m i x
+pub is_place : {E : Type 0} (m : Met E) (i : ℕ) (x : OnPath) → i < length m.accesses.items → x ≡ get_or m.accesses.items i x → IsPlaceOf m i x
 is_place m i x h e =
     let rs = rows 0 (map access_count m.paths.items) in
     let f : x ≡ get_or rs i x = e ∙ ap (λ l. get_or l i x) m.accesses_are in
@@ -57,7 +57,7 @@ is_place m i x h e =
     subst (IsPlaceOf m i) (sym f) (omega (arith, l.last), λ p d. l.inside p (d ∙ ap (λ k. get_or m.paths.items k p) (zero_less (get_or rs i x).path)))
 
 -- what stands at an access's place is that access
-pub access_is : {E : Type 0} (m : Met E) (i : ℕ) (x : Place) (t : Tagged E) (a : Access) → IsPlaceOf m i x → t ≡ get_or m.paths.items x.path t → a ≡ get_or t.path.accesses.items x.item a → tagged t (access_seen (forms t.path.facts.items) t.path.news.items t.path.narrowed.items a) ≡ met_access m i
+pub access_is : {E : Type 0} (m : Met E) (i : ℕ) (x : OnPath) (t : Tagged E) (a : Access) → IsPlaceOf m i x → t ≡ get_or m.paths.items x.path t → a ≡ get_or t.path.accesses.items x.item a → tagged t (access_seen (forms t.path.facts.items) t.path.news.items t.path.narrowed.items a) ≡ met_access m i
 access_is m i x t a h e d = let l = h.1 t e in nth_seen t x.item a l.0 d ∙ l.1
 
 pub met-own : {E : Type 0} (m : Met E) (i : ℕ) → i < length m.accesses.items → is_own_access (met_access m i).it ≡ true
@@ -68,7 +68,7 @@ pub tag_from : {E A : Type 0} (t : Tagged E) (xs : List A) (i n : ℕ) (past u :
 tag_from t [] i n past u l h e = absurd (omega (arith, l, h))
 tag_from t (x ∷ xs) i n past u l h e = let f : tagged t (get_or (x ∷ xs) i x) ≡ u = sym (get_or-map (tagged t) (x ∷ xs) i x past (subst (λ m. i < m) (sym l) h)) ∙ e in (ap (λ (o : Of _). o.anchor) f, ap (λ (o : Of _). o.is_head) f)
 
-pub access_tag : {E : Type 0} (m : Met E) (i : ℕ) (x : Place) (t : Tagged E) → IsPlaceOf m i x → t ≡ get_or m.paths.items x.path t → (t.anchor ≡ (met_access m i).anchor) × (t.is_head ≡ (met_access m i).is_head)
+pub access_tag : {E : Type 0} (m : Met E) (i : ℕ) (x : OnPath) (t : Tagged E) → IsPlaceOf m i x → t ≡ get_or m.paths.items x.path t → (t.anchor ≡ (met_access m i).anchor) × (t.is_head ≡ (met_access m i).is_head)
 access_tag m i x t h e = let l = h.1 t e in tag_from t (accesses_on t.path) x.item (length t.path.accesses.items) no_access (met_access m i) (length_on t.path) l.0 l.1
 
 -- the same of claims
@@ -86,12 +86,12 @@ claim_facts_fit p i a h e = subst (HasFacts (length p.facts.items)) (sym e) (All
 pub length_met_claims : {E : Type 0} (m : Met E) → length m.claims.items ≡ length (met_claims m)
 length_met_claims m = ap length m.claims_are ∙ located-length claim_count claims_seen length_claims no_claim m.paths.items 0
 
-pub is_claim_place : {E : Type 0} (m : Met E) (i : ℕ) (x : Place) → i < length m.claims.items → x ≡ get_or m.claims.items i x → IsPlaceOfClaim m i x
+pub is_claim_place : {E : Type 0} (m : Met E) (i : ℕ) (x : OnPath) → i < length m.claims.items → x ≡ get_or m.claims.items i x → IsPlaceOfClaim m i x
 is_claim_place m i x h e =
     let rs = rows 0 (map claim_count m.paths.items) in
     let f : x ≡ get_or rs i x = e ∙ ap (λ l. get_or l i x) m.claims_are in
     let l : Located claim_count claims_seen length_claims no_claim m.paths.items 0 i (get_or rs i x) = located claim_count claims_seen length_claims no_claim m.paths.items 0 i x (let g = ap length m.claims_are in omega (arith, g, h)) in
     subst (IsPlaceOfClaim m i) (sym f) (omega (arith, l.last), λ p d. l.inside p (d ∙ ap (λ k. get_or m.paths.items k p) (zero_less (get_or rs i x).path)))
 
-pub claim_is : {E : Type 0} (m : Met E) (i : ℕ) (x : Place) (t : Tagged E) (a : Claim) → IsPlaceOfClaim m i x → t ≡ get_or m.paths.items x.path t → a ≡ get_or t.path.claims.items x.item a → claim_seen (forms t.path.facts.items) a ≡ nth_claim m i
+pub claim_is : {E : Type 0} (m : Met E) (i : ℕ) (x : OnPath) (t : Tagged E) (a : Claim) → IsPlaceOfClaim m i x → t ≡ get_or m.paths.items x.path t → a ≡ get_or t.path.claims.items x.item a → claim_seen (forms t.path.facts.items) a ≡ nth_claim m i
 claim_is m i x t a h e d = let l = h.1 t e in nth_claim_seen t.path x.item a l.0 d ∙ l.1

@@ -17,7 +17,7 @@ use Rattle.std.proofs.lemmas.Bool.{and_parts}
 use Rattle.two_thread.specs.Places.{rows, end_count}
 use Rattle.two_thread.specs.Paths.{ends_on, tagged, ends_seen, no_end}
 use Rattle.two_thread.specs.View.{met_ends, met_end, IsPlaceOfEnd}
-use Rattle.two_thread.specs.declared.places.Place.{Place}
+use Rattle.two_thread.specs.declared.on_path.OnPath.{OnPath}
 use Rattle.two_thread.specs.declared.met.Met.{Met}
 use Rattle.two_thread.specs.declared.walked.Tagged.{Tagged}
 use Rattle.two_thread.proofs.Copies.{own-end}
@@ -43,7 +43,7 @@ end_facts_fit p i a h e = subst (EndHasAll (length p.facts.items) (length p.news
 pub length_met_ends : {E : Type 0} (m : Met E) → length m.ends.items ≡ length (met_ends m)
 length_met_ends m = ap length m.ends_are ∙ located-length end_count ends_seen length_ends no_end m.paths.items 0
 
-pub is_end_place : {E : Type 0} (m : Met E) (i : ℕ) (x : Place) → i < length m.ends.items → x ≡ get_or m.ends.items i x → IsPlaceOfEnd m i x
+pub is_end_place : {E : Type 0} (m : Met E) (i : ℕ) (x : OnPath) → i < length m.ends.items → x ≡ get_or m.ends.items i x → IsPlaceOfEnd m i x
 is_end_place m i x h e =
     let rs = rows 0 (map end_count m.paths.items) in
     let f : x ≡ get_or rs i x = e ∙ ap (λ l. get_or l i x) m.ends_are in
@@ -51,13 +51,13 @@ is_end_place m i x h e =
     subst (IsPlaceOfEnd m i) (sym f) (omega (arith, l.last), λ p d. l.inside p (d ∙ ap (λ k. get_or m.paths.items k p) (zero_less (get_or rs i x).path)))
 
 -- what stands at an end's place is that end
-pub end_is : {E : Type 0} (m : Met E) (i : ℕ) (x : Place) (t : Tagged E) (a : Arrived) → IsPlaceOfEnd m i x → t ≡ get_or m.paths.items x.path t → a ≡ get_or t.path.ends.items x.item a → tagged t (ended_seen (forms t.path.facts.items) t.path.news.items t.path.narrowed.items a) ≡ met_end m i
+pub end_is : {E : Type 0} (m : Met E) (i : ℕ) (x : OnPath) (t : Tagged E) (a : Arrived) → IsPlaceOfEnd m i x → t ≡ get_or m.paths.items x.path t → a ≡ get_or t.path.ends.items x.item a → tagged t (ended_seen (forms t.path.facts.items) t.path.news.items t.path.narrowed.items a) ≡ met_end m i
 end_is m i x t a h e d =
     let l = h.1 t e in
     let s = ended_seen (forms t.path.facts.items) t.path.news.items t.path.narrowed.items a in
     nth_of t (ends_on t.path) x.item (length t.path.ends.items) s s no_end (length_ends_on t.path) l.0 (nth_end_on t.path x.item a s l.0 d) ∙ l.1
 
-pub end_tag : {E : Type 0} (m : Met E) (i : ℕ) (x : Place) (t : Tagged E) → IsPlaceOfEnd m i x → t ≡ get_or m.paths.items x.path t → (t.anchor ≡ (met_end m i).anchor) × (t.is_head ≡ (met_end m i).is_head)
+pub end_tag : {E : Type 0} (m : Met E) (i : ℕ) (x : OnPath) (t : Tagged E) → IsPlaceOfEnd m i x → t ≡ get_or m.paths.items x.path t → (t.anchor ≡ (met_end m i).anchor) × (t.is_head ≡ (met_end m i).is_head)
 end_tag m i x t h e = let l = h.1 t e in tag_from t (ends_on t.path) x.item (length t.path.ends.items) no_end (met_end m i) (length_ends_on t.path) l.0 l.1
 
 pub met-own_end : {E : Type 0} (m : Met E) (i : ℕ) → i < length m.ends.items → is_own_end (met_end m i).it ≡ true

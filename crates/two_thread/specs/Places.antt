@@ -1,15 +1,15 @@
 -- Claims and accesses of several paths, one path after the other, by places: a path and a number on it.
 use Rattle.std.specs.Prelude.{ℕ, zero, suc, List, [], ◌∷◌, ◌++◌, get_or, length}
 use Rattle.two_thread.specs.declared.walked.Tagged.{Tagged}
-use Rattle.two_thread.specs.declared.places.Place.{Place}
+use Rattle.two_thread.specs.declared.on_path.OnPath.{OnPath}
 
 -- so many places of a path, from a number on
-abbrev pub row : (path from count : ℕ) → List Place
+abbrev pub row : (path from count : ℕ) → List OnPath
 row p i zero = []
 row p i (suc n) = record { path = p; item = i } ∷ row p (suc i) n
 
 -- of paths with so many each, from a path on
-abbrev pub rows : (path : ℕ) → (counts : List ℕ) → List Place
+abbrev pub rows : (path : ℕ) → (counts : List ℕ) → List OnPath
 rows p [] = []
 rows p (n ∷ ns) = row p 0 n ++ rows (suc p) ns
 
@@ -27,5 +27,5 @@ joined [] = []
 joined (l ∷ ls) = l ++ joined ls
 
 -- what stands at a place of lists
-abbrev pub at_place : {A : Type 0} → (past : A) → List (List A) → Place → A
+abbrev pub at_place : {A : Type 0} → (past : A) → List (List A) → OnPath → A
 at_place past ls p = get_or (get_or ls p.path []) p.item past

@@ -8,7 +8,7 @@ use Rattle.path_steps.specs.Paths.{Claimed}
 use Rattle.obligations.specs.Listing.{Of}
 use Rattle.obligations.specs.Crossings as crossings
 use Rattle.two_thread.specs.Paths.{claims_seen, accesses_seen, ends_seen, all_claims, all_accesses, all_ends, no_claim, no_access, no_end}
-use Rattle.two_thread.specs.declared.places.Place.{Place}
+use Rattle.two_thread.specs.declared.on_path.OnPath.{OnPath}
 use Rattle.two_thread.specs.declared.met.Met.{Met}
 use Rattle.two_thread.specs.declared.walked.Tagged.{Tagged}
 use Rattle.two_thread.specs.declared.crossings.Scope.{Scope}
@@ -43,13 +43,13 @@ abbrev pub met_end : {E : Type 0} → Met E → ℕ → Of (Ended E)
 met_end m i = nth_end (met_ends m) i
 
 -- a claim, an access, an end of this number stands at that place
-abbrev pub IsPlaceOfClaim : {E : Type 0} → Met E → ℕ → Place → Type 0
+abbrev pub IsPlaceOfClaim : {E : Type 0} → Met E → ℕ → OnPath → Type 0
 IsPlaceOfClaim m i place = (place.path < length m.paths.items) × ((t : Tagged _) → t ≡ get_or m.paths.items place.path t → (place.item < length t.path.claims.items) × (get_or (claims_seen t) place.item no_claim ≡ nth_claim m i))
 
-abbrev pub IsPlaceOf : {E : Type 0} → Met E → ℕ → Place → Type 0
+abbrev pub IsPlaceOf : {E : Type 0} → Met E → ℕ → OnPath → Type 0
 IsPlaceOf m i place = (place.path < length m.paths.items) × ((t : Tagged _) → t ≡ get_or m.paths.items place.path t → (place.item < length t.path.accesses.items) × (get_or (accesses_seen t) place.item no_access ≡ met_access m i))
 
-abbrev pub IsPlaceOfEnd : {E : Type 0} → Met E → ℕ → Place → Type 0
+abbrev pub IsPlaceOfEnd : {E : Type 0} → Met E → ℕ → OnPath → Type 0
 IsPlaceOfEnd m i place = (place.path < length m.paths.items) × ((t : Tagged _) → t ≡ get_or m.paths.items place.path t → (place.item < length t.path.ends.items) × (get_or (ends_seen t) place.item no_end ≡ met_end m i))
 
 abbrev pub scope : Scope → specs.Scope

@@ -64,7 +64,7 @@ fn difference_of<D: Copy>(
     less(alloc, &left, &right)
 }
 
-/// The second one's less the first one's.
+/// The second item's value of the slot at its stop, less the first item's.
 fn difference_back_of<D: Copy>(
     alloc: Global,
     met: &Met<D>,
@@ -81,7 +81,7 @@ fn difference_back_of<D: Copy>(
 }
 
 #[tactic(auto, using(crate::proofs::Wanted::unfit_difference))]
-/// What is to be at least 0; none where no two items come to both.
+/// The form that is to be at least 0 of two stops; none where no two items may come to both.
 fn goal_of<D: Copy>(
     alloc: Global,
     met: &Met<D>,
@@ -99,7 +99,7 @@ fn goal_of<D: Copy>(
 }
 
 #[tactic(auto, using(crate::proofs::Wanted::unfit_denial))]
-/// What denies it.
+/// The form that is at least 0 where the goal is not, `-1 - goal`; none where there is no goal.
 fn denial_of(alloc: Global, goal: &Option<Form>) -> Result<Option<Form>, WalkError>
     ensures exact { MatchResult result (λ o. listed_form o ≡ denied (maybe_form goal.now)) (DoNotFit (both_fit (maybe_form goal.now))) }
     ensures fits { IfOk result (λ _. both_fit (maybe_form goal.now) ≡ true) }
@@ -113,7 +113,7 @@ fn denial_of(alloc: Global, goal: &Option<Form>) -> Result<Option<Form>, WalkErr
     }
 }
 
-/// What is said of two stops fits, or an error.
+/// Fails where a number of the goal of two stops, or of what denies it, is too large for `i64`.
 pub fn try_meeting<D: Copy>(alloc: Global, met: &Met<D>, meeting: Meeting) -> Result<(), WalkError>
     requires first { meeting.first < length met.now.ends.items }
     requires second { meeting.second < length met.now.ends.items }
@@ -143,7 +143,7 @@ fn push_anchor<D: Copy>(
     push_same(alloc, facts, first, second, slots)
 }
 
-/// What is known of two items at their stops.
+/// The facts of the launch, of each item at its stop, and of the slots that both have alike at their anchor.
 fn known_there<D: Copy>(
     alloc: Global,
     launch: &[Form],
@@ -164,7 +164,7 @@ fn known_there<D: Copy>(
 }
 
 #[tactic(auto, using(facts::proofs::Facts::copies))]
-/// One more, where there is one.
+/// Adds a fact, if there is one.
 fn push_some(facts: &mut Vec<Form>, more: Option<Form>) -> Result<(), WalkError>
     ensures { MatchResult result (λ _. forms facts.new.items ≡ forms facts.old.items ++ listed_form more) IsMemory }
 {
@@ -199,7 +199,7 @@ pub fn meeting_facts<D: Copy>(
     }
 }
 
-/// The end is 0 or above it.
+/// A low end is there, and is at least 0.
 fn is_from_zero(low: Option<i64>) -> bool
     ensures { result ≡ elements.is_from_zero low }
 {

@@ -11,7 +11,7 @@ use facts::WalkError;
 use obligations::Notes;
 use std::alloc::{AllocError, Global};
 
-/// What is said to be alike at a place.
+/// The slots that notes say to be the same for all items at a place, which is given by its anchor and its loop.
 #[derive(Drop)]
 pub struct Alike {
     pub anchor: Option<u32>,
@@ -19,7 +19,7 @@ pub struct Alike {
     pub same: Vec<u32>,
 }
 
-/// Slots, copied.
+/// A copy of a list of slots.
 fn copied(alloc: Global, slots: &[u32]) -> Result<Vec<u32>, AllocError>
     ensures { IfOk result (λ v. v.items ≡ slots.now) }
 {
@@ -28,7 +28,7 @@ fn copied(alloc: Global, slots: &[u32]) -> Result<Vec<u32>, AllocError>
     Ok(copy)
 }
 
-/// What notes say to be alike.
+/// The slots that the notes of each place say to be the same, in the order of the notes.
 pub fn copy_alike(alloc: Global, notes: &Notes) -> Result<Vec<Alike>, WalkError>
     ensures same { IfOk result (λ v. (b : ℕ) → alike_of v.items b ≡ same_of notes.now.places.items b) }
     ensures memory { IfErr result IsMemory }
@@ -45,7 +45,7 @@ pub fn copy_alike(alloc: Global, notes: &Notes) -> Result<Vec<Alike>, WalkError>
     Ok(found)
 }
 
-/// It is said of a barrier.
+/// The slots are said of a barrier itself, not of a loop behind it.
 fn is_of(alike: &Alike, barrier: u32) -> bool
     ensures { result ≡ (same_number alike.now.anchor (Some barrier) && same_number alike.now.head None) }
 {
@@ -64,7 +64,7 @@ pub fn same_of_barrier<'a>(alike: &'a [Alike], barrier: u32) -> &'a [u32]
     &[]
 }
 
-/// Those at an anchor.
+/// The slots that notes say to be alike at an anchor: none at the entry.
 pub fn same_at<'a>(alike: &'a [Alike], anchor: Option<u32>) -> &'a [u32]
     ensures { result.now ≡ same_slots (notes_of alike.now) anchor }
 {

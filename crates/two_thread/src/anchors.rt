@@ -7,7 +7,7 @@ ghost use Rattle.obligations.specs.Crossings as specs;
 
 use core_code::tree::Space;
 
-/// Both are the entry, or one barrier.
+/// Two anchors are the same: both the entry, or one barrier.
 pub fn same_anchor(left: Option<u32>, right: Option<u32>) -> bool
     ensures { result ≡ meetings.same_anchor left right }
 {
@@ -18,7 +18,7 @@ pub fn same_anchor(left: Option<u32>, right: Option<u32>) -> bool
     }
 }
 
-/// Both are one space.
+/// Two memory spaces are the same.
 pub fn is_space(left: Space, right: Space) -> bool
     ensures { result ≡ specs.is_space (space_seen left) (space_seen right) }
 {

@@ -16,7 +16,7 @@ use facts::WalkError;
 use path_steps::{Sort, Spot};
 use std::alloc::Global;
 
-/// What is to be shown of two stops.
+/// The sort of obligation that two stops give, by what is to be shown of them.
 fn sort_of_stops(about: About) -> Sort
     ensures { sort_seen result ≡ sort_about about }
 {
@@ -32,7 +32,7 @@ impl<D: Domain> Obligations<D> {
     ghost use Rattle.two_thread.specs.Refusals.{DoNotFit};
     ghost use Rattle.two_thread.specs.Listed.{listed, nth_obligation, made_fit};
 
-    /// What is to be shown, by which an entry fits or does not.
+    /// The sort of an obligation, by its number: an entry of a certificate fits it or not.
     pub fn sort(&self, number: usize) -> Sort
         requires first { 0 < number }
         requires last { number ≤ length (listed D.Domain self.now) }
@@ -45,7 +45,7 @@ impl<D: Domain> Obligations<D> {
         }
     }
 
-    /// Where the kernel asks for it; of a pair, where the first item is.
+    /// The source place that an obligation comes from; of a pair, where the first item is.
     pub fn spot(&self, number: usize) -> Spot
         requires first { 0 < number }
         requires last { number ≤ length (listed D.Domain self.now) }
@@ -58,7 +58,7 @@ impl<D: Domain> Obligations<D> {
         }
     }
 
-    /// It is to be shown also where it has no entry.
+    /// An obligation has to be shown even where a certificate has no entry for it.
     pub fn is_needed(&self, number: usize) -> bool
         requires first { 0 < number }
         requires last { number ≤ length (listed D.Domain self.now) }
@@ -70,7 +70,7 @@ impl<D: Domain> Obligations<D> {
         }
     }
 
-    /// The domain alone shows it.
+    /// The domain alone shows an obligation, given by its number.
     pub fn is_settled(&self, alloc: Global, number: usize) -> Result<bool, WalkError>
         requires first { 0 < number }
         requires last { number ≤ length (listed D.Domain self.now) }

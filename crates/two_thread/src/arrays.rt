@@ -17,7 +17,7 @@ use facts::WalkError;
 use launch::conditions::Conditions;
 use std::alloc::Global;
 
-/// The pairs of one array.
+/// Adds the crossings of one array: within a group, and, if it is a buffer, across groups.
 fn crossings_of<D: Copy>(
     found: &mut Vec<Crossing>,
     most: usize,

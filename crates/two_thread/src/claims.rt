@@ -14,21 +14,21 @@ ghost use Rattle.two_thread.specs.View.{nth_claim, IsPlaceOfClaim};
 
 use crate::manner::Manner;
 use crate::met::Met;
-use crate::places::Place;
+use crate::on_path::OnPath;
 use facts::{WalkError, copy_all, number_less};
 use linear::Form;
 use path_steps::{Goal, Sort, Spot};
 use std::alloc::Global;
 
-/// Where a claim stands.
-pub fn place_of_claim<D: Copy>(met: &Met<D>, i: usize) -> Place
+/// The path on which a claim stands, and its number there, by its number among all claims.
+pub fn place_of_claim<D: Copy>(met: &Met<D>, i: usize) -> OnPath
     requires { i < length met.now.claims.items }
     ensures { IsPlaceOfClaim met.now i result }
 {
     met.claims[i]
 }
 
-/// What is claimed.
+/// The sort of a claim, by its number.
 pub fn sort_of<D: Copy>(met: &Met<D>, i: usize) -> Sort
     requires { i < length met.now.claims.items }
     ensures { sort_seen result ≡ (nth_claim met.now i).demand.sort }
@@ -38,7 +38,7 @@ pub fn sort_of<D: Copy>(met: &Met<D>, i: usize) -> Sort
     tagged.path.claims[place.item].sort
 }
 
-/// Where the kernel asks for it.
+/// The source place that a claim comes from, by its number.
 pub fn spot_of_claim<D: Copy>(met: &Met<D>, i: usize) -> Spot
     requires { i < length met.now.claims.items }
     ensures { spot_seen result ≡ (nth_claim met.now i).demand.spot }
@@ -48,7 +48,7 @@ pub fn spot_of_claim<D: Copy>(met: &Met<D>, i: usize) -> Spot
     tagged.path.claims[place.item].spot
 }
 
-/// It is to be shown also where it has no entry.
+/// A claim has to be shown even where a certificate has no entry for it.
 pub fn is_needed<D: Copy>(met: &Met<D>, i: usize) -> bool
     requires { i < length met.now.claims.items }
     ensures { result ≡ (nth_claim met.now i).needed }
@@ -58,7 +58,7 @@ pub fn is_needed<D: Copy>(met: &Met<D>, i: usize) -> bool
     tagged.path.claims[place.item].needed
 }
 
-/// The domain alone shows it.
+/// The domain alone shows a claim, given by its number.
 pub fn is_settled<D: Copy>(met: &Met<D>, i: usize) -> bool
     requires { i < length met.now.claims.items }
     ensures { result ≡ (nth_claim met.now i).settled }
@@ -68,7 +68,7 @@ pub fn is_settled<D: Copy>(met: &Met<D>, i: usize) -> bool
     tagged.path.claims[place.item].settled
 }
 
-/// What denies that a form is at least 0.
+/// The form that is at least 0 exactly where the given one is not: `-1 - form`.
 fn denial(alloc: Global, form: &Form) -> Result<Form, WalkError>
     ensures fits { MatchResult result (λ _. fits (symbols.denial (form_seen form.now)) ≡ true) (λ e. IsUnfit e (symbols.denial (form_seen form.now))) }
     ensures exact { MatchResult result (λ f. form_seen f ≡ symbols.denial (form_seen form.now)) (λ e. IsUnfit e (symbols.denial (form_seen form.now))) }
@@ -76,7 +76,7 @@ fn denial(alloc: Global, form: &Form) -> Result<Form, WalkError>
     number_less(alloc, -1, form)
 }
 
-/// What denies a goal that is shown in a manner; none where the manner does not fit.
+/// The form that denies a goal, to be refuted where the goal is shown in this manner; none where the manner does not fit the goal.
 fn denial_of(alloc: Global, goal: &Goal, manner: Manner) -> Result<Option<Form>, WalkError>
     ensures { MatchResult result (λ o. maybe_form o ≡ denial_by (manner_seen manner) (goal_seen goal.now)) (DoNotFit (denials_fit (goal_seen goal.now))) }
 {
@@ -107,7 +107,7 @@ fn try_goal(alloc: Global, goal: &Goal) -> Result<(), WalkError>
     Ok(())
 }
 
-/// That of a claim is.
+/// Fails where a number of what denies a claim's goal is too large for `i64`.
 pub fn try_claim<D: Copy>(alloc: Global, met: &Met<D>, i: usize) -> Result<(), WalkError>
     requires { i < length met.now.claims.items }
     ensures { MatchResult result (λ _. denials_fit (nth_claim met.now i).goal ≡ true) (DoNotFit (denials_fit (nth_claim met.now i).goal)) }

@@ -26,7 +26,7 @@ use facts::{Known, Side, WalkError, copy_all, less_number, once_group, once_loca
 use linear::Form;
 use std::alloc::Global;
 
-/// What is alike in one visit of an anchor.
+/// Adds that both items have the same values in the slots that notes say to be alike, where they are in one visit of their anchor.
 fn alike_facts<D: Copy>(
     alloc: Global,
     facts: &mut Vec<Form>,
@@ -47,7 +47,7 @@ fn alike_facts<D: Copy>(
     push_same(alloc, facts, first, second, slots)
 }
 
-/// What the scope says of the two items.
+/// Adds what the scope of a crossing says of its two items: within a group, that their group ids are equal, and what they have alike.
 fn scope_facts<D: Copy>(
     alloc: Global,
     facts: &mut Vec<Form>,
@@ -69,7 +69,7 @@ fn scope_facts<D: Copy>(
     }
 }
 
-/// An item's id that its scope tells of.
+/// The id of an item in which the two items differ: a local id within a group, a group id across groups.
 fn id_of(alloc: Global, scope: Scope, item: Side, dimension: u32) -> Result<Form, WalkError>
     ensures { MatchResult result (λ f. form_seen f ≡ symbols.once (pairs.id (scope_seen scope) (side item) dimension)) IsMemory }
 {
@@ -124,7 +124,7 @@ pub fn try_differences<D: Copy>(
     try_both(alloc, left, &right)
 }
 
-/// What the indexes of a pair say: that they are equal.
+/// Adds that the indexes of the two accesses of a crossing are equal.
 fn push_indexes<D: Copy>(
     alloc: Global,
     facts: &mut Vec<Form>,

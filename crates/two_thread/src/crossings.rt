@@ -27,7 +27,7 @@ pub enum Scope {
     Across,
 }
 
-/// In a dimension, the first item's id is below the second one's, or above it.
+/// The order of two items in a dimension: the first one's id is below the second one's, or above it.
 #[derive(Clone, Copy)]
 pub enum Order {
     Below,
@@ -67,7 +67,7 @@ fn highest_count(conditions: &Conditions, dimension: u32) -> u32
     }
 }
 
-/// Two items can differ in this dimension.
+/// Two items of the scope can differ in their id of this dimension.
 fn differs(sizes: [u32; 3], conditions: &Conditions, scope: Scope, dimension: u32) -> bool
     requires { dimension < 3 }
     ensures { result ≡ pairs.differs (three sizes) (conditions_seen conditions.now) (scope_seen scope) dimension }
@@ -78,7 +78,7 @@ fn differs(sizes: [u32; 3], conditions: &Conditions, scope: Scope, dimension: u3
     }
 }
 
-/// A target is the array.
+/// A target is in the array that is looked for.
 fn is_array(sought: Sought, target: Target) -> bool
     ensures { result ≡ specs.is_array (sought_array sought) (target_seen target) }
 {
@@ -101,7 +101,7 @@ fn is_store<D: Copy>(met: &Met<D>, i: usize) -> bool
     target_of(met, i).is_store
 }
 
-/// Both accesses are of the array, and one of them at least is a store.
+/// Two accesses are of the array, and one of them at least is a store.
 fn conflict<D: Copy>(sought: Sought, met: &Met<D>, i: usize, j: usize) -> bool
     requires first { i < length met.now.accesses.items }
     requires second { j < length met.now.accesses.items }
@@ -123,7 +123,7 @@ fn may_meet(sought: Sought, first: Option<u32>, second: Option<u32>) -> bool
     }
 }
 
-/// Where the items can differ in a dimension, both ways round.
+/// Adds two crossings of one dimension, one for each order of the items' ids in it, where the ids can differ there.
 fn two_orders<D: Copy>(
     found: &mut Vec<Crossing>,
     most: usize,
@@ -156,7 +156,7 @@ fn two_orders<D: Copy>(
     Ok(())
 }
 
-/// Dimension by dimension.
+/// Adds the crossings of two accesses in each of the three dimensions in which the items' ids can differ, both orders of each.
 fn all_orders<D: Copy>(
     found: &mut Vec<Crossing>,
     most: usize,
@@ -205,7 +205,7 @@ fn all_orders<D: Copy>(
     Ok(())
 }
 
-/// One access of each item.
+/// Adds the crossings of one access of each item, if these conflict and may meet.
 fn with_one<D: Copy>(
     found: &mut Vec<Crossing>,
     most: usize,
@@ -265,7 +265,7 @@ pub fn crossings_in<D: Copy>(
     Ok(())
 }
 
-/// Where an access is.
+/// The source place of an access, by its number.
 pub fn spot_of<D: Copy>(met: &Met<D>, i: usize) -> Spot
     requires { i < length met.now.accesses.items }
     ensures { spot_seen result ≡ (met_access met.now i).it.target.spot }

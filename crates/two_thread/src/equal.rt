@@ -1,6 +1,6 @@
 //! Facts that say that two forms are equal.
 
-ghost use Rattle.std.specs.Prelude.{◌≡◌, ◌<◌, ◌+◌, ◌*◌, ◌++◌, pos, [], ◌∷◌, MatchResult, true};
+ghost use Rattle.std.specs.Prelude.{◌≡◌, ◌++◌, MatchResult, true};
 ghost use Rattle.linear.specs.Forms.{form as form_seen, forms};
 ghost use Rattle.facts.specs.Symbols as symbols;
 ghost use Rattle.facts.specs.Refusals.{IsMemory};
@@ -11,12 +11,12 @@ ghost use Rattle.walk_trees.specs.Pairs as specs;
 ghost use Rattle.obligations.specs.Meetings as meetings;
 ghost use Rattle.two_thread.specs.Refusals.{AreUnfit};
 
-use facts::{Side, WalkError, once_group};
-use linear::{Form, Symbol};
+use facts::{Family, Side, WalkError, once_group};
+use linear::Form;
 use std::alloc::Global;
 
 #[tactic(auto, using(facts::proofs::Facts::copies))]
-/// Both say of two forms that they are equal.
+/// Adds the two facts that say that two forms are equal.
 pub fn push_equals(
     alloc: Global,
     facts: &mut Vec<Form>,
@@ -32,7 +32,7 @@ pub fn push_equals(
     Ok(())
 }
 
-/// Both differences of two forms are of `i64`, or an error.
+/// Fails where a number of the difference of two forms, either way, is too large for `i64`.
 pub fn try_both(alloc: Global, left: &Form, right: &Form) -> Result<(), WalkError>
     ensures { MatchResult result (λ _. differences_fit (form_seen left.now) (form_seen right.now) ≡ true) (λ e. AreUnfit e (form_seen left.now) (form_seen right.now)) }
 {
@@ -41,7 +41,7 @@ pub fn try_both(alloc: Global, left: &Form, right: &Form) -> Result<(), WalkErro
     Ok(())
 }
 
-/// Both items are of one group, in a dimension.
+/// Adds that two items have the same group id in a dimension.
 fn same_group(alloc: Global, facts: &mut Vec<Form>, dimension: u32) -> Result<(), WalkError>
     ensures { MatchResult result (λ _. forms facts.new.items ≡ forms facts.old.items ++ specs.same_group dimension) IsMemory }
 {
@@ -50,7 +50,7 @@ fn same_group(alloc: Global, facts: &mut Vec<Form>, dimension: u32) -> Result<()
     push_equals(alloc, facts, &first, &second)
 }
 
-/// Both items are of one group.
+/// Adds that two items have the same group id in each dimension.
 pub fn push_group(alloc: Global, facts: &mut Vec<Form>) -> Result<(), WalkError>
     ensures { MatchResult result (λ _. forms facts.new.items ≡ forms facts.old.items ++ each_dimension specs.same_group) IsMemory }
 {
@@ -60,30 +60,22 @@ pub fn push_group(alloc: Global, facts: &mut Vec<Form>) -> Result<(), WalkError>
     Ok(())
 }
 
-/// A symbol of a family, once.
-fn of_family(alloc: Global, family: u64, slot: u32) -> Result<Form, WalkError>
-    requires { family < 16 }
-    ensures { MatchResult result (λ f. form_seen f ≡ record { terms = record { coefficient = pos 1; symbol = family + 16 * slot } ∷ []; constant = pos 0 }) IsMemory }
-{
-    let number = family + 16 * slot as u64;
-    let form = Form::symbol(alloc, Symbol { number })?;
-    Ok(form)
-}
-
-/// An item's variable at the anchor.
+/// An item's variable at the anchor: as it is where the path begins, or, in a loop's test, as it was at the anchor before.
 fn once_at(alloc: Global, is_head: bool, item: Side, slot: u32) -> Result<Form, WalkError>
     ensures { MatchResult result (λ f. form_seen f ≡ symbols.once (meetings.anchor_symbol is_head (side item) slot)) IsMemory }
 {
-    match (is_head, item) {
-        (false, Side::First) => of_family(alloc, 6, slot),
-        (true, Side::First) => of_family(alloc, 7, slot),
-        (false, Side::Second) => of_family(alloc, 12, slot),
-        (true, Side::Second) => of_family(alloc, 13, slot),
-    }
+    let family = if is_head {
+        Family::AtAnchor(item)
+    } else {
+        Family::Variable(item)
+    };
+    let form = Form::symbol(alloc, family.symbol(slot as u64))?;
+    Ok(form)
 }
 
 #[tactic(auto, using(crate::proofs::Small::small_memory))]
-/// Both have a slot alike there.
+/// Adds that two items have the same value in a slot at their anchor; `first` and `second` say which of them is on a path from a loop's
+/// head.
 fn push_slot(
     alloc: Global,
     facts: &mut Vec<Form>,
@@ -98,7 +90,8 @@ fn push_slot(
     push_equals(alloc, facts, &left, &right)
 }
 
-/// Both have these slots alike there.
+/// Adds that two items have the same values in these slots at their anchor; `first` and `second` say which of them is on a path from a
+/// loop's head.
 pub fn push_same(
     alloc: Global,
     facts: &mut Vec<Form>,

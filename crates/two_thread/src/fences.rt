@@ -17,14 +17,14 @@ fn flag(space: Space, local: bool, global: bool) -> bool
     }
 }
 
-/// Both are so.
+/// The conjunction of two truth values.
 fn both(left: bool, right: bool) -> bool
     ensures { result ≡ (left && right) }
 {
     left && right
 }
 
-/// Every barrier of a statement does.
+/// Every barrier in a statement fences the space.
 #[cycle(fences)]
 fn fences(space: Space, statement: &Statement) -> bool
     ensures { result ≡ fences.fences (space_seen space) (statement_seen statement.now) }
@@ -47,7 +47,7 @@ fn fences(space: Space, statement: &Statement) -> bool
     }
 }
 
-/// Every barrier of statements does.
+/// Every barrier in a list of statements fences the space.
 #[cycle(fences)]
 fn all_fence(space: Space, statements: &[Statement]) -> bool
     ensures { result ≡ fences.all_fence (space_seen space) (statements_seen statements.now) }
@@ -61,7 +61,7 @@ fn all_fence(space: Space, statements: &[Statement]) -> bool
 }
 
 #[tactic(auto, using(crate::proofs::Fencing::fenced_is))]
-/// Every barrier of a kernel's body does.
+/// Every barrier in a kernel's body fences the space.
 pub fn is_fenced(body: &[Statement], space: Space) -> bool
     ensures { result ≡ specs.is_fenced (statements_seen body.now) (space_seen space) }
 {

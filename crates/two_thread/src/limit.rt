@@ -5,7 +5,7 @@ ghost use Rattle.two_thread.specs.Refusals.{IsOver};
 
 use facts::WalkError;
 
-/// One more, where there is room.
+/// Adds one more obligation; an error where there are `most` already.
 pub fn push_one<T: Copy>(found: &mut Vec<T>, most: usize, item: T) -> Result<(), WalkError>
     ensures { MatchResult result (λ _. found.new.items ≡ found.old.items ++ item ∷ []) (IsOver most (length found.old.items + 1)) }
 {

@@ -7,22 +7,22 @@ ghost use Rattle.path_steps.specs.View.{target as target_seen, held_seen};
 ghost use Rattle.two_thread.specs.View.{met_access, IsPlaceOf};
 
 use crate::met::Met;
-use crate::places::Place;
+use crate::on_path::OnPath;
 use crate::two::Here;
 use facts::{WalkError, copy_all};
 use linear::Form;
 use path_steps::Target;
 use std::alloc::Global;
 
-/// Where an access stands.
-pub fn place_of<D: Copy>(met: &Met<D>, i: usize) -> Place
+/// The path on which an access stands, and its number there, by its number among all accesses.
+pub fn place_of<D: Copy>(met: &Met<D>, i: usize) -> OnPath
     requires { i < length met.now.accesses.items }
     ensures { IsPlaceOf met.now i result }
 {
     met.accesses[i]
 }
 
-/// Which access it is.
+/// The target of an access, by its number: a store or a load, the array, and the source place.
 pub fn target_of<D: Copy>(met: &Met<D>, i: usize) -> Target
     requires { i < length met.now.accesses.items }
     ensures { target_seen result ≡ (met_access met.now i).it.target }
@@ -32,7 +32,7 @@ pub fn target_of<D: Copy>(met: &Met<D>, i: usize) -> Target
     tagged.path.accesses[place.item].target
 }
 
-/// The anchor of its place.
+/// The anchor of the place at which an access's path begins; none for the entry.
 pub fn anchor_of<D: Copy>(met: &Met<D>, i: usize) -> Option<u32>
     requires { i < length met.now.accesses.items }
     ensures { result ≡ (met_access met.now i).anchor }
@@ -41,7 +41,7 @@ pub fn anchor_of<D: Copy>(met: &Met<D>, i: usize) -> Option<u32>
     met.paths[place.path].anchor
 }
 
-/// Its place is a loop's head.
+/// The path of an access begins at a loop's head.
 pub fn is_of_head<D: Copy>(met: &Met<D>, i: usize) -> bool
     requires { i < length met.now.accesses.items }
     ensures { result ≡ (met_access met.now i).is_head }
@@ -50,7 +50,7 @@ pub fn is_of_head<D: Copy>(met: &Met<D>, i: usize) -> bool
     met.paths[place.path].is_head
 }
 
-/// An access's index.
+/// The index of an access, by its number, as a form over the symbols of its path.
 pub fn index_of<D: Copy>(met: &Met<D>, i: usize) -> &Form
     requires { i < length met.now.accesses.items }
     ensures { form_seen result.now ≡ (met_access met.now i).it.index }
@@ -60,7 +60,7 @@ pub fn index_of<D: Copy>(met: &Met<D>, i: usize) -> &Form
     &tagged.path.accesses[place.item].index
 }
 
-/// The facts before an access.
+/// Adds the facts that an access's path has found before it.
 pub fn facts_before<D: Copy>(
     alloc: Global,
     facts: &mut Vec<Form>,
@@ -77,7 +77,7 @@ pub fn facts_before<D: Copy>(
     Ok(())
 }
 
-/// What the path holds before an access.
+/// The symbols that the path of an access has invented and narrowed before it, with what the domain knows of them.
 pub fn held_before<D: Copy>(met: &Met<D>, i: usize) -> Here<'_, D>
     requires { i < length met.now.accesses.items }
     ensures { held_seen result.news.now result.narrowed.now ≡ (met_access met.now i).it.held }

@@ -20,8 +20,7 @@ use facts::WalkError;
 use path_steps::Stop;
 use std::alloc::Global;
 
-/// What is to be shown of two stops: that the first item's slot is at least the second one's, or the other way round, or that no two
-/// items come to both.
+/// The goal of two stops: that the first item's slot is at least the second one's, at most that, or that no two items come to both stops.
 #[derive(Clone, Copy)]
 pub enum About {
     AtLeast(u32),
@@ -37,7 +36,7 @@ pub struct Meeting {
     pub about: About,
 }
 
-/// What two stops are to one another.
+/// The obligation of two items at these stops: none, that they agree at a barrier of this number, or that they are never at both.
 #[derive(Clone, Copy)]
 pub enum Owed {
     Nothing,
@@ -45,7 +44,7 @@ pub enum Owed {
     Never,
 }
 
-/// A barrier, or the end.
+/// The stop is a barrier, or the end of the kernel.
 fn is_rest(stop: Stop) -> bool
     ensures { result ≡ specs.is_rest (stop_seen stop) }
 {
@@ -56,7 +55,7 @@ fn is_rest(stop: Stop) -> bool
 }
 
 #[tactic(auto, using(crate::proofs::Turns::same_reverse))]
-/// Both are one list of loops.
+/// Two lists of loops are there, and are the same list.
 fn same_turns(left: &Option<Vec<u32>>, right: &Option<Vec<u32>>) -> bool
     ensures { result ≡ shown.same_turns (turns_seen left.now) (turns_seen right.now) }
 {
@@ -66,7 +65,7 @@ fn same_turns(left: &Option<Vec<u32>>, right: &Option<Vec<u32>>) -> bool
     }
 }
 
-/// Both are one list.
+/// Two lists of numbers are the same, in order.
 fn same_numbers(left: &[u32], right: &[u32]) -> bool
     ensures { result ≡ same_list left.now right.now }
 {
@@ -81,7 +80,7 @@ fn same_numbers(left: &[u32], right: &[u32]) -> bool
     true
 }
 
-/// What is owed of two stops.
+/// The obligation that two stops give; `same` says whether both are reached in the same turns of loops.
 fn owed_at(left: Stop, right: Stop, same: bool) -> Owed
     ensures { meetings.owed_seen result ≡ shown.owed (stop_seen left) (stop_seen right) same }
 {
@@ -130,7 +129,7 @@ fn agree_on<D: Copy>(
     Ok(())
 }
 
-/// Slots that are to be alike.
+/// Adds the meetings of two ends by which the slots are alike at both.
 fn agreements<D: Copy>(
     found: &mut Vec<Meeting>,
     most: usize,
@@ -147,7 +146,7 @@ fn agreements<D: Copy>(
     Ok(())
 }
 
-/// What is owed of two ends.
+/// Adds the meetings that make up what has to be shown of two ends; an error where there would be more than `most`.
 fn owed_of<D: Copy>(
     found: &mut Vec<Meeting>,
     most: usize,
@@ -180,7 +179,7 @@ fn owed_of<D: Copy>(
     }
 }
 
-/// Two ends.
+/// Adds the meetings of two ends that have one anchor, if the second one is a barrier or the kernel's end.
 fn two_meet<D: Copy>(
     found: &mut Vec<Meeting>,
     most: usize,
@@ -225,7 +224,7 @@ fn meet_each<D: Copy>(
     Ok(())
 }
 
-/// Those of one end, where it is a barrier or the end of the kernel.
+/// Adds the meetings of one end with itself and the ends behind it, if it is a barrier or the kernel's end.
 fn meet_from<D: Copy>(
     found: &mut Vec<Meeting>,
     most: usize,

@@ -5,7 +5,7 @@ ghost use Rattle.obligations.specs.Owning.{all_own_accesses, all_own_ends};
 ghost use Rattle.two_thread.specs.Paths.{all_accesses, all_ends};
 ghost use Rattle.two_thread.specs.Places.{rows, claim_count, access_count, end_count};
 
-use crate::places::{Place, access_places, claim_places, end_places};
+use crate::on_path::{OnPath, access_places, claim_places, end_places};
 use crate::walked::Tagged;
 use facts::WalkError;
 use std::alloc::Global;
@@ -14,9 +14,9 @@ use std::alloc::Global;
 #[derive(Drop)]
 pub struct Met<D> {
     pub(crate) paths: Vec<Tagged<D>>,
-    pub(crate) claims: Vec<Place>,
-    pub(crate) accesses: Vec<Place>,
-    pub(crate) ends: Vec<Place>,
+    pub(crate) claims: Vec<OnPath>,
+    pub(crate) accesses: Vec<OnPath>,
+    pub(crate) ends: Vec<OnPath>,
     pub(crate) ghost claims_are: { claims.items ≡ rows 0 (map claim_count paths.items) },
     pub(crate) ghost accesses_are: { accesses.items ≡ rows 0 (map access_count paths.items) },
     pub(crate) ghost ends_are: { ends.items ≡ rows 0 (map end_count paths.items) },
@@ -30,7 +30,7 @@ impl<D: Copy> Met<D> {
     ghost use Rattle.obligations.specs.Owning.{all_own_accesses, all_own_ends};
     ghost use Rattle.two_thread.specs.Paths.{all_accesses, all_ends};
 
-    /// Of these paths, whose accesses and ends have no symbols of the second item.
+    /// The claims, accesses and ends of these paths, whose accesses and ends have no symbols of the second item.
     pub fn of(alloc: Global, paths: Vec<Tagged<D>>) -> Result<Met<D>, WalkError>
         requires accesses { all_own_accesses (all_accesses paths.items) ≡ true }
         requires ends { all_own_ends (all_ends paths.items) ≡ true }

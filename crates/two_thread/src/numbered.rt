@@ -22,7 +22,7 @@ use linear::Form;
 use obligations::Notes;
 use std::alloc::Global;
 
-/// Which obligation.
+/// An obligation: a claim by its number, a meeting of two ends, or a crossing of two accesses.
 #[derive(Clone, Copy)]
 pub enum Which {
     OfClaim(usize),
@@ -103,7 +103,7 @@ impl<D: Domain> Obligations<D> {
         })
     }
 
-    /// What denies each claim is of `i64`, or an error.
+    /// Fails where a number of what denies some claim is too large for `i64`.
     fn try_denials(&self, alloc: Global) -> Result<(), WalkError>
         ensures { MatchResult result (λ _. claims_fit (met_claims self.now.met) ≡ true) (DoNotFit (claims_fit (met_claims self.now.met))) }
     {
@@ -113,7 +113,7 @@ impl<D: Domain> Obligations<D> {
         Ok(())
     }
 
-    /// What is said of each pair of stops is, or an error.
+    /// Fails where a number that some meeting of two ends needs is too large for `i64`.
     fn try_meetings(&self, alloc: Global) -> Result<(), WalkError>
         ensures { MatchResult result (λ _. meetings_fit (found_meetings self.now.met self.now.meetings.items) ≡ true) (DoNotFit (meetings_fit (found_meetings self.now.met self.now.meetings.items))) }
     {
@@ -170,7 +170,7 @@ impl<D: Domain> Obligations<D> {
         Ok(found)
     }
 
-    /// How many there are.
+    /// The number of all obligations, at most 65,536.
     pub fn len(&self) -> usize
         ensures exact { result ≡ length (listed D.Domain self.now) }
         ensures few { result ≤ 65536 }

@@ -6,7 +6,7 @@ ghost use Rattle.two_thread.specs.Listed.{listed};
 
 use crate::meetings::About;
 use crate::numbered::{Obligations, Which};
-use crate::places::Place;
+use crate::on_path::OnPath;
 use crate::walked::Tagged;
 use domain::Domain;
 use linear::Form;
@@ -15,15 +15,15 @@ use linear::Form;
 /// derivations asks it; no promise stands on it.
 #[derive(Clone, Copy)]
 pub enum Part {
-    Claim(Place),
+    Claim(OnPath),
     Ends {
-        first: Place,
-        second: Place,
+        first: OnPath,
+        second: OnPath,
         about: About,
     },
     Accesses {
-        first: Place,
-        second: Place,
+        first: OnPath,
+        second: OnPath,
     },
 }
 
@@ -35,14 +35,14 @@ impl<D: Domain> Obligations<D> {
         self.met.paths.as_slice()
     }
 
-    /// What is known of each launch.
+    /// The facts that hold in each launch under the conditions.
     pub fn launch(&self) -> &[Form]
         ensures { forms result.now ≡ forms self.now.launch.items }
     {
         self.launch.as_slice()
     }
 
-    /// Where an obligation comes from.
+    /// The claim, the two ends or the two accesses that an obligation is of, by its number.
     pub fn part(&self, number: usize) -> Part
         requires first { 0 < number }
         requires last { number ≤ length (listed D.Domain self.now) }

@@ -21,7 +21,7 @@ fn is_second(goal: &Goal) -> bool
     }
 }
 
-/// That of a claim is.
+/// A claim, given by its number, is the second one of a congruence.
 fn claims_second<D: Copy>(met: &Met<D>, i: usize) -> bool
     requires { i < length met.now.claims.items }
     ensures { result ≡ is_second_claim (Some (nth_claim met.now i).goal) }
@@ -37,7 +37,7 @@ impl<D: Domain> Obligations<D> {
     ghost use Rattle.two_thread.specs.Listed.{listed, nth_obligation};
     ghost use Rattle.two_thread.specs.Quotients.{is_second_claim};
 
-    /// It is the second claim of a congruence, whose first one has the number before; an entry names the quotient for both.
+    /// An obligation is the second claim of a congruence, whose first one has the number before; an entry names the quotient for both.
     pub fn is_second_claim(&self, number: usize) -> bool
         requires first { 0 < number }
         requires last { number ≤ length (listed D.Domain self.now) }

@@ -14,7 +14,7 @@ use facts::WalkError;
 use linear::{Form, Symbol};
 use std::alloc::{AllocError, Global};
 
-/// The second item's symbol: that of the launch, or the copy of the first item's, six families on.
+/// The second item's symbol for one of the first item's: the same one of the launch, else the symbol six families on.
 fn second(symbol: Symbol) -> Symbol
     requires { copies.is_own_symbol symbol.number ≡ true }
     ensures { result.number ≡ copies.second symbol.number }
@@ -27,7 +27,7 @@ fn second(symbol: Symbol) -> Symbol
     }
 }
 
-/// Those of a form's terms.
+/// The second item's symbols for the symbols of a form's terms, in their order.
 fn seconds(alloc: Global, form: &Form) -> Result<Vec<Symbol>, AllocError>
     requires { copies.is_own (form_seen form.now) ≡ true }
     ensures { IfOk result (λ v. numbers v.items ≡ all_seconds (form_seen form.now).terms) }
@@ -50,7 +50,7 @@ pub fn second_form(alloc: Global, form: &Form) -> Result<Form, WalkError>
     Ok(copy)
 }
 
-/// Copies of facts.
+/// Adds the second item's copies of facts, in their order.
 pub fn push_seconds(alloc: Global, facts: &mut Vec<Form>, of: &[Form]) -> Result<(), WalkError>
     requires { copies.are_own (forms of.now) ≡ true }
     ensures { MatchResult result (λ _. forms facts.new.items ≡ forms facts.old.items ++ copies.second_forms (forms of.now)) IsMemory }

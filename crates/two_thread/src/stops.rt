@@ -10,7 +10,7 @@ ghost use Rattle.obligations.specs.Meetings as meetings;
 ghost use Rattle.two_thread.specs.View.{met_end, IsPlaceOfEnd};
 
 use crate::met::Met;
-use crate::places::Place;
+use crate::on_path::OnPath;
 use crate::seconds::push_seconds;
 use crate::two::Here;
 use core_code::tree::Site;
@@ -19,15 +19,15 @@ use linear::Form;
 use path_steps::{Spot, Stop, Value};
 use std::alloc::Global;
 
-/// Where an end stands.
-fn place_of_end<D: Copy>(met: &Met<D>, i: usize) -> Place
+/// The path on which an end stands, and its number there, by its number among all ends.
+fn place_of_end<D: Copy>(met: &Met<D>, i: usize) -> OnPath
     requires { i < length met.now.ends.items }
     ensures { IsPlaceOfEnd met.now i result }
 {
     met.ends[i]
 }
 
-/// Where an item stops.
+/// The point at which an item stops at an end: a barrier, a loop's head, or the end of the kernel.
 pub fn stop_of<D: Copy>(met: &Met<D>, i: usize) -> Stop
     requires { i < length met.now.ends.items }
     ensures { stop_seen result ≡ (met_end met.now i).it.arrived.stop }
@@ -37,7 +37,7 @@ pub fn stop_of<D: Copy>(met: &Met<D>, i: usize) -> Stop
     tagged.path.ends[place.item].stop
 }
 
-/// The anchor of its place.
+/// The anchor of the place at which an end's path begins; none for the entry.
 pub fn end_anchor<D: Copy>(met: &Met<D>, i: usize) -> Option<u32>
     requires { i < length met.now.ends.items }
     ensures { result ≡ (met_end met.now i).anchor }
@@ -46,7 +46,7 @@ pub fn end_anchor<D: Copy>(met: &Met<D>, i: usize) -> Option<u32>
     met.paths[place.path].anchor
 }
 
-/// Its place is a loop's head.
+/// The path of an end begins at a loop's head.
 pub fn is_end_of_head<D: Copy>(met: &Met<D>, i: usize) -> bool
     requires { i < length met.now.ends.items }
     ensures { result ≡ (met_end met.now i).is_head }
@@ -55,7 +55,7 @@ pub fn is_end_of_head<D: Copy>(met: &Met<D>, i: usize) -> bool
     met.paths[place.path].is_head
 }
 
-/// The loops that turned before it.
+/// The loops that turned between the anchor and an end; none where that is not one list.
 pub fn turns_of<D: Copy>(met: &Met<D>, i: usize) -> &Option<Vec<u32>>
     requires { i < length met.now.ends.items }
     ensures { turns_seen result.now ≡ (met_end met.now i).it.arrived.turns }
@@ -65,7 +65,7 @@ pub fn turns_of<D: Copy>(met: &Met<D>, i: usize) -> &Option<Vec<u32>>
     &tagged.path.ends[place.item].turns
 }
 
-/// What the path holds there.
+/// The symbols that the path of an end has invented and narrowed by then, with what the domain knows of them.
 pub fn held_at_end<D: Copy>(met: &Met<D>, i: usize) -> Here<'_, D>
     requires { i < length met.now.ends.items }
     ensures { held_seen result.news.now result.narrowed.now ≡ (met_end met.now i).it.arrived.held }
@@ -79,7 +79,7 @@ pub fn held_at_end<D: Copy>(met: &Met<D>, i: usize) -> Here<'_, D>
     }
 }
 
-/// The facts there.
+/// Adds the facts that an item's path has found up to an end.
 pub fn facts_at_end<D: Copy>(
     alloc: Global,
     facts: &mut Vec<Form>,
@@ -96,7 +96,7 @@ pub fn facts_at_end<D: Copy>(
     Ok(())
 }
 
-/// The second item's facts there.
+/// Adds the second item's copies of the facts that its path has found up to an end.
 pub fn second_facts_at_end<D: Copy>(
     alloc: Global,
     facts: &mut Vec<Form>,
@@ -133,7 +133,7 @@ fn spot_at(stop: Stop) -> Spot
     }
 }
 
-/// Where an item stops, in the source.
+/// The source place at which an item stops at an end.
 pub fn spot_of_end<D: Copy>(met: &Met<D>, i: usize) -> Spot
     requires { i < length met.now.ends.items }
     ensures { spot_seen result ≡ meetings.spot_at (met_end met.now i).it.arrived.stop }
@@ -141,7 +141,7 @@ pub fn spot_of_end<D: Copy>(met: &Met<D>, i: usize) -> Spot
     spot_at(stop_of(met, i))
 }
 
-/// A variable's form there; past the last one 0.
+/// The form of a variable at an end; 0 past the last variable.
 pub fn variable_at_end<D: Copy>(
     alloc: Global,
     met: &Met<D>,

@@ -16,7 +16,7 @@ use facts::Known;
 use linear::{Form, Symbol, Term};
 use path_steps::{Invented, Narrowed, element_from};
 
-/// What an item's path holds somewhere.
+/// The symbols that an item's path has invented and narrowed up to some point of it, with what the domain knows of them.
 #[derive(Clone, Copy)]
 pub struct Here<'a, D> {
     pub news: &'a [Invented<D>],
@@ -80,7 +80,7 @@ pub fn lacks_zero<D: Domain>(element: D) -> bool
     is_above_zero(bounds.low) || is_below_zero(bounds.high) || !leaves_nothing(element.residue())
 }
 
-/// The end is above 0.
+/// A low end is there, and is above 0.
 fn is_above_zero(low: Option<i64>) -> bool
     ensures { result ≡ elements.is_above_zero low }
 {
@@ -90,7 +90,7 @@ fn is_above_zero(low: Option<i64>) -> bool
     }
 }
 
-/// The end is below 0.
+/// A high end is there, and is below 0.
 fn is_below_zero(high: Option<i64>) -> bool
     ensures { result ≡ elements.is_below_zero high }
 {
@@ -100,7 +100,7 @@ fn is_below_zero(high: Option<i64>) -> bool
     }
 }
 
-/// 0 is one of the residue's numbers.
+/// The number 0 is one of those that a residue allows.
 fn leaves_nothing(residue: Residue) -> bool
     ensures { result ≡ leaves residue (pos 0) }
 {

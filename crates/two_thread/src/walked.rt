@@ -23,7 +23,7 @@ pub struct Tagged<D> {
     pub path: Path<D>,
 }
 
-/// The paths of one place.
+/// Adds the paths of one place, each with the place's anchor.
 fn push_tagged<D: Copy>(
     found: &mut Vec<Tagged<D>>,
     anchor: Option<u32>,
@@ -42,7 +42,7 @@ fn push_tagged<D: Copy>(
     Ok(())
 }
 
-/// Those of all places, in order.
+/// The paths of all places in order, each with its place's anchor.
 pub fn spread<D: Copy>(alloc: Global, walked: Vec<Walked<D>>) -> Result<Vec<Tagged<D>>, AllocError>
     ensures { IfOk result (λ v. v.items ≡ spread_seen walked.items) }
 {

@@ -6,7 +6,7 @@ use Rattle.texts.specs.Surface as surface
 use Rattle.texts.specs.TypeFaults.{Checked, then}
 use Rattle.texts.specs.Scope.{Scope, leave_block}
 use Rattle.texts.specs.Typing.{TypedTerm, type_of}
-use Rattle.texts.specs.Elaboration.{Elaborated, elaborated, single, join, elaborate_first, elaborate_assignment, Around, InLoop, inside, elaborate_statement, elaborate_all}
+use Rattle.texts.specs.Elaboration.{Elaborated, elaborated, single, join, elaborate_first, Around, InLoop, inside, elaborate_statement, elaborate_all}
 use Rattle.core_code.specs.View.{statement, statements}
 use Rattle.types.specs.Blocks.{behind, block, repeated, turn, otherwise}
 use Rattle.types.specs.Answers.{Gives, Refuses}

@@ -1,4 +1,5 @@
 pub mod Arguments
+pub mod Bindings
 pub mod Blocks
 pub mod Kernels
 pub mod Names

@@ -1,7 +1,8 @@
 -- Statements add names behind those that were visible.
-use Rattle.std.proofs.Common.{◌≡◌, ℕ, Bool, true, false, List, [], ◌∷◌, ◌++◌, length, take, rules, Ok, Err, refl, ap, ◌∙◌, sym, append_assoc}
+use Rattle.std.proofs.Common.{Bor, ◌≡◌, ℕ, Bool, true, false, List, [], ◌∷◌, ◌++◌, length, take, rules, Ok, Err, refl, ap, ◌∙◌, sym, append_assoc}
 use Rattle.std.proofs.lemmas.List.{length-map, take-map}
 use Rattle.std.proofs.Math.Seq.{take-append_seam}
+use Rattle.indexmap.specs.IndexMap.{IndexMap}
 use Rattle.semantics.specs.Core as core
 use Rattle.semantics.specs.Word.{Kind}
 use Rattle.texts.specs.Surface as surface
@@ -9,7 +10,7 @@ use Rattle.texts.specs.TypeFaults.{TypeFault, NameTwice, Checked, then, when}
 use Rattle.texts.specs.Scope.{Scope, Binding, ArrayAt, may_declare, bind, declare_array}
 use Rattle.types.specs.Blocks.{behind, block, repeated}
 use Rattle.types.specs.Names.{binding, names}
-use Rattle.types.specs.declared.scope.Binding.{Binding as Bound}
+use Rattle.types.specs.declared.scope.Meaning.{Meaning}
 use Rattle.texts.specs.Elaboration.{Elaborated, elaborated, join, elaborate_declaration, elaborate_first, Around, InKernel, InBlock, InLoop, elaborate_statement, elaborate_all}
 
 abbrev pub Extends : List Binding → List Binding → Type 0
@@ -123,5 +124,5 @@ for-left sc first f n e update body x p q =
     ap (take (length sc.visible)) (repeated-leaves f.scope n e update body x q) ∙ found-first sc.visible (elaborate_first sc first) f (keeps-first sc first) p
 
 -- what is kept of the code's names
-pub names-kept : (before mid rest : List Bound) (n : ℕ) → n ≡ length before → rest ≡ take n mid → take (length (names before)) (names mid) ≡ names before → names rest ≡ names before
-names-kept before mid rest n e r h = rw (r, e, ← length-map before binding, ← take-map binding (length (names before)) mid) h
+pub names-kept : {S : Type 0} (before mid rest : IndexMap (Bor (List ℕ)) Meaning S) (n : ℕ) → n ≡ length before.entries → rest.entries ≡ take n mid.entries → take (length (names before)) (names mid) ≡ names before → names rest ≡ names before
+names-kept before mid rest n e r h = rw (r, e, ← length-map before.entries binding, ← take-map binding (length (names before)) mid.entries) h

@@ -1,5 +1,7 @@
 -- What the code's scope stands for.
-use Rattle.std.specs.Prelude.{List, map}
+use denote.Ref.{Bor}
+use Rattle.std.specs.Prelude.{ℕ, List, map}
+use Rattle.indexmap.specs.IndexMap.{IndexMap}
 use Rattle.texts.specs.Scope as scope
 use Rattle.words.specs.View.{kind}
 use Rattle.core_code.specs.View.{array, local_array, statement, statements}
@@ -7,22 +9,22 @@ use Rattle.texts.specs.Elaboration.{Elaborated, elaborated, single}
 use Rattle.core_code.specs.declared.tree.Statement.{Statement}
 use Rattle.types.specs.declared.scope.Meaning.{Meaning}
 use Rattle.types.specs.declared.scope.Meaning.TheVariants as meanings
-use Rattle.types.specs.declared.scope.Binding.{Binding}
 use Rattle.types.specs.declared.scope.Scope.{Scope}
 
 abbrev pub meaning_seen : Meaning → scope.Meaning
 meaning_seen (meanings.Variable slot k) = scope.VariableAt slot (kind k)
 meaning_seen (meanings.Array a k writable) = scope.ArrayAt (array a) (kind k) writable
 
-abbrev pub binding : Binding → scope.Binding
-binding b = record { name = b.name.now; meaning = meaning_seen b.meaning }
+abbrev pub binding : Bor (List ℕ) × Meaning → scope.Binding
+binding entry = record { name = entry.0.now; meaning = meaning_seen entry.1 }
 
-abbrev pub names : List Binding → List scope.Binding
-names bs = map binding bs
+-- the map's entries stand in order of declaration
+abbrev pub names : {S : Type 0} → IndexMap (Bor (List ℕ)) Meaning S → List scope.Binding
+names visible = map binding visible.entries
 
 abbrev pub scope_seen : Scope → scope.Scope
 scope_seen s = record {
-  visible = names s.visible.items;
+  visible = names s.visible;
   slots = map kind s.slots.items;
   buffers = map kind s.buffers.items;
   arrays = map local_array s.arrays.items;

@@ -17,7 +17,7 @@ ghost use Rattle.types.specs.Answers.{typed_term, Gives, IsTyped, IsArrayOf};
 use crate::conversions::{TypedTerm, bring};
 use crate::error::{TypeError, TypeFault};
 use crate::loads::first_load;
-use crate::scope::{Binding, Scope, meaning_of};
+use crate::scope::{Scope, Visible, meaning_of};
 use crate::targets::{target_array, target_slot};
 use crate::typing::{infix_term, type_of};
 use core_code::tree::{Array, Site, Statement, Term};
@@ -44,7 +44,7 @@ fn assigned(
 }
 
 fn assign_variable(alloc: Global, scope: &Scope, a: &Assignment) -> Result<Statement, TypeError>
-    ensures { Gives statement result (rules.then (rules.found (scoping.meaning_of (names scope.now.visible.items) (string_bytes a.now.name)) rules.UnknownName (site a.now.site)) (λ m. elaboration.assign_to (scope_seen scope.now) (assignment a.now) m None)) }
+    ensures { Gives statement result (rules.then (rules.found (scoping.meaning_of (names scope.now.visible) (string_bytes a.now.name)) rules.UnknownName (site a.now.site)) (λ m. elaboration.assign_to (scope_seen scope.now) (assignment a.now) m None)) }
 {
     let (slot, kind) = target_slot(a.site, meaning_of(&scope.visible, a.name.as_str()))?;
     let value = type_of(alloc, &scope.visible, &a.value)?;
@@ -75,7 +75,7 @@ fn without_load(a: &Assignment, index: &Expr) -> Result<(), TypeError>
 // The value that an element gets: that of `a[i] op (e)` where the sign is `op=`, so the index is typed once more.
 fn assigned_element(
     alloc: Global,
-    visible: &[Binding],
+    visible: &Visible,
     a: &Assignment,
     index: &Expr,
     element: (Array, Kind),
@@ -123,9 +123,9 @@ fn assign_element(
     a: &Assignment,
     index: &Expr,
 ) -> Result<Statement, TypeError>
-    ensures { Gives statement result (rules.then (rules.found (scoping.meaning_of (names scope.now.visible.items) (string_bytes a.now.name)) rules.UnknownName (site a.now.site)) (λ m. elaboration.assign_to (scope_seen scope.now) (assignment a.now) m (Some (expression index.now)))) }
+    ensures { Gives statement result (rules.then (rules.found (scoping.meaning_of (names scope.now.visible) (string_bytes a.now.name)) rules.UnknownName (site a.now.site)) (λ m. elaboration.assign_to (scope_seen scope.now) (assignment a.now) m (Some (expression index.now)))) }
 {
-    let visible = scope.visible.as_slice();
+    let visible = &scope.visible;
     let element = target_array(a.site, meaning_of(visible, a.name.as_str()))?;
     let typed = type_of(alloc, visible, index)?;
     without_load(a, index)?;

@@ -23,14 +23,14 @@ pub fn function_named(name: &str) -> Option<Function>
     }
 }
 
-/// `min` or `max`.
+/// The smaller or the larger one of two operands: `min` or `max` (OpenCL 1.2, 6.12.3).
 #[derive(Clone, Copy)]
 pub enum Pick {
     Minimum,
     Maximum,
 }
 
-/// `min` or `max`, by its name.
+/// The function `min` or `max`, by its name; none where it is neither.
 pub fn pick_named(name: &str) -> Option<Pick>
     ensures { pick_seen result ≡ typing.pick_named name.now }
 {

@@ -10,7 +10,7 @@ use core_code::tree::{Site, Term};
 use std::alloc::{AllocError, Global};
 use words::Kind;
 
-/// A term with its kind.
+/// A term of the core, with the kind of its value.
 #[derive(Drop)]
 pub struct TypedTerm {
     pub kind: Kind,

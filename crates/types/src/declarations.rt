@@ -12,7 +12,7 @@ ghost use Rattle.types.specs.Answers.{Gives};
 ghost use Rattle.types.specs.Rooms.{HasRoom};
 
 use crate::error::{TypeError, TypeFault};
-use crate::scope::{Binding, Meaning, Scope, meaning_of};
+use crate::scope::{Meaning, Scope, meaning_of};
 use core_code::tree::{Array, LocalArray, Site, Space};
 use syntax::tree::Parameter;
 use words::Kind;
@@ -107,7 +107,7 @@ impl<'a> Scope<'a> {
                 site: at,
             });
         }
-        self.visible.push(Binding { name, meaning })?;
+        self.visible.insert(name, meaning)?;
         Ok(())
     }
 

@@ -13,6 +13,7 @@ use crate::jumps::Around;
 use crate::scope::Scope;
 use crate::statements::elaborate_all;
 use core_code::tree::Core;
+use indexmap::IndexMap;
 use std::alloc::Global;
 use syntax::tree::Kernel;
 use words::Kind;
@@ -35,7 +36,7 @@ fn elaborate_inside(alloc: Global, tree: &Kernel) -> Result<Core, TypeError>
     ensures { Gives kernel result (elaboration.elaborate_inside (tree_of tree.now)) }
 {
     let mut scope = Scope {
-        visible: Vec::new(alloc),
+        visible: IndexMap::new(alloc),
         slots: Vec::new(alloc),
         buffers: Vec::new(alloc),
         arrays: Vec::new(alloc),

@@ -24,7 +24,7 @@ impl TypeFault {
     ghost use Rattle.texts.specs.TypeFaults.{type_fault_number};
     ghost use Rattle.types.specs.Answers.{fault};
 
-    /// The number that it is printed under.
+    /// The number under which the fault is printed.
     pub fn number(self) -> u8
         ensures { result ≡ type_fault_number (fault self) }
     {
@@ -54,7 +54,7 @@ pub enum TypeError {
 impl TypeError {
     ghost use Rattle.types.specs.Answers.{error_number, error_place};
 
-    /// The number that it is printed under.
+    /// The number under which the error is printed.
     pub fn number(&self) -> u8
         ensures { result ≡ error_number self.now }
     {

@@ -11,7 +11,7 @@ use crate::error::{TypeError, TypeFault};
 use core_code::tree::{Site, Statement};
 use syntax::tree::JumpWord;
 
-/// Where a statement stands: directly in the kernel's body, in a block outside all loops, or in loops, the innermost of which has
+/// The surroundings of a statement: directly in the kernel's body, in a block outside all loops, or in loops, the innermost of which has
 /// the number.
 #[derive(Clone, Copy)]
 pub enum Around {
@@ -27,7 +27,7 @@ impl Around {
         matches!(self, Around::InKernel)
     }
 
-    /// Where the statements of a block that stands here stand.
+    /// The surroundings of the statements in a block that itself has these.
     pub fn inside(self) -> Around
         ensures { around_of result ≡ elaboration.inside (around_of self) }
     {

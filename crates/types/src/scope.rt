@@ -6,6 +6,7 @@ ghost use Rattle.texts.specs.Scope as scope;
 ghost use Rattle.types.specs.Names.{meaning_seen, names};
 
 use core_code::tree::{Array, LocalArray};
+use indexmap::IndexMap;
 use words::Kind;
 
 /// A private variable or value parameter, or a buffer parameter or local array.
@@ -22,31 +23,22 @@ pub enum Meaning {
     },
 }
 
-/// A visible name.
-#[derive(Clone, Copy)]
-pub struct Binding<'a> {
-    pub name: &'a str,
-    pub meaning: Meaning,
-}
+/// The visible names, in order of declaration, each with what it stands for.
+pub type Visible<'a> = IndexMap<&'a str, Meaning>;
 
-/// What is visible, in order of declaration, and all that was declared so far: the kinds of the slots and of the buffers, and the
-/// local arrays.
+/// The visible names in order of declaration, and all that was declared so far: the kinds of the slots and of the buffers, and the local
+/// arrays.
 #[derive(Drop)]
 pub struct Scope<'a> {
-    pub visible: Vec<Binding<'a>>,
+    pub visible: Visible<'a>,
     pub slots: Vec<Kind>,
     pub buffers: Vec<Kind>,
     pub arrays: Vec<LocalArray>,
 }
 
-/// What a name stands for, where it is visible.
-pub fn meaning_of(visible: &[Binding], name: &str) -> Option<Meaning>
+/// The meaning of a name; none where it is not visible.
+pub fn meaning_of(visible: &Visible, name: &str) -> Option<Meaning>
     ensures { option_map meaning_seen result ≡ scope.meaning_of (names visible.now) name.now }
 {
-    for binding in visible {
-        if binding.name == name {
-            return Some(binding.meaning);
-        }
-    }
-    None
+    visible.get(name).copied()
 }

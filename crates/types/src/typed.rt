@@ -48,7 +48,7 @@ impl Typed {
         Typed { tree, core }
     }
 
-    /// The kernel's tree.
+    /// The tree of the kernel, which is well-typed.
     pub fn kernel(&self) -> &Kernel
         ensures value { result.now ≡ self.now.0 }
         ensures typed { elaborates (tree_seen self.now.0) ≡ Ok (core_seen self.now.1) }
@@ -57,7 +57,7 @@ impl Typed {
         &self.tree
     }
 
-    /// The kernel's core.
+    /// The core of the kernel, as its tree is elaborated.
     pub fn core(&self) -> &Core
         ensures value { result.now ≡ self.now.1 }
         ensures typed { elaborates (tree_seen self.now.0) ≡ Ok (core_seen self.now.1) }

@@ -18,7 +18,7 @@ ghost use Rattle.types.specs.Answers.{typed_term, IsTyped, IsArrayOf};
 use crate::calls::{Pick, function_named, is_left_out, pick_named};
 use crate::conversions::{TypedTerm, bring, common};
 use crate::error::{TypeError, TypeFault};
-use crate::scope::{Binding, Meaning, meaning_of};
+use crate::scope::{Meaning, Visible, meaning_of};
 use core_code::tree::{Array, Function, Site, Term, UnaryOperator};
 use std::alloc::{AllocError, Global};
 use syntax::tree::{Expr, InfixSign, PrefixSign};
@@ -340,7 +340,7 @@ fn array_of(at: Site, meaning: Option<Meaning>) -> Result<(Array, Kind), TypeErr
 #[tactic(auto, using(crate::proofs::Arguments::both_typed))]
 fn pick_of_two(
     alloc: Global,
-    visible: &[Binding],
+    visible: &Visible,
     pick: Pick,
     at: Site,
     arguments: &[Expr],
@@ -357,7 +357,7 @@ fn pick_of_two(
 #[tactic(auto, using(crate::proofs::Arguments::counted), unfolding(texts::specs::Typing::type_of))]
 fn call_term(
     alloc: Global,
-    visible: &[Binding],
+    visible: &Visible,
     at: Site,
     name: &str,
     arguments: &[Expr],
@@ -392,7 +392,7 @@ fn call_term(
 /// right.
 #[cycle(typing)]
 #[tactic(auto, using(syntax::proofs::Rows::seen_call), unfolding(texts::specs::Typing::type_of))]
-pub fn type_of(alloc: Global, visible: &[Binding], e: &Expr) -> Result<TypedTerm, TypeError>
+pub fn type_of(alloc: Global, visible: &Visible, e: &Expr) -> Result<TypedTerm, TypeError>
     ensures { IsTyped result (typing.type_of (names visible.now) (expression e.now)) }
 {
     match e {

@@ -1,13 +1,15 @@
 //! The search for a certificate, and its check.
 
 ghost use Rattle.std.specs.Prelude.{ℕ, List, IfOk, IfErr};
+ghost use Rattle.certificate.specs.Certificates.{certificate as certificate_seen};
 ghost use Rattle.cert_check.specs.Refusing.{Refuses};
 ghost use Rattle.proof_search.specs.Searching.{AreSearched, IsCount, TellsOf};
 ghost use Rattle.verify.specs.Verifying.{IsVerified};
 
 use cert_check::error::{CheckError, ShowError};
 use cert_check::{Accepted, check};
-use proof_search::{VerifyError, find_text};
+use certificate::Certificate;
+use proof_search::{Found, VerifyError, find};
 use std::alloc::Global;
 use std::sync::Wait;
 use std::thread::Threads;
@@ -16,7 +18,7 @@ use std::thread::Threads;
 #[derive(Drop)]
 pub struct Verified {
     pub accepted: Accepted,
-    pub certificate: Vec<u8>,
+    pub certificate: Certificate,
 }
 
 /// The error of `prove` where a certificate that was found does not show what it has to: no findings stand in it.
@@ -50,15 +52,15 @@ pub fn verify<R: Threads + Wait + Sync>(
     conditions: &[u8],
     workers: u32,
 ) -> Result<Verified, VerifyError>
-    ensures verified { IfOk result (λ v. IsVerified kernel.now conditions.now v.certificate.items v.accepted) }
+    ensures verified { IfOk result (λ v. IsVerified kernel.now conditions.now (certificate_seen v.certificate) v.accepted) }
     ensures workers { IfOk result (λ _. IsCount workers) }
     ensures told { IfErr result (λ e. TellsOf e workers kernel.now conditions.now) }
 {
-    let certificate = match find_text(rt, alloc, kernel, conditions, workers) {
-        Ok(certificate) => certificate,
+    let Found { certificate, text } = match find(rt, alloc, kernel, conditions, workers) {
+        Ok(found) => found,
         Err(error) => return Err(error),
     };
-    match check(alloc, kernel, conditions, &certificate) {
+    match check(alloc, kernel, conditions, &text) {
         Ok(accepted) => Ok(Verified {
             accepted,
             certificate,

@@ -29,9 +29,9 @@ pub found_of : {E : Type 0} (r : Result (Path E) WalkError) (m n : Found E) (Q :
 found_of (Ok p) m n Q d e = e ∙ d
 found_of (Err x) m n Q d e = tt
 
-pub cut_of : {E : Type 0} (r : Result (Path E) WalkError) (p : Planted E) (cs : List Choice) (P : Path E → Type 0) (m : Found E) → m ≡ collect (begun p.facts p.claims cs) p.tree → MatchResult r P (λ e. Refused ⊥ e m) → IfErr r (IsCut p cs)
+pub cut_of : {E : Type 0} (r : Result (Path E) WalkError) (p : Planted E) (cs : List Choice) (P : Path E → Type 0) (m : Found E) → m ≡ collect (begun p.facts p.claims cs) p.tree → MatchResult r P (λ e. Refused e m) → IfErr r (IsCut p cs)
 cut_of (Ok q) p cs P m d h = tt
-cut_of (Err e) p cs P m d h = refused p cs e (subst (Refused ⊥ e) d h)
+cut_of (Err e) p cs P m d h = refused p cs e (subst (Refused e) d h)
 
 pub on_ok : {T E : Type 0} (r : Result T E) (X : Type 0) → X → OnOk r X
 on_ok (Ok t) X x = x

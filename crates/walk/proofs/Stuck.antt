@@ -32,7 +32,7 @@ module _ {E : Type 0} (p : Planted E) (cs : List Choice) where
   unrooted walks.TooLarge u = and_left (all_fit p.facts) _ u
   unrooted walks.Memory u = tt
 
-  pub refused : (e : WalkError) → Refused ⊥ e (collect (begun p.facts p.claims cs) p.tree) → IsCut p cs e
+  pub refused : (e : WalkError) → Refused e (collect (begun p.facts p.claims cs) p.tree) → IsCut p cs e
   refused walks.TooMany u = u
   refused walks.TooLarge u = and_right (all_fit p.facts) _ u
   refused walks.Memory u = tt

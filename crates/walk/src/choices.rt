@@ -21,7 +21,7 @@ fn is_first(choice: Choice) -> bool
     }
 }
 
-/// These choices, and then the other way, before which so many claims stand.
+/// The choices in front, and then the other way of a fork, before which so many claims stand.
 fn with_other(alloc: Global, front: &[Choice], count: u32) -> Result<Vec<Choice>, AllocError>
     ensures { IfOk result (λ v. map choice_seen v.items ≡ map choice_seen front.now ++ paths.Other count ∷ []) }
 {

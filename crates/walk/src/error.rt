@@ -6,10 +6,10 @@ use facts::WalkError;
 use std::alloc::{AllocError, AllocFailed};
 use thiserror::Error;
 
-/// Why it was not told what is to be shown.
+/// The reasons for which it was not told what is to be shown.
 #[derive(Debug, Drop, Error)]
 pub enum FindError {
-    /// From a place over 256 paths come to an end: the number of its loop or barrier, none of the kernel's entry.
+    /// More than 256 paths from one place come to an end: the number of its loop or barrier, none of the kernel's entry.
     #[error("53")]
     ManyPaths(Option<u32>),
     #[error("{0}")]

@@ -19,7 +19,7 @@ use places::Place;
 use std::alloc::Global;
 use two_thread::Walked;
 
-/// All paths of these places, in order.
+/// The paths of these places, place by place in order.
 pub fn walk_all<D: Domain>(
     alloc: Global,
     setting: &Setting<D>,

@@ -31,7 +31,8 @@ use places::Place;
 use std::alloc::Global;
 use two_thread::Obligations;
 
-/// What the walk of a kernel's places is of.
+/// The setting in which a kernel's places are walked: what the domain knows under the conditions, the kernel's sizes and arrays, and the
+/// entries.
 fn setting_of<D: Domain>(
     alloc: Global,
     core: &Core,

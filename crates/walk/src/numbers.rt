@@ -5,16 +5,15 @@ ghost use Rattle.places.specs.View.{maybe_point};
 ghost use Rattle.obligations.specs.Notes as notes;
 ghost use Rattle.walk.specs.Unfound.{statement_by};
 
-use path_walk::number_of;
 use places::Point;
 
-/// The number of its statement.
+/// The number of a point's statement; none for the entry.
 pub fn number_at(point: &Option<Point<'_>>) -> Option<u32>
     ensures { result ≡ notes.number_at (maybe_point point.now) }
 {
     match point {
         None => None,
-        Some(point) => Some(number_of(point.statement)),
+        Some(point) => Some(point.statement.number()),
     }
 }
 

@@ -26,8 +26,8 @@ use places::Place;
 use std::alloc::Global;
 use two_thread::Walked;
 
-/// What was found along the paths of a place so far, how many of them came to an end, 256 at most, and how many claims stand before the
-/// end of the last one.
+/// The findings along the paths of a place so far: the paths, how many of them came to an end, 256 at most, and how many claims stand
+/// before the end of the last one.
 #[derive(Drop)]
 struct SoFar<D> {
     paths: Vec<Path<D>>,
@@ -43,7 +43,7 @@ pub struct FromPlace<D> {
     pub after: u32,
 }
 
-/// So many paths more come to an end; at most 256 of them do.
+/// The count of paths that came to an end, with so many more; an error where there would be more than 256.
 fn count_ends(statement: Option<u32>, ends: usize, more: usize) -> Result<usize, FindError>
     requires { ends ≤ 256 }
     ensures { MatchResult result (λ n. (n ≡ ends + more) × (n ≤ 256)) (λ e. (e ≡ errors.ManyPaths statement) × (256 < ends + more)) }

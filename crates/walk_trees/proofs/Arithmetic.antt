@@ -26,7 +26,7 @@ use Rattle.walk_trees.proofs.Holding.{form-has, held_settles}
 use Rattle.walk_trees.proofs.Standing.{walks, Stands, Comes, way_then, over_claim, over_fact, past_claim, past_fact, at_once, comes_from, onward, arriving, told_either, Owns, owns}
 use Rattle.walk_trees.proofs.Ranges.{IsForm, IsValue, form_kept, form-is, form_constant, form-sum, form-multiple, form-minus, invent_sound, unknown_sound, Settles, ranged_sound}
 use Rattle.walk_trees.proofs.Splits.{int_eq-not, value-known}
-use Rattle.walk_trees.proofs.Divisions.{settle_in, uint-quotient, IsSafe, quotient-in, remainder-in, left-is, left-low, left-high, bits-in, and-below, or-below, xor-below, power_of, mask-left, and-plain, complement-bits, complement_uint-bits}
+use Rattle.walk_trees.proofs.Divisions.{settle_in, uint-quotient, DoesNotOverflow, quotient-in, remainder-in, left-is, left-low, left-high, bits-in, and-below, or-below, xor-below, power_of, mask-left, and-plain, complement-bits, complement_uint-bits}
 
 -- what the walk of operators asks of a domain besides
 pub record DividesLawfully {E : Type 0} (g : Ghosts E) : Type 0 where
@@ -83,14 +83,14 @@ module _ {E : Type 0} (c : View E) (launch : List Fact) where
   -- the claims of a divisor
   pub record Divides (facts : List Fact) (n : ℕ) (tree : Tree E) (go : State E → Tree E) (news : List ℤ) (variables : Owns) (k : Kind) (x y : ℤ) : Type 0 where
     pub nonzero : y ≡ pos 0 → ⊥
-    pub safe : IsSafe k x y
+    pub safe : DoesNotOverflow k x y
     pub comes : Comes c launch facts n tree (λ (u : Unit {0}) st. go st) news variables (λ more u. Unit {0})
 
   goes : {facts : List Fact} {n : ℕ} {news : List ℤ} (st : State E) (go : State E → Tree E) → Stands c launch facts n (go st) news st.held → Comes c launch facts n (go st) (λ (u : Unit {0}) st'. go st') news (owns st) (λ more u. Unit {0})
   goes st go s = at_once c launch (λ (u : Unit {0}) st'. go st') (λ more u. Unit {0}) tt st tt s
 
   record Quotes (facts : List Fact) (n : ℕ) (tree : Tree E) (go : State E → Tree E) (news : List ℤ) (variables : Owns) (k : Kind) (x y : ℤ) : Type 0 where
-    safe : IsSafe k x y
+    safe : DoesNotOverflow k x y
     comes : Comes c launch facts n tree (λ (u : Unit {0}) st. go st) news variables (λ more u. Unit {0})
 
   quotes : (k : Kind) {facts : List Fact} {n : ℕ} {news : List ℤ} (f g : Fact) (x y : ℤ) (st : State E) (go : State E → Tree E) → IsForm c news f x → IsForm c news g y → Stands c launch facts n (claim_quotient (walks c) k f g st go) news st.held → Quotes facts n (claim_quotient (walks c) k f g st go) go news (owns st) k x y

@@ -21,9 +21,9 @@ negative-in zero h = lt-ltb 0 (2 ^ 31) (omega arith)
 negative-in (suc m) h = lt-ltb m (2 ^ 31) (omega arith)
 
 -- the least `int` is not divided by -1
-abbrev pub IsSafe : Kind → ℤ → ℤ → Type 0
-IsSafe Int x y = (y ≡ negsuc 0 → ⊥) ⊎ (x ≡ negsuc 2147483647 → ⊥)
-IsSafe Uint x y = Unit {0}
+abbrev pub DoesNotOverflow : Kind → ℤ → ℤ → Type 0
+DoesNotOverflow Int x y = (y ≡ negsuc 0 → ⊥) ⊎ (x ≡ negsuc 2147483647 → ⊥)
+DoesNotOverflow Uint x y = Unit {0}
 
 minus_one : (a : ℕ) → a < 2 ^ 31 → ((negsuc 0 ≡ negsuc 0 → ⊥) ⊎ (negsuc a ≡ negsuc 2147483647 → ⊥)) → suc a < 2 ^ 31
 minus_one a h (inl f) = absurd (f refl)
@@ -33,7 +33,7 @@ minus_one a h (inr f) = by (nat_lt (suc a) (2 ^ 31)) refl
     by true e = ltb-true (suc a) (2 ^ 31) e
     by false e = absurd (f (ap negsuc (let l = ltb-false (suc a) (2 ^ 31) e in omega (arith, h, l))))
 
-pub quotient-in : (k : Kind) (x y : ℤ) → in_kind k x ≡ true → in_kind k y ≡ true → (y ≡ pos 0 → ⊥) → IsSafe k x y → in_kind k (int_div x y) ≡ true
+pub quotient-in : (k : Kind) (x y : ℤ) → in_kind k x ≡ true → in_kind k y ≡ true → (y ≡ pos 0 → ⊥) → DoesNotOverflow k x y → in_kind k (int_div x y) ≡ true
 quotient-in Int (pos a) (pos b) h j z s = let l = ltb-true a (2 ^ 31) h in let d = div-le_self a b in lt-ltb (a / b) (2 ^ 31) (omega (arith, l, d))
 quotient-in Int (pos a) (negsuc b) h j z s = let l = ltb-true a (2 ^ 31) h in let d = div-le_self a (suc b) in negative-in (a / suc b) (omega (arith, l, d))
 quotient-in Int (negsuc a) (pos b) h j z s = let l = ltb-true a (2 ^ 31) h in let d = div-le_self (suc a) b in negative-in (suc a / b) (omega (arith, l, d))
@@ -54,7 +54,7 @@ remainder-in Uint (pos a) y h = let l = ltb-true a (2 ^ 32) h in let d = mod-le 
 remainder-in Uint (negsuc a) y h = cc
 
 -- of a dividend of at least 0 by a number above 0
-pub safe-positive : (k : Kind) (x c : ℤ) → pos 0 <ℤ c → IsSafe k x c
+pub safe-positive : (k : Kind) (x c : ℤ) → pos 0 <ℤ c → DoesNotOverflow k x c
 safe-positive Int x c h = inl (λ e. omega (arith, ints, h, e))
 safe-positive Uint x c h = tt
 

@@ -7,7 +7,7 @@ use Rattle.std.proofs.lemmas.Bool.{and_parts}
 use Rattle.std.proofs.lemmas.Bool.Decides.{nat_tests, Decides-int_eq}
 use lib.Seq.{get_or-append_seam}
 use Rattle.semantics.specs.Setup.{local_id, group_id}
-use Rattle.semantics.specs.Linear.{Weighted, terms_value, value_of}
+use Rattle.linear.specs.Linear.{Weighted, terms_value, value_of}
 use Rattle.linear.specs.Exact.{Terms, without, form_without, fits_i64}
 use Rattle.linear.proofs.Merging.{IsRising}
 use Rattle.domain.specs.declared.Domain.{Ghosts}

@@ -1,4 +1,4 @@
--- An access that an item makes, and its node in a tree.
+-- What the domain holds fits an item.
 use Rattle.std.proofs.Common.{◌≡◌, ℕ, true, List}
 use Rattle.std.specs.Prelude.{ℤ}
 use Rattle.facts.specs.Launching.{known}

@@ -1,4 +1,4 @@
--- An item as it begins stands before its kernel's tree.
+-- The values of an item's variables as it begins.
 use Rattle.std.proofs.Common.{◌≡◌, ℕ, zero, suc, ◌+◌, ◌^◌, true, List, [], ◌∷◌, ◌++◌, map, length, slice_index_or, arith, refl, sym, ap, ◌∙◌, subst, lt-ltb}
 use Rattle.std.specs.Prelude.{pos}
 use Rattle.std.specs.List.{AllZip}

@@ -1,7 +1,7 @@
 -- Forms that have symbols of the launch and of the first item alone.
 use Rattle.std.proofs.Common.{ℕ, zero, suc, ◌%◌, ◌<◌, Bool, true, false, cond, nat_lt, [], ◌∷◌, arith}
 use Rattle.std.specs.Prelude.{ℤ, pos, negsuc, ◌+ℤ◌, ◌-ℤ◌, ◌*ℤ◌}
-use Rattle.semantics.specs.Linear.{Weighted}
+use Rattle.linear.specs.Linear.{Weighted}
 use Rattle.semantics.specs.Launch.{Three}
 use Rattle.semantics.specs.Setup.{along}
 use Rattle.linear.specs.Exact.{Terms, put, merge, merge_one, multiples, sum, multiple}

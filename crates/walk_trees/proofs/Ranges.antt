@@ -6,7 +6,7 @@ use Rattle.std.proofs.lemmas.Int.{ints}
 use Rattle.std.proofs.lemmas.Bool.{and_parts}
 use Rattle.std.proofs.lemmas.List.Elements.{All-cons, All-nil}
 use Rattle.semantics.specs.Word.{Kind, Int, Uint, Word, word, in_kind, as_kind, settle}
-use Rattle.semantics.specs.Linear.{value_of, IsMet}
+use Rattle.linear.specs.Linear.{value_of, IsMet}
 use Rattle.semantics.proofs.Words.{as_kind-in_kind, as_kind-same}
 use Rattle.linear.specs.Exact.{sum, multiple}
 use Rattle.linear.proofs.Merging.{IsRising, rising-merge, rising-multiples}

@@ -4,7 +4,7 @@ use Rattle.std.specs.Prelude.{ℤ, pos, ◌+ℤ◌, ◌*ℤ◌, ◌≤ℤ◌}
 use Rattle.std.specs.List.{All}
 use Rattle.std.proofs.lemmas.Bool.{le-ltb}
 use Rattle.std.proofs.lemmas.List.Elements.{All-cons, All-nil, All-head, All-tail}
-use Rattle.semantics.specs.Linear.{Weighted, terms_value, value_of, IsMet}
+use Rattle.linear.specs.Linear.{Weighted, terms_value, value_of, IsMet}
 use Rattle.facts.specs.Symbols as symbols
 use Rattle.facts.specs.Symbols.{First, Second, ArgumentOf, Length, Local, Group, New, Variable, AtAnchor, Turns, number, Fact}
 use Rattle.walk_trees.specs.Seconds.{second, second_terms, second_form, second_forms}

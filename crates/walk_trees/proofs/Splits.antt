@@ -6,7 +6,7 @@ use Rattle.std.proofs.lemmas.Int.{ints, by_lt_z}
 use Rattle.std.proofs.lemmas.Bool.{and_parts}
 use Rattle.std.proofs.lemmas.Bool.Decides.{Decides-int_eq}
 use Rattle.semantics.specs.Word.{Relation, Less, AtMost, More, AtLeast, Equal, Unequal, holds, is_zero}
-use Rattle.semantics.specs.Linear.{Weighted, terms_value, value_of}
+use Rattle.linear.specs.Linear.{Weighted, terms_value, value_of}
 use Rattle.linear.specs.Exact.{multiple, fits_i64}
 use Rattle.facts.specs.Symbols.{Fact, constant, minus}
 use Rattle.facts.proofs.Integers.{le_true, lt_true, lt_test}

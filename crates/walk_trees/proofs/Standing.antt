@@ -7,7 +7,7 @@ use Rattle.semantics.specs.Word.{Word, in_kind}
 use Rattle.semantics.specs.Core.{Site, Array}
 use Rattle.semantics.specs.Evaluation.{Outcome, Gives, Needs, and_then}
 use Rattle.semantics.specs.Solo as solo
-use Rattle.semantics.specs.Linear.{value_of, IsMet, IsImpossible}
+use Rattle.linear.specs.Linear.{value_of, IsMet, IsImpossible}
 use Rattle.semantics.specs.Memory.{cell, extent}
 use Rattle.linear.proofs.Merging.{IsRising}
 use Rattle.facts.specs.Symbols.{Fact, denial}

@@ -2,7 +2,7 @@
 use Rattle.std.proofs.Common.{◌≡◌, ℕ, zero, suc, ◌+◌, ◌-◌, ◌%◌, ◌/◌, ◌<◌, ◌≤◌, Bool, true, false, cond, nat_lt, List, [], ◌∷◌, arith, refl, sym, ap, subst, ◌∙◌, ltb-true, ltb-false}
 use Rattle.std.specs.Prelude.{ℤ, ◌+ℤ◌, ◌*ℤ◌}
 use Rattle.std.proofs.lemmas.Int.{ints}
-use Rattle.semantics.specs.Linear.{Weighted, terms_value, value_of}
+use Rattle.linear.specs.Linear.{Weighted, terms_value, value_of}
 use Rattle.semantics.specs.Setup.{Setup, item_count}
 use Rattle.domain.specs.declared.Domain.{Ghosts}
 use Rattle.facts.specs.Symbols.{Fact, of_family, symbol_of}

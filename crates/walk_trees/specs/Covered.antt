@@ -1,4 +1,4 @@
--- The kernels that the walk covers: those without loops, barriers, local arrays and exits.
+-- The terms that the walk covers.
 use Rattle.std.specs.Prelude.{Bool, true, false, ◌&&◌, nat_lt}
 use Rattle.semantics.specs.Word.{Kind, Int, Uint, in_kind, UnaryOperator, Negate, Complement, ShiftLeft, ShiftRight}
 use Rattle.semantics.specs.Core.{Space, Term, Literal, Variable, Id, Load, Unary, Binary, Convert, Compare, Not, And, Or, Select, Minimum, Maximum}

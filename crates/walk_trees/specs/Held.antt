@@ -1,7 +1,7 @@
 -- What a domain knows on one item's path: the elements of its new symbols, and what tests made of elements.
 use Rattle.std.specs.Prelude.{ℕ, ℤ, pos, negsuc, neg_ℤ, List, [], ◌∷◌, ◌++◌, Bool, true, false, cond, ◌&&◌, nat_eq, Option, Some, None}
 use Rattle.std.specs.Ordering.{int_eq}
-use Rattle.semantics.specs.Linear.{Weighted}
+use Rattle.linear.specs.Linear.{Weighted}
 use Rattle.linear.specs.Exact.{Terms, form_without, fits_i64}
 use Rattle.domain.specs.declared.Domain.{Ghosts}
 use Rattle.facts.specs.Symbols.{symbol_of, Fact}

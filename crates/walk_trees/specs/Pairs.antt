@@ -1,4 +1,4 @@
--- What is to be shown of two items: that no two of their accesses, one of them a store, are of one element.
+-- Two items of a launch: how they differ, and in what order their ids are.
 use Rattle.std.specs.Prelude.{ℕ, pos, List, [], Bool, true, false, nat_lt, int_lt}
 use Rattle.semantics.specs.Launch.{Three}
 use Rattle.semantics.specs.Setup.{along}

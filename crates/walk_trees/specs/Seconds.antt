@@ -1,6 +1,6 @@
 -- The second item's copies of the first one's forms. Symbols of the launch are shared.
 use Rattle.std.specs.Prelude.{ℕ, ◌+◌, ◌-◌, ◌%◌, Bool, true, ◌&&◌, cond, nat_lt, List, [], ◌∷◌, map}
-use Rattle.semantics.specs.Linear.{Weighted}
+use Rattle.linear.specs.Linear.{Weighted}
 use Rattle.domain.specs.declared.Domain.{Ghosts}
 use Rattle.facts.specs.Symbols.{Fact}
 use Rattle.facts.specs.Elements.{Known}

@@ -1,6 +1,6 @@
--- All that is to be shown of a kernel under conditions, in the order of its numbers: the claims of one item, then the pairs.
+-- When an obligation is shown.
 use Rattle.std.specs.Prelude.{◌≡◌, ◌⊎◌, List, true, Option, Some, None}
-use Rattle.semantics.specs.Linear.{IsImpossible}
+use Rattle.linear.specs.Linear.{IsImpossible}
 use Rattle.facts.specs.Symbols.{Fact}
 use Rattle.walk_trees.specs.Trees.{Obligation, Manner, facts_by, claims}
 

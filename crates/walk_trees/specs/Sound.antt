@@ -7,7 +7,7 @@ use Rattle.semantics.specs.Launch.{Kernel}
 use Rattle.semantics.specs.Setup.{Setup}
 use Rattle.semantics.specs.Memory.{extent}
 use Rattle.semantics.specs.Evaluation.{Outcome, Gives, Needs, Faults}
-use Rattle.semantics.specs.Linear.{value_of, IsMet}
+use Rattle.linear.specs.Linear.{value_of, IsMet}
 use Rattle.arrivals.specs.Trees.{AtEnd}
 use Rattle.facts.specs.Symbols.{First}
 use Rattle.facts.specs.Launching.{item_facts}

@@ -1,4 +1,4 @@
--- The walk of statements, and of a kernel.
+-- What a walk begins with, and where it stands.
 use Rattle.std.specs.Prelude.{ℕ, suc, pos, List, [], ◌∷◌, ◌++◌, map, Bool, slice_set}
 use Rattle.semantics.specs.Word.{Kind}
 use Rattle.semantics.specs.Core.{Site}

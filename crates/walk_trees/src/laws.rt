@@ -19,7 +19,7 @@ ghost use Rattle.walk_trees.specs.Sound.{any_space, tree_of, IsFoundIn};
 
 use domain::Domain;
 
-/// Where all is shown that the walk of a term claims, no item meets a fault when it evaluates that term as it begins: it gets a value, which
+/// If all that the walk of a term claims is shown, no item meets a fault when it evaluates that term as it begins: it gets a value, which
 /// the form at some end of the walk has, or, of the loads that have no answer, it asks for one that the walk notes.
 pub fn walk_of_a_term_is_sound<D: Domain>()
     ensures { (k : Kernel) (c : Conditions) (has_entry : ℕ → Bool) (e : Term) (l : Launch) (i : ℕ) (answers : List Word) → are_sizes k.sizes ≡ true → covers_term any_space e ≡ true → Fits k l → Meets c l → i < item_count (record { kernel = k; launch = l }) → All IsShown (claims (launch_facts c) (item_facts k.sizes First) 0 (tree_of (setting D.Domain k c has_entry) k e)) → IsFoundIn (tree_of (setting D.Domain k c has_entry) k e) (record { kernel = k; launch = l }) (evaluate (record { kernel = k; launch = l }) i e (opening (record { kernel = k; launch = l }) i).variables answers) }

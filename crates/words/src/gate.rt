@@ -2,22 +2,22 @@
 
 /// Is told what each worker of a run does, as a test does to steer or to watch it. No answer of a run rests on it.
 pub trait Gate: Sync {
-    /// `worker` tells `moment`.
+    /// Hears from the worker of this number that the moment has come.
     fn at(&self, worker: u32, moment: Moment);
 }
 
-/// What a worker tells.
+/// The moments of a worker in a run.
 #[derive(Debug, Clone, Copy, PartialEq, Eq)]
 pub enum Moment {
-    /// It examines this candidate next.
+    /// The worker examines this candidate next.
     Examine(u32),
-    /// It has refuted this candidate.
+    /// The worker has refuted this candidate.
     Refuted(u32),
-    /// It has claimed this group.
+    /// The worker has claimed this group.
     Claimed(u64),
-    /// It has run this group.
+    /// The worker has run this group.
     Done(u64),
-    /// It ends. This is each worker's last moment.
+    /// The worker ends. This is each worker's last moment.
     Ended,
 }
 

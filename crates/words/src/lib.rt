@@ -12,6 +12,6 @@ mod word;
 
 pub use gate::{Gate, Moment, Open};
 pub use word::{
-    Fault, Kind, Word, add, bit_and, bit_or, bit_xor, convert, div, less, mul, neg, not, rem, shl,
-    shr, sub,
+    Fault, Kind, Word, add, bit_and, bit_or, bit_xor, convert, div, is_zero, larger, less, mul,
+    neg, not, power, read_as, rem, settle, shl, shr, smaller, sub, truth,
 };

@@ -1,5 +1,5 @@
 // Words, and the operations on them.
-ghost use Rattle.std.specs.Prelude.{◌≡◌, ◌≤◌, Ok};
+ghost use Rattle.std.specs.Prelude.{◌≡◌, ◌≤◌, ◌<◌, ◌^◌, Ok};
 ghost use Rattle.semantics.specs.Word as semantics;
 ghost use Rattle.words.specs.View.{kind, kind_of, value_of, word, number_of, seen};
 
@@ -19,7 +19,7 @@ pub enum Word {
     Uint(u32),
 }
 
-/// What no step of a kernel may do. C99 leaves each undefined, but for the conversion, which is up to the compiler.
+/// The faults that no step of a kernel may make. C99 leaves each undefined, but for the conversion, which is up to the compiler.
 #[derive(Debug, Clone, Copy, PartialEq, Eq)]
 pub enum Fault {
     /// A quotient or a remainder by zero (C99 6.5.5).
@@ -59,8 +59,8 @@ impl Word {
         }
     }
 
-    // Its 32 bits, in two's complement (C99 6.2.6.2).
-    fn bits(self) -> u32
+    /// Its 32 bits, in two's complement (C99 6.2.6.2).
+    pub fn bits(self) -> u32
         ensures { result ≡ semantics.bits_of (value_of self) }
     {
         match self {
@@ -69,8 +69,8 @@ impl Word {
         }
     }
 
-    // The word that has these bits.
-    fn from_bits(to: Kind, bits: u32) -> Word
+    /// The word that has these bits.
+    pub fn from_bits(to: Kind, bits: u32) -> Word
         ensures { word result ≡ semantics.word (kind to) (semantics.read_bits (kind to) bits) }
     {
         match to {
@@ -80,8 +80,8 @@ impl Word {
     }
 }
 
-// An exact result in its kind: modulo 2^32 (C99 6.2.5), or an overflow where `int` lacks it (6.5).
-fn settle(to: Kind, exact: i64) -> Result<Word, Fault>
+/// An exact result in its kind: modulo 2^32 (C99 6.2.5), or an overflow where `int` lacks it (6.5).
+pub fn settle(to: Kind, exact: i64) -> Result<Word, Fault>
     ensures { seen result ≡ semantics.settle (kind to) exact }
 {
     match to {
@@ -209,4 +209,49 @@ pub fn convert(w: Word, to: Kind) -> Result<Word, Fault>
     ensures { seen result ≡ semantics.convert (kind to) (value_of w) }
 {
     settle(to, w.value())
+}
+
+/// The 32 bits of a word, read as a kind.
+pub fn read_as(w: Word, to: Kind) -> Word
+    ensures { word result ≡ semantics.word (kind to) (semantics.as_kind (kind to) (value_of w)) }
+{
+    Word::from_bits(to, w.bits())
+}
+
+/// 2^k.
+#[tactic(auto, using(crate::proofs::Powers::small_power))]
+pub fn power(k: u32) -> u32
+    requires { k ≤ 31 }
+    ensures value { result ≡ 2 ^ k }
+    ensures some { 0 < result }
+{
+    1 << k
+}
+
+/// What a test gives: `int` 0 or 1 (C99 6.5.8).
+pub fn truth(holds: bool) -> Word
+    ensures { word result ≡ semantics.truth holds }
+{
+    Word::Int(holds as i32)
+}
+
+/// Whether the word is false: it is 0.
+pub fn is_zero(w: Word) -> bool
+    ensures { result ≡ semantics.is_zero (value_of w) }
+{
+    w.value() == 0
+}
+
+/// `b` where it is less than `a`, otherwise `a` (OpenCL 1.2, 6.12.3).
+pub fn smaller(a: Word, b: Word) -> Word
+    ensures { word result ≡ semantics.smaller (word a) (word b) }
+{
+    if b.value() < a.value() { b } else { a }
+}
+
+/// `b` where `a` is less than it, otherwise `a` (OpenCL 1.2, 6.12.3).
+pub fn larger(a: Word, b: Word) -> Word
+    ensures { word result ≡ semantics.larger (word a) (word b) }
+{
+    if a.value() < b.value() { b } else { a }
 }

@@ -1,4 +1,3 @@
-pub mod Powers
 pub mod Stacks
 pub mod Slots
 pub mod Acting

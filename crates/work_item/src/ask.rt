@@ -17,11 +17,10 @@ ghost use Rattle.work_item.specs.Asks.{asked, cell as cell_seen};
 use crate::evaluation::{Identity, Stop, index_within};
 use crate::item::{Item, Status};
 use crate::left::Frame;
-use crate::operations::{is_zero, read_as};
 use core_code::tree::{Array, Site, Space, Statement, Term};
-use words::{Fault, Kind, Word};
+use words::{Fault, Kind, Word, is_zero, read_as};
 
-/// Who has an array: the launch its buffers, a work-group its local arrays.
+/// The owner of an array: the launch of its buffers, a work-group of its local arrays.
 #[derive(Clone, Copy)]
 pub enum Owner {
     Launch,
@@ -36,7 +35,7 @@ pub struct Cell {
     pub index: u32,
 }
 
-/// What a work-item asks for.
+/// The next thing that a work-item asks for.
 #[derive(Clone, Copy)]
 pub enum Ask<'a> {
     Loads {
@@ -69,25 +68,25 @@ pub enum Ask<'a> {
     },
     /// The statement in front is done.
     PassesBy,
-    /// At a barrier.
+    /// The item comes to a barrier.
     Arrives,
     Ends,
-    /// Past the loop of that number.
+    /// The item leaves the loop of that number by `break`.
     Leaves {
         number: u32,
     },
-    /// To the next turn of the loop of that number.
+    /// The item goes to the next turn of the loop of that number by `continue`.
     Resumes {
         number: u32,
     },
     /// The passing of the barrier in front.
     Waits,
-    /// Nothing more.
+    /// The item asks for nothing: it has ended, or stopped at a fault.
     Rests,
 }
 
 impl Identity<'_> {
-    /// An element of an array.
+    /// The cell of an element of an array, as this item sees it.
     pub fn cell(&self, array: Array, index: u32) -> Cell
         ensures { (i : ℕ) → IsItem self.now i → cell_seen result ≡ cell (setup_at self.now) i (array_seen array) index }
     {
@@ -203,7 +202,7 @@ impl Identity<'_> {
         }
     }
 
-    /// What a work-item asks for next.
+    /// The next thing that an item asks for, as it stands.
     #[tactic(auto, unfolding(semantics::specs::Ask::ask))]
     pub fn ask<'b>(&self, item: &Item<'b>) -> Ask<'b>
         requires { is_proper_left (item_seen item.now).left ≡ true }

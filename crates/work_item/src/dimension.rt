@@ -2,7 +2,7 @@
 
 ghost use Rattle.std.specs.Prelude.{◌≤◌};
 
-/// Where an item stands along a dimension: its local id, its group's id, the local size and the group count.
+/// The place of an item along a dimension: its local id, its group's id, the local size and the group count.
 #[derive(Clone, Copy)]
 pub struct Dimension {
     pub local: u32,

@@ -11,12 +11,10 @@ ghost use Rattle.work_item.specs.Proper.{is_proper_term};
 ghost use Rattle.work_item.specs.View.{setup_at, ids, ids_of, IsItem, outcome};
 
 use crate::dimension::Dimension;
-use crate::operations::{
-    compare, is_zero, larger, literal, operate, read_as, smaller, truth, unary,
-};
+use crate::operations::{literal, operate, unary};
 use core_code::tree::{Array, Core, Site, Space, Term};
 use launch::launches::Launch;
-use words::{Fault, Kind, Word, convert};
+use words::{Fault, Kind, Word, convert, is_zero, larger, read_as, smaller, truth};
 
 /// A work-item of a kernel at a launch: who it is, along each dimension.
 #[derive(Clone, Copy)]
@@ -26,7 +24,7 @@ pub struct Identity<'a> {
     pub x: Dimension,
     pub y: Dimension,
     pub z: Dimension,
-    /// The number of its work-group.
+    /// The number of the item's work-group.
     pub group: u64,
 }
 
@@ -51,7 +49,7 @@ pub enum Stop {
     },
 }
 
-/// A private variable.
+/// The word of a private variable, by its slot; 0 past the last slot.
 fn variable(variables: &[Word], slot: u32) -> Word
     ensures { word_seen result ≡ slice_index_or (map word_seen variables.now) slot meaning.zero_word }
 {
@@ -88,7 +86,7 @@ pub fn index_within(length: usize, word: Word) -> Option<u32>
 }
 
 impl<'a> Identity<'a> {
-    /// Along a dimension.
+    /// The place of the item along a dimension: of 3 and more, ids of 0 and sizes of 1 (OpenCL 1.2, 6.12.1).
     fn along(&self, dimension: u32) -> Dimension
         ensures { (i : ℕ) → IsItem self.now i → ids result ≡ ids_of (setup_at self.now) i dimension }
     {
@@ -133,7 +131,7 @@ impl<'a> Identity<'a> {
         }
     }
 
-    /// A load: its answer, read as the array's kind, or what it needs.
+    /// The value of a load: its answer, read as the array's kind, or what it needs, or its fault.
     fn load<'b>(&self, array: Array, site: Site, index: Value<'b>) -> Result<Value<'b>, Stop>
         ensures { outcome result ≡ evaluation.load (setup_at self.now) (array_seen array) (site_seen site) (value_of index.entry.word) (map word_seen index.entry.rest.now) }
     {
@@ -217,7 +215,7 @@ impl<'a> Identity<'a> {
                 let left = self.evaluate(left, variables, answers)?;
                 let right = self.evaluate(right, variables, left.rest)?;
                 Ok(Value {
-                    word: truth(compare(*relation, *kind, left.word, right.word)),
+                    word: truth(relation.compare(*kind, left.word, right.word)),
                     rest: right.rest,
                 })
             }

@@ -26,7 +26,7 @@ fn sizes_of(core: &Core) -> Counts
     }
 }
 
-/// How many there are of all dimensions together.
+/// The product of the numbers of all dimensions.
 pub fn product_of(counts: Counts) -> u64
     requires { AreFew (counts_seen counts) }
     ensures { result ≡ product (counts_seen counts) }
@@ -86,7 +86,7 @@ fn item_at<'a>(
     }
 }
 
-/// The work-item of that number.
+/// The work-item of a number, in a kernel's launch.
 pub fn identity<'a>(core: &'a Core, launch: &'a Launch, number: u64) -> Identity<'a>
     requires sizes { are_sizes (kernel_seen core.now).sizes ≡ true }
     requires counts { AreFew (launch_seen launch.now).groups }

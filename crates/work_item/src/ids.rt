@@ -12,7 +12,7 @@ use core_code::tree::Function;
 use launch::launches::Counts;
 
 impl Dimension {
-    /// Past the third dimension (OpenCL 1.2, 6.12.1).
+    /// The place of an item along a dimension past the third one: ids of 0, sizes of 1 (OpenCL 1.2, 6.12.1).
     pub fn past() -> Dimension
         ensures { ids result ≡ record { local = 0; group = 0; size = 1; count = 1 } }
     {
@@ -24,7 +24,7 @@ impl Dimension {
         }
     }
 
-    /// What a work-item function gives along the dimension.
+    /// The number that a work-item function answers along the dimension (OpenCL 1.2, 6.12.1).
     pub fn id(self, function: Function) -> u32
         ensures { result ≡ id_by (ids self) (function_seen function) }
     {

@@ -15,20 +15,19 @@ ghost use Rattle.work_item.specs.declared.left.Frame.{Frame};
 
 use crate::ask::Ask;
 use crate::left::{Frame, Left};
-use crate::operations::read_as;
 use core_code::tree::{Core, Site, Statement};
 use launch::launches::Launch;
 use std::alloc::{AllocError, Global};
-use words::{Fault, Kind, Word};
+use words::{Fault, Kind, Word, read_as};
 
 /// How a work-item stands.
 #[derive(Clone, Copy)]
 pub enum Status {
     Running,
-    /// At a barrier.
+    /// The item is at a barrier that its group has not passed yet.
     Waiting,
     Ended,
-    /// By a fault, told at a site.
+    /// The item is stopped by a fault, told at a site.
     Stopped { fault: Fault, site: Site },
 }
 
@@ -84,7 +83,7 @@ fn assign(variables: &mut Vec<Word>, slot: u32, word: Word)
 }
 
 impl<'a> Item<'a> {
-    /// As an item of a kernel begins.
+    /// An item of a kernel before its first step at a launch.
     #[tactic(auto, unfolding(semantics::specs::Solo::opening))]
     pub fn open(alloc: Global, core: &'a Core, launch: &Launch) -> Result<Item<'a>, AllocError>
         ensures { IfOk result (λ it. (i : ℕ) → item it ≡ opening (setup_of core.now launch.now) i) }
@@ -105,7 +104,7 @@ impl<'a> Item<'a> {
         Ok(opened)
     }
 
-    /// Running, unless nothing is left.
+    /// The status of an item that goes on: running, or ended where no statement is left.
     fn standing(&self) -> Status
         ensures { status_seen result ≡ meaning.status_of (item self.now).left }
     {
@@ -125,7 +124,7 @@ impl<'a> Item<'a> {
         self.status = self.standing();
     }
 
-    /// A load has its answer.
+    /// Gives a load its answer, a word, in one step.
     pub fn answer(&mut self, word: Word) -> Result<(), AllocError>
         ensures done { OnOk result (item self.new ≡ meaning.answered_by (item self.old) (word_seen word)) }
         ensures unchanged { OnErr result (item self.new ≡ item self.old) }
@@ -136,7 +135,7 @@ impl<'a> Item<'a> {
         Ok(())
     }
 
-    /// Waits at its barrier, or is stopped by a fault.
+    /// Puts the item into a status in one step: it waits at its barrier, or is stopped by a fault.
     pub fn stand(&mut self, status: Status) -> Result<(), AllocError>
         ensures done { OnOk result (item self.new ≡ meaning.stands (item self.old) (status_seen status)) }
         ensures unchanged { OnErr result (item self.new ≡ item self.old) }
@@ -146,7 +145,7 @@ impl<'a> Item<'a> {
         Ok(())
     }
 
-    /// Past the statement in front.
+    /// Does the statement in front, in one step: what is left stands behind it.
     pub fn pass_by(&mut self) -> Result<(), AllocError>
         ensures done { OnOk result (item self.new ≡ meaning.finished (item self.old) (behind (item self.old).left) (item self.old).variables) }
         ensures unchanged { OnErr result (item self.new ≡ item self.old) }
@@ -157,7 +156,7 @@ impl<'a> Item<'a> {
         Ok(())
     }
 
-    /// A private variable is set.
+    /// Sets a private variable, in one step.
     pub fn set(&mut self, slot: u32, word: Word) -> Result<(), AllocError>
         ensures done { OnOk result (item self.new ≡ meaning.finished (item self.old) (behind (item self.old).left) (slice_set (item self.old).variables slot (word_seen word))) }
         ensures unchanged { OnErr result (item self.new ≡ item self.old) }
@@ -169,7 +168,7 @@ impl<'a> Item<'a> {
         Ok(())
     }
 
-    /// Into a block, past the statement in front.
+    /// Enters a block, in one step: the statement in front is done.
     pub fn take(&mut self, block: &'a [Statement]) -> Result<(), AllocError>
         ensures done { OnOk result (item self.new ≡ meaning.finished (item self.old) (meaning.enter (statements_seen block.now) (behind (item self.old).left)) (item self.old).variables) }
         ensures unchanged { OnErr result (item self.new ≡ item self.old) }
@@ -182,7 +181,7 @@ impl<'a> Item<'a> {
         Ok(())
     }
 
-    /// Nothing is left.
+    /// Ends the item, of which no statement is left; one step more.
     pub fn end(&mut self) -> Result<(), AllocError>
         ensures done { OnOk result (item self.new ≡ meaning.finished (item self.old) [] (item self.old).variables) }
         ensures unchanged { OnErr result (item self.new ≡ item self.old) }
@@ -193,7 +192,7 @@ impl<'a> Item<'a> {
         Ok(())
     }
 
-    /// Past the loop of that number.
+    /// Leaves the loop of that number, in one step: what is left stands behind it.
     pub fn leave(&mut self, number: u32) -> Result<(), AllocError>
         ensures done { OnOk result (item self.new ≡ meaning.finished (item self.old) (meaning.leave number (behind (item self.old).left)) (item self.old).variables) }
         ensures unchanged { OnErr result (item self.new ≡ item self.old) }
@@ -205,7 +204,7 @@ impl<'a> Item<'a> {
         Ok(())
     }
 
-    /// At the update of the loop of that number, then at its test.
+    /// Goes to the update of the loop of that number, and behind that to its test, in one step.
     pub fn resume(&mut self, number: u32) -> Result<(), AllocError>
         ensures done { OnOk result (item self.new ≡ meaning.finished (item self.old) (meaning.resume number (behind (item self.old).left)) (item self.old).variables) }
         ensures unchanged { OnErr result (item self.new ≡ item self.old) }
@@ -279,14 +278,14 @@ impl<'a> Item<'a> {
         }
     }
 
-    /// Whether its epochs have room for one more, as they have until 64 bits are full.
+    /// Whether the item's counts of passed barriers have room for one more, as they have until 64 bits are full.
     pub fn can_pass(&self) -> bool
         ensures { IsTrue result ↔ HasEpochs (item self.now) }
     {
         self.local_epoch < u64::MAX && self.global_epoch < u64::MAX
     }
 
-    /// Past the barrier in front.
+    /// Lets the item go past the barrier in front, which is counted where it fences.
     #[tactic(auto, using(crate::proofs::Passing::passed))]
     pub fn pass(&mut self)
         requires { HasEpochs (item self.old) }
@@ -299,7 +298,7 @@ impl<'a> Item<'a> {
         self.status = self.standing();
     }
 
-    /// What the item asked for is done; a load is answered by a word, read as its element's kind.
+    /// Does what the item asked for; a load is answered by a word, read as its element's kind. An error is want of memory for it.
     pub fn perform(&mut self, asked: Ask<'a>, loaded: Word) -> Result<(), AllocError>
         ensures done { OnOk result (item self.new ≡ moved (item self.old) (asked_seen asked.entry (item self.old)) (value_of loaded)) }
         ensures unchanged { OnErr result (item self.new ≡ item self.old) }

@@ -1,9 +1,8 @@
 //! What is left of a work-item's statements.
 
 ghost use Rattle.std.specs.Prelude.{◌≡◌, ◌≤◌, ◌+◌, ◌∷◌, ℕ, List, [], OnOk, OnErr, vec_len, vec_capacity};
-ghost use Rattle.semantics.specs.Core as core;
 ghost use Rattle.semantics.specs.Item as meaning;
-ghost use Rattle.core_code.specs.View.{statement as statement_seen, statements as statements_seen};
+ghost use Rattle.core_code.specs.View.{statements as statements_seen};
 ghost use Rattle.work_item.specs.Left.{left, opened, stacked, behind, turned, HasRoom};
 
 use core_code::tree::Statement;
@@ -17,7 +16,7 @@ pub struct Frame<'a> {
     pub others: &'a [Statement],
 }
 
-/// What is left: the innermost block first, then the blocks around it, the outermost of them first.
+/// The statements that are left of an item: the innermost block first, then the blocks around it, the outermost of them first.
 #[derive(Drop)]
 pub struct Left<'a> {
     pub front: Option<Frame<'a>>,
@@ -25,7 +24,7 @@ pub struct Left<'a> {
 }
 
 impl<'a> Left<'a> {
-    /// Nothing is left.
+    /// An item's statements where none is left.
     pub fn new(alloc: Global) -> Left<'a>
         ensures { left result ≡ [] }
     {
@@ -35,7 +34,7 @@ impl<'a> Left<'a> {
         }
     }
 
-    /// Room to enter two blocks.
+    /// Makes room for two blocks more, so that entering them needs no memory.
     pub fn make_room(&mut self) -> Result<(), AllocError>
         ensures same { left self.new ≡ left self.old }
         ensures front { self.new.front ≡ self.old.front }
@@ -82,7 +81,7 @@ impl<'a> Left<'a> {
         }
     }
 
-    /// Past the statement in front.
+    /// Drops the statement in front, and the block where it was the last one.
     pub fn advance(&mut self)
         ensures advanced { left self.new ≡ behind (left self.old) }
         ensures room { vec_capacity self.old.around + vec_len self.new.around ≤ vec_capacity self.new.around + vec_len self.old.around }
@@ -101,7 +100,7 @@ impl<'a> Left<'a> {
         }
     }
 
-    /// Nothing is left any more.
+    /// Drops all statements that are left.
     pub fn clear(&mut self)
         ensures { left self.new ≡ [] }
     {
@@ -109,26 +108,26 @@ impl<'a> Left<'a> {
         self.around.clear();
     }
 
-    /// Past the loop of that number.
+    /// Drops what is left up to the loop of that number, and the loop itself.
     pub fn leave(&mut self, number: u32)
         ensures { left self.new ≡ meaning.leave number (left self.old) }
     {
         while let Some(frame) = self.front {
             self.advance();
-            if number_of(frame.statement) == number {
+            if frame.statement.number() == number {
                 return;
             }
         }
     }
 
-    /// At the update of the loop of that number, then at its test.
+    /// Goes to the update of the loop of that number, and behind that to its test.
     pub fn resume(&mut self, number: u32)
         requires { HasRoom self.old 1 }
         ensures { left self.new ≡ meaning.resume number (left self.old) }
     {
         while let Some(frame) = self.front {
-            if number_of(frame.statement) == number {
-                self.enter(update_of(frame.statement));
+            if frame.statement.number() == number {
+                self.enter(frame.statement.update());
                 return;
             }
             self.advance();
@@ -144,31 +143,5 @@ impl<'a> Left<'a> {
         if let Some(frame) = self.front {
             self.front = Some(Frame { turns, ..frame });
         }
-    }
-}
-
-/// The number of a statement.
-pub fn number_of(statement: &Statement) -> u32
-    ensures { result ≡ core.number (statement_seen statement.now) }
-{
-    match statement {
-        Statement::Set { number, .. }
-        | Statement::Store { number, .. }
-        | Statement::If { number, .. }
-        | Statement::Loop { number, .. }
-        | Statement::Barrier { number, .. }
-        | Statement::Return { number }
-        | Statement::Break { number, .. }
-        | Statement::Continue { number, .. } => *number,
-    }
-}
-
-/// The update of a loop.
-fn update_of(statement: &Statement) -> &[Statement]
-    ensures { statements_seen result.now ≡ meaning.update_of (statement_seen statement.now) }
-{
-    match statement {
-        Statement::Loop { update, .. } => update.as_slice(),
-        _ => &[],
     }
 }

@@ -6,10 +6,10 @@ ghost use Rattle.core_code.specs.View.{statement as statement_seen, statements a
 ghost use Rattle.work_item.specs.Left.{left, stacked};
 ghost use Rattle.work_item.specs.Rests.{entry, rest, is_same_entry};
 
-use crate::left::{Frame, Left, number_of};
+use crate::left::{Frame, Left};
 use core_code::tree::Statement;
 
-/// What is left, gone over entry by entry.
+/// The statements that are left of an item, gone over entry by entry.
 #[derive(Clone, Copy)]
 pub struct Rest<'a, 'b> {
     pub front: Option<Frame<'a>>,
@@ -39,13 +39,13 @@ fn global_flag(statement: &Statement) -> u64
 fn is_same_entry(one: Frame, other: Frame) -> bool
     ensures { result ≡ is_same_entry (entry one.entry) (entry other.entry) }
 {
-    number_of(one.statement) == number_of(other.statement)
+    one.statement.number() == other.statement.number()
         && one.turns == other.turns
         && local_flag(one.statement) == local_flag(other.statement)
         && global_flag(one.statement) == global_flag(other.statement)
 }
 
-/// All that is left.
+/// The entries of all that is left of an item's statements.
 fn all_of<'a, 'b>(of: &'b Left<'a>) -> Rest<'a, 'b>
     ensures { rest result ≡ left of.now }
 {
@@ -55,7 +55,7 @@ fn all_of<'a, 'b>(of: &'b Left<'a>) -> Rest<'a, 'b>
     }
 }
 
-/// What is around a block.
+/// The entries around a block, from the innermost one, which is the last frame.
 #[tactic(auto, using(crate::proofs::Trails::no_block, crate::proofs::Trails::last_block))]
 fn around<'a, 'b>(frames: &'b [Frame<'a>]) -> Rest<'a, 'b>
     ensures { rest result ≡ stacked frames.now [] }
@@ -72,7 +72,7 @@ fn around<'a, 'b>(frames: &'b [Frame<'a>]) -> Rest<'a, 'b>
     }
 }
 
-/// Behind the entry in front.
+/// The entries behind the statement in front, which is dropped.
 fn behind_of<'a, 'b>(frame: Frame<'a>, frames: &'b [Frame<'a>]) -> Rest<'a, 'b>
     ensures { rest result ≡ meaning.enter (statements_seen frame.entry.others.now) (stacked frames.now []) }
 {

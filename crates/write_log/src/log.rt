@@ -37,7 +37,7 @@ fn map_with(
 }
 
 impl WriteLog {
-    /// A log of nothing.
+    /// A log without entries.
     pub fn new(alloc: Global) -> WriteLog
         ensures { (buffer index : ℕ) → written result buffer index ≡ None }
     {
@@ -172,7 +172,7 @@ fn write_map(buffers: &mut Buffers, map: &BTreeMap<(u32, u32), Word>)
     }
 }
 
-/// Writes one entry after another.
+/// Writes the entries of a log into buffers, in the order of buffers and elements.
 fn write(buffers: &mut Buffers, log: &WriteLog)
     ensures written { words_of buffers.new ≡ put_all (entries log.now) (words_of buffers.old) }
     ensures rising { IsStrictlySortedBy by_element (keys_of (entries log.now)) }

@@ -20,7 +20,7 @@ pub struct RisingList {
 }
 
 impl RisingList {
-    /// A list of nothing.
+    /// A list without entries.
     pub fn new(alloc: Global) -> RisingList
         ensures { result.entries.items ≡ [] }
     {
@@ -39,7 +39,7 @@ impl RisingList {
         }
     }
 
-    /// Makes room for so many entries more.
+    /// Makes room in the list for so many entries more.
     pub fn reserve(&mut self, more: usize) -> Result<(), AllocError>
         ensures { self.new.entries.items ≡ self.old.entries.items }
     {
@@ -81,7 +81,7 @@ impl RisingList {
         }
     }
 
-    /// A map that has the same entries.
+    /// A map that has the list's entries.
     pub fn as_map(&self) -> Result<BTreeMap<(u32, u32), Word>, AllocError>
         ensures { IfOk result (λ map. (q : ℕ × ℕ) → lookup (is_at (by_element q)) map.entries ≡ lookup (is_at (by_element q)) self.now.entries.items) }
     {
@@ -96,7 +96,7 @@ fn is_below(low: (u32, u32), high: (u32, u32)) -> bool
     low.0 < high.0 || (low.0 == high.0 && low.1 < high.1)
 }
 
-/// A map with all entries.
+/// A map of the entries; of two for one element the later one stands.
 fn map_of(
     alloc: Global,
     entries: &[((u32, u32), Word)],

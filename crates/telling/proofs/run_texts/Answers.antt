@@ -1,5 +1,6 @@
-use Rattle.std.proofs.Common.{◌≡◌, subst}
+use Rattle.std.proofs.Common.{◌≡◌, ap, ◌∙◌, subst}
 use Rattle.std.specs.Prelude.{Ok}
+use Rattle.std.specs.String.{string_bytes}
 use Rattle.semantics.specs.Launch.{Fits}
 use Rattle.texts.specs.LaunchReading.{launch_of}
 use Rattle.texts.specs.LaunchText.{buffers_text}
@@ -27,7 +28,7 @@ returns-in-Ok-write_buffers g c =
       launch l,
       reading.buffers b.words,
       is_safe k c.args.texts.conditions.now t (kept a) (c.bytes_are_the_text_of_what_is_read.ensures k (kernel_seen t) c.in-Ok.ensures.kernel) (c.what_is_read_of_conditions_is_their_text.ensures (kernel t.0).parameters c.args.texts.conditions.now (lined (kept a)) c.in-Ok.ensures.conditions) c.in-Ok.ensures.headline,
-      is_run t (kept a) c.args.launch.now c.in-Ok-write_buffers.text.items l b
+      is_run t (kept a) c.args.launch.now c.into_bytes.result.items l b
           (c.what_is_read_of_a_launch_is_its_text.ensures (kernel t.0).parameters c.args.launch.now (reading.launch l)
           (subst (λ t. launch_of (kernel t.0).parameters c.args.launch.now ≡ Ok (reading.launch l)) c.typed.ensures.value c.in-Ok-read_launch.ensures.value))
           (subst (λ t. Fits (core t.1) (launch l)) c.typed.ensures.value c.in-Ok-read_launch.ensures.fit)
@@ -36,7 +37,7 @@ returns-in-Ok-write_buffers g c =
           c.in-Ok-run.ensures.value
           c.in-Ok-run.ensures.every
           c.in-Ok-run.ensures.kinds
-          (subst (λ t. c.in-Ok-write_buffers.text.items ≡ buffers_text (kernel t.0).parameters (reading.buffers b.words)) c.typed-2.ensures.value c.in-Ok-write_buffers.ensures),
+          (ap (λ v. v.items) c.into_bytes.ensures.value ∙ subst (λ t. string_bytes c.in-Ok-write_buffers.text ≡ buffers_text (kernel t.0).parameters (reading.buffers b.words)) c.typed-2.ensures.value c.in-Ok-write_buffers.ensures),
     )
 
 pub returns-in-Err : goal.returns-in-Err

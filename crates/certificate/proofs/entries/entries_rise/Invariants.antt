@@ -1,5 +1,5 @@
 use Rattle.std.proofs.Common.{◌≡◌, ◌-◌, ◌≤◌, length, drop, map}
-use Rattle.texts.specs.CertificateRules as rules
+use Rattle.certificate_text.specs.Rules as rules
 use Rattle.certificate.specs.View as view
 use Rattle.certificate.proofs.entries.entries_rise.Given as goal
 

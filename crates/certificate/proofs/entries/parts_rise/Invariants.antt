@@ -1,6 +1,6 @@
 use Rattle.std.proofs.Common.{◌≡◌, ◌-◌, ◌≤◌, length, drop, map}
-use Rattle.texts.specs.CertificateLines.{line_is_before}
-use Rattle.texts.specs.CertificateRules as rules
+use Rattle.certificate_text.specs.Lines.{line_is_before}
+use Rattle.certificate_text.specs.Rules as rules
 use Rattle.certificate.specs.View as view
 use Rattle.certificate.proofs.entries.parts_rise.Given as goal
 

@@ -1,5 +1,5 @@
 use Rattle.std.proofs.Common.{◌≡◌, [], length, map}
-use Rattle.texts.specs.CertificateLines.{sum_of}
+use Rattle.certificate_text.specs.Lines.{sum_of}
 use Rattle.lines.specs.Left.{left}
 use Rattle.certificate.specs.View as view
 use Rattle.certificate.proofs.item.sum.Given as goal

@@ -2,7 +2,7 @@ use Rattle.std.proofs.Common.{ap, sym, ◌∙◌, ◌∷◌, map, Some}
 use Rattle.std.specs.Option.{option_copied}
 use Rattle.std.proofs.lemmas.List.{map_push}
 use Rattle.texts.specs.Lines.{two}
-use Rattle.texts.specs.CertificateForms.{form_of}
+use Rattle.certificate_text.specs.Forms.{form_of}
 use Rattle.lines.specs.Left.{left}
 use Rattle.certificate.specs.View as view
 use Rattle.certificate.proofs.WordSteps.{one_term}

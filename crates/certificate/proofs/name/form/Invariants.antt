@@ -1,6 +1,6 @@
 use Rattle.std.proofs.Common.{◌≡◌, [], length, map, None}
 use Rattle.std.specs.Option.{option_copied}
-use Rattle.texts.specs.CertificateForms.{form_of}
+use Rattle.certificate_text.specs.Forms.{form_of}
 use Rattle.lines.specs.Left.{left}
 use Rattle.certificate.specs.View as view
 use Rattle.certificate.proofs.name.form.Given as goal

@@ -1,5 +1,5 @@
 use Rattle.std.proofs.Common.{◌≡◌, ◌+◌, ◌-◌, length, sym, arith, rules, SFits, w64, to_z-of_z}
-use Rattle.texts.specs.CertificateLines as meaning
+use Rattle.certificate_text.specs.Lines as meaning
 use Rattle.certificate.specs.View as view
 use Rattle.certificate.proofs.Last.{last_follows}
 use Rattle.certificate.proofs.order.part_follows.Goals as goal

@@ -1,5 +1,5 @@
 use Rattle.std.proofs.Common.{◌≡◌, ◌+◌, ◌-◌, length, sym, ◌∙◌, arith}
-use Rattle.texts.specs.CertificateDrafts as drafting
+use Rattle.certificate_text.specs.Drafts as drafting
 use Rattle.certificate.specs.View as view
 use Rattle.certificate.proofs.Last.{last_follows}
 use Rattle.certificate.proofs.order.place_follows.Goals as goal

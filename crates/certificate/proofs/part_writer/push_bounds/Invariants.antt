@@ -1,7 +1,7 @@
 use Rattle.std.proofs.Common.{◌≡◌, ◌++◌, drop, map}
 use Rattle.std.specs.String.{string_bytes}
 use Rattle.texts.specs.Lines.{text_of_lines}
-use Rattle.texts.specs.CertificateText as text
+use Rattle.certificate_text.specs.Text as text
 use Rattle.certificate.specs.View as view
 use Rattle.certificate.proofs.part_writer.push_bounds.Given as goal
 

@@ -1,7 +1,7 @@
 use Rattle.std.proofs.Common.{◌≡◌, drop, map}
 use Rattle.std.specs.String.{string_bytes}
-use Rattle.texts.specs.CertificateForms.{is_identifier}
-use Rattle.texts.specs.CertificateRules as rules
+use Rattle.texts.specs.Identifiers.{is_identifier}
+use Rattle.certificate_text.specs.Rules as rules
 use Rattle.certificate.proofs.proper.are_identifiers.Given as goal
 
 abbrev pub invariant-loop-name : goal.invariant-loop-name

@@ -1,5 +1,5 @@
 use Rattle.std.proofs.Common.{length, ap, sym, ◌∙◌, arith}
-use Rattle.texts.proofs.DraftsRead.{add_line_back}
+use Rattle.certificate_text.proofs.DraftsRead.{add_line_back}
 use Rattle.lines.specs.Left.{left}
 use Rattle.certificate.specs.Drafts as drafts
 use Rattle.certificate.proofs.Steps.{one_row}

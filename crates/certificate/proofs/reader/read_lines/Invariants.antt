@@ -1,7 +1,7 @@
 use Rattle.std.proofs.Common.{◌≡◌, ◌+◌, ◌≤◌, ◌^◌, length}
-use Rattle.texts.specs.CertificateDrafts as drafting
-use Rattle.texts.specs.CertificateReading as reading
-use Rattle.texts.proofs.DraftsRead.{IsDraft}
+use Rattle.certificate_text.specs.Drafts as drafting
+use Rattle.certificate_text.specs.Reading as reading
+use Rattle.certificate_text.proofs.DraftsRead.{IsDraft}
 use Rattle.lines.specs.Left.{left}
 use Rattle.certificate.specs.Drafts as drafts
 use Rattle.certificate.proofs.reader.read_lines.Given as goal

@@ -1,5 +1,5 @@
 use Rattle.std.proofs.Common.{◌≡◌, drop, map}
-use Rattle.texts.specs.CertificateRules as rules
+use Rattle.certificate_text.specs.Rules as rules
 use Rattle.certificate.specs.View as view
 use Rattle.certificate.proofs.rules.are_bounds.Given as goal
 

@@ -1,5 +1,5 @@
 use Rattle.std.proofs.Common.{◌≡◌, drop, map}
-use Rattle.texts.specs.CertificateRules.{all}
+use Rattle.certificate_text.specs.Rules.{all}
 use Rattle.certificate.specs.View as view
 use Rattle.certificate_notes.specs.Noted.{has_line}
 use Rattle.certificate_notes.specs.View.{scene}

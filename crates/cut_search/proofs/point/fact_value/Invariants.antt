@@ -1,5 +1,5 @@
 use Rattle.std.proofs.Common.{◌≡◌, ◌+ℤ◌, drop}
-use Rattle.semantics.specs.Linear.{terms_value, value_of}
+use Rattle.linear.specs.Linear.{terms_value, value_of}
 use Rattle.linear.specs.Terms.{terms}
 use Rattle.linear.specs.Forms.{form}
 use Rattle.cut_search.specs.Answers.{value_at}

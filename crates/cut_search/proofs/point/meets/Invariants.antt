@@ -1,6 +1,6 @@
 use Rattle.std.proofs.Common.{drop}
 use Rattle.std.specs.List.{All}
-use Rattle.semantics.specs.Linear.{IsMet}
+use Rattle.linear.specs.Linear.{IsMet}
 use Rattle.linear.specs.Forms.{forms}
 use Rattle.cut_search.specs.Answers.{value_at}
 use Rattle.cut_search.proofs.point.meets.Given as goal

@@ -17,7 +17,7 @@ returns-in-Some c =
     let x = c.in-Some.seen in
     let events = c.play.new.events.items in
     let same : setup u ≡ setup_of c.args.typed.now.1 c.args.launch.now =
-    c.in_ok-seen.ensures.setup ∙ ap (λ y. setup_of y w.launch.now) c.in_ok-world.ensures.core ∙ ap (λ z. setup_of c.core-core.result.now z) c.in_ok-world.ensures.launch ∙ ap (λ y. setup_of y c.args.launch.now) c.core-core.ensures.value in
+    c.in_ok-seen.ensures.setup ∙ ap (λ y. setup_of y w.launch.now) c.in_ok-world.ensures.core ∙ ap (λ z. setup_of c.args.typed.now.1 z) c.in_ok-world.ensures.launch in
     let seen : IsSighting (setup u) k (world u) x = subst (λ o. IfSome o (IsSighting (setup u) k (world u))) c.in-Some.is c.in_ok-seen.ensures.seen in
     subst (IsConfirmed (setup_of c.args.typed.now.1 c.args.launch.now) k) (sym c.in_ok-confirmed-in-Some.ensures)
     (subst (λ s. IsConfirmed s k (finding_of x events)) same (confirms (setup u) k (world u) x events c.in_ok-seen.ensures.after.run seen))

@@ -1,6 +1,6 @@
 use Rattle.std.proofs.Common.{◌≡◌, Some, ap, sym, subst, ◌∙◌}
 use Rattle.std.specs.Prelude.{IsTrue}
-use Rattle.semantics.specs.Linear.{IsImpossible}
+use Rattle.linear.specs.Linear.{IsImpossible}
 use Rattle.linear.specs.Forms.{forms}
 use Rattle.certificate.specs.View.{entry}
 use Rattle.two_thread.specs.Goals.{maybe_forms}

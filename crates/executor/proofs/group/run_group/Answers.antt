@@ -19,14 +19,14 @@ returns c =
     let bound = (kept c.args.accepted.now).budget in
     let g = c.args.group in
     let r = c.run_group.result in
-    let in_budget = subst (λ x. IfOk r (λ log. (buffer index : ℕ) → written log buffer index ≡ lane_log (at_launch (kernel c.core-core.result.now) l) x.budget g buffer index)) c.conditions.ensures.value c.run_group.ensures in
-    let of_kernel = subst (λ x. IfOk r (λ log. (buffer index : ℕ) → written log buffer index ≡ lane_log (at_launch (kernel x) l) bound g buffer index)) (c.core-core.ensures.value ∙ ap (λ t. t.1) c.typed.ensures.value) in_budget in
-    let a = c.typed.ensures.accepted in
+    let in_budget = subst (λ x. IfOk r (λ log. (buffer index : ℕ) → written log buffer index ≡ lane_log (at_launch (kernel c.core.result.now) l) x.budget g buffer index)) c.conditions.ensures.value c.run_group.ensures in
+    let of_kernel = subst (λ x. IfOk r (λ log. (buffer index : ℕ) → written log buffer index ≡ lane_log (at_launch (kernel x) l) bound g buffer index)) (c.core.ensures.value ∙ ap (λ t. t.1) c.typed-typed.ensures.value) in_budget in
+    let a = c.typed-typed.ensures.accepted in
     IfOk-weaker
     r
     (λ log. (buffer index : ℕ) → written log buffer index ≡ lane_log s bound g buffer index)
     (λ log. (buffer index : ℕ) → written log buffer index ≡ group_log s bound g buffer index)
     (λ log h buffer index.
     h buffer index
-    ∙ c.lane_logs_are_by_rounds.ensures s bound g buffer index (some-items k l a.has_items) c.requires.group c.requires.fits c.typed.ensures.orderly (a.is_pair_safe l c.requires.fits c.requires.meets))
+    ∙ c.lane_logs_are_by_rounds.ensures s bound g buffer index (some-items k l a.has_items) c.requires.group c.requires.fits c.typed-typed.ensures.orderly (a.is_pair_safe l c.requires.fits c.requires.meets))
     of_kernel

@@ -15,7 +15,7 @@ loop-j-preserved-then-a-i c =
     record {
       left = omega arith;
       right = c.loop-j.invariant.right;
-      same = simp to_z-of_z (taken (λ ts. term (get_or c.args.a.now c.loop-j.i no_term) ∷ ts) (terms c.loop-j.out.items) (terms c.keep.new.out.items) _ _ _ c.in_ok-keep.ensures.kept m e);
+      same = simp to_z-of_z (taken (λ ts. term (get_or c.args.a.now c.loop-j.i no_term) ∷ ts) (terms c.loop-j.out.terms.items) (terms c.keep.new.out.terms.items) _ _ _ c.in_ok-keep.ensures.kept m e);
       fits = c.in_ok-keep.ensures.fits c.loop-j.invariant.fits;
     }
 
@@ -28,7 +28,7 @@ loop-j-preserved-then-a-i-2 c =
     record {
       left = omega arith;
       right = omega arith;
-      same = simp to_z-of_z (taken (put _ _) (terms c.loop-j.out.items) (terms c.keep_sum.new.out.items) _ _ _ k m e);
+      same = simp to_z-of_z (taken (put _ _) (terms c.loop-j.out.terms.items) (terms c.keep_sum.new.out.terms.items) _ _ _ k m e);
       fits = c.in_ok-keep_sum.ensures.fits c.loop-j.invariant.fits;
     }
 
@@ -36,7 +36,7 @@ pub returns-in_err-keep_sum-clause-too_large : goal.returns-in_err-keep_sum-clau
 returns-in_err-keep_sum-clause-too_large c =
     let fk = c.ranges.k in
     let e = simp to_z-of_z at c.loop-j.invariant.same in
-    λ h. unfit_both c.args.k c.args.a.now c.args.b.now c.loop-j.i c.loop-j.j c.requires.left c.requires.right c.if-i-a-2.true c.loop-j-test.true c.if-a-i-2.true (terms c.loop-j.out.items) _ e (simp to_z-of_z at (c.in_err-keep_sum.ensures.too_large (search rules)))
+    λ h. unfit_both c.args.k c.args.a.now c.args.b.now c.loop-j.i c.loop-j.j c.requires.left c.requires.right c.if-i-a-2.true c.loop-j-test.true c.if-a-i-2.true (terms c.loop-j.out.terms.items) _ e (simp to_z-of_z at (c.in_err-keep_sum.ensures.too_large (search rules)))
 
 pub loop-j-preserved : goal.loop-j-preserved
 loop-j-preserved c =
@@ -55,7 +55,7 @@ loop-j-preserved c =
     record {
       left = c.loop-j.invariant.left;
       right = omega arith;
-      same = simp to_z-of_z (taken (put _ _) (terms c.loop-j.out.items) (terms c.keep_multiple.new.out.items) _ _ _ k m e);
+      same = simp to_z-of_z (taken (put _ _) (terms c.loop-j.out.terms.items) (terms c.keep_multiple.new.out.terms.items) _ _ _ k m e);
       fits = c.in_ok-keep_multiple.ensures.fits c.loop-j.invariant.fits;
     }
 
@@ -71,13 +71,13 @@ returns-in_err-keep_multiple-clause-too_large c =
         | else-i-a-via-then-i-a+else-a-i u ↦ inr (omega arith)
       ]
     ] in
-    λ u. unfit_right c.args.k c.args.a.now c.args.b.now c.loop-j.i c.loop-j.j c.loop-j-test.true h (terms c.loop-j.out.items) _ e (simp to_z-of_z at (c.in_err-keep_multiple.ensures.too_large (search rules)))
+    λ u. unfit_right c.args.k c.args.a.now c.args.b.now c.loop-j.i c.loop-j.j c.loop-j-test.true h (terms c.loop-j.out.terms.items) _ e (simp to_z-of_z at (c.in_err-keep_multiple.ensures.too_large (search rules)))
 
 pub returns-clause-exact : goal.returns-clause-exact
 returns-clause-exact c =
     let fk = c.ranges.k in
     let e = simp to_z-of_z at c.loop-j.invariant.same in
-    merged_rest c.args.k c.loop-j.out.items _ c.args.a.now c.args.b.now c.loop-j.i c.loop-j.j _ (rw take_rest at c.in_ok-extend_from_slice.ensures.items) c.loop-j-test.false e
+    merged_rest c.args.k c.loop-j.out.terms.items _ c.args.a.now c.args.b.now c.loop-j.i c.loop-j.j _ (rw take_rest at c.in_ok-extend_from_slice.ensures) c.loop-j-test.false e
 
 pub returns-clause-fits : goal.returns-clause-fits
-returns-clause-fits c = fits_rest c.loop-j.out.items _ c.args.a.now c.loop-j.i (rw take_rest at c.in_ok-extend_from_slice.ensures.items) c.loop-j.invariant.fits c.requires.left_fits
+returns-clause-fits c = fits_rest c.loop-j.out.terms.items _ c.args.a.now c.loop-j.i (rw take_rest at c.in_ok-extend_from_slice.ensures) c.loop-j.invariant.fits c.requires.left_fits

@@ -5,7 +5,7 @@ use Rattle.linear.proofs.merge.divide_terms.Given as goal
 
 abbrev pub invariant-loop-t : goal.invariant-loop-t
 invariant-loop-t l = record {
-  same : terms l.out.items ++ quotients l.divisor (terms (drop l.t-index l.a)) ≡ quotients l.divisor (terms l.a);
+  same : terms l.out.terms.items ++ quotients l.divisor (terms (drop l.t-index l.a)) ≡ quotients l.divisor (terms l.a);
   divide : all_divide l.divisor (terms l.a) ≡ all_divide l.divisor (terms (drop l.t-index l.a));
-  fits : fits_terms (terms l.out.items) ≡ true;
+  fits : fits_terms (terms l.out.terms.items) ≡ true;
 }

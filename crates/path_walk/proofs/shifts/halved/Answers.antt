@@ -20,6 +20,6 @@ returns g c =
 pub returns-in_err-form : goal.returns-in_err-form
 returns-in_err-form g c =
     let z : SFits w64 c.power_of-divisor.result = search rules in
-    let h = subst (λ n. Stops ⊥ (followed c.args.path.now) c.in_err-form.field-0.0 (quotient_alone (seen g.D.Domain c.args.setting.now) (kind c.args.kind) (form c.args.of.now) n)) (to_z-of_z w64 c.power_of-divisor.result z ∙ c.power_of-divisor.ensures.exact) c.in_err-form.ensures in
+    let h = subst (λ n. Stops (followed c.args.path.now) c.in_err-form.field-0.0 (quotient_alone (seen g.D.Domain c.args.setting.now) (kind c.args.kind) (form c.args.of.now) n)) (to_z-of_z w64 c.power_of-divisor.result z ∙ c.power_of-divisor.ensures.exact) c.in_err-form.ensures in
     let k = as_value_stops (quotient_alone (seen g.D.Domain c.args.setting.now) (kind c.args.kind) (form c.args.of.now) (pos (2 ^ c.args.count))) (kind c.args.kind) (followed c.args.path.now) c.in_err-form.field-0.0 h in
     handed c.from_residual.result c.in_err-form.field-0.0 _ _ c.from_residual.ensures k

@@ -6,14 +6,14 @@ use Rattle.two_thread.proofs.seconds.second_form.Goals as goal
 
 pub with_symbols-requires-clause-each : goal.with_symbols-requires-clause-each
 with_symbols-requires-clause-each c =
-    let ts = c.args.form.now.terms.items in
+    let ts = c.args.form.now.terms.terms.items in
     ap length c.as_slice.ensures.value ∙ sym (length-numbers c.in_ok-symbols.symbols.items) ∙ ap length c.in_ok-symbols.ensures ∙ length-seconds (terms ts) ∙ length-terms ts
 
 pub with_symbols-requires-clause-rising : goal.with_symbols-requires-clause-rising
-with_symbols-requires-clause-rising c = rising-seconds (numbers c.as_slice.result.now) (terms c.args.form.now.terms.items) (ap numbers c.as_slice.ensures.value ∙ c.in_ok-symbols.ensures) c.args.form.now.rising c.requires
+with_symbols-requires-clause-rising c = rising-seconds (numbers c.as_slice.result.now) (terms c.args.form.now.terms.terms.items) (ap numbers c.as_slice.ensures.value ∙ c.in_ok-symbols.ensures) c.args.form.now.rising c.requires
 
 pub returns : goal.returns
 returns c =
-    let ts = terms c.args.form.now.terms.items in
+    let ts = terms c.args.form.now.terms.terms.items in
     let e : numbers c.as_slice.result.now ≡ seconds ts = ap numbers c.as_slice.ensures.value ∙ c.in_ok-symbols.ensures in
     c.in_ok-copy.ensures ∙ (λ j. record { terms = over_is (numbers c.as_slice.result.now) ts e j; constant = c.args.form.now.constant })

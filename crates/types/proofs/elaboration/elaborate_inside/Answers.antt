@@ -8,7 +8,7 @@ use Rattle.types.proofs.elaboration.elaborate_inside.Goals as goal
 
 pub returns : goal.returns
 returns c =
-    let p = rw (c.new.ensures.items, c.new-2.ensures.items, c.new-3.ensures.items, c.new-4.ensures.items, c.deref.ensures.value) at c.in_ok-declare_parameters.ensures in
+    let p = rw (c.new.ensures.empty, c.new-2.ensures.items, c.new-3.ensures.items, c.new-4.ensures.items, c.deref.ensures.value) at c.in_ok-declare_parameters.ensures in
     let q = rw (c.new-body.ensures.items, c.deref-4.ensures.value) at c.in_ok-elaborate_all.ensures in
     let outer = c.declare_parameters.new.self in
     let inner = c.elaborate_all.new in
@@ -20,6 +20,6 @@ returns c =
 pub elaborate_all-requires : goal.elaborate_all-requires
 elaborate_all-requires c =
     let k = tree_of c.args.tree.now in
-    let p = rw (c.new.ensures.items, c.new-2.ensures.items, c.new-3.ensures.items, c.new-4.ensures.items, c.deref.ensures.value) at c.in_ok-declare_parameters.ensures in
+    let p = rw (c.new.ensures.empty, c.new-2.ensures.items, c.new-3.ensures.items, c.new-4.ensures.items, c.deref.ensures.value) at c.in_ok-declare_parameters.ensures in
     let g = parameters-grown empty_scope k.parameters (scope_seen c.declare_parameters.new.self) p in
     rw c.deref-4.ensures.value (omega (arith, c.requires, g))

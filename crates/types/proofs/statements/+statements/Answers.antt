@@ -4,7 +4,7 @@ use Rattle.semantics.specs.Core.{Loop, none}
 use Rattle.texts.specs.Declarations.{declared_in}
 use Rattle.texts.specs.Surface.{DeclareArray}
 use Rattle.words.specs.View.{kind}
-use Rattle.texts.specs.Elaboration.{elaborated, single, elaborate_statement, elaborate_assignment, barrier_of, InLoop, inside, jump_to}
+use Rattle.texts.specs.Elaboration.{elaborated, single, elaborate_statement, elaborate_assignment, barrier_of, inside, jump_to}
 use Rattle.syntax.proofs.Rows.{seen_if, seen_while, seen_for, seen_block}
 use Rattle.syntax.specs.View.{jump_word, statement as stmt, statements as stmts, first as first_of, assignment, expression}
 use Rattle.core_code.specs.View.{site as site_of}
@@ -72,19 +72,17 @@ elaborate_statement-returns-in-Jump t c =
 pub elaborate_statement-returns-in_err-elaborate_block-in-If : goal.elaborate_statement-returns-in_err-elaborate_block-in-If
 elaborate_statement-returns-in_err-elaborate_block-in-If t c =
     let e = ap stmt c.in-If.is ∙ seen_if c.in-If.number c.in-If.site c.in-If.test c.in-If.taken c.in-If.skipped in
-    let p = rw c.deref.ensures.value at c.in_ok-test-in-If.ensures in
-    let q = rw (c.new-inside.ensures.items, c.deref-in-If.ensures.value) at c.in_err-elaborate_block-in-If.ensures in
-    let k = if-refused (around_of c.args.around) (scope_seen c.args.scope.now) c.in-If.number (site_of c.in-If.site) (expression c.in-If.test) (stmts c.in-If.taken.items) (stmts c.in-If.skipped.items) (typed_term c.in_ok-test-in-If.test) c.in_err-elaborate_block-in-If.field-0.0 (statements c.args.out.now.items) p q in
+    let q = rw (c.new-inside.ensures.items, c.deref.ensures.value) at c.in_err-elaborate_block-in-If.ensures in
+    let k = if-refused (around_of c.args.around) (scope_seen c.args.scope.now) c.in-If.number (site_of c.in-If.site) (expression c.in-If.test) (stmts c.in-If.taken.items) (stmts c.in-If.skipped.items) (typed_term c.in_ok-test-in-If.test) c.in_err-elaborate_block-in-If.field-0.0 (statements c.args.out.now.items) c.in_ok-test-in-If.ensures q in
     rw e (grind (arith, common_steps, k))
 
 pub elaborate_statement-returns-in_ok-elaborate_block-in-If : goal.elaborate_statement-returns-in_ok-elaborate_block-in-If
 elaborate_statement-returns-in_ok-elaborate_block-in-If t c =
     let e = ap stmt c.in-If.is ∙ seen_if c.in-If.number c.in-If.site c.in-If.test c.in-If.taken c.in-If.skipped in
-    let p = rw c.deref.ensures.value at c.in_ok-test-in-If.ensures in
-    let q = rw (c.new-inside.ensures.items, c.deref-in-If.ensures.value) at c.in_ok-elaborate_block-in-If.ensures in
+    let q = rw (c.new-inside.ensures.items, c.deref.ensures.value) at c.in_ok-elaborate_block-in-If.ensures in
     let after = c.elaborate_block.new in
-    let k = if-taken (around_of c.args.around) (scope_seen c.args.scope.now) c.in-If.number (site_of c.in-If.site) (expression c.in-If.test) (stmts c.in-If.taken.items) (stmts c.in-If.skipped.items) (typed_term c.in_ok-test-in-If.test) (all_seen after.out.items after.scope) p q in
-    rw (e, k) (c.push_one-in-If.ensures _ (scope_seen c.elaborate_else.new.scope) (rw c.deref-in-If-2.ensures.value at c.elaborate_else.ensures))
+    let k = if-taken (around_of c.args.around) (scope_seen c.args.scope.now) c.in-If.number (site_of c.in-If.site) (expression c.in-If.test) (stmts c.in-If.taken.items) (stmts c.in-If.skipped.items) (typed_term c.in_ok-test-in-If.test) (all_seen after.out.items after.scope) c.in_ok-test-in-If.ensures q in
+    rw (e, k) (c.push_one-in-If.ensures _ (scope_seen c.elaborate_else.new.scope) (rw c.deref-in-If.ensures.value at c.elaborate_else.ensures))
 
 pub elaborate_statement-returns-in-While : goal.elaborate_statement-returns-in-While
 elaborate_statement-returns-in-While t c =
@@ -121,8 +119,8 @@ elaborate_for-returns t c = λ around at.
     let x = one_seen c.elaborate_repeated.new.scope c.in_ok-elaborate_repeated.field-0 in
     let k = for-done around sc c.args.number at (first_of c.args.first.now) (expression c.args.test.now) (assignment c.args.update.now) (stmts c.args.body.now) f x c.in_ok-elaborate_first.ensures c.in_ok-elaborate_repeated.ensures in
     let l = for-left sc (first_of c.args.first.now) f c.args.number (expression c.args.test.now) (assignment c.args.update.now) (stmts c.args.body.now) x c.in_ok-elaborate_first.ensures c.in_ok-elaborate_repeated.ensures in
-    let n : c.len-outside.result ≡ length c.args.scope.now.visible.items = search rules in
-    let v = names-kept c.args.scope.now.visible.items c.elaborate_repeated.new.scope.visible.items c.truncate.new.self.items c.len-outside.result n c.truncate.ensures.items l in
+    let n : c.len-outside.result ≡ length c.args.scope.now.visible.entries = search rules in
+    let v = names-kept c.args.scope.now.visible c.elaborate_repeated.new.scope.visible c.truncate.new.self c.len-outside.result n c.truncate.ensures.entries l in
     let p = c.in_ok-push.ensures.items in
     let q = c.in_ok-push-2.ensures.items in
     rw (k, v, q, p, ← behind-two c.args.out.now.items c.in_ok-elaborate_first.field-0 c.in_ok-elaborate_repeated.field-0) refl
@@ -132,8 +130,8 @@ elaborate_block-returns t c =
     let sc = scope_seen c.args.scope.now in
     let h = rw c.inside.ensures at c.in_ok-elaborate_all.ensures in
     let l = names-left (inside (around_of c.args.around)) sc (stmts c.args.body.now) (statements c.args.out.now.items) (all_seen c.elaborate_all.new.out.items c.elaborate_all.new.scope) h in
-    let n : c.len-outside.result ≡ length c.args.scope.now.visible.items = search rules in
-    let v = names-kept c.args.scope.now.visible.items c.elaborate_all.new.scope.visible.items c.truncate.new.self.items c.len-outside.result n c.truncate.ensures.items l in
+    let n : c.len-outside.result ≡ length c.args.scope.now.visible.entries = search rules in
+    let v = names-kept c.args.scope.now.visible c.elaborate_all.new.scope.visible c.truncate.new.self c.len-outside.result n c.truncate.ensures.entries l in
     rw v (block-done (around_of c.args.around) sc (stmts c.args.body.now) (statements c.args.out.now.items) (all_seen c.elaborate_all.new.out.items c.elaborate_all.new.scope) h)
 
 pub elaborate_else-returns : goal.elaborate_else-returns
@@ -146,10 +144,9 @@ elaborate_else-returns t c =
 pub elaborate_while-returns : goal.elaborate_while-returns
 elaborate_while-returns t c = λ around at.
     let after = c.elaborate_block.new in
-    let p = rw c.deref.ensures.value at c.in_ok-test.ensures in
     let q = rw c.new-inside.ensures.items at c.in_ok-elaborate_block.ensures in
     let r = seen_loop c.args.number c.in_ok-test.test.term after.out c.new.result ∙ ap (λ u. Loop c.args.number (term c.in_ok-test.test.term) (statements after.out.items) (statements u)) c.new.ensures.items in
-    while-done around (scope_seen c.args.scope.now) c.args.number at (expression c.args.test.now) (stmts c.args.body.now) (typed_term c.in_ok-test.test) (all_seen after.out.items after.scope) p q
+    while-done around (scope_seen c.args.scope.now) c.args.number at (expression c.args.test.now) (stmts c.args.body.now) (typed_term c.in_ok-test.test) (all_seen after.out.items after.scope) c.in_ok-test.ensures q
     ∙ ap (λ s. Ok (elaborated (single s) (scope_seen after.scope))) (sym r)
 
 pub elaborate_repeated-returns : goal.elaborate_repeated-returns
@@ -170,16 +167,16 @@ pub elaborate_statement-elaborate_block-requires : goal.elaborate_statement-elab
 elaborate_statement-elaborate_block-requires t c =
     let e = ap (λ s. declared_in (stmt s)) c.in-If.is ∙ if-declares c.in-If.number c.in-If.site c.in-If.test c.in-If.taken c.in-If.skipped in
     let d = ap size-Stmt c.in-If.is ∙ sized-If c.in-If.number c.in-If.site c.in-If.test c.in-If.taken c.in-If.skipped in
-    rw c.deref-in-If.ensures.value (omega (arith, d, c.decreases), omega (arith, c.requires, e))
+    rw c.deref.ensures.value (omega (arith, d, c.decreases), omega (arith, c.requires, e))
 
 pub elaborate_statement-elaborate_else-requires : goal.elaborate_statement-elaborate_else-requires
 elaborate_statement-elaborate_else-requires t c =
     let e = ap (λ s. declared_in (stmt s)) c.in-If.is ∙ if-declares c.in-If.number c.in-If.site c.in-If.test c.in-If.taken c.in-If.skipped in
     let d = ap size-Stmt c.in-If.is ∙ sized-If c.in-If.number c.in-If.site c.in-If.test c.in-If.taken c.in-If.skipped in
-    let q = rw (c.new-inside.ensures.items, c.deref-in-If.ensures.value) at c.in_ok-elaborate_block-in-If.ensures in
+    let q = rw (c.new-inside.ensures.items, c.deref.ensures.value) at c.in_ok-elaborate_block-in-If.ensures in
     let after = c.elaborate_block.new in
     let g = block-grown (around_of c.args.around) (scope_seen c.args.scope.now) (stmts c.in-If.taken.items) none (all_seen after.out.items after.scope) q in
-    rw c.deref-in-If-2.ensures.value (omega (arith, d, c.decreases), omega (arith, c.requires, e, g))
+    rw c.deref-in-If.ensures.value (omega (arith, d, c.decreases), omega (arith, c.requires, e, g))
 
 pub elaborate_statement-elaborate_while-requires : goal.elaborate_statement-elaborate_while-requires
 elaborate_statement-elaborate_while-requires t c =

@@ -2,7 +2,7 @@ use Rattle.std.proofs.Common.{◌∙◌, sym, ⊎_elim, inr, [], get_or}
 use Rattle.std.proofs.lemmas.Bool.{false≢true}
 use Rattle.std.proofs.lemmas.List.Elements.{All-contains}
 use Rattle.supports.specs.Sets.{members}
-use Rattle.semantics.specs.Candidates.{IsSupported}
+use Rattle.supports.specs.Candidates.{IsSupported}
 use Rattle.supports.proofs.Greatest.{refutes}
 use Rattle.board.proofs.Readings.{read_on}
 use Rattle.board.proofs.board.Board.examine.Goals as goal

@@ -1,5 +1,5 @@
 use Rattle.std.proofs.Common.{◌∙◌, ◌/◌, ◌<◌, sym, ap, subst, length, arith}
-use Rattle.semantics.specs.Candidates.{IsInGreatest}
+use Rattle.supports.specs.Candidates.{IsInGreatest}
 use Rattle.supports.specs.Sets.{members}
 use Rattle.board.proofs.Steps.{drops, but_others, but_lacks}
 use Rattle.board.proofs.board.Board.refute.Goals as goal

@@ -8,7 +8,7 @@ invariant_of-result-clause-rising c =
     let fd : SFits w64 c.args.divisor = search rules in
     let e = rw c.in-Some.is at c.in_ok-terms.ensures in
     let f = simp to_z-of_z at e in
-    rising_quotient c.args.divisor c.in-Some.terms.items _ _ c.requires f.0 f.1 c.as_slice.ensures.value c.args.self.now.rising
+    rising_quotient c.args.divisor c.in-Some.terms.terms.items _ _ c.requires f.0 f.1 c.as_slice.ensures c.args.self.now.rising
 
 pub returns-clause-met : goal.returns-clause-met
 returns-clause-met c =
@@ -18,4 +18,4 @@ returns-clause-met c =
     let e = rw c.in-Some.is at c.in_ok-terms.ensures in
     let f = simp to_z-of_z at e in
     let h = simp to_z-of_z at c.div_euclid-constant.ensures in
-    λ v. simp to_z-of_z (met_quotient v c.args.divisor c.in-Some.terms.items _ _ _ _ c.requires f.0 f.1 c.as_slice.ensures.value h)
+    λ v. simp to_z-of_z (met_quotient v c.args.divisor c.in-Some.terms.terms.items _ _ _ _ c.requires f.0 f.1 c.as_slice.ensures h)

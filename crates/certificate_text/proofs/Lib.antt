@@ -1,0 +1,15 @@
+pub mod Cuts
+pub mod FormsRead
+pub mod ItemsRead
+pub mod DraftsRead
+pub mod Read
+pub mod FormsWritten
+pub mod ItemsWritten
+pub mod Written
+pub mod Tables
+pub mod ItemsNumbered
+pub mod NumberedRead
+pub mod NumberedWritten
+pub mod Migration
+pub mod NumberedSteps
+pub mod Examples

@@ -1,0 +1,292 @@
+-- A text of version 2 is that of the certificate that it says.
+use Rattle.std.proofs.Common.{◌≡◌, ℕ, suc, ◌+◌, ◌≤◌, true, false, not, ◌&&◌, List, [], ◌∷◌, ◌++◌, length, map, Option, None, Some, Ok, Err, refl, ap, sym, subst, ◌∙◌, arith}
+use Rattle.std.specs.Prelude.{ℤ, pos, codes, bytes_eq, nat_eq, nat_le, nat_lt, max, fold}
+use Rattle.std.specs.Ordering.{int_eq}
+use Rattle.std.specs.List.{join_with_byte, filter_map, cons_option}
+use Rattle.std.proofs.lemmas.Bool.{cond_both}
+use Rattle.std.proofs.lemmas.Bool.Decides.{Decides-int_eq, nat_tests}
+use Rattle.std.proofs.lemmas.Fmt.{decimal_digit}
+use Rattle.std.proofs.lemmas.Grind.{flat_map-append, fold-append}
+use Rattle.std.proofs.lemmas.List.{append-nil, length-append, map_push}
+use Rattle.std.proofs.lemmas.List.Elements.{filter_map-append}
+use Rattle.std.proofs.lemmas.List.Splits.{join_with_byte-slice_split}
+use Rattle.std.proofs.lemmas.Slice.Eq.{bytes_eq-Decides}
+use Rattle.linear.specs.Linear.{Form}
+use Rattle.texts.specs.Lines.{is_empty, two, pieces, words, text_of_lines, integer_of}
+use Rattle.certificate_text.specs.Certificate.{Name, Certificate, BadLine, OtherVersion}
+use Rattle.certificate_text.specs.Text.{body_lines}
+use Rattle.certificate_text.specs.Forms.{number, form_of}
+use Rattle.certificate_text.specs.Lines.{Item, EndItem, item_of}
+use Rattle.certificate_text.specs.Drafts.{nothing_yet, add}
+use Rattle.certificate_text.specs.Reading.{Read, is_ended, version_of, unless, certificate_limit}
+use Rattle.certificate_text.specs.Rules.{all, is_form, is_certificate}
+use Rattle.certificate_text.specs.Items.{items_of, item_line, form_in, put_form}
+use Rattle.certificate_text.specs.FormTables.{FormTable, has_form, with_form, form_at}
+use Rattle.certificate_text.specs.NumberedText.{forms_in, forms_of, number_form, numbered_by, numbered, numbered_line, table_line, lines_of_two, text_of_two}
+use Rattle.certificate_text.specs.NumberedReading.{number_in, allowed_form, filled_by, filled, NumberedDraft, numbered_draft, add_filled, add_numbered, all_used, finish_numbered, go_to, read_numbered, table_words, add_form, by_table_words, read_table, head_of_two, read_text_of_two, certificate_of_two}
+use Rattle.texts.proofs.Fits.{both}
+use Rattle.texts.proofs.Decimals.{integer_back}
+use Rattle.certificate_text.proofs.Cuts.{spaced, pieces_back, then_back, when_back, cond_back, number_back, two_back, all_push}
+use Rattle.certificate_text.proofs.ItemsRead.{is_item, item_back, same, none_left, whole_back}
+use Rattle.certificate_text.proofs.DraftsRead.{IsDraft, draft_lines, add_back}
+use Rattle.certificate_text.proofs.Read.{joined_more, lines_push, is_open_end, unless_back, nothing_read}
+use Rattle.certificate_text.proofs.Tables.{told, denied, is_fresh, fresh_push, all_at, at_place, Grown, grown_back}
+use Rattle.certificate_text.proofs.Tables as tables
+use Rattle.certificate_text.proofs.ItemsNumbered.{lines_are, items_good, same_items, form_put, put_back, put_good, number_in_back}
+
+-- a table as it is read
+pub record IsTable (forms : FormTable) : Type 0 where
+  pub good : all is_form forms ≡ true
+  pub fresh : is_fresh [] forms ≡ true
+
+-- the forms that one line more uses
+pub forms_push : (items : List Item) (i : Item) → forms_in (items ++ i ∷ []) ≡ fold with_form (forms_in items) (filter_map form_in (i ∷ []))
+forms_push items i =
+    ap (fold with_form []) (filter_map-append form_in items (i ∷ [])) ∙ fold-append with_form [] (filter_map form_in items) (filter_map form_in (i ∷ []))
+
+abbrev pub used_by : FormTable → Option (Form Name) → FormTable
+used_by seen None = seen
+used_by seen (Some f) = with_form seen f
+
+pub used_is : (seen : FormTable) (o : Option (Form Name)) → fold with_form seen (cons_option o []) ≡ used_by seen o
+used_is seen None = refl
+used_is seen (Some f) = refl
+
+-- what an item is that was filled: with its number it is what was read
+record IsFilled (forms seen : FormTable) (raw : Item) (n : ℕ) (i : Item) : Type 0 where
+  number : numbered forms i ≡ raw
+  good : is_item i ≡ true
+  left : FormTable
+  table : forms ≡ used_by seen (form_in i) ++ left
+  used : length (used_by seen (form_in i)) ≡ n
+
+-- a table with the forms that are used so far in front
+filled_form : (forms seen left : FormTable) (raw : Item) (number : Form Name) (u n : ℕ) (f : Form Name) → IsTable forms → forms ≡ seen ++ left → length seen ≡ u → is_item raw ≡ true → form_in raw ≡ Some number → number ≡ number_form n → allowed_form forms u n ≡ Some f → IsFilled forms seen raw (max u n) (put_form f raw)
+filled_form forms seen left raw number u n f t split l g o same_number e =
+    let c = cond_back (nat_le n (u + 1)) (form_at forms n) f e in
+    let below : n ≤ length seen + 1 = (let b : n ≤ u + 1 = (grind (arith, nat_tests, c.0)) in omega (arith, b, l)) in
+    let k = at_place forms n f c.1 in
+    let fine = all_at is_form forms k.0 f t.good k.2 in
+    let r = grown_back forms seen left f n t.fresh split below c.1 in
+    let own = form_put f number raw o in
+    record {
+      number = ap (numbered_by forms (put_form f raw)) own ∙ ap (λ m. put_form (number_form m) (put_form f raw)) (tables.number_back forms n f t.fresh c.1) ∙ ap (λ h. put_form h (put_form f raw)) (sym same_number) ∙ put_back f number raw o;
+      good = put_good f raw fine g;
+      left = r.left;
+      table = r.table ∙ ap (λ p. used_by seen p ++ r.left) (sym own);
+      used = ap (λ p. length (used_by seen p)) own ∙ r.used ∙ ap (λ m. max m n) l;
+    }
+
+filled_by_back : (forms seen left : FormTable) (raw : Item) (u : ℕ) (o : Option (Form Name)) (r : ℕ × Item) → IsTable forms → forms ≡ seen ++ left → length seen ≡ u → is_item raw ≡ true → form_in raw ≡ o → filled_by forms u raw o ≡ Some r → IsFilled forms seen raw r.0 r.1
+filled_by_back forms seen left raw u None r t split l g o e =
+    let q : (u, raw) ≡ r = same (u, raw) r e in
+    let made : IsFilled forms seen raw u raw = record {
+      number = ap (numbered_by forms raw) o;
+      good = g;
+      left = left;
+      table = split ∙ ap (λ p. used_by seen p ++ left) (sym o);
+      used = ap (λ p. length (used_by seen p)) o ∙ l;
+    } in
+    subst (λ (p : ℕ × Item). IsFilled forms seen raw p.0 p.1) q made
+filled_by_back forms seen left raw u (Some number) r t split l g o e =
+    let n = then_back (number_in number) _ r e in
+    let f = then_back (allowed_form forms u n.0) _ r n.2 in
+    let made = filled_form forms seen left raw number u n.0 f.0 t split l g o (number_in_back number n.0 n.1) f.1 in
+    subst (λ (p : ℕ × Item). IsFilled forms seen raw p.0 p.1) (same (max u n.0, put_form f.0 raw) r f.2) made
+
+-- what was read behind the table: its items, whose forms stand in front in the table
+pub record IsNumbered (forms : FormTable) (d : NumberedDraft) (items : List Item) : Type 0 where
+  pub draft : IsDraft d.read
+  pub lines : draft_lines d.read ≡ map item_line items
+  pub good : all is_item items ≡ true
+  pub left : FormTable
+  pub table : forms ≡ forms_in items ++ left
+  pub used : length (forms_in items) ≡ d.used
+
+-- one line more
+pub record Says (forms : FormTable) (e : NumberedDraft) (items : List Item) (line : List ℕ) : Type 0 where
+  pub item : Item
+  pub numbered_as : numbered_line forms item ≡ line
+  pub holds : IsNumbered forms e (items ++ item ∷ [])
+
+pub add_numbered_back : (forms : FormTable) (d : NumberedDraft) (items : List Item) (line : List ℕ) (e : NumberedDraft) → IsTable forms → IsNumbered forms d items → add_numbered forms d line ≡ Some e → Says forms e items line
+add_numbered_back forms d items line e t h q =
+    let raw = then_back (item_of (words line)) _ e q in
+    let b = item_back line raw.0 raw.1 in
+    let r = then_back (filled forms d.used raw.0) (add_filled d.read) e raw.2 in
+    let f = filled_by_back forms (forms_in items) h.left raw.0 d.used (form_in raw.0) r.0 t h.table h.used b.1 refl r.1 in
+    let a = then_back (add d.read r.0.1) _ e r.2 in
+    let x = add_back d.read r.0.1 a.0 h.draft f.good a.1 in
+    let grown : forms_in (items ++ r.0.1 ∷ []) ≡ used_by (forms_in items) (form_in r.0.1) = forms_push items r.0.1 ∙ used_is (forms_in items) (form_in r.0.1) in
+    let made : IsNumbered forms (numbered_draft r.0.0 a.0) (items ++ r.0.1 ∷ []) = record {
+      draft = x.0;
+      lines = x.1 ∙ ap (λ ls. ls ++ item_line r.0.1 ∷ []) h.lines ∙ sym (map_push item_line items r.0.1);
+      good = all_push is_item items r.0.1 h.good f.good;
+      left = f.left;
+      table = f.table ∙ ap (λ s. s ++ f.left) (sym grown);
+      used = ap length grown ∙ f.used;
+    } in
+    record {
+      item = r.0.1;
+      numbered_as = ap item_line f.number ∙ b.0;
+      holds = subst (λ g. IsNumbered forms g (items ++ r.0.1 ∷ [])) (same (numbered_draft r.0.0 a.0) e a.2) made;
+    }
+
+nothing_numbered : (forms : FormTable) → IsNumbered forms (numbered_draft 0 nothing_yet) []
+nothing_numbered forms = record { draft = nothing_read; lines = refl; good = refl; left = forms; table = refl; used = refl }
+
+abbrev pub numbered_lines : FormTable → List Item → List (List ℕ)
+numbered_lines forms items = map (numbered_line forms) items
+
+-- what is left to read behind the table, where `so_far` was read
+pub record Ends (forms : FormTable) (so_far rest : List ℕ) (c : Certificate) : Type 0 where
+  pub table : forms_of c ≡ forms
+  pub text : so_far ++ rest ≡ text_of_lines (numbered_lines forms (items_of c) ++ codes "end" ∷ [])
+  pub good : is_certificate c ≡ true
+
+all_used_back : (forms : FormTable) (d : NumberedDraft) (c : Certificate) → all_used forms d ≡ Ok c → (d.used ≡ length forms) × (d.read.settled ≡ c)
+all_used_back forms d c =
+    cond_both (nat_eq d.used (length forms)) (Ok d.read.settled) (Err (BadLine (d.used + 2))) (λ r. r ≡ Ok c → (d.used ≡ length forms) × (d.read.settled ≡ c))
+    (λ e q. (grind (arith, nat_tests, e), cc))
+    (λ e q. absurd cc)
+
+finish_back : (forms : FormTable) (n : ℕ) (d : NumberedDraft) (line : List ℕ) (c : Certificate) → finish_numbered forms n d line ≡ Ok c → (is_ended d.read.opened ≡ true) × (line ≡ []) × (d.used ≡ length forms) × (d.read.settled ≡ c)
+finish_back forms n d line c =
+    cond_both (is_ended d.read.opened && is_empty line) (all_used forms d) (Err (BadLine n)) (λ r. r ≡ Ok c → (is_ended d.read.opened ≡ true) × (line ≡ []) × (d.used ≡ length forms) × (d.read.settled ≡ c))
+    (λ e q. let p = both (is_ended d.read.opened) (is_empty line) e in let a = all_used_back forms d c q in (p.0, none_left line p.1, a.0, a.1))
+    (λ e q. absurd cc)
+
+no_more : (seen left : FormTable) (n : ℕ) → length seen ≡ n → n ≡ length (seen ++ left) → left ≡ []
+no_more seen [] n p q = refl
+no_more seen (f ∷ left) n p q = absurd (omega (arith, p, q, length-append seen (f ∷ left)))
+
+end_numbered : (forms : FormTable) (items : List Item) → forms_in (items ++ EndItem ∷ []) ≡ forms_in items
+end_numbered forms items = forms_push items EndItem
+
+-- all lines are read
+ended : (forms : FormTable) (d : NumberedDraft) (items : List Item) (c : Certificate) → IsNumbered forms d items → is_ended d.read.opened ≡ true → d.used ≡ length forms → d.read.settled ≡ c → Ends forms (text_of_lines (numbered_lines forms items)) [] c
+ended forms d items c h e u s =
+    let good : is_certificate c ≡ true = ap is_certificate (sym s) ∙ h.draft.settled in
+    let lines : map item_line items ≡ map item_line (items_of c ++ EndItem ∷ []) =
+    sym h.lines ∙ ap (λ ls. body_lines d.read.settled ++ ls) (is_open_end d.read.opened e) ∙ ap (λ x. body_lines x ++ codes "end" ∷ []) s ∙ ap (λ ls. ls ++ codes "end" ∷ []) (sym (lines_are c)) ∙ sym (map_push item_line (items_of c) EndItem)
+    in
+    let all_of : items ≡ items_of c ++ EndItem ∷ [] = same_items items (items_of c ++ EndItem ∷ []) h.good (all_push is_item (items_of c) EndItem (items_good c good) refl) lines in
+    let none : h.left ≡ [] = no_more (forms_in items) h.left d.used h.used (u ∙ ap length h.table) in
+    record {
+      table = sym (end_numbered forms (items_of c)) ∙ ap forms_in (sym all_of) ∙ sym (append-nil (forms_in items)) ∙ ap (λ l. forms_in items ++ l) (sym none) ∙ sym h.table;
+      text = append-nil (text_of_lines (numbered_lines forms items)) ∙ ap (λ is. text_of_lines (numbered_lines forms is)) all_of ∙ ap text_of_lines (map_push (numbered_line forms) (items_of c) EndItem);
+      good = good;
+    }
+
+pub went_to : {A : Type 0} (n : ℕ) (o : Option A) (go : A → Read) (c : Certificate) → go_to n o go ≡ Ok c → (a : A) × (o ≡ Some a) × (go a ≡ Ok c)
+went_to n None go c q = absurd cc
+went_to n (Some a) go c q = (a, refl, q)
+
+pub read_numbered_back : (forms : FormTable) (n : ℕ) (d : NumberedDraft) (items : List Item) (ls : List (List ℕ)) (c : Certificate) → IsTable forms → IsNumbered forms d items → read_numbered forms n d ls ≡ Ok c → Ends forms (text_of_lines (numbered_lines forms items)) (join_with_byte 10 ls) c
+read_numbered_back forms n d items [] c t h = λ q. absurd cc
+read_numbered_back forms n d items (line ∷ others) c t h =
+    cond_both (is_empty others) (finish_numbered forms n d line) (go_to n (add_numbered forms d line) (λ e. read_numbered forms (suc n) e others)) (λ r. r ≡ Ok c → Ends forms (text_of_lines (numbered_lines forms items)) (join_with_byte 10 (line ∷ others)) c)
+    (λ e q.
+    let f = finish_back forms n d line c q in
+    let r = ended forms d items c h f.0 f.2 f.3 in
+    subst (λ rest. Ends forms (text_of_lines (numbered_lines forms items)) rest c) (sym (ap (λ ls. join_with_byte 10 (line ∷ ls)) (none_left others e) ∙ f.1)) r)
+    (λ e q.
+    let g = went_to n (add_numbered forms d line) (λ x. read_numbered forms (suc n) x others) c q in
+    let a = add_numbered_back forms d items line g.0 t h g.1 in
+    let r = read_numbered_back forms (suc n) g.0 (items ++ a.item ∷ []) others c t a.holds g.2 in
+    let more : numbered_lines forms (items ++ a.item ∷ []) ≡ numbered_lines forms items ++ line ∷ [] = map_push (numbered_line forms) items a.item ∙ ap (λ l. numbered_lines forms items ++ l ∷ []) a.numbered_as in
+    record {
+      table = r.table;
+      text = ap (λ x. text_of_lines (numbered_lines forms items) ++ x) (joined_more line others e) ∙ sym (lines_push (numbered_lines forms items) line (join_with_byte 10 others)) ∙ ap (λ ls. text_of_lines ls ++ join_with_byte 10 others) (sym more) ∙ r.text;
+      good = r.good;
+    })
+
+-- a line of the table is that of its form
+pub table_line_back : (line : List ℕ) (ws : List (List ℕ)) (f : Form Name) → table_words (words line) ≡ Some ws → form_of [] None ws ≡ Some f → (table_line f ≡ line) × (is_form f ≡ true)
+table_line_back line ws f p q = by_words (words line) refl p
+  where
+    by_words : (all_of : List (List ℕ)) → words line ≡ all_of → table_words all_of ≡ Some ws → (table_line f ≡ line) × (is_form f ≡ true)
+    by_words [] e h = absurd cc
+    by_words (w ∷ others) e h =
+        let a = when_back (bytes_eq w (codes "form")) others ws h in
+        let b = whole_back ws f q in
+        (ap (λ t. codes "form" ++ t) (sym b.0) ∙ ap (λ t. codes "form" ++ spaced t) (sym a.1) ∙ ap (λ t. t ++ spaced others) (sym ((bytes_eq-Decides w (codes "form")).0 a.0)) ∙ sym (pieces_back 32 line w others e), b.1)
+
+-- the table with one form more
+pub record Adds (forms : FormTable) (line : List ℕ) (more : FormTable) : Type 0 where
+  pub form : Form Name
+  pub more_is : more ≡ forms ++ form ∷ []
+  pub line_is : table_line form ≡ line
+  pub table : IsTable more
+
+pub add_form_back : (forms : FormTable) (line : List ℕ) (ws : List (List ℕ)) (more : FormTable) → IsTable forms → table_words (words line) ≡ Some ws → add_form forms ws ≡ Some more → Adds forms line more
+add_form_back forms line ws more t p q =
+    let f = then_back (form_of [] None ws) _ more q in
+    let a = when_back (not (has_form forms f.0)) (forms ++ f.0 ∷ []) more f.2 in
+    let b = table_line_back line ws f.0 p f.1 in
+    let made : IsTable (forms ++ f.0 ∷ []) = record { good = all_push is_form forms f.0 t.good b.1; fresh = fresh_push [] forms f.0 t.fresh (denied (has_form forms f.0) a.0) } in
+    record { form = f.0; more_is = sym a.1; line_is = b.0; table = subst IsTable a.1 made }
+
+-- what is left to read of the table and behind it
+pub record EndsTable (so_far rest : List ℕ) (c : Certificate) : Type 0 where
+  pub text : so_far ++ rest ≡ text_of_lines (lines_of_two (forms_of c) c)
+  pub good : is_certificate c ≡ true
+
+table_ended : (forms : FormTable) (rest : List ℕ) (c : Certificate) → Ends forms [] rest c → EndsTable (text_of_lines (map table_line forms)) rest c
+table_ended forms rest c h = record {
+  text = ap (λ t. text_of_lines (map table_line forms) ++ t) h.text ∙ sym (flat_map-append (λ (l : List ℕ). l ++ 10 ∷ []) (map table_line forms) (numbered_lines forms (items_of c) ++ codes "end" ∷ [])) ∙ ap (λ t. text_of_lines (lines_of_two t c)) (sym h.table);
+  good = h.good;
+}
+
+table_line_read : (forms : FormTable) (n : ℕ) (line : List ℕ) (others : List (List ℕ)) (c : Certificate) → IsTable forms → is_empty others ≡ false → ((more : FormTable) → IsTable more → read_table more (suc n) others ≡ Ok c → EndsTable (text_of_lines (map table_line more)) (join_with_byte 10 others) c) → (o : Option (List (List ℕ))) → table_words (words line) ≡ o → by_table_words o (read_numbered forms n (numbered_draft 0 nothing_yet) (line ∷ others)) (λ ws. go_to n (add_form forms ws) (λ more. read_table more (suc n) others)) ≡ Ok c → EndsTable (text_of_lines (map table_line forms)) (join_with_byte 10 (line ∷ others)) c
+table_line_read forms n line others c t e back None w q =
+    table_ended forms (join_with_byte 10 (line ∷ others)) c (read_numbered_back forms n (numbered_draft 0 nothing_yet) [] (line ∷ others) c t (nothing_numbered forms) q)
+table_line_read forms n line others c t e back (Some ws) w q =
+    let g = went_to n (add_form forms ws) (λ more. read_table more (suc n) others) c q in
+    let a = add_form_back forms line ws g.0 t w g.1 in
+    let r = back g.0 a.table g.2 in
+    let lines : map table_line g.0 ≡ map table_line forms ++ line ∷ [] = ap (map table_line) a.more_is ∙ map_push table_line forms a.form ∙ ap (λ l. map table_line forms ++ l ∷ []) a.line_is in
+    record {
+      text = ap (λ x. text_of_lines (map table_line forms) ++ x) (joined_more line others e) ∙ sym (lines_push (map table_line forms) line (join_with_byte 10 others)) ∙ ap (λ ls. text_of_lines ls ++ join_with_byte 10 others) (sym lines) ∙ r.text;
+      good = r.good;
+    }
+
+pub read_table_back : (forms : FormTable) (n : ℕ) (ls : List (List ℕ)) (c : Certificate) → IsTable forms → read_table forms n ls ≡ Ok c → EndsTable (text_of_lines (map table_line forms)) (join_with_byte 10 ls) c
+read_table_back forms n [] c t = λ q. absurd cc
+read_table_back forms n (line ∷ others) c t =
+    cond_both (is_empty others) (Err (BadLine n)) (by_table_words (table_words (words line)) (read_numbered forms n (numbered_draft 0 nothing_yet) (line ∷ others)) (λ ws. go_to n (add_form forms ws) (λ more. read_table more (suc n) others))) (λ r. r ≡ Ok c → EndsTable (text_of_lines (map table_line forms)) (join_with_byte 10 (line ∷ others)) c)
+    (λ e q. absurd cc)
+    (λ e q. table_line_read forms n line others c t e (λ more u r. read_table_back more (suc n) others c u r) (table_words (words line)) refl q)
+
+version_back : (v : Option ℤ) → head_of_two v ≡ None → v ≡ Some (pos 2)
+version_back None = λ q. absurd cc
+version_back (Some v) =
+    cond_both (int_eq v (pos 2)) None (Some OtherVersion) (λ o. o ≡ None → Some v ≡ Some (pos 2)) (λ e q. ap Some ((Decides-int_eq v (pos 2)).0 e)) (λ e q. absurd cc)
+
+pub first_line_of_two : (line : List ℕ) → head_of_two (version_of (words line)) ≡ None → line ≡ codes "certificate 2"
+first_line_of_two line q =
+    let v = version_back (version_of (words line)) q in
+    let w = then_back (two (words line)) _ (pos 2) v in
+    let c = cond_back (bytes_eq w.0.0 (codes "certificate")) (number (integer_of w.0.1)) (pos 2) w.2 in
+    let i = integer_back w.0.1 (pos 2) (number_back (integer_of w.0.1) (pos 2) c.1) in
+    pieces_back 32 line w.0.0 (w.0.1 ∷ []) (two_back (words line) w.0 w.1) ∙ ap (λ t. t ++ spaced (w.0.1 ∷ [])) ((bytes_eq-Decides w.0.0 (codes "certificate")).0 c.0)
+    ∙ ap (λ t. codes "certificate " ++ t) (append-nil w.0.1 ∙ sym i.0 ∙ decimal_digit 2 (omega arith))
+
+pub empty_table : IsTable []
+empty_table = record { good = refl; fresh = refl }
+
+text_back : (ls : List (List ℕ)) (c : Certificate) → read_text_of_two ls ≡ Ok c → (text_of_two c ≡ join_with_byte 10 ls) × (is_certificate c ≡ true)
+text_back [] c = λ q. absurd cc
+text_back (line ∷ others) c =
+    cond_both (is_empty others) (Err (BadLine 1)) (unless (head_of_two (version_of (words line))) (read_table [] 2 others)) (λ r. r ≡ Ok c → (text_of_two c ≡ join_with_byte 10 (line ∷ others)) × (is_certificate c ≡ true))
+    (λ e q. absurd cc)
+    (λ e q.
+    let u = unless_back (head_of_two (version_of (words line))) (read_table [] 2 others) c q in
+    let r = read_table_back [] 2 others c empty_table u.1 in
+    (ap (λ t. (codes "certificate 2" ++ (10 ∷ [])) ++ t) (sym r.text) ∙ ap (λ t. t ++ (10 ∷ join_with_byte 10 others)) (sym (first_line_of_two line u.0)) ∙ sym (joined_more line others e), r.good))
+
+pub certificate_of_two_back : (text : List ℕ) (c : Certificate) → certificate_of_two text ≡ Ok c → (text_of_two c ≡ text) × (is_certificate c ≡ true)
+certificate_of_two_back text c =
+    cond_both (nat_lt certificate_limit (length text)) (Err (BadLine 1)) (read_text_of_two (pieces 10 text)) (λ r. r ≡ Ok c → (text_of_two c ≡ text) × (is_certificate c ≡ true))
+    (λ e q. absurd cc)
+    (λ e q. let r = text_back (pieces 10 text) c q in (r.0 ∙ join_with_byte-slice_split 10 text, r.1))

@@ -1,0 +1,107 @@
+-- A text is that of the certificate that it says.
+use Rattle.std.proofs.Common.{◌≡◌, ℕ, suc, true, false, ◌&&◌, List, [], ◌∷◌, ◌++◌, length, Option, None, Some, Ok, Err, refl, ap, sym, ◌∙◌, append_assoc}
+use Rattle.std.specs.Prelude.{ℤ, pos, codes, bytes_eq, nat_lt}
+use Rattle.std.specs.Ordering.{int_eq}
+use Rattle.std.specs.List.{join_with_byte}
+use Rattle.std.proofs.Common.{arith}
+use Rattle.std.proofs.lemmas.Bool.{cond_both}
+use Rattle.std.proofs.lemmas.Bool.Decides.{Decides-int_eq}
+use Rattle.std.proofs.lemmas.Fmt.{decimal_digit}
+use Rattle.std.proofs.lemmas.Grind.{flat_map-append}
+use Rattle.std.proofs.lemmas.List.{append-nil}
+use Rattle.std.proofs.lemmas.List.Splits.{join_with_byte-slice_split}
+use Rattle.std.proofs.lemmas.Slice.Eq.{bytes_eq-Decides}
+use Rattle.texts.specs.Lines.{is_empty, two, pieces, words, text_of_lines, integer_of}
+use Rattle.certificate_text.specs.Certificate.{Certificate, CertificateFault, BadLine, OtherVersion}
+use Rattle.certificate_text.specs.Text.{body_lines, text_of}
+use Rattle.certificate_text.specs.Forms.{number}
+use Rattle.certificate_text.specs.Drafts.{Open, Nothing, InPlace, InEntry, Ended, Draft, nothing_yet}
+use Rattle.certificate_text.specs.Reading.{Read, is_ended, finish, go_on, add_line, read_lines, head_of_version, version_of, head_fault, unless, read_text, certificate_limit, certificate_of}
+use Rattle.certificate_text.specs.Rules.{is_certificate}
+use Rattle.texts.proofs.Fits.{both}
+use Rattle.texts.proofs.Decimals.{integer_back}
+use Rattle.certificate_text.proofs.Cuts.{spaced, then_back, cond_back, number_back, two_back, pieces_back}
+use Rattle.certificate_text.proofs.ItemsRead.{none_left}
+use Rattle.certificate_text.proofs.DraftsRead.{IsDraft, draft_lines, open_lines, add_line_back}
+
+-- what is left to read, where `so_far` was read
+abbrev pub Completes : (so_far rest : List ℕ) → Certificate → Type 0
+Completes so_far rest c = (so_far ++ rest ≡ text_of_lines (body_lines c ++ codes "end" ∷ [])) × (is_certificate c ≡ true)
+
+pub joined_more : (line : List ℕ) (others : List (List ℕ)) → is_empty others ≡ false → join_with_byte 10 (line ∷ others) ≡ line ++ (10 ∷ join_with_byte 10 others)
+joined_more line [] h = absurd cc
+joined_more line (x ∷ xs) h = refl
+
+pub lines_push : (lines : List (List ℕ)) (line rest : List ℕ) → text_of_lines (lines ++ line ∷ []) ++ rest ≡ text_of_lines lines ++ (line ++ (10 ∷ rest))
+lines_push lines line rest =
+    ap (λ t. t ++ rest) (flat_map-append (λ (l : List ℕ). l ++ 10 ∷ []) lines (line ∷ []) ∙ ap (λ t. text_of_lines lines ++ t) (append-nil (line ++ 10 ∷ [])))
+    ∙ append_assoc (text_of_lines lines) (line ++ 10 ∷ []) rest ∙ ap (λ t. text_of_lines lines ++ t) (append_assoc line (10 ∷ []) rest)
+
+pub is_open_end : (o : Open) → is_ended o ≡ true → open_lines o ≡ codes "end" ∷ []
+is_open_end Nothing h = absurd cc
+is_open_end (InPlace p) h = absurd cc
+is_open_end (InEntry e) h = absurd cc
+is_open_end Ended h = refl
+
+finish_back : (n : ℕ) (d : Draft) (line : List ℕ) (c : Certificate) → IsDraft d → finish n d line ≡ Ok c → (is_ended d.opened ≡ true) × (line ≡ []) × (d.settled ≡ c)
+finish_back n d line c h =
+    cond_both (is_ended d.opened && is_empty line) (Ok d.settled) (Err (BadLine n)) (λ r. r ≡ Ok c → (is_ended d.opened ≡ true) × (line ≡ []) × (d.settled ≡ c))
+    (λ e q. let p = both (is_ended d.opened) (is_empty line) e in (p.0, none_left line p.1, cc))
+    (λ e q. absurd cc)
+
+pub went_on : (n : ℕ) (o : Option Draft) (go : Draft → Read) (c : Certificate) → go_on n o go ≡ Ok c → (d : Draft) × (o ≡ Some d) × (go d ≡ Ok c)
+went_on n None go c q = absurd cc
+went_on n (Some d) go c q = (d, refl, q)
+
+read_back : (n : ℕ) (d : Draft) (ls : List (List ℕ)) (c : Certificate) → IsDraft d → read_lines n d ls ≡ Ok c → Completes (text_of_lines (draft_lines d)) (join_with_byte 10 ls) c
+read_back n d [] c h = λ q. absurd cc
+read_back n d (line ∷ others) c h =
+    cond_both (is_empty others) (finish n d line) (go_on n (add_line d line) (λ e. read_lines (suc n) e others)) (λ r. r ≡ Ok c → Completes (text_of_lines (draft_lines d)) (join_with_byte 10 (line ∷ others)) c)
+    (λ e q.
+    let f = finish_back n d line c h q in (
+      ap (λ ls. text_of_lines (draft_lines d) ++ join_with_byte 10 (line ∷ ls)) (none_left others e) ∙ ap (λ t. text_of_lines (draft_lines d) ++ t) f.1 ∙ append-nil (text_of_lines (draft_lines d))
+          ∙ ap (λ t. text_of_lines (body_lines d.settled ++ t)) (is_open_end d.opened f.0) ∙ ap (λ x. text_of_lines (body_lines x ++ codes "end" ∷ [])) f.2,
+      ap is_certificate (sym f.2) ∙ h.settled,
+    ))
+    (λ e q.
+    let g = went_on n (add_line d line) (λ x. read_lines (suc n) x others) c q in
+    let a = add_line_back d line g.0 h g.1 in
+    let r = read_back (suc n) g.0 others c a.0 g.2 in
+    (ap (λ t. text_of_lines (draft_lines d) ++ t) (joined_more line others e) ∙ sym (lines_push (draft_lines d) line (join_with_byte 10 others)) ∙ ap (λ ls. text_of_lines ls ++ join_with_byte 10 others) (sym a.1) ∙ r.0, r.1))
+
+version_back : (v : Option ℤ) → head_of_version v ≡ None → v ≡ Some (pos 1)
+version_back None = λ q. absurd cc
+version_back (Some v) =
+    cond_both (int_eq v (pos 1)) None (Some OtherVersion) (λ o. o ≡ None → Some v ≡ Some (pos 1)) (λ e q. ap Some ((Decides-int_eq v (pos 1)).0 e)) (λ e q. absurd cc)
+
+pub first_line : (line : List ℕ) → head_fault (words line) ≡ None → line ≡ codes "certificate 1"
+first_line line q =
+    let v = version_back (version_of (words line)) q in
+    let w = then_back (two (words line)) _ (pos 1) v in
+    let c = cond_back (bytes_eq w.0.0 (codes "certificate")) (number (integer_of w.0.1)) (pos 1) w.2 in
+    let i = integer_back w.0.1 (pos 1) (number_back (integer_of w.0.1) (pos 1) c.1) in
+    pieces_back 32 line w.0.0 (w.0.1 ∷ []) (two_back (words line) w.0 w.1) ∙ ap (λ t. t ++ spaced (w.0.1 ∷ [])) ((bytes_eq-Decides w.0.0 (codes "certificate")).0 c.0)
+    ∙ ap (λ t. codes "certificate " ++ t) (append-nil w.0.1 ∙ sym i.0 ∙ decimal_digit 1 (omega arith))
+
+pub unless_back : (f : Option CertificateFault) (read : Read) (c : Certificate) → unless f read ≡ Ok c → (f ≡ None) × (read ≡ Ok c)
+unless_back None read c q = (refl, q)
+unless_back (Some f) read c q = absurd cc
+
+pub nothing_read : IsDraft nothing_yet
+nothing_read = record { settled = refl; opened = tt }
+
+text_back : (ls : List (List ℕ)) (c : Certificate) → read_text ls ≡ Ok c → (text_of c ≡ join_with_byte 10 ls) × (is_certificate c ≡ true)
+text_back [] c = λ q. absurd cc
+text_back (line ∷ others) c =
+    cond_both (is_empty others) (Err (BadLine 1)) (unless (head_fault (words line)) (read_lines 2 nothing_yet others)) (λ r. r ≡ Ok c → (text_of c ≡ join_with_byte 10 (line ∷ others)) × (is_certificate c ≡ true))
+    (λ e q. absurd cc)
+    (λ e q.
+    let u = unless_back (head_fault (words line)) (read_lines 2 nothing_yet others) c q in
+    let r = read_back 2 nothing_yet others c nothing_read u.1 in
+    (ap (λ t. (codes "certificate 1" ++ (10 ∷ [])) ++ t) (sym r.0) ∙ ap (λ t. t ++ (10 ∷ join_with_byte 10 others)) (sym (first_line line u.0)) ∙ sym (joined_more line others e), r.1))
+
+pub certificate_back : (text : List ℕ) (c : Certificate) → certificate_of text ≡ Ok c → (text_of c ≡ text) × (is_certificate c ≡ true)
+certificate_back text c =
+    cond_both (nat_lt certificate_limit (length text)) (Err (BadLine 1)) (read_text (pieces 10 text)) (λ r. r ≡ Ok c → (text_of c ≡ text) × (is_certificate c ≡ true))
+    (λ e q. absurd cc)
+    (λ e q. let r = text_back (pieces 10 text) c q in (r.0 ∙ join_with_byte-slice_split 10 text, r.1))

@@ -1,0 +1,93 @@
+-- Certificates (ours): what is said of places, how often loops turn, and what shows each obligation.
+use Rattle.std.specs.Prelude.{ℕ, ℤ, List, Option, None, Some}
+use Rattle.linear.specs.Linear.{Form}
+
+pub data Dimension : Type 0 where
+  First Second Third : Dimension
+
+-- a symbol, by what it is called
+pub data Name : Type 0 where
+  Variable : (name : List ℕ) → Name
+  AtAnchor : (name : List ℕ) → Name
+  Turns : (loop : ℕ) → Name
+  Fresh : (number : ℕ) → Name
+  Argument : (name : List ℕ) → Name
+  Length : (name : List ℕ) → Name
+  Groups : (dimension : Dimension) → Name
+  Group : (dimension : Dimension) → Name
+  Local : (dimension : Dimension) → Name
+
+-- where the items of a group meet: at their first step, or at a barrier statement
+pub data Anchor : Type 0 where
+  KernelEntry : Anchor
+  Barrier : (statement : ℕ) → Anchor
+
+-- an anchor, or the test of a loop on the way from it
+pub record Spot : Type 0 where
+  pub anchor : Anchor
+  pub head : Option ℕ
+
+-- a form that the modulus divides
+pub record Congruence : Type 0 where
+  pub modulus : ℕ
+  pub form : Form Name
+
+-- what is said of a spot: names on which the items of a group agree, forms that are at least 0, and congruences
+pub record Place : Type 0 where
+  pub spot : Spot
+  pub same : List (List ℕ)
+  pub facts : List (Form Name)
+  pub congruences : List Congruence
+
+-- each turn makes the form less by a step at least, or at most half
+pub data Descent : Type 0 where
+  Down : (step : ℕ) → Descent
+  Halve : Descent
+
+-- how a loop ends: its form is at most `most` where it opens
+pub record Bound : Type 0 where
+  pub loop : ℕ
+  pub descent : Descent
+  pub most : ℤ
+  pub form : Form Name
+
+-- what an entry shows of its obligation
+pub data EntrySort : Type 0 where
+  Show Positive Negative : EntrySort
+  Quotient : (form : Form Name) → EntrySort
+
+-- a line of a derivation, and what it is multiplied or divided by
+pub record Scaled : Type 0 where
+  pub factor : ℤ
+  pub line : ℤ
+
+-- a line of a derivation: a fact, a sum of earlier lines with weights, an earlier line divided
+pub data Step : Type 0 where
+  Given : (fact : ℤ) → Step
+  Sum : (parts : List Scaled) → Step
+  Divide : (quotient : Scaled) → Step
+
+pub record Entry : Type 0 where
+  pub obligation : ℕ
+  pub sort : EntrySort
+  pub steps : List Step
+
+pub record Certificate : Type 0 where
+  pub places : List Place
+  pub bounds : List Bound
+  pub entries : List Entry
+
+-- why a text is no certificate: a line of this number says nothing, or the certificate is of another version
+pub data CertificateFault : Type 0 where
+  BadLine : (line : ℕ) → CertificateFault
+  OtherVersion : CertificateFault
+
+-- the number that each is printed under
+abbrev pub certificate_fault_number : CertificateFault → ℕ
+certificate_fault_number (BadLine line) = 50
+certificate_fault_number OtherVersion = 51
+
+-- and its line, where it has one
+abbrev pub certificate_fault_line : CertificateFault → Option ℕ
+certificate_fault_line (BadLine line) = Some line
+certificate_fault_line OtherVersion = None

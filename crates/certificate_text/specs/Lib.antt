@@ -1,0 +1,12 @@
+pub mod Certificate
+pub mod Text
+pub mod Forms
+pub mod Lines
+pub mod Drafts
+pub mod Reading
+pub mod Rules
+pub mod Items
+pub mod FormTables
+pub mod NumberedText
+pub mod NumberedReading
+pub mod Migrated

@@ -1,0 +1,100 @@
+-- Reading a certificate of version 2: the table of its forms, then line by line, to its end or its first fault.
+use Rattle.std.specs.Prelude.{ℕ, suc, ◌+◌, max, ℤ, pos, negsuc, List, [], ◌∷◌, ◌++◌, length, cond, not, nat_eq, nat_le, nat_lt, ◌&&◌, Option, None, Some, Ok, Err, bytes_eq, codes}
+use Rattle.std.specs.Ordering.{int_eq}
+use Rattle.linear.specs.Linear.{Form}
+use Rattle.texts.specs.Lines.{is_empty, line_feed, pieces, words}
+use Rattle.certificate_text.specs.Certificate.{Name, CertificateFault, BadLine, OtherVersion}
+use Rattle.certificate_text.specs.Forms.{then, when, form_of}
+use Rattle.certificate_text.specs.Lines.{Item, item_of}
+use Rattle.certificate_text.specs.Items.{form_in, put_form}
+use Rattle.certificate_text.specs.FormTables.{FormTable, has_form, form_at}
+use Rattle.certificate_text.specs.Drafts.{Draft, nothing_yet, add}
+use Rattle.certificate_text.specs.Reading.{Read, is_ended, version_of, unless, certificate_limit}
+
+-- the number that stands for a form: a form without terms, not below 0
+abbrev pub whole_number : ℤ → Option ℕ
+whole_number (pos n) = Some n
+whole_number (negsuc n) = None
+
+abbrev pub number_in : Form Name → Option ℕ
+number_in f = cond (is_empty f.terms) (whole_number f.constant) None
+
+-- the form of a number, which is at most one above the largest that was used
+abbrev pub allowed_form : FormTable → (used n : ℕ) → Option (Form Name)
+allowed_form forms used n = cond (nat_le n (used + 1)) (form_at forms n) None
+
+-- what a line says, and the largest number that is used then
+abbrev pub filled_by : FormTable → (used : ℕ) → Item → Option (Form Name) → Option (ℕ × Item)
+filled_by forms used item None = Some (used, item)
+filled_by forms used item (Some number) =
+    then (number_in number) (λ n. then (allowed_form forms used n) (λ f. Some (max used n, put_form f item)))
+
+-- a line with the form of its number in place of the number
+abbrev pub filled : FormTable → (used : ℕ) → Item → Option (ℕ × Item)
+filled forms used item = filled_by forms used item (form_in item)
+
+-- what was read, and the largest number that was used
+pub record NumberedDraft : Type 0 where
+  pub used : ℕ
+  pub read : Draft
+
+abbrev pub numbered_draft : ℕ → Draft → NumberedDraft
+numbered_draft used d = record { used = used; read = d }
+
+abbrev pub add_filled : Draft → ℕ × Item → Option NumberedDraft
+add_filled d line = then (add d line.1) (λ e. Some (numbered_draft line.0 e))
+
+abbrev pub add_numbered : FormTable → NumberedDraft → List ℕ → Option NumberedDraft
+add_numbered forms d line = then (item_of (words line)) (λ item. then (filled forms d.used item) (add_filled d.read))
+
+-- each form was used: the first one that was not is at fault, at its line
+abbrev pub all_used : FormTable → NumberedDraft → Read
+all_used forms d = cond (nat_eq d.used (length forms)) (Ok d.read.settled) (Err (BadLine (d.used + 2)))
+
+abbrev pub finish_numbered : FormTable → ℕ → NumberedDraft → List ℕ → Read
+finish_numbered forms n d rest = cond (is_ended d.read.opened && is_empty rest) (all_used forms d) (Err (BadLine n))
+
+abbrev pub go_to : {A : Type 0} → ℕ → Option A → (A → Read) → Read
+go_to n None go = Err (BadLine n)
+go_to n (Some a) go = go a
+
+-- the lines behind the table
+abbrev pub read_numbered : FormTable → ℕ → NumberedDraft → List (List ℕ) → Read
+read_numbered forms n d [] = Err (BadLine n)
+read_numbered forms n d (line ∷ others) =
+    cond (is_empty others) (finish_numbered forms n d line) (go_to n (add_numbered forms d line) (λ e. read_numbered forms (suc n) e others))
+
+-- the words behind `form`, where a line begins so
+abbrev pub table_words : List (List ℕ) → Option (List (List ℕ))
+table_words [] = None
+table_words (word ∷ others) = when (bytes_eq word (codes "form")) others
+
+-- one form more, which is not there yet
+abbrev pub add_form : FormTable → List (List ℕ) → Option FormTable
+add_form forms words = then (form_of [] None words) (λ f. when (not (has_form forms f)) (forms ++ f ∷ []))
+
+abbrev pub by_table_words : Option (List (List ℕ)) → Read → (List (List ℕ) → Read) → Read
+by_table_words None read go = read
+by_table_words (Some words) read go = go words
+
+-- the lines of the table, and all others
+abbrev pub read_table : FormTable → ℕ → List (List ℕ) → Read
+read_table forms n [] = Err (BadLine n)
+read_table forms n (line ∷ others) =
+    cond (is_empty others) (Err (BadLine n)) (by_table_words (table_words (words line))
+    (read_numbered forms n (numbered_draft 0 nothing_yet) (line ∷ others))
+    (λ ws. go_to n (add_form forms ws) (λ more. read_table more (suc n) others)))
+
+-- `certificate 2` begins a text: with another number that is of another version
+abbrev pub head_of_two : Option ℤ → Option CertificateFault
+head_of_two None = Some (BadLine 1)
+head_of_two (Some version) = cond (int_eq version (pos 2)) None (Some OtherVersion)
+
+abbrev pub read_text_of_two : List (List ℕ) → Read
+read_text_of_two [] = Err (BadLine 1)
+read_text_of_two (line ∷ others) =
+    cond (is_empty others) (Err (BadLine 1)) (unless (head_of_two (version_of (words line))) (read_table [] 2 others))
+
+-- what a text of version 2 says: its certificate, or its first fault
+abbrev pub certificate_of_two : List ℕ → Read
+certificate_of_two text = cond (nat_lt certificate_limit (length text)) (Err (BadLine 1)) (read_text_of_two (pieces line_feed text))

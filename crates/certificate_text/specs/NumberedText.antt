@@ -1,0 +1,43 @@
+-- The text of a certificate in version 2: its forms in a table, and in its lines their numbers.
+use Rattle.std.specs.Prelude.{ℕ, pos, List, [], ◌∷◌, ◌++◌, map, fold, Option, None, Some, codes}
+use Rattle.std.specs.List.{filter_map}
+use Rattle.linear.specs.Linear.{Form}
+use Rattle.texts.specs.Lines.{text_of_lines}
+use Rattle.certificate_text.specs.Certificate.{Name, Certificate}
+use Rattle.certificate_text.specs.Text.{form_text}
+use Rattle.certificate_text.specs.Forms.{form}
+use Rattle.certificate_text.specs.Lines.{Item}
+use Rattle.certificate_text.specs.Items.{items_of, item_line, form_in, put_form}
+use Rattle.certificate_text.specs.FormTables.{FormTable, with_form, number_of}
+
+-- the forms of lines, each once, in the order of first use
+abbrev pub forms_in : List Item → FormTable
+forms_in items = fold with_form [] (filter_map form_in items)
+
+abbrev pub forms_of : Certificate → FormTable
+forms_of c = forms_in (items_of c)
+
+-- a number stands for a form as a form without terms: it is written as a decimal
+abbrev pub number_form : ℕ → Form Name
+number_form n = form [] (pos n)
+
+abbrev pub numbered_by : FormTable → Item → Option (Form Name) → Item
+numbered_by forms item None = item
+numbered_by forms item (Some f) = put_form (number_form (number_of forms f)) item
+
+-- a line with the number of its form in place of the form
+abbrev pub numbered : FormTable → Item → Item
+numbered forms item = numbered_by forms item (form_in item)
+
+abbrev pub numbered_line : FormTable → Item → List ℕ
+numbered_line forms item = item_line (numbered forms item)
+
+abbrev pub table_line : Form Name → List ℕ
+table_line f = codes "form " ++ form_text f
+
+-- the lines of the table, then the others
+abbrev pub lines_of_two : FormTable → Certificate → List (List ℕ)
+lines_of_two forms c = map table_line forms ++ (map (numbered_line forms) (items_of c) ++ codes "end" ∷ [])
+
+abbrev pub text_of_two : Certificate → List ℕ
+text_of_two c = text_of_lines (codes "certificate 2" ∷ lines_of_two (forms_of c) c)

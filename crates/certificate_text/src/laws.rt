@@ -1,0 +1,67 @@
+//! Certificates: `text_of` and `certificate_of` are inverse to one another, so that a certificate has one text and a
+//! text says one certificate.
+
+ghost use Rattle.std.specs.Prelude.{◌≡◌, ◌≤◌, ◌++◌, ℕ, List, length, true, Ok, Err, codes};
+ghost use Rattle.std.specs.Fmt.{decimal, signed_decimal};
+ghost use Rattle.linear.specs.Linear.{Form};
+ghost use Rattle.certificate_text.specs.Certificate.{Name, Congruence, Bound, Quotient, Certificate, CertificateFault, BadLine, OtherVersion};
+ghost use Rattle.certificate_text.specs.Text.{text_of, descent_text};
+ghost use Rattle.certificate_text.specs.Lines.{FactItem, CongruenceItem, BoundItem, EntryItem};
+ghost use Rattle.certificate_text.specs.Reading.{certificate_limit, certificate_of};
+ghost use Rattle.certificate_text.specs.Rules.{is_certificate};
+ghost use Rattle.certificate_text.specs.FormTables.{FormTable, number_of};
+ghost use Rattle.certificate_text.specs.NumberedText.{numbered_line, text_of_two};
+ghost use Rattle.certificate_text.specs.NumberedReading.{certificate_of_two};
+ghost use Rattle.certificate_text.specs.Migrated.{migrated};
+
+/// What is read is the certificate's text, and can be written.
+pub fn a_text_is_written_back()
+    ensures { (text : List ℕ) (c : Certificate) → certificate_of text ≡ Ok c → (text_of c ≡ text) × (is_certificate c ≡ true) }
+{}
+
+/// Each certificate that can be written is read of its text, where that is not too long.
+pub fn a_certificate_is_read_back()
+    ensures { (c : Certificate) → is_certificate c ≡ true → length (text_of c) ≤ certificate_limit → certificate_of (text_of c) ≡ Ok c }
+{}
+
+/// What is read of a text of version 2 is the certificate's text of version 2, and can be written.
+pub fn a_text_of_two_is_written_back()
+    ensures { (text : List ℕ) (c : Certificate) → certificate_of_two text ≡ Ok c → (text_of_two c ≡ text) × (is_certificate c ≡ true) }
+{}
+
+/// Each certificate that can be written is read of its text of version 2, where that is not too long.
+pub fn a_certificate_is_read_back_of_two()
+    ensures { (c : Certificate) → is_certificate c ≡ true → length (text_of_two c) ≤ certificate_limit → certificate_of_two (text_of_two c) ≡ Ok c }
+{}
+
+/// In version 2 the number of a form stands where version 1 has the form.
+pub fn forms_are_written_as_numbers()
+    ensures fact { (forms : FormTable) (f : Form Name) → numbered_line forms (FactItem f) ≡ codes "fact " ++ decimal (number_of forms f) }
+    ensures congruence { (forms : FormTable) (c : Congruence) → numbered_line forms (CongruenceItem c) ≡ codes "mod " ++ (decimal c.modulus ++ (codes " " ++ decimal (number_of forms c.form))) }
+    ensures bound { (forms : FormTable) (b : Bound) → numbered_line forms (BoundItem b) ≡ codes "loop " ++ (decimal b.loop ++ (codes " " ++ (descent_text b.descent ++ (codes " " ++ (signed_decimal b.most ++ (codes " " ++ decimal (number_of forms b.form))))))) }
+    ensures quotient { (forms : FormTable) (n : ℕ) (f : Form Name) → numbered_line forms (EntryItem n (Quotient f)) ≡ codes "ob " ++ (decimal n ++ (codes " " ++ (codes "quot " ++ decimal (number_of forms f)))) }
+{}
+
+/// A text of version 1 has a text of version 2 where it says a certificate, and where that is not too long it says the
+/// same.
+pub fn a_text_is_migrated()
+    ensures certificate { (text : List ℕ) (c : Certificate) → certificate_of text ≡ Ok c → migrated text ≡ Ok (text_of_two c) }
+    ensures fault { (text : List ℕ) (f : CertificateFault) → certificate_of text ≡ Err f → migrated text ≡ Err f }
+    ensures same { (text two : List ℕ) → migrated text ≡ Ok two → length two ≤ certificate_limit → certificate_of_two two ≡ certificate_of text }
+{}
+
+/// What texts of version 2 say, and the line at which they are at fault.
+pub fn texts_of_two_are_read()
+    ensures says { certificate_of_two (codes "certificate 2\nform -1*lid + 1*local.0 + 0\nform 1*lid + -1*local.0 + 0\nplace b3\nfact 1\nfact 2\nend\n") ≡ certificate_of (codes "certificate 1\nplace b3\nfact -1*lid + 1*local.0 + 0\nfact 1*lid + -1*local.0 + 0\nend\n") }
+    ensures exchanged { certificate_of_two (codes "certificate 2\nform -1*lid + 1*local.0 + 0\nform 1*lid + -1*local.0 + 0\nplace b3\nfact 2\nfact 1\nend\n") ≡ Err (BadLine 5) }
+    ensures unused { certificate_of_two (codes "certificate 2\nform -1*lid + 1*local.0 + 0\nform 1*lid + -1*local.0 + 0\nform 1\nplace b3\nfact 1\nfact 2\nend\n") ≡ Err (BadLine 4) }
+    ensures repeated { certificate_of_two (codes "certificate 2\nform 1*lid + -1*local.0 + 0\nform 1*lid + -1*local.0 + 0\nplace b3\nfact 1\nfact 2\nend\n") ≡ Err (BadLine 3) }
+    ensures nought { certificate_of_two (codes "certificate 2\nform 1\nplace b3\nfact 0\nend\n") ≡ Err (BadLine 4) }
+    ensures past { certificate_of_two (codes "certificate 2\nform 1\nplace b3\nfact 1\nfact 2\nend\n") ≡ Err (BadLine 5) }
+    ensures written_out { certificate_of_two (codes "certificate 2\nform 1\nplace b3\nfact 1*lid + 0\nend\n") ≡ Err (BadLine 4) }
+    ensures late { certificate_of_two (codes "certificate 2\nplace b3\nsame x\nform 1\nend\n") ≡ Err (BadLine 4) }
+    ensures early { certificate_of_two (codes "certificate 2\nform 1\n") ≡ Err (BadLine 3) }
+    ensures of_one { certificate_of_two (codes "certificate 1\nplace b3\nsame x\nend\n") ≡ Err OtherVersion }
+    ensures without { certificate_of_two (codes "certificate 2\nplace b3\nsame x\nend\n") ≡ certificate_of (codes "certificate 1\nplace b3\nsame x\nend\n") }
+    ensures shared { certificate_of_two (codes "certificate 2\nform 1*n + -1\nplace b3\nfact 1\nloop 3 down 1 64 1\nob 2 quot 1\ng 0\nend\n") ≡ certificate_of (codes "certificate 1\nplace b3\nfact 1*n + -1\nloop 3 down 1 64 1*n + -1\nob 2 quot 1*n + -1\ng 0\nend\n") }
+{}

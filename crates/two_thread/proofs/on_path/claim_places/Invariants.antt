@@ -1,0 +1,6 @@
+use Rattle.std.proofs.Common.{◌≡◌, ◌++◌, map, drop}
+use Rattle.two_thread.specs.Places.{rows, claim_count}
+use Rattle.two_thread.proofs.on_path.claim_places.Given as goal
+
+abbrev pub invariant-loop-i : goal.invariant-loop-i
+invariant-loop-i g l = l.found.items ++ rows l.i (map claim_count (drop l.i l.paths)) ≡ rows 0 (map claim_count l.paths)

@@ -1,6 +1,0 @@
-use Rattle.std.proofs.Common.{◌≡◌, ◌++◌, ◌-◌}
-use Rattle.two_thread.specs.Places.{row}
-use Rattle.two_thread.proofs.places.push_row.Given as goal
-
-abbrev pub invariant-loop-item : goal.invariant-loop-item
-invariant-loop-item l = l.found.items ++ row l.path l.item (l.count - l.item) ≡ l.fn.found.items ++ row l.path 0 l.count

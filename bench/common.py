@@ -1,4 +1,4 @@
-"""What the scripts of compare/ and measure/ have in common: where the repository and its programs are, and texts of random kernels."""
+"""What the scripts of compare/ and measure/ have in common: where the repository and its programs are, and texts of launches and certificates."""
 import os
 import re
 
@@ -21,3 +21,24 @@ def launch_text(typed, launch):
     lines += ["arg %s %d" % (name, launch.args[name]) for name in names if name in launch.args]
     lines += [" ".join(["buffer", name, "list", *map(str, launch.buffers[name])]) for name in names if name in launch.buffers]
     return "\n".join(lines + ["fill %d" % launch.fill]) + "\n"
+
+
+def certificate_lines(certificate):
+    """The lines of a certificate of version 2 between the first and the last, each with the form at its end, or none, apart."""
+    _, *texts, _ = certificate.splitlines()
+    forms = [it.removeprefix("form ") for it in texts if it.startswith("form ")]
+    lines = []
+    for text in texts[len(forms):]:
+        has_form = re.match("(fact|mod|loop) |ob [0-9]+ quot ", text)
+        front, number = text.rsplit(" ", 1) if has_form else (text, None)
+        lines.append((front, forms[int(number) - 1] if has_form else None))
+    return lines
+
+
+def certificate_text(lines, version):
+    """The text of such lines: of version 2 with a table of their forms, each once, in the order of first use."""
+    forms = list(dict.fromkeys(form for _, form in lines if form is not None))
+    told = {form: form if version == 1 else str(at) for at, form in enumerate(forms, 1)}
+    table = [f"form {it}" for it in forms] if version == 2 else []
+    rows = [front if form is None else f"{front} {told[form]}" for front, form in lines]
+    return "\n".join([f"certificate {version}", *table, *rows, "end", ""])

@@ -23,8 +23,9 @@ import time
 
 sys.path.insert(0, os.path.dirname(os.path.dirname(os.path.abspath(__file__))))
 from common import KVERIFY, ROOT, has_exit, launch_text
+from makers import HEAD, Guarded
 
-EMPTY = b"certificate 1\nend\n"
+EMPTY = b"certificate 2\nend\n"
 CHANGES = 3
 TIMES = 5
 # Seconds after which the independent program is given up: it makes a certificate for all but few kernels in less.
@@ -76,8 +77,7 @@ class Answers:
         import runner
         import tree
 
-        config.stage("b")
-        config.R15 = True
+        config.stage("e")
         self.check, self.config, self.fuzz, self.prove, self.tree = check, config, fuzz, prove, tree
         self.launch, self.runner = launch, runner
 
@@ -109,65 +109,6 @@ class Answers:
             return self.prove.verify(kernel, conditions, 1)[1]
         except self.config.Refused:
             return EMPTY
-
-
-class Guarded:
-    """Kernels that keep inside their buffers by their own tests, with each operator; most of them are shown."""
-
-    def __init__(self, rng):
-        self.rng = rng
-
-    def number(self):
-        return "%du" % self.rng.choice([0, 1, 2, 3, 5, 8, 63, 64, 1000, 65535, 4294967295])
-
-    def leaf(self):
-        names = ["g", "l", "n", "x", "y", "b[l]", "a[g]", "get_group_id(0)", "get_local_size(0)"]
-        return self.rng.choice([*names, self.number(), self.number()])
-
-    def value(self, depth):
-        rng = self.rng
-        if depth == 0 or rng.random() < 0.2:
-            return self.leaf()
-        x, y = self.value(depth - 1), self.value(depth - 1)
-        small = rng.randrange(1, 9)
-        return rng.choice([
-            f"({x} {rng.choice(['+', '-', '*', '&', '|', '^'])} {y})",
-            f"({x} {rng.choice(['/', '%'])} {small}u)",
-            f"({x} / ({y} % 7u + 1u))",
-            f"({x} & {2 ** small - 1}u)",
-            f"({x} {rng.choice(['<<', '>>'])} {small})",
-            f"{rng.choice(['min', 'max'])}({x}, {y})",
-            f"({self.test(depth - 1)} ? {x} : {y})",
-            f"{rng.choice(['-', '~', '!'])}{x}",
-            f"(uint)(int)({x} % {small}u)",
-        ])
-
-    def test(self, depth):
-        rng = self.rng
-        if depth == 0 or rng.random() < 0.6:
-            return f"{self.leaf()} {rng.choice(['<', '<=', '>', '>=', '==', '!='])} {self.leaf()}"
-        x, y = self.test(depth - 1), self.test(depth - 1)
-        return rng.choice([f"(({x}) && ({y}))", f"(({x}) || ({y}))", f"!({x})"])
-
-    def statement(self, depth):
-        rng = self.rng
-        if depth and rng.random() < 0.3:
-            return [f"if ({self.test(1)}) {{", *self.statement(depth - 1), "} else {", *self.statement(depth - 1), "}"]
-        change = f"y {rng.choice(['+', '-', '*', '|', '>>'])}= {rng.randrange(9)}u;"
-        return [rng.choice([f"x = {self.value(2)};", change, f"a[g] = {self.value(2)};"])]
-
-    def kernel(self):
-        rng = self.rng
-        size = rng.choice([1, 2, 4, 64])
-        body = ["uint g = get_global_id(0);", "uint l = get_local_id(0);", "uint x = 3u;", "uint y = n;", "if (g < n) {"]
-        for _ in range(rng.randrange(1, 4)):
-            body += self.statement(2)
-        body.append("}")
-        text = HEAD % (size, "__global uint *a, __global const uint *b, uint n") + "\n".join(body) + "\n}\n"
-        groups = rng.choice([1, 2, 16])
-        most = rng.choice([1, size * groups, 1000])
-        lines = f"arg n 1..{most}\nlength a >= n\nlength b >= {rng.choice([size, size, size - 1 or 1])}\nbudget 100\n"
-        return text, f"conditions 1\ngroups 1..{groups} 1..1 1..1\n" + lines
 
 
 def compare(folder, count, seed, exits):
@@ -264,9 +205,6 @@ def reductions(folder):
 
 
 # ---- the measurements
-
-HEAD = "__kernel __attribute__((reqd_work_group_size(%d, 1, 1))) void k(%s) {\n"
-
 
 def paths(tests):
     """So many tests that fork: two paths each."""

@@ -20,7 +20,7 @@ LIMIT = 4_194_304
 KEPT = 8
 KERNEL = "__kernel __attribute__((reqd_work_group_size(1, 1, 1))) void k(__global uint *a) {\n  a[0] = 1u;\n}\n"
 CONDITIONS = f"conditions 1\ngroups 1..1 1..1 1..1\nlength a >= {WORDS + 1}\nbudget 1\n"
-CERTIFICATE = "certificate 1\nend\n"
+CERTIFICATE = "certificate 2\nend\n"
 ANSWER = "refused 40 3\n"
 
 

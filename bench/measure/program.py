@@ -21,7 +21,7 @@ WITHIN = ("g 34\ng 39\ng 40\ns 64 1 1 2 1 3\n", "g 33\ng 39\ng 41\ns 64 1 1 2 1 
 ACROSS = ("g 10\ng 21\ng 33\ng 34\ns 1 1 1 2 64 3 1 4\n", "g 9\ng 22\ng 33\ng 35\ns 1 1 1 2 64 3 1 4\n")
 
 # The derivations of a fill under `length a >= 64*groups.0`: the index below the buffer's length, and no two items in an element.
-FILL_CERTIFICATE = """certificate 1
+FILL_CERTIFICATE = """certificate 2
 ob 2 show\ng 7\ng 10\ng 12\ng 21\ns 1 1 1 4\ns 1 2 1 5\nd 64 6\ns 1 3 1 7
 ob 3 show\ng 34\ng 39\ng 40\ns 64 1 1 3\ns 1 2 1 4
 ob 4 show\ng 33\ng 39\ng 41\ns 64 1 1 3\ns 1 2 1 4
@@ -48,7 +48,7 @@ def many(stores):
     return {
         "kernel": HEAD + "  a[get_global_id(0)] = 1u;\n" * stores + "}\n",
         "conditions": f"conditions 1\ngroups 1..1024 1..1 1..1\nlength a >= 65536\nbudget {stores}\n",
-        "certificate": "certificate 1\n" + "".join(entries) + "end\n",
+        "certificate": "certificate 2\n" + "".join(entries) + "end\n",
     }
 
 

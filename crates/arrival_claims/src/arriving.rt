@@ -74,7 +74,6 @@ fn congruences_at<'a, D: Domain>(
 
 /// Claims the facts, then the congruences, that are said of a place by its anchor and its loop.
 fn claim_lines<D: Domain>(
-    alloc: Global,
     placing: &Placing<'_, D>,
     path: &mut Path<D>,
     anchor: Option<u32>,
@@ -82,13 +81,12 @@ fn claim_lines<D: Domain>(
 ) -> Result<(), WalkError>
     ensures { MatchResult result (λ _. Steps (followed path.old) (followed path.new) (claims.claim_lines (placed D.Domain placing.now) anchor head)) (λ e. StopsAtStep (followed path.old) e (claims.claim_lines (placed D.Domain placing.now) anchor head)) }
 {
-    claim_facts(alloc, placing, path, facts_at(placing, anchor, head))?;
-    claim_congruences(alloc, placing, path, congruences_at(placing, anchor, head))
+    claim_facts(placing, path, facts_at(placing, anchor, head))?;
+    claim_congruences(placing, path, congruences_at(placing, anchor, head))
 }
 
 /// Claims what is said of the place that a path reaches, and notes the end; a path whose variables are not of their kinds is refused.
 fn arrive_at<D: Domain>(
-    alloc: Global,
     placing: &Placing<'_, D>,
     path: &mut Path<D>,
     anchor: Option<u32>,
@@ -99,10 +97,10 @@ fn arrive_at<D: Domain>(
     ensures { MatchResult result (λ _. Comes (followed path.old) (walking.arrive_at (placed D.Domain placing.now) anchor head (stop_seen stop) (turns_seen turns)) (followed path.new).found) (IsRefusedAt (followed path.old) (walking.arrive_at (placed D.Domain placing.now) anchor head (stop_seen stop) (turns_seen turns))) }
 {
     if !has_slots(placing, path) {
-        return refuse(alloc, path);
+        return refuse(placing.setting.alloc, path);
     }
-    claim_lines(alloc, placing, path, anchor, head)?;
-    path.arrive(alloc, stop, turns)?;
+    claim_lines(placing, path, anchor, head)?;
+    path.arrive(placing.setting.alloc, stop, turns)?;
     Ok(())
 }
 
@@ -121,7 +119,6 @@ fn end<D: Domain>(
 
 /// Claims what is said of the place or the end at which a path stops, and notes the end.
 pub fn stop<D: Domain>(
-    alloc: Global,
     placing: &Placing<'_, D>,
     path: &mut Path<D>,
     stop: Stop,
@@ -130,21 +127,11 @@ pub fn stop<D: Domain>(
     ensures { MatchResult result (λ _. Comes (followed path.old) (walking.stops (placed D.Domain placing.now) (stop_seen stop) (turns_seen turns)) (followed path.new).found) (IsRefusedAt (followed path.old) (walking.stops (placed D.Domain placing.now) (stop_seen stop) (turns_seen turns))) }
 {
     match stop {
-        Stop::Barrier(number) => {
-            arrive_at(alloc, placing, path, Some(number), None, stop, turns)
-        }
+        Stop::Barrier(number) => { arrive_at(placing, path, Some(number), None, stop, turns) }
         Stop::Head { number, again } => {
             let stop = Stop::Head { number, again };
-            arrive_at(
-                alloc,
-                placing,
-                path,
-                placing.anchor,
-                Some(number),
-                stop,
-                turns,
-            )
+            arrive_at(placing, path, placing.anchor, Some(number), stop, turns)
         }
-        Stop::End => end(alloc, path, turns),
+        Stop::End => end(placing.setting.alloc, path, turns),
     }
 }

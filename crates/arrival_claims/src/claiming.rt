@@ -15,7 +15,6 @@ use domain::Domain;
 use facts::WalkError;
 use linear::Form;
 use path_steps::{Goal, Path, Setting, Sort, settles};
-use std::alloc::Global;
 
 /// A claim that a form is at least 0 that is put together of others.
 pub fn claim_told<D: Domain>(
@@ -34,20 +33,18 @@ pub fn claim_told<D: Domain>(
 
 /// Claims that one fact of a place holds where the path comes there.
 fn claim_fact<D: Domain>(
-    alloc: Global,
     placing: &Placing<'_, D>,
     path: &mut Path<D>,
     fact: &Form,
 ) -> Result<(), WalkError>
     ensures { MatchResult result (λ _. Steps (followed path.old) (followed path.new) (claims.claim_fact (placed D.Domain placing.now) (form_seen fact.now))) (λ e. StopsAtStep (followed path.old) e (claims.claim_fact (placed D.Domain placing.now) (form_seen fact.now))) }
 {
-    let told = replaced(alloc, placing, path, fact)?;
+    let told = replaced(placing, path, fact)?;
     claim_told(placing.setting, path, Sort::OfFact, told.made, told.form)
 }
 
 /// Claims that each of a place's facts holds where the path comes there, one after another.
 pub fn claim_facts<D: Domain>(
-    alloc: Global,
     placing: &Placing<'_, D>,
     path: &mut Path<D>,
     facts: &[Form],
@@ -55,7 +52,7 @@ pub fn claim_facts<D: Domain>(
     ensures { MatchResult result (λ _. Steps (followed path.old) (followed path.new) (walking.claim_facts (placed D.Domain placing.now) (forms facts.now))) (λ e. StopsAtStep (followed path.old) e (walking.claim_facts (placed D.Domain placing.now) (forms facts.now))) }
 {
     for fact in facts {
-        claim_fact(alloc, placing, path, fact)?;
+        claim_fact(placing, path, fact)?;
     }
     Ok(())
 }

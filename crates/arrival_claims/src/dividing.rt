@@ -178,50 +178,49 @@ pub fn times(alloc: Global, number: u64, form: &Form) -> Result<Form, WalkError>
 
 #[tactic(auto, unfolding(path_steps::specs::View::followed, crate::specs::View::placed))]
 /// The quotient that the entry of the next claim names.
-fn next_quotient<D: Domain>(
-    alloc: Global,
-    placing: &Placing<'_, D>,
-    path: &Path<D>,
-) -> Result<Form, WalkError>
+fn next_quotient<D: Domain>(placing: &Placing<'_, D>, path: &Path<D>) -> Result<Form, WalkError>
     ensures { MatchResult result (λ f. form_seen f ≡ (placed D.Domain placing.now).notes.quotient ((followed path.now).state.claims + 1)) IsMemory }
 {
     let claim = path.count as u64 + 1;
     match quotient_of(placing.notes.quotients.as_slice(), claim) {
-        Some(form) => copied(alloc, form),
-        None => Ok(Form::constant(alloc, 0)),
+        Some(form) => copied(placing.setting.alloc, form),
+        None => Ok(Form::constant(placing.setting.alloc, 0)),
     }
 }
 
 /// The product of the modulus and the quotient that the entry of the next claim names.
 fn next_product<D: Domain>(
-    alloc: Global,
     placing: &Placing<'_, D>,
     path: &Path<D>,
     modulus: u64,
 ) -> Result<Form, WalkError>
     ensures { MatchResult result (λ f. form_seen f ≡ multiple (pos modulus) ((placed D.Domain placing.now).notes.quotient ((followed path.now).state.claims + 1))) (λ e. IsUnfit e (multiple (pos modulus) ((placed D.Domain placing.now).notes.quotient ((followed path.now).state.claims + 1)))) }
 {
-    let quotient = next_quotient(alloc, placing, path)?;
-    times(alloc, modulus, &quotient)
+    let quotient = next_quotient(placing, path)?;
+    times(placing.setting.alloc, modulus, &quotient)
 }
 
 /// Claims that one congruence of a place holds where the path comes there.
 fn claim_congruence<D: Domain>(
-    alloc: Global,
     placing: &Placing<'_, D>,
     path: &mut Path<D>,
     congruence: &Congruence,
 ) -> Result<(), WalkError>
     ensures { MatchResult result (λ _. Steps (followed path.old) (followed path.new) (claims.claim_congruence (placed D.Domain placing.now) (congruence_seen congruence.now))) (λ e. StopsAtStep (followed path.old) e (claims.claim_congruence (placed D.Domain placing.now) (congruence_seen congruence.now))) }
 {
-    let told = replaced(alloc, placing, path, &congruence.form)?;
-    let product = next_product(alloc, placing, path, congruence.modulus)?;
-    claim_divided(alloc, path, congruence.modulus, told, &product)
+    let told = replaced(placing, path, &congruence.form)?;
+    let product = next_product(placing, path, congruence.modulus)?;
+    claim_divided(
+        placing.setting.alloc,
+        path,
+        congruence.modulus,
+        told,
+        &product,
+    )
 }
 
 /// Claims that each of a place's congruences holds where the path comes there, one after another.
 pub fn claim_congruences<D: Domain>(
-    alloc: Global,
     placing: &Placing<'_, D>,
     path: &mut Path<D>,
     congruences: &[Congruence],
@@ -229,7 +228,7 @@ pub fn claim_congruences<D: Domain>(
     ensures { MatchResult result (λ _. Steps (followed path.old) (followed path.new) (walking.claim_congruences (placed D.Domain placing.now) (map congruence_seen congruences.now))) (λ e. StopsAtStep (followed path.old) e (walking.claim_congruences (placed D.Domain placing.now) (map congruence_seen congruences.now))) }
 {
     for congruence in congruences {
-        claim_congruence(alloc, placing, path, congruence)?;
+        claim_congruence(placing, path, congruence)?;
     }
     Ok(())
 }

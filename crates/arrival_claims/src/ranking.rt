@@ -43,29 +43,25 @@ pub fn stand_before<D: Domain>(path: &mut Path<D>, statement: u32)
 
 #[tactic(auto, unfolding(crate::specs::View::placed))]
 /// The form that ranks a loop; 0 where none is said.
-fn loop_form<D: Domain>(
-    alloc: Global,
-    placing: &Placing<'_, D>,
-    number: u32,
-) -> Result<Form, WalkError>
+fn loop_form<D: Domain>(placing: &Placing<'_, D>, number: u32) -> Result<Form, WalkError>
     ensures { MatchResult result (λ f. form_seen f ≡ ((placed D.Domain placing.now).notes.ranking number).form) IsMemory }
 {
     match ranking_of(placing.notes.rankings.as_slice(), number) {
-        Some(Bound::Down { form, .. }) => copied(alloc, form),
-        Some(Bound::Halving { form, .. }) => copied(alloc, form),
-        None => Ok(Form::constant(alloc, 0)),
+        Some(Bound::Down { form, .. }) => copied(placing.setting.alloc, form),
+        Some(Bound::Halving { form, .. }) => copied(placing.setting.alloc, form),
+        None => Ok(Form::constant(placing.setting.alloc, 0)),
     }
 }
 
 #[tactic(auto, unfolding(crate::specs::View::placed))]
 /// The number that a loop's ranking is at most where the loop opens; 0 where nothing is said of the loop.
-fn most_of<D: Domain>(alloc: Global, placing: &Placing<'_, D>, number: u32) -> Form
+fn most_of<D: Domain>(placing: &Placing<'_, D>, number: u32) -> Form
     ensures { form_seen result ≡ constant (notes.most ((placed D.Domain placing.now).notes.ranking number).bound) }
 {
     match ranking_of(placing.notes.rankings.as_slice(), number) {
-        Some(Bound::Down { most, .. }) => Form::constant(alloc, *most),
-        Some(Bound::Halving { most, .. }) => Form::constant(alloc, *most),
-        None => Form::constant(alloc, 0),
+        Some(Bound::Down { most, .. }) => Form::constant(placing.setting.alloc, *most),
+        Some(Bound::Halving { most, .. }) => Form::constant(placing.setting.alloc, *most),
+        None => Form::constant(placing.setting.alloc, 0),
     }
 }
 
@@ -83,29 +79,27 @@ fn step_of<D: Domain>(placing: &Placing<'_, D>, number: u32) -> Option<u64>
 
 /// The ranking of a loop, in the terms of the path.
 fn rank_on<D: Domain>(
-    alloc: Global,
     placing: &Placing<'_, D>,
     path: &Path<D>,
     number: u32,
 ) -> Result<PathForm, WalkError>
     ensures { MatchResult result (IsReplaced (walking.on_path (placed D.Domain placing.now) (followed path.now).state) ((placed D.Domain placing.now).notes.ranking number).form) (λ e. AreUnfit e (made_by (walking.on_path (placed D.Domain placing.now) (followed path.now).state) ((placed D.Domain placing.now).notes.ranking number).form)) }
 {
-    let form = loop_form(alloc, placing, number)?;
-    replaced(alloc, placing, path, &form)
+    let form = loop_form(placing, number)?;
+    replaced(placing, path, &form)
 }
 
 /// Claims that a loop's ranking is at most what is said, where the loop opens.
 fn claim_opened<D: Domain>(
-    alloc: Global,
     placing: &Placing<'_, D>,
     path: &mut Path<D>,
     number: u32,
 ) -> Result<(), WalkError>
     ensures { MatchResult result (λ _. Steps (followed path.old) (followed path.new) (claims.claim_opened (placed D.Domain placing.now) number)) (λ e. StopsAtStep (followed path.old) e (claims.claim_opened (placed D.Domain placing.now) number)) }
 {
-    let told = rank_on(alloc, placing, path, number)?;
-    let most = most_of(alloc, placing, number);
-    let form = difference(alloc, &most, &told.form)?;
+    let told = rank_on(placing, path, number)?;
+    let most = most_of(placing, number);
+    let form = difference(placing.setting.alloc, &most, &told.form)?;
     claim_told(placing.setting, path, Sort::OfRanking, told.made, form)
 }
 
@@ -176,33 +170,31 @@ fn left_by(
 
 /// Claims that a loop's ranking has fallen in a turn: by the step at least, or to a half at most.
 fn claim_fallen<D: Domain>(
-    alloc: Global,
     placing: &Placing<'_, D>,
     path: &mut Path<D>,
     number: u32,
 ) -> Result<(), WalkError>
     ensures { MatchResult result (λ _. Steps (followed path.old) (followed path.new) (claims.claim_fallen (placed D.Domain placing.now) number)) (λ e. StopsAtStep (followed path.old) e (claims.claim_fallen (placed D.Domain placing.now) number)) }
 {
-    let told = rank_on(alloc, placing, path, number)?;
-    let before = rank_now(alloc, path, number as u64)?;
+    let told = rank_on(placing, path, number)?;
+    let before = rank_now(placing.setting.alloc, path, number as u64)?;
     let step = step_of(placing, number);
-    let way = way_by(alloc, step, &before, &told.form)?;
-    let form = left_by(alloc, step, &before, &told.form, &way)?;
-    let made = with_product(alloc, told.made, &way)?;
+    let way = way_by(placing.setting.alloc, step, &before, &told.form)?;
+    let form = left_by(placing.setting.alloc, step, &before, &told.form, &way)?;
+    let made = with_product(placing.setting.alloc, told.made, &way)?;
     claim_told(placing.setting, path, Sort::OfRanking, made, form)
 }
 
 /// Claims that a loop's ranking is above 0 where the loop's test was true, and notes its value there.
 fn claim_entered<D: Domain>(
-    alloc: Global,
     placing: &Placing<'_, D>,
     path: &mut Path<D>,
     number: u32,
 ) -> Result<(), WalkError>
     ensures { MatchResult result (λ _. Steps (followed path.old) (followed path.new) (claims.claim_entered (placed D.Domain placing.now) number)) (λ e. StopsAtStep (followed path.old) e (claims.claim_entered (placed D.Domain placing.now) number)) }
 {
-    let told = rank_on(alloc, placing, path, number)?;
-    let form = less_number(alloc, &told.form, 1)?;
+    let told = rank_on(placing, path, number)?;
+    let form = less_number(placing.setting.alloc, &told.form, 1)?;
     claim_told(placing.setting, path, Sort::OfRanking, told.made, form)?;
     path.rank(number, told.form)?;
     Ok(())
@@ -210,7 +202,6 @@ fn claim_entered<D: Domain>(
 
 /// A path comes to a loop's test: the loop opens, or has turned.
 pub fn arrive<D: Domain>(
-    alloc: Global,
     placing: &Placing<'_, D>,
     path: &mut Path<D>,
     number: u32,
@@ -220,15 +211,14 @@ pub fn arrive<D: Domain>(
 {
     stand_before(path, number);
     if again {
-        claim_fallen(alloc, placing, path, number)
+        claim_fallen(placing, path, number)
     } else {
-        claim_opened(alloc, placing, path, number)
+        claim_opened(placing, path, number)
     }
 }
 
 /// Enters a turn of a loop whose test was true: its ranking is claimed to be above 0 there.
 pub fn enter<D: Domain>(
-    alloc: Global,
     placing: &Placing<'_, D>,
     path: &mut Path<D>,
     number: u32,
@@ -236,5 +226,5 @@ pub fn enter<D: Domain>(
     ensures { MatchResult result (λ _. Steps (followed path.old) (followed path.new) (walking.enter (placed D.Domain placing.now) number)) (λ e. StopsAtStep (followed path.old) e (walking.enter (placed D.Domain placing.now) number)) }
 {
     stand_before(path, number);
-    claim_entered(alloc, placing, path, number)
+    claim_entered(placing, path, number)
 }

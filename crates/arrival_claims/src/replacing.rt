@@ -27,16 +27,11 @@ pub struct PathForm {
 }
 
 /// A term with its symbol's value on the path in place of the symbol.
-fn part<D: Domain>(
-    alloc: Global,
-    placing: &Placing<'_, D>,
-    path: &Path<D>,
-    term: Term,
-) -> Result<Form, WalkError>
+fn part<D: Domain>(placing: &Placing<'_, D>, path: &Path<D>, term: Term) -> Result<Form, WalkError>
     ensures { MatchResult result (λ f. form_seen f ≡ multiple (term_seen term).coefficient (on_path (placed D.Domain placing.now) (followed path.now).state (term_seen term).symbol)) (λ e. IsUnfit e (multiple (term_seen term).coefficient (on_path (placed D.Domain placing.now) (followed path.now).state (term_seen term).symbol))) }
 {
-    let form = symbol_form(alloc, placing, path, term.symbol)?;
-    let part = form.times(alloc, term.coefficient)?;
+    let form = symbol_form(placing, path, term.symbol)?;
+    let part = form.times(placing.setting.alloc, term.coefficient)?;
     Ok(part)
 }
 
@@ -63,18 +58,17 @@ fn added(alloc: Global, made: &mut Vec<Form>, so_far: &Form, part: Form) -> Resu
 
 /// The constant, then the terms in their order.
 pub fn replaced<D: Domain>(
-    alloc: Global,
     placing: &Placing<'_, D>,
     path: &Path<D>,
     form: &Form,
 ) -> Result<PathForm, WalkError>
     ensures { MatchResult result (IsReplaced (on_path (placed D.Domain placing.now) (followed path.now).state) (form_seen form.now)) (λ e. AreUnfit e (made_by (on_path (placed D.Domain placing.now) (followed path.now).state) (form_seen form.now))) }
 {
-    let mut made = Vec::new(alloc);
-    let mut so_far = Form::constant(alloc, form.constant_part());
+    let mut made = Vec::new(placing.setting.alloc);
+    let mut so_far = Form::constant(placing.setting.alloc, form.constant_part());
     for term in form.terms() {
-        let part = part(alloc, placing, path, *term)?;
-        so_far = added(alloc, &mut made, &so_far, part)?;
+        let part = part(placing, path, *term)?;
+        so_far = added(placing.setting.alloc, &mut made, &so_far, part)?;
     }
     Ok(PathForm { made, form: so_far })
 }

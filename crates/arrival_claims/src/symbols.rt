@@ -141,7 +141,6 @@ fn anchor_form(
 #[tactic(auto, unfolding(crate::specs::View::placed), using(crate::proofs::OnPaths::on_paths))]
 /// The value of a place's symbol on the path, as a form.
 pub fn symbol_form<D: Domain>(
-    alloc: Global,
     placing: &Placing<'_, D>,
     path: &Path<D>,
     symbol: Symbol,
@@ -150,11 +149,17 @@ pub fn symbol_form<D: Domain>(
 {
     let index = symbol.number / 16;
     match Family::of(symbol) {
-        Family::Variable(Side::First) => variable_form(alloc, path, index),
+        Family::Variable(Side::First) => variable_form(placing.setting.alloc, path, index),
         Family::AtAnchor(Side::First) => {
-            anchor_form(alloc, placing.core, placing.anchor, placing.head, index)
+            anchor_form(
+                placing.setting.alloc,
+                placing.core,
+                placing.anchor,
+                placing.head,
+                index,
+            )
         }
-        Family::Turns(Side::First) => rank_now(alloc, path, index),
-        family => once_of(alloc, family, index),
+        Family::Turns(Side::First) => rank_now(placing.setting.alloc, path, index),
+        family => once_of(placing.setting.alloc, family, index),
     }
 }

@@ -15,6 +15,8 @@ mod gate_tests;
 #[cfg(test)]
 mod interval_tests;
 #[cfg(test)]
+mod known_bits_tests;
+#[cfg(test)]
 mod linear_tests;
 #[cfg(test)]
 mod lines_tests;

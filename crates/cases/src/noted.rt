@@ -114,7 +114,7 @@ fn push_said(
     places: &[Place<'_>],
     text: &[u8],
 ) -> Result<(), AllocError> {
-    match certificate::read(alloc, text) {
+    match certificate::read_any(alloc, text) {
         Ok(certificate) => push_named(alloc, out, typed, places, &certificate),
         Err(error) => writeln!(out, "refused {}", error.number()),
     }

@@ -13,7 +13,7 @@ use crate::noted::{push_placed, push_site};
 use crate::play::{push_found, push_played};
 use crate::spots::push_parsed;
 use certificate::error::CertError;
-use certificate::{Certificate, read, write};
+use certificate::{Certificate, read_any, write, write_one};
 use launch::launches::Launch;
 use launch_text::read_launch;
 use lexer::{Token, lex};
@@ -141,16 +141,21 @@ fn push_written(
     alloc: Global,
     out: &mut String,
     certificate: &Certificate,
+    read: &[u8],
 ) -> Result<(), AllocError> {
-    let bytes = write(alloc, certificate)?;
+    let bytes = if read.starts_with(b"certificate 2\n") {
+        write(alloc, certificate)?
+    } else {
+        write_one(alloc, certificate)?
+    };
     let text = String::from_utf8_lossy(alloc, &bytes)?;
     out.push_str(&text)
 }
 
-/// A certificate, read and written back.
+/// A certificate, read and written back in its version.
 fn push_certificate(alloc: Global, out: &mut String, text: &[u8]) -> Result<(), AllocError> {
-    match read(alloc, text) {
-        Ok(certificate) => push_written(alloc, out, &certificate),
+    match read_any(alloc, text) {
+        Ok(certificate) => push_written(alloc, out, &certificate, text),
         Err(error) => push_refused(out, &error),
     }
 }

@@ -6,3 +6,4 @@ pub mod Sizes
 pub mod Unshown
 pub mod Stopped
 pub mod Plainly
+pub mod Alike

@@ -4,7 +4,7 @@ use Rattle.std.specs.Prelude.{Ok}
 use Rattle.semantics.specs.Conditions.{Conditions}
 use Rattle.certificate_text.specs.Certificate.{Certificate}
 use Rattle.texts.specs.ConditionsReading.{Lined, conditions_of, meant}
-use Rattle.certificate_text.specs.Reading.{certificate_of}
+use Rattle.certificate_text.specs.Versions.{certificate_in}
 use Rattle.syntax.specs.View.{kernel as tree_seen}
 use Rattle.syntax.specs.declared.tree.Kernel.{Kernel}
 use Rattle.core_code.specs.View.{kernel as core_seen}
@@ -18,7 +18,7 @@ use Rattle.cert_check.specs.declared.error.CheckError.{CheckError}
 use Rattle.cert_check.specs.declared.error.CheckError.TheVariants as errors
 
 -- what is not shown, as it is told of the source
-module _ (typed : Kernel × Core) (c : Conditions) (certificate : List ℕ) (cert : Certificate) (met : AreMet typed) (is : certificate_of certificate ≡ Ok cert) where
+module _ (typed : Kernel × Core) (c : Conditions) (certificate : List ℕ) (cert : Certificate) (met : AreMet typed) (is : certificate_in certificate ≡ Ok cert) where
   abbrev Has : CheckError → Type 0
   Has e = Stops typed c certificate e
 

@@ -5,7 +5,7 @@ use Rattle.semantics.specs.Launch as semantics
 use Rattle.semantics.specs.Conditions.{Conditions}
 use Rattle.certificate_text.specs.Certificate.{Certificate}
 use Rattle.texts.specs.Surface as surface
-use Rattle.certificate_text.specs.Reading.{certificate_of}
+use Rattle.certificate_text.specs.Versions.{certificate_in}
 use Rattle.syntax.specs.View.{kernel as tree_seen}
 use Rattle.syntax.specs.declared.tree.Kernel.{Kernel}
 use Rattle.core_code.specs.View.{kernel as core_seen, site as site_seen}
@@ -66,6 +66,6 @@ abbrev pub Stops : Kernel × Core → Conditions → (certificate : List ℕ) �
 Stops typed c certificate (errors.Kernel e) = ⊥
 Stops typed c certificate (errors.Conditions e) = e ≡ launches.Memory
 Stops typed c certificate (errors.Missed site) = (loop : ℕ) × (unmet (core_seen typed.1).body ≡ Some loop) × (site_seen site ≡ site_at (tree_seen typed.0) (Some loop))
-Stops typed c certificate (errors.Certificate e) = AreMet typed × Says (Err e) (certificate_of certificate)
-Stops typed c certificate (errors.ManyPaths site) = (cert : Certificate) × AreMet typed × (certificate_of certificate ≡ Ok cert) × HasManyPathsAt site typed c cert
-Stops typed c certificate (errors.Show e) = (cert : Certificate) × AreMet typed × (certificate_of certificate ≡ Ok cert) × Shows (core_seen typed.1) (tree_seen typed.0) c cert e
+Stops typed c certificate (errors.Certificate e) = AreMet typed × Says (Err e) (certificate_in certificate)
+Stops typed c certificate (errors.ManyPaths site) = (cert : Certificate) × AreMet typed × (certificate_in certificate ≡ Ok cert) × HasManyPathsAt site typed c cert
+Stops typed c certificate (errors.Show e) = (cert : Certificate) × AreMet typed × (certificate_in certificate ≡ Ok cert) × Shows (core_seen typed.1) (tree_seen typed.0) c cert e

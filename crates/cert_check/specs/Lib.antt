@@ -1,6 +1,7 @@
 pub mod Accepting
 pub mod View
 pub mod Refusing
+pub mod Alike
 pub mod Plainly
 pub mod Checked
 pub mod Numbers

@@ -4,7 +4,7 @@ use Rattle.semantics.specs.Launch as semantics
 use Rattle.semantics.specs.Conditions.{Conditions}
 use Rattle.certificate_text.specs.Certificate.{Certificate}
 use Rattle.texts.specs.ConditionsReading.{Lined, meant}
-use Rattle.certificate_text.specs.Reading.{certificate_of}
+use Rattle.certificate_text.specs.Versions.{certificate_in}
 use Rattle.texts.specs.Surface as surface
 use Rattle.syntax.specs.View.{kernel as tree_seen}
 use Rattle.syntax.specs.declared.tree.Kernel.{Kernel}
@@ -54,7 +54,7 @@ IsNotPlain kernel conditions = (typed : Kernel × Core) × (found : Lined) × Ar
 -- the texts are read, and where the kernel is plain the error tells this of it
 abbrev pub OnPlain : Result Accepted CheckError → (kernel conditions certificate : List ℕ) → Type 0
 OnPlain (Err (errors.Show e)) kernel conditions certificate =
-    (typed : Kernel × Core) × (found : Lined) × (cert : Certificate) × AreRead typed found kernel conditions × (certificate_of certificate ≡ Ok cert)
+    (typed : Kernel × Core) × (found : Lined) × (cert : Certificate) × AreRead typed found kernel conditions × (certificate_in certificate ≡ Ok cert)
     × (IsPlain (core_seen typed.1) (meant found) → TellsPlain (core_seen typed.1) (tree_seen typed.0) (meant found) cert e)
 OnPlain (Err (errors.Missed site)) kernel conditions certificate = IsNotPlain kernel conditions
 OnPlain (Err (errors.ManyPaths site)) kernel conditions certificate = IsNotPlain kernel conditions

@@ -5,7 +5,7 @@ use Rattle.semantics.specs.Conditions.{Conditions}
 use Rattle.certificate_text.specs.Certificate.{Certificate}
 use Rattle.texts.specs.Surface as surface
 use Rattle.texts.specs.ConditionsReading.{Lined, conditions_of, meant}
-use Rattle.certificate_text.specs.Reading as certificates
+use Rattle.certificate_text.specs.Versions as certificates
 use Rattle.syntax.specs.View.{kernel as tree_seen}
 use Rattle.syntax.specs.declared.tree.Kernel.{Kernel}
 use Rattle.core_code.specs.View.{kernel as core_seen}
@@ -60,7 +60,7 @@ AreMet typed = unmet (core_seen typed.1).body ≡ None
 
 -- the kernel and the conditions are read, the kernel's barriers are met, and the certificate is read
 abbrev pub AllRead : Kernel × Core → Lined → Certificate → (kernel conditions certificate : List ℕ) → Type 0
-AllRead typed found cert kernel conditions certificate = AreRead typed found kernel conditions × AreMet typed × (certificates.certificate_of certificate ≡ Ok cert)
+AllRead typed found cert kernel conditions certificate = AreRead typed found kernel conditions × AreMet typed × (certificates.certificate_in certificate ≡ Ok cert)
 
 -- over 256 paths come to an end from a place whose statement begins there
 abbrev pub HasManyPathsAt : Site → Kernel × Core → Conditions → Certificate → Type 0
@@ -72,7 +72,7 @@ Refuses (errors.Kernel e) kernel conditions certificate = reading.Refuses e (rea
 Refuses (errors.Conditions e) kernel conditions certificate = (typed : Kernel × Core) × IsRead typed kernel × launches.Refuses e (conditions_of (tree_seen typed.0).parameters conditions)
 Refuses (errors.Missed site) kernel conditions certificate =
     (typed : Kernel × Core) × (found : Lined) × (loop : ℕ) × AreRead typed found kernel conditions × (unmet (core_seen typed.1).body ≡ Some loop) × (site_seen site ≡ site_at (tree_seen typed.0) (Some loop))
-Refuses (errors.Certificate e) kernel conditions certificate = (typed : Kernel × Core) × (found : Lined) × AreRead typed found kernel conditions × AreMet typed × Says (Err e) (certificates.certificate_of certificate)
+Refuses (errors.Certificate e) kernel conditions certificate = (typed : Kernel × Core) × (found : Lined) × AreRead typed found kernel conditions × AreMet typed × Says (Err e) (certificates.certificate_in certificate)
 Refuses (errors.ManyPaths site) kernel conditions certificate = (typed : Kernel × Core) × (found : Lined) × (cert : Certificate) × AllRead typed found cert kernel conditions certificate × HasManyPathsAt site typed (meant found) cert
 Refuses (errors.Show e) kernel conditions certificate = (typed : Kernel × Core) × (found : Lined) × (cert : Certificate) × AllRead typed found cert kernel conditions certificate × Shows (core_seen typed.1) (tree_seen typed.0) (meant found) cert e
 
@@ -84,4 +84,4 @@ Tells (Err e) kernel conditions certificate = Refuses e kernel conditions certif
 -- the check
 abbrev pub IsPassed : Kernel × Core → Conditions → (certificate : List ℕ) → Type 0
 IsPassed typed c certificate =
-    AreMet typed × (cert : Certificate) × (n : Notes) × (certificates.certificate_of certificate ≡ Ok cert) × IsSaid (core_seen typed.1) (tree_seen typed.0) cert n × PassesOf domain (core_seen typed.1) c n cert.entries
+    AreMet typed × (cert : Certificate) × (n : Notes) × (certificates.certificate_in certificate ≡ Ok cert) × IsSaid (core_seen typed.1) (tree_seen typed.0) cert n × PassesOf domain (core_seen typed.1) c n cert.entries

@@ -12,6 +12,7 @@ ghost use Rattle.places.specs.Answers.{IsRefused};
 ghost use Rattle.reading.specs.Kernels.{read};
 ghost use Rattle.reading.specs.Answers.{kernel_seen};
 ghost use Rattle.cert_check.specs.Accepting.{IsAccepted, HasHeadline};
+ghost use Rattle.cert_check.specs.Alike.{AreAlike, HoldsOf};
 ghost use Rattle.cert_check.specs.Checked.{AllIsShown, IsTold, Stops};
 ghost use Rattle.cert_check.specs.Refusing.{IsPassed, Tells};
 ghost use Rattle.cert_check.specs.Plainly.{OnPlain};
@@ -20,9 +21,8 @@ ghost use Rattle.cert_check.specs.View.{typed_of, kept};
 use crate::accepted::Accepted;
 use crate::error::CheckError;
 use crate::showing::show;
-use domain::congruence::Congruence;
-use domain::interval::Interval;
-use domain::product::Product;
+use certificate_text::laws::either_version_is_read;
+use domain::Elements;
 use entry_check::ShowError;
 use launch::conditions::Conditions;
 use launch_text::error::LaunchTextError;
@@ -82,7 +82,7 @@ fn accept(
         Ok(places) => places,
         Err(error) => return Err(unplaced(typed, error)),
     };
-    let certificate = match certificate::read(alloc, certificate) {
+    let certificate = match certificate::read_any(alloc, certificate) {
         Ok(certificate) => certificate,
         Err(error) => return Err(CheckError::Certificate(error)),
     };
@@ -96,7 +96,8 @@ fn accept(
 /// A kernel, launch conditions and a certificate, each by its text. What is accepted is pair-safe at each launch that meets the
 /// conditions, and the headline holds there. What is refused first, in this order: the kernel, the conditions, a loop whose barrier an
 /// iteration can miss, the certificate's text, what it tells of that the kernel lacks, over 256 paths of a place, over 65,536 obligations
-/// or a number that is too large, the obligations by their numbers, entries past the last of them, the budget.
+/// or a number that is too large, the obligations by their numbers, entries past the last of them, the budget. A certificate of version 1
+/// and the same in version 2 have the same answer, want of memory aside.
 pub fn check(
     alloc: Global,
     kernel: &[u8],
@@ -108,9 +109,12 @@ pub fn check(
     ensures passed { IfOk result (λ a. IsPassed (typed_of a) (conditions_seen (kept a)) certificate.now) }
     ensures refused { Tells result kernel.now conditions.now certificate.now }
     ensures plain { OnPlain result kernel.now conditions.now certificate.now }
+    ensures two { (two : List ℕ) → AreAlike certificate.now two → HoldsOf result kernel.now conditions.now two }
+    ensures one { (one : List ℕ) → AreAlike one certificate.now → HoldsOf result kernel.now conditions.now one }
     ensures pair { IfOk result (λ a. IsAccepted (core_seen (typed_of a).1) (conditions_seen (kept a))) }
     ensures headline { IfOk result (λ a. HasHeadline (core_seen (typed_of a).1) (conditions_seen (kept a))) }
 {
+    either_version_is_read();
     plain_kernels_have_one_place();
     forms_of_plain_kernels_fit();
     ranges_of_plain_kernels_are_settled();
@@ -130,6 +134,6 @@ pub fn check(
     headline();
     what_is_read_is_proper();
     what_is_read_is_orderly();
-    what_is_read_and_shown_is_pair_safe::<Product<Interval, Congruence>>();
+    what_is_read_and_shown_is_pair_safe::<Elements>();
     Ok(Accepted::of(typed, conditions))
 }

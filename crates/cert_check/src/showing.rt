@@ -19,9 +19,7 @@ use certificate::Certificate;
 use certificate::tree::Entry;
 use certificate_notes::{NamesError, notes_of};
 use core_code::tree::Core;
-use domain::congruence::Congruence;
-use domain::interval::Interval;
-use domain::product::Product;
+use domain::Elements;
 use entry_check::{ShowError, show_all};
 use launch::conditions::Conditions;
 use loop_bounds::cost;
@@ -59,7 +57,7 @@ fn show_noted(
     ensures lacks { IfErr result (TellsOf domain (core_seen core.now) (conditions_seen conditions.now) (seen notes.now []) (map entry_seen entries.now)) }
 {
     noted_rankings_are_limits(notes);
-    show_all::<Product<Interval, Congruence>>(alloc, core, conditions, notes, places, entries)?;
+    show_all::<Elements>(alloc, core, conditions, notes, places, entries)?;
     if is_over(core, notes, conditions.budget) {
         return Err(ShowError::OverBudget);
     }

@@ -2,5 +2,11 @@ pub mod Answers
 pub mod Certificates
 pub mod Drafts
 pub mod Items
+pub mod Migrations
+pub mod NumberedLines
+pub mod Numbers
+pub mod Spelt
+pub mod Tables
+pub mod UsedForms
 pub mod View
 pub mod WordAnswers

@@ -167,6 +167,7 @@ fn sum(alloc: Global, words: Pieces<'_>) -> Result<Step, LineError>
     if parts.is_empty() {
         return Err(LineError::Bad);
     }
+    parts.shrink_to_fit();
     Ok(Step::Sum(parts))
 }
 

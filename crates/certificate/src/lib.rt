@@ -1,25 +1,38 @@
-//! Section: Gate. Promises exactly the certificate of a text, and the text of a certificate; stands on `texts` and `lines`.
+//! Section: Gate. Promises exactly the certificate of a text, and the text of a certificate, in both versions; stands on `texts` and
+//! `lines`.
 //!
-//! Certificates as trees, and what may stand behind what in them; their words, their lines, and their whole text.
+//! Certificates as trees, and what may stand behind what in them; their words, their lines, and their whole texts.
 #![tactic(auto)]
 
 mod certificate;
+mod copies;
 pub mod draft;
+mod either_reader;
 mod entries;
 pub mod error;
+pub mod form_table;
 pub mod item;
 pub mod line_error;
+mod migration;
 pub mod name;
+pub mod numbered_reader;
+mod numbered_writer;
+pub mod numbers;
 pub mod order;
 pub mod part_writer;
 mod proper;
 mod reader;
 pub mod rules;
 pub mod spelling;
+mod tabling;
 pub mod tree;
 pub mod word;
 mod writer;
 
 pub use certificate::Certificate;
-pub use reader::{LIMIT, read};
-pub use writer::write;
+pub use either_reader::read_any;
+pub use migration::migrate;
+pub use numbered_reader::read;
+pub use numbered_writer::write;
+pub use reader::{LIMIT, read_one};
+pub use writer::write_one;

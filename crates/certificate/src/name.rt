@@ -118,6 +118,7 @@ pub fn form(alloc: Global, words: Pieces<'_>) -> Result<Form, LineError>
     let mut rest = words;
     while let Some((word, others)) = rest.next() {
         let Some((sign, others)) = others.next() else {
+            terms.shrink_to_fit();
             return constant(terms, word);
         };
         let Some((coefficient, spelling)) = Pieces::of(word, b'*').two() else {

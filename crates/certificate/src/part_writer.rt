@@ -23,7 +23,7 @@ fn push_term(out: &mut String, term: &Term) -> Result<(), AllocError>
 }
 
 #[tactic(auto, using(crate::proofs::Texts::one_more, crate::proofs::Texts::no_more))]
-fn push_form(out: &mut String, form: &Form) -> Result<(), AllocError>
+pub fn push_form(out: &mut String, form: &Form) -> Result<(), AllocError>
     ensures { OnOk result (string_bytes out.new ≡ string_bytes out.old ++ text.form_text (view.form form.now)) }
 {
     for term in &form.terms {
@@ -51,7 +51,7 @@ fn push_head(out: &mut String, head: Option<u64>) -> Result<(), AllocError>
     }
 }
 
-fn push_spot(out: &mut String, spot: Spot) -> Result<(), AllocError>
+pub fn push_spot(out: &mut String, spot: Spot) -> Result<(), AllocError>
     ensures { OnOk result (string_bytes out.new ≡ string_bytes out.old ++ (text.place_line (view.spot spot) ++ 10 ∷ [])) }
 {
     out.push_str("place ")?;
@@ -61,7 +61,7 @@ fn push_spot(out: &mut String, spot: Spot) -> Result<(), AllocError>
 }
 
 #[tactic(auto, using(crate::proofs::Texts::one_line, crate::proofs::Texts::no_line))]
-fn push_same(out: &mut String, names: &[String]) -> Result<(), AllocError>
+pub fn push_same(out: &mut String, names: &[String]) -> Result<(), AllocError>
     ensures { OnOk result (string_bytes out.new ≡ string_bytes out.old ++ text_of_lines (map text.same_line (map string_bytes names.now))) }
 {
     for name in names {
@@ -127,7 +127,7 @@ pub fn push_places(out: &mut String, places: &[Place]) -> Result<(), AllocError>
     Ok(())
 }
 
-fn push_descent(out: &mut String, descent: Descent) -> Result<(), AllocError>
+pub fn push_descent(out: &mut String, descent: Descent) -> Result<(), AllocError>
     ensures { OnOk result (string_bytes out.new ≡ string_bytes out.old ++ text.descent_text (view.descent descent)) }
 {
     match descent {
@@ -172,7 +172,7 @@ fn push_sort(out: &mut String, sort: &EntrySort) -> Result<(), AllocError>
     }
 }
 
-fn push_scaled(out: &mut String, scaled: &Scaled) -> Result<(), AllocError>
+pub fn push_scaled(out: &mut String, scaled: &Scaled) -> Result<(), AllocError>
     ensures { OnOk result (string_bytes out.new ≡ string_bytes out.old ++ text.scaled_text (view.scaled scaled.now)) }
 {
     let Scaled { factor, line } = *scaled;
@@ -207,7 +207,7 @@ fn push_step(out: &mut String, step: &Step) -> Result<(), AllocError>
 }
 
 #[tactic(auto, using(crate::proofs::Texts::one_line, crate::proofs::Texts::no_line))]
-fn push_steps(out: &mut String, steps: &[Step]) -> Result<(), AllocError>
+pub fn push_steps(out: &mut String, steps: &[Step]) -> Result<(), AllocError>
     ensures { OnOk result (string_bytes out.new ≡ string_bytes out.old ++ text_of_lines (map text.step_line (map view.step steps.now))) }
 {
     for step in steps {

@@ -1,4 +1,4 @@
-//! A certificate of its text.
+//! A certificate of its text of version 1.
 
 ghost use Rattle.std.specs.Prelude.{◌≡◌, ◌+◌, ◌≤◌, ◌^◌, true, length, map};
 ghost use Rattle.std.specs.Option.{option_map};
@@ -28,14 +28,14 @@ use std::alloc::Global;
 pub const LIMIT: usize = 16_777_216;
 
 /// The error of a line that says nothing, by its number.
-fn bad(line: usize) -> CertError
+pub fn bad(line: usize) -> CertError
     ensures { result ≡ Refused (BadLine line) }
 {
     CertError::Refused(CertFault::BadLine(line))
 }
 
 /// The number M of a line `certificate M`; none where the line is another one.
-fn version(line: &[u8]) -> Option<i64>
+pub fn version(line: &[u8]) -> Option<i64>
     ensures { result ≡ reading.version_of (words line.now) }
 {
     let Some((keyword, version)) = Pieces::of(line, b' ').two() else {
@@ -110,8 +110,8 @@ fn read_lines(alloc: Global, lines: Pieces<'_>) -> Result<Certificate, CertError
     Err(bad(number))
 }
 
-/// The certificate of a text, or its first fault. The text is gone through once.
-pub fn read(alloc: Global, text: &[u8]) -> Result<Certificate, CertError>
+/// The certificate of a text of version 1, or its first fault. The text is gone through once.
+pub fn read_one(alloc: Global, text: &[u8]) -> Result<Certificate, CertError>
     ensures { Says result (reading.certificate_of text.now) }
 {
     if text.len() > LIMIT {

@@ -1,4 +1,4 @@
-//! The text of a certificate.
+//! The text of version 1 of a certificate.
 
 ghost use Rattle.std.specs.Prelude.{◌≡◌, IfOk};
 ghost use Rattle.certificate_text.specs.Text as text;
@@ -8,9 +8,9 @@ use crate::certificate::Certificate;
 use crate::part_writer::{push_bounds, push_entries, push_places};
 use std::alloc::{AllocError, Global};
 
-/// The text of a certificate.
+/// The text of version 1 of a certificate.
 #[tactic(auto, using(crate::proofs::Texts::whole))]
-pub fn write(alloc: Global, from: &Certificate) -> Result<Vec<u8>, AllocError>
+pub fn write_one(alloc: Global, from: &Certificate) -> Result<Vec<u8>, AllocError>
     ensures { IfOk result (λ v. v.items ≡ text.text_of (certificate from.now)) }
 {
     let mut out = String::from_str(alloc, "certificate 1\n")?;

@@ -1,7 +1,8 @@
 //! What a loop's form is at most where it opens.
 
 use cut_search::{Answer, Memory};
-use guess_walk::{Elements, facts_of};
+use domain::Elements;
+use guess_walk::facts_of;
 use guesses::{Ranking, copied, plus};
 use linear::{Form, Symbol};
 use path_steps::{Goal, Sort};

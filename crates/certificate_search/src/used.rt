@@ -1,8 +1,9 @@
 //! Which guesses a derivation uses.
 
 use cut_proof::{Derivation, Line as ProofLine};
+use domain::Elements;
 use facts::{Family, Side};
-use guess_walk::{Begun, Elements, LineTable, PlaceLines, is_place};
+use guess_walk::{Begun, LineTable, PlaceLines, is_place};
 use guesses::{Candidate, Line, Sight, copied, index_of};
 use linear::Form;
 use std::alloc::{AllocError, Global};

@@ -4,7 +4,7 @@ use Rattle.std.specs.Prelude.{ℤ, pos, codes, bytes_eq, nat_eq, nat_le, nat_lt,
 use Rattle.std.specs.Ordering.{int_eq}
 use Rattle.std.specs.List.{join_with_byte, filter_map, cons_option}
 use Rattle.std.proofs.lemmas.Bool.{cond_both}
-use Rattle.std.proofs.lemmas.Bool.Decides.{Decides-int_eq, nat_tests}
+use Rattle.std.proofs.lemmas.Bool.Decides.{Decides-int_eq}
 use Rattle.std.proofs.lemmas.Fmt.{decimal_digit}
 use Rattle.std.proofs.lemmas.Grind.{flat_map-append, fold-append}
 use Rattle.std.proofs.lemmas.List.{append-nil, length-append, map_push}
@@ -30,7 +30,7 @@ use Rattle.certificate_text.proofs.Cuts.{spaced, pieces_back, then_back, when_ba
 use Rattle.certificate_text.proofs.ItemsRead.{is_item, item_back, same, none_left, whole_back}
 use Rattle.certificate_text.proofs.DraftsRead.{IsDraft, draft_lines, add_back}
 use Rattle.certificate_text.proofs.Read.{joined_more, lines_push, is_open_end, unless_back, nothing_read}
-use Rattle.certificate_text.proofs.Tables.{told, denied, is_fresh, fresh_push, all_at, at_place, Grown, grown_back}
+use Rattle.certificate_text.proofs.Tables.{le_back, eq_back, denied, is_fresh, fresh_push, all_at, at_place, Grown, grown_back}
 use Rattle.certificate_text.proofs.Tables as tables
 use Rattle.certificate_text.proofs.ItemsNumbered.{lines_are, items_good, same_items, form_put, put_back, put_good, number_in_back}
 
@@ -60,11 +60,14 @@ record IsFilled (forms seen : FormTable) (raw : Item) (n : ℕ) (i : Item) : Typ
   table : forms ≡ used_by seen (form_in i) ++ left
   used : length (used_by seen (form_in i)) ≡ n
 
+below_seen : (n u m : ℕ) → nat_le n (u + 1) ≡ true → m ≡ u → n ≤ m + 1
+below_seen n u m h e = let b = le_back n (u + 1) h in omega (arith, b, e)
+
 -- a table with the forms that are used so far in front
 filled_form : (forms seen left : FormTable) (raw : Item) (number : Form Name) (u n : ℕ) (f : Form Name) → IsTable forms → forms ≡ seen ++ left → length seen ≡ u → is_item raw ≡ true → form_in raw ≡ Some number → number ≡ number_form n → allowed_form forms u n ≡ Some f → IsFilled forms seen raw (max u n) (put_form f raw)
 filled_form forms seen left raw number u n f t split l g o same_number e =
     let c = cond_back (nat_le n (u + 1)) (form_at forms n) f e in
-    let below : n ≤ length seen + 1 = (let b : n ≤ u + 1 = (grind (arith, nat_tests, c.0)) in omega (arith, b, l)) in
+    let below = below_seen n u (length seen) c.0 l in
     let k = at_place forms n f c.1 in
     let fine = all_at is_form forms k.0 f t.good k.2 in
     let r = grown_back forms seen left f n t.fresh split below c.1 in
@@ -144,10 +147,13 @@ pub record Ends (forms : FormTable) (so_far rest : List ℕ) (c : Certificate) :
   pub text : so_far ++ rest ≡ text_of_lines (numbered_lines forms (items_of c) ++ codes "end" ∷ [])
   pub good : is_certificate c ≡ true
 
+same_ok : (a c : Certificate) (r : Read) → r ≡ Ok a → r ≡ Ok c → a ≡ c
+same_ok a c r e q = cc
+
 all_used_back : (forms : FormTable) (d : NumberedDraft) (c : Certificate) → all_used forms d ≡ Ok c → (d.used ≡ length forms) × (d.read.settled ≡ c)
 all_used_back forms d c =
     cond_both (nat_eq d.used (length forms)) (Ok d.read.settled) (Err (BadLine (d.used + 2))) (λ r. r ≡ Ok c → (d.used ≡ length forms) × (d.read.settled ≡ c))
-    (λ e q. (grind (arith, nat_tests, e), cc))
+    (λ e q. (eq_back d.used (length forms) e, same_ok d.read.settled c (Ok d.read.settled) refl q))
     (λ e q. absurd cc)
 
 finish_back : (forms : FormTable) (n : ℕ) (d : NumberedDraft) (line : List ℕ) (c : Certificate) → finish_numbered forms n d line ≡ Ok c → (is_ended d.read.opened ≡ true) × (line ≡ []) × (d.used ≡ length forms) × (d.read.settled ≡ c)

@@ -29,7 +29,7 @@ use Rattle.certificate_text.proofs.ItemsRead.{is_item, andt}
 use Rattle.certificate_text.proofs.ItemsWritten.{item_forth}
 use Rattle.certificate_text.proofs.Read.{went_on}
 use Rattle.certificate_text.proofs.Written.{form_line, item_free, some_more, leads_on, body_leads, end_leads, pieces_of_lines, short}
-use Rattle.certificate_text.proofs.Tables.{told, is_fresh, known_form, new_form, numbers_forth, grows, fresh_fold}
+use Rattle.certificate_text.proofs.Tables.{le_forth, told, is_fresh, known_form, new_form, numbers_forth, grows, fresh_fold}
 use Rattle.certificate_text.proofs.ItemsNumbered.{lines_are, items_good, form_put, put_back, put_good, form_good, number_good}
 use Rattle.certificate_text.proofs.NumberedRead.{used_by, forms_push, numbered_lines}
 
@@ -54,13 +54,16 @@ fills_none forms seen i g o =
       filled_as = ap (filled forms (length seen)) own ∙ ap (filled_by forms (length seen) i) o ∙ ap (λ p. Some (length (used_by seen p), i)) (sym o);
     }
 
+number_sized : (n seen all_of : ℕ) → n ≤ seen + 1 → seen ≤ all_of → all_of ≤ certificate_limit → is_natural n ≡ true
+number_sized n seen all_of a b c = below_test n (2 ^ 63) (omega arith)
+
 fills_some : (forms seen left : FormTable) (i : Item) (f : Form Name) → all is_form forms ≡ true → length forms ≤ certificate_limit → is_item i ≡ true → form_in i ≡ Some f → forms ≡ with_form seen f ++ left → length seen ≤ length forms → Fills forms seen i
 fills_some forms seen left i f fine small g o t l =
     let n : ℕ = number_of forms f in
     let r = numbers_forth forms seen left f fine (form_good f i g o) t in
     let own : numbered forms i ≡ put_form (number_form n) i = ap (numbered_by forms i) o in
-    let sized : is_natural n ≡ true = below_test n (2 ^ 63) (omega (arith, r.next, l, small)) in
-    let next : nat_le n (length seen + 1) ≡ true = (let b : n ≤ length seen + 1 = r.next in grind (arith, nat_tests, b)) in
+    let sized = number_sized n (length seen) (length forms) r.next l small in
+    let next = le_forth n (length seen + 1) r.next in
     let at : allowed_form forms (length seen) n ≡ Some f = cond-true (nat_le n (length seen + 1)) (form_at forms n) None next ∙ r.at in
     record {
       good = ap is_item own ∙ put_good (number_form n) i (number_good n sized) g;

@@ -1,6 +1,6 @@
 -- The number of a form and the form of a number, in a table without repeats.
 use Rattle.std.proofs.Common.{◌≡◌, ℕ, zero, suc, ◌+◌, ◌-◌, ◌<◌, ◌≤◌, Bool, true, false, not, ◌&&◌, ◌||◌, List, [], ◌∷◌, ◌++◌, length, map, None, Some, refl, ap, sym, ◌∙◌, arith, inl, inr, ◌⊎◌}
-use Rattle.std.specs.Prelude.{max, nat_eq, bytes_eq, fold}
+use Rattle.std.specs.Prelude.{max, nat_eq, nat_le, bytes_eq, fold}
 use Rattle.std.specs.List.{list_any, position_or_len, slice_get}
 use Rattle.std.proofs.Math.Nat.{max-eq_left, max-eq_right}
 use Rattle.std.proofs.lemmas.Bool.{cond-true, cond-false}
@@ -25,6 +25,15 @@ told false = inr refl
 pub denied : (b : Bool) → not b ≡ true → b ≡ false
 denied true h = sym h
 denied false h = refl
+
+pub le_back : (n k : ℕ) → nat_le n k ≡ true → n ≤ k
+le_back n k h = grind (arith, nat_tests)
+
+pub le_forth : (n k : ℕ) → n ≤ k → nat_le n k ≡ true
+le_forth n k h = grind (arith, nat_tests)
+
+pub eq_back : (n k : ℕ) → nat_eq n k ≡ true → n ≡ k
+eq_back n k h = grind (arith, nat_tests)
 
 -- forms that are written alike are one form
 pub same_form : (f g : Form Name) → is_form f ≡ true → is_form g ≡ true → is_same_form f g ≡ true → f ≡ g

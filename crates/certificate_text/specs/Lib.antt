@@ -10,3 +10,4 @@ pub mod FormTables
 pub mod NumberedText
 pub mod NumberedReading
 pub mod Migrated
+pub mod Versions

@@ -11,11 +11,11 @@ use Rattle.certificate_text.specs.FormTables.{FormTable, has_form, form_at}
 use Rattle.certificate_text.specs.Drafts.{Draft, nothing_yet, add}
 use Rattle.certificate_text.specs.Reading.{Read, is_ended, version_of, unless, certificate_limit}
 
--- the number that stands for a form: a form without terms, not below 0
 abbrev pub whole_number : ℤ → Option ℕ
 whole_number (pos n) = Some n
 whole_number (negsuc n) = None
 
+-- the number that a form is: one without terms, and not below 0
 abbrev pub number_in : Form Name → Option ℕ
 number_in f = cond (is_empty f.terms) (whole_number f.constant) None
 
@@ -23,13 +23,12 @@ number_in f = cond (is_empty f.terms) (whole_number f.constant) None
 abbrev pub allowed_form : FormTable → (used n : ℕ) → Option (Form Name)
 allowed_form forms used n = cond (nat_le n (used + 1)) (form_at forms n) None
 
--- what a line says, and the largest number that is used then
 abbrev pub filled_by : FormTable → (used : ℕ) → Item → Option (Form Name) → Option (ℕ × Item)
 filled_by forms used item None = Some (used, item)
 filled_by forms used item (Some number) =
     then (number_in number) (λ n. then (allowed_form forms used n) (λ f. Some (max used n, put_form f item)))
 
--- a line with the form of its number in place of the number
+-- a line with the form of its number in place of the number, and the largest number that is used then
 abbrev pub filled : FormTable → (used : ℕ) → Item → Option (ℕ × Item)
 filled forms used item = filled_by forms used item (form_in item)
 
@@ -64,7 +63,7 @@ read_numbered forms n d [] = Err (BadLine n)
 read_numbered forms n d (line ∷ others) =
     cond (is_empty others) (finish_numbered forms n d line) (go_to n (add_numbered forms d line) (λ e. read_numbered forms (suc n) e others))
 
--- the words behind `form`, where a line begins so
+-- the words behind `form`, where a line begins with it
 abbrev pub table_words : List (List ℕ) → Option (List (List ℕ))
 table_words [] = None
 table_words (word ∷ others) = when (bytes_eq word (codes "form")) others

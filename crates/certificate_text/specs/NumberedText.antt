@@ -17,7 +17,7 @@ forms_in items = fold with_form [] (filter_map form_in items)
 abbrev pub forms_of : Certificate → FormTable
 forms_of c = forms_in (items_of c)
 
--- a number stands for a form as a form without terms: it is written as a decimal
+-- the form that is written as this number: it has no terms
 abbrev pub number_form : ℕ → Form Name
 number_form n = form [] (pos n)
 

@@ -1,5 +1,5 @@
 //! Certificates: `text_of` and `certificate_of` are inverse to one another, so that a certificate has one text and a
-//! text says one certificate.
+//! text says one certificate. In version 2 `text_of_two` and `certificate_of_two` are.
 
 ghost use Rattle.std.specs.Prelude.{◌≡◌, ◌≤◌, ◌++◌, ℕ, List, length, true, Ok, Err, codes};
 ghost use Rattle.std.specs.Fmt.{decimal, signed_decimal};
@@ -13,6 +13,7 @@ ghost use Rattle.certificate_text.specs.FormTables.{FormTable, number_of};
 ghost use Rattle.certificate_text.specs.NumberedText.{numbered_line, text_of_two};
 ghost use Rattle.certificate_text.specs.NumberedReading.{certificate_of_two};
 ghost use Rattle.certificate_text.specs.Migrated.{migrated};
+ghost use Rattle.certificate_text.specs.Versions.{certificate_in};
 
 /// What is read is the certificate's text, and can be written.
 pub fn a_text_is_written_back()
@@ -48,6 +49,13 @@ pub fn a_text_is_migrated()
     ensures certificate { (text : List ℕ) (c : Certificate) → certificate_of text ≡ Ok c → migrated text ≡ Ok (text_of_two c) }
     ensures fault { (text : List ℕ) (f : CertificateFault) → certificate_of text ≡ Err f → migrated text ≡ Err f }
     ensures same { (text two : List ℕ) → migrated text ≡ Ok two → length two ≤ certificate_limit → certificate_of_two two ≡ certificate_of text }
+{}
+
+/// A text of either version says what it says in its own, and a text that is migrated says the same.
+pub fn either_version_is_read()
+    ensures one { (text : List ℕ) (c : Certificate) → certificate_of text ≡ Ok c → certificate_in text ≡ Ok c }
+    ensures two { (text : List ℕ) (c : Certificate) → certificate_of_two text ≡ Ok c → certificate_in text ≡ Ok c }
+    ensures same { (text two : List ℕ) → migrated text ≡ Ok two → length two ≤ certificate_limit → certificate_in two ≡ certificate_in text }
 {}
 
 /// What texts of version 2 say, and the line at which they are at fault.

@@ -73,4 +73,5 @@ Asks ws (lines.Run names launch workers) = HasWord ws 0 (codes "run") × HasName
 Asks ws (lines.Prove search) = HasWord ws 0 (codes "prove") × HasSearch ws search
 Asks ws (lines.Explain subject) = HasWord ws 0 (codes "explain") × HasSubject ws subject
 Asks ws (lines.Print kernel) = HasWord ws 0 (codes "print") × HasWord ws 1 kernel.now
+Asks ws (lines.Migrate old new) = HasWord ws 0 (codes "migrate") × HasWord ws 1 old.now × HasWord ws 2 new.now
 Asks ws lines.Usage = Unit {0}

@@ -27,6 +27,11 @@ pub enum Line<'a> {
     Explain(Subject<'a>),
     /// The canonical text of a file's kernel.
     Print(&'a str),
+    /// The certificate of a file, written in version 2 to another one.
+    Migrate {
+        old: &'a str,
+        new: &'a str,
+    },
     /// The words are no command line.
     Usage,
 }
@@ -89,6 +94,7 @@ fn form_of(command: Option<&str>) -> Option<Form<'static>> {
         "prove" => ("prove", &["KERNEL", "CONDITIONS"], 2, &["workers", "out"]),
         "explain" => ("explain", &["KERNEL", "CONDITIONS", "CERTIFICATE"], 2, &[]),
         "print" => ("print", &["KERNEL"], 1, &[]),
+        "migrate" => ("migrate", &["OLD", "NEW"], 2, &[]),
         _ => return None,
     };
     Some(Form {
@@ -298,6 +304,17 @@ fn print_of<'a>(words: &'a [String]) -> Line<'a>
     }
 }
 
+/// `migrate` of the two files that the words name, or no command line where they name fewer.
+fn migrate_of<'a>(words: &'a [String]) -> Line<'a>
+    requires { HasWord (texts words.now) 0 (codes "migrate") }
+    ensures { Asks (texts words.now) result }
+{
+    let (Some(old), Some(new)) = (operand(words, 1), operand(words, 2)) else {
+        return Line::Usage;
+    };
+    Line::Migrate { old, new }
+}
+
 /// The command line of words of which the first is a command; any other first word makes no command line.
 fn asked<'a>(words: &'a [String], workers: u32) -> Line<'a>
     requires { AsksWorkers (texts words.now) workers }
@@ -309,6 +326,7 @@ fn asked<'a>(words: &'a [String], workers: u32) -> Line<'a>
         Some(command) if command == "prove" => prove_of(words, workers),
         Some(command) if command == "explain" => explain_of(words),
         Some(command) if command == "print" => print_of(words),
+        Some(command) if command == "migrate" => migrate_of(words),
         _ => Line::Usage,
     }
 }

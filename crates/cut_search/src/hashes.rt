@@ -1,4 +1,4 @@
-//! Numbers by which facts are found again. Two facts may have one, which then only costs a search.
+//! Numbers by which facts are found again. Facts of one number are taken for one, so that less may be found where two have it by chance.
 
 use linear::Form;
 use std::alloc::{AllocError, Global};
@@ -11,10 +11,11 @@ fn mixed(hash: u64, word: u64) -> u64 {
     product ^ (product >> 29)
 }
 
-/// The number of a form so many times.
+/// The number of a form so many times. It does not begin with 0: the constant 0 and the symbol 0 would leave that 0, and a first term of
+/// that symbol would count as a constant.
 fn hash_of_multiple(form: &Form, factor: i64) -> u64 {
     let constant = form.constant_part().wrapping_mul(factor);
-    let mut hash = mixed(0, constant.cast_unsigned());
+    let mut hash = mixed(FACTOR, constant.cast_unsigned());
     for term in form.terms() {
         let coefficient = term.coefficient.wrapping_mul(factor);
         hash = mixed(hash, term.symbol.number);

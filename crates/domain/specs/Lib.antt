@@ -1,6 +1,9 @@
 pub mod Both
 pub mod Ends
 pub mod IntervalMembers
+pub mod KnownBits
+pub mod KnownBitsLaws
+pub mod KnownBitsMembers
 pub mod Laws
 pub mod Members
 pub mod Multiples

@@ -131,7 +131,7 @@ size : (z : ℤ) (n : ℕ) → z <ℤ pos n → neg_ℤ (pos n) <ℤ z → unsig
 size (pos a) n p q = omega (arith, ints)
 size (negsuc a) n p q = omega (arith, ints)
 
-floors : (x r t : ℤ) (m : ℕ) → 0 < m → x -ℤ r ≡ t *ℤ pos m → int_div_euclid x (pos m) -ℤ int_div_euclid r (pos m) ≡ t
+pub floors : (x r t : ℤ) (m : ℕ) → 0 < m → x -ℤ r ≡ t *ℤ pos m → int_div_euclid x (pos m) -ℤ int_div_euclid r (pos m) ≡ t
 floors x r t m h e =
     let fx = floor-is x m h in
     let fr = floor-is r m h in

@@ -14,7 +14,16 @@ ghost use Rattle.domain.specs.Members.{is_within, leaves};
 
 pub mod congruence;
 pub mod interval;
+pub mod known_bits;
 pub mod product;
+
+use congruence::Congruence;
+use interval::Interval;
+use known_bits::KnownBits;
+use product::Product;
+
+/// What the checker knows of a term: its range, its remainder by a modulus, and bits of it.
+pub type Elements = Product<Product<Interval, Congruence>, KnownBits>;
 
 /// The ends of a set; `None` is open.
 #[derive(Clone, Copy, Debug, PartialEq, Eq)]

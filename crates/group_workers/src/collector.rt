@@ -28,12 +28,18 @@ fn handed_over<J: Logged>(logs: &Logs<J>, place: Option<usize>, group: u64) -> O
     Some(log)
 }
 
-/// Writes the log of a group: the one at this place, or else what a run of the group gives.
+/// The logs that were handed over, and the place among them of the one that is looked for, if it has one.
+#[derive(Drop)]
+struct Handed<'l, J: Logged> {
+    logs: &'l Logs<J>,
+    place: Option<usize>,
+}
+
+/// Writes the log of a group: the one that was handed over, or else what a run of the group gives.
 fn write<J: Logged>(
     alloc: Global,
     task: Task,
-    logs: &Logs<J>,
-    place: Option<usize>,
+    handed: Handed<'_, J>,
     group: u64,
     room: &mut Room,
     buffers: &mut Buffers,
@@ -42,7 +48,7 @@ fn write<J: Logged>(
     requires group { group < groups task }
     ensures { OnOk result (HasLog (logs_of task.entry group) (words_of buffers.old) (words_of buffers.new)) }
 {
-    if let Some(log) = handed_over(logs, place, group) {
+    if let Some(log) = handed_over(handed.logs, handed.place, group) {
         apply(buffers, &log.log);
         return Ok(());
     }
@@ -86,8 +92,11 @@ pub fn collect<J: Logged>(
     let found = places_by_group(alloc, logs, places, count)?;
     let mut room = Room::new(alloc);
     for group in 0..count {
-        let place = found[group as usize];
-        write(alloc, task, logs, place, group, &mut room, buffers)?;
+        let handed = Handed {
+            logs,
+            place: found[group as usize],
+        };
+        write(alloc, task, handed, group, &mut room, buffers)?;
     }
     Ok(())
 }

@@ -6,7 +6,7 @@ ghost use Rattle.group_workers.specs.Writing.{Log};
 
 use core_code::tree::Core;
 use kernel_code::code::Block;
-use lane_groups::{Room, run_group_in};
+use lane_groups::{Group, Room, run_group_in};
 use launch::launches::Launch;
 use std::alloc::{AllocError, Global};
 use std::marker::{Brand, PhantomData};
@@ -76,7 +76,12 @@ impl<J: Logged> GroupLog<J> {
             launch,
             budget,
         } = task;
-        let log = run_group_in(alloc, core, launch, code, budget, group, room)?;
+        let work_group = Group {
+            core,
+            launch,
+            number: group,
+        };
+        let log = run_group_in(alloc, work_group, code, budget, room)?;
         Ok(GroupLog {
             group,
             log,

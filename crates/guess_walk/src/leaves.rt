@@ -1,8 +1,14 @@
 //! What the ends of a walk's paths tell.
 
+ghost use Rattle.std.specs.Prelude.{◌≡◌, true};
+ghost use Rattle.core_code.specs.View.{kernel as core_seen};
+ghost use Rattle.facts.specs.Launching.{are_sizes};
+
 use crate::sights::is_place;
 use crate::subject::Subject;
-use crate::walking::{Elements, Walked};
+use crate::walking::Walked;
+use arrival_claims::Placing;
+use domain::Elements;
 use facts::{WalkError, copy_all};
 use guesses::{Leaf, Sight, at_anchor, copied, one_of, turns};
 use linear::Form;
@@ -11,7 +17,7 @@ use path_steps::{Arrived, Choice, Path, Ranked, Stop, Value};
 use path_walk::root_of;
 use std::alloc::{AllocError, Global};
 use two_thread::Tagged;
-use walk::FindError;
+use walk::{FindError, setting_of};
 
 /// The beginning of a place's paths: how many facts are known there, and the variables' values.
 #[derive(Drop)]
@@ -30,21 +36,11 @@ fn forms_of(alloc: Global, values: &[Value]) -> Result<Vec<Form>, AllocError> {
 }
 
 /// The facts and the variables with which the paths of one place begin.
-fn one_begun(
-    alloc: Global,
-    subject: &Subject<'_>,
-    notes: &Notes,
-    sight: &Sight,
-) -> Result<Begun, WalkError> {
-    let root = root_of::<Elements>(
-        alloc,
-        subject.typed.core(),
-        notes,
-        sight.anchor,
-        sight.head,
-        0,
-        Vec::new(alloc),
-    )?;
+fn one_begun(placing: &Placing<'_, Elements>) -> Result<Begun, WalkError>
+    requires { are_sizes (core_seen placing.now.core.now).sizes ≡ true }
+{
+    let alloc = placing.setting.alloc;
+    let root = root_of(placing, 0, Vec::new(alloc))?;
     let variables = forms_of(alloc, root.variables.as_slice())?;
     Ok(Begun {
         facts: root.facts.len(),
@@ -59,9 +55,18 @@ pub fn begun_of(
     notes: &Notes,
     sights: &[Sight],
 ) -> Result<Vec<Begun>, FindError> {
+    let core = subject.typed.core();
+    let setting = setting_of::<Elements>(alloc, core, subject.conditions, Vec::new(alloc))?;
     let mut all = Vec::new(alloc);
     for sight in sights {
-        let one = one_begun(alloc, subject, notes, sight)?;
+        let placing = Placing {
+            setting: &setting,
+            core,
+            notes,
+            anchor: sight.anchor,
+            head: sight.head,
+        };
+        let one = one_begun(&placing)?;
         all.push(one)?;
     }
     Ok(all)

@@ -30,4 +30,4 @@ pub use said::may_be_said;
 pub use sights::{is_place, sights_of};
 pub use steps::steps_of;
 pub use subject::Subject;
-pub use walking::{Elements, Walked, certificate_of};
+pub use walking::{Walked, certificate_of};

@@ -5,9 +5,10 @@ ghost use Rattle.two_thread.specs.Listed.{listed};
 ghost use Rattle.plain_kernels.specs.Domains.{domain};
 
 use crate::subject::Subject;
-use crate::walking::{Elements, Walked, walk};
+use crate::walking::{Walked, walk};
 use certificate::Certificate;
 use cut_search::{Answer, Memory};
+use domain::Elements;
 use linear::Form;
 use path_steps::Sort;
 use std::alloc::Global;

@@ -7,18 +7,13 @@ use crate::subject::Subject;
 use certificate::Certificate;
 use certificate::tree::{Bound, Entry};
 use certificate_notes::{NamesError, notes_of};
-use domain::congruence::Congruence;
-use domain::interval::Interval;
-use domain::product::Product;
+use domain::Elements;
 use guesses::{Candidate, Ranking};
 use obligations::Notes;
 use places::{PlaceError, places};
 use std::alloc::{AllocError, Global};
 use two_thread::Obligations;
 use walk::{FindError, find};
-
-/// The abstract domain of the check: intervals with congruences.
-pub type Elements = Product<Interval, Congruence>;
 
 /// The notes of a kernel's places and loops, and the obligations that a walk with these notes has.
 #[derive(Drop)]

@@ -33,3 +33,4 @@ mod strip;
 mod work_group;
 
 pub use group::{Room, run_group, run_group_in};
+pub use work_group::Group;

@@ -6,9 +6,10 @@ ghost use Rattle.core_code.specs.View.{kernel as kernel_seen};
 ghost use Rattle.work_item.specs.Proper.{is_proper};
 ghost use Rattle.lane_groups.specs.Groups.{setup};
 
-use core_code::tree::Core;
+use core_code::tree::{Array, Core};
+use kernel_code::code::Op;
 use launch::launches::Launch;
-use std::alloc::AllocError;
+use std::alloc::{AllocError, Global};
 use work_item::identity::group_size;
 
 /// A kernel, its launch, and which of the launch's work-groups it is.
@@ -17,6 +18,28 @@ pub struct Group<'b> {
     pub core: &'b Core,
     pub launch: &'b Launch,
     pub number: u64,
+}
+
+/// A run of a work-group, of whose loops each takes so many turns at most.
+#[derive(Clone, Copy)]
+pub struct Run<'a> {
+    pub alloc: Global,
+    pub group: &'a Group<'a>,
+    pub turns: u64,
+}
+
+/// Operations, and the register that has what they compute.
+#[derive(Clone, Copy)]
+pub struct Computed<'a> {
+    pub ops: &'a [Op],
+    pub register: u32,
+}
+
+/// An element of an array, by the register that has its index.
+#[derive(Clone, Copy)]
+pub struct Element {
+    pub array: Array,
+    pub index: u32,
 }
 
 /// A product; past 64 bits there is no memory for so many work-items.

@@ -141,7 +141,20 @@ fn joined<'a>(
     ensures { Reads expression result (run (reads.ranked (reads.operand_reader room (suc depth)) (suc depth) (suc below)) (lexemes tokens.now)) }
 {
     let (left, rest) = ranked(alloc, room, depth, below, tokens)?;
-    chain(alloc, room, depth, below, depth + 1, left, rest)
+    let series = Series {
+        first: left,
+        below,
+        left: depth + 1,
+    };
+    chain(alloc, room, depth, series, rest)
+}
+
+/// Operands joined so far: their tree, the rank below that of the signs between them, and how many more may come at most.
+#[derive(Drop)]
+struct Series {
+    first: Expr,
+    below: u32,
+    left: u32,
 }
 
 // More of them after a left operand, at most `left` times.
@@ -151,16 +164,15 @@ fn chain<'a>(
     alloc: Global,
     room: u32,
     depth: u32,
-    below: u32,
-    left: u32,
-    first: Expr,
+    series: Series,
     tokens: &'a [Token<'a>],
 ) -> Result<(Expr, &'a [Token<'a>]), Stop<'a>>
     requires depth { depth ≤ 31 }
-    requires rank { below ≤ 9 }
-    requires left { left ≤ 32 }
-    ensures { Reads expression result (run (reads.chain (reads.ranked (reads.operand_reader room (suc depth)) (suc depth) below) (below + 1) left (expression first)) (lexemes tokens.now)) }
+    requires rank { series.below ≤ 9 }
+    requires left { series.left ≤ 32 }
+    ensures { Reads expression result (run (reads.chain (reads.ranked (reads.operand_reader room (suc depth)) (suc depth) series.below) (series.below + 1) series.left (expression series.first)) (lexemes tokens.now)) }
 {
+    let Series { first, below, left } = series;
     let Some(sign) = infix_at(below + 1, kind_at(tokens)) else {
         return Ok((first, tokens));
     };
@@ -175,7 +187,12 @@ fn chain<'a>(
         left: Box::new(alloc, first)?,
         right: Box::new(alloc, right)?,
     };
-    chain(alloc, room, depth, below, left - 1, tree, rest)
+    let longer = Series {
+        first: tree,
+        below,
+        left: left - 1,
+    };
+    chain(alloc, room, depth, longer, rest)
 }
 
 // With `depth` levels below it.

@@ -28,19 +28,25 @@ pub struct Head {
     pub update: Assignment,
 }
 
+/// What is assigned to: a variable, or an element of an array.
+#[derive(Drop)]
+struct Destination {
+    site: Site,
+    name: String,
+    index: Option<Expr>,
+}
+
 #[tactic(auto, using(crate::proofs::Steps::part_steps), unfolding(crate::specs::Statements::assigned_reader))]
 fn assigned<'a>(
     alloc: Global,
     room: u32,
     depth: u32,
     number: u32,
-    name: String,
-    site: Site,
-    index: Option<Expr>,
+    destination: Destination,
     tokens: &'a [Token<'a>],
 ) -> Result<(Assignment, &'a [Token<'a>]), Stop<'a>>
     requires { depth ≤ 32 }
-    ensures { Reads assignment result (run (reads.assigned_reader room depth number (string_bytes name) (site_of site) (index_of index)) (lexemes tokens.now)) }
+    ensures { Reads assignment result (run (reads.assigned_reader room depth number (string_bytes destination.name) (site_of destination.site) (index_of destination.index)) (lexemes tokens.now)) }
 {
     let Some(sign) = assign_of(kind_at(tokens)) else {
         return Err(Stop::Refused(ParseFault::Expected, tokens));
@@ -49,9 +55,9 @@ fn assigned<'a>(
     let (value, rest) = expression(alloc, room, depth, behind(tokens))?;
     let assignment = Assignment {
         number,
-        site,
-        name,
-        index,
+        site: destination.site,
+        name: destination.name,
+        index: destination.index,
         sign,
         sign_site,
         value,
@@ -98,7 +104,8 @@ pub fn assignment<'a>(
     let site = site_at(tokens);
     let (index, rest) = index(alloc, room, depth, behind(tokens))?;
     let name = String::from_str(alloc, name)?;
-    assigned(alloc, room, depth, number, name, site, index, rest)
+    let destination = Destination { site, name, index };
+    assigned(alloc, room, depth, number, destination, rest)
 }
 
 /// Reads the declaration of a private variable with its initialiser; with the tokens behind it, or the fault and its tokens.

@@ -23,6 +23,13 @@ use syntax::tree::{Expr, JumpWord, Stmt};
 /// One more than the most statements of a kernel.
 const MOST_ITEMS: u32 = 513;
 
+/// The name with which a statement begins, and its site.
+#[derive(Clone, Copy)]
+struct Opening<'a> {
+    site: Site,
+    name: &'a str,
+}
+
 // What begins with a name: a barrier or an assignment.
 #[tactic(auto, using(crate::proofs::Steps::part_steps), unfolding(crate::specs::Statements::named))]
 fn named<'a>(
@@ -30,20 +37,19 @@ fn named<'a>(
     room: u32,
     depth: u32,
     number: u32,
-    site: Site,
-    name: &str,
+    opening: Opening<'_>,
     tokens: &'a [Token<'a>],
 ) -> Result<((Stmt, u32), &'a [Token<'a>]), Stop<'a>>
     requires depth { depth ≤ 31 }
     requires number { number ≤ 512 }
-    ensures { Reads numbered result (run (reads.named room depth number (site_of site) name.now) (lexemes tokens.now)) }
+    ensures { Reads numbered result (run (reads.named room depth number (site_of opening.entry.site) opening.entry.name.now) (lexemes tokens.now)) }
 {
-    if name == "barrier" {
+    if opening.name == "barrier" {
         let (flags, rest) = tested(alloc, room, depth, behind(tokens))?;
         let (_, rest) = pass(is_semicolon(kind_at(rest)), rest)?;
         let barrier = Stmt::Barrier {
             number,
-            site,
+            site: opening.site,
             flags,
         };
         Ok(((barrier, number + 1), rest))
@@ -109,7 +115,10 @@ fn below<'a>(
 {
     let site = site_at(tokens);
     match kind_at(tokens) {
-        TokenKind::Name(name) => named(alloc, room, depth, number, site, name, tokens),
+        TokenKind::Name(name) => {
+            let opening = Opening { site, name };
+            named(alloc, room, depth, number, opening, tokens)
+        }
         TokenKind::Sign(Sign::LeftBrace) => {
             if room == 0 {
                 return Err(Stop::Refused(ParseFault::TooDeep, tokens));

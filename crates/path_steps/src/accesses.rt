@@ -20,7 +20,6 @@ use core_code::tree::{Array, LocalArray, Site, Space};
 use domain::Domain;
 use facts::{WalkError, less_number, once_length};
 use linear::Form;
-use std::alloc::Global;
 use words::Kind;
 
 /// A local array by its number, and past the end one without elements.
@@ -37,28 +36,23 @@ fn local_array<D: Domain>(setting: &Setting<D>, number: u32) -> LocalArray
 }
 
 /// The last index of an array: one less than a buffer's length, which is a symbol, or than that of a local array, which is a number.
-fn last_form<D: Domain>(
-    alloc: Global,
-    setting: &Setting<D>,
-    array: Array,
-) -> Result<Form, WalkError>
+fn last_form<D: Domain>(setting: &Setting<D>, array: Array) -> Result<Form, WalkError>
     ensures { MatchResult result (λ f. form_seen f ≡ minus (terms.length_form (seen D.Domain setting.now) (array_seen array)) (constant (pos 1))) IsMemory }
 {
     match array.space {
         Space::Global => {
-            let length = once_length(alloc, array.number as usize)?;
-            less_number(alloc, &length, 1)
+            let length = once_length(setting.alloc, array.number as usize)?;
+            less_number(setting.alloc, &length, 1)
         }
         Space::Local => {
             let length = local_array(setting, array.number).length;
-            Ok(Form::constant(alloc, length as i64 - 1))
+            Ok(Form::constant(setting.alloc, length as i64 - 1))
         }
     }
 }
 
 /// An index is at least 0, and below its array's length.
 fn in_array<D: Domain>(
-    alloc: Global,
     setting: &Setting<D>,
     path: &mut Path<D>,
     array: Array,
@@ -66,9 +60,9 @@ fn in_array<D: Domain>(
 ) -> Result<(), WalkError>
     ensures { MatchResult result (λ _. Steps (followed path.old) (followed path.new) (terms.in_array (seen D.Domain setting.now) (array_seen array) (form_seen index.now))) (λ e. StopsAtStep (followed path.old) e (terms.in_array (seen D.Domain setting.now) (array_seen array) (form_seen index.now))) }
 {
-    let last = last_form(alloc, setting, array)?;
-    let room = last.sub(alloc, index)?;
-    let from_zero = index.copy(alloc)?;
+    let last = last_form(setting, array)?;
+    let room = last.sub(setting.alloc, index)?;
+    let from_zero = index.copy(setting.alloc)?;
     claim_form(setting, path, Sort::OfIndex, true, from_zero)?;
     claim_form(setting, path, Sort::OfIndex, true, room)?;
     Ok(())
@@ -76,7 +70,6 @@ fn in_array<D: Domain>(
 
 /// Notes an access at the site where its array is named, behind the claims that its index is in the array.
 pub fn access<D: Domain>(
-    alloc: Global,
     setting: &Setting<D>,
     path: &mut Path<D>,
     is_store: bool,
@@ -88,7 +81,7 @@ pub fn access<D: Domain>(
 {
     let place = path.spot_at(site);
     path.stand(place);
-    in_array(alloc, setting, path, array, &index)?;
+    in_array(setting, path, array, &index)?;
     let spot = path.spot_at(site);
     let target = Target {
         is_store,
@@ -121,7 +114,6 @@ fn array_kind<D: Domain>(setting: &Setting<D>, array: Array) -> Kind
 
 /// A load: the access, then any number of the array's kind.
 pub fn load<D: Domain>(
-    alloc: Global,
     setting: &Setting<D>,
     path: &mut Path<D>,
     array: Array,
@@ -130,6 +122,6 @@ pub fn load<D: Domain>(
 ) -> Result<Value, WalkError>
     ensures { MatchResult result (λ v. Leads (followed path.old) (followed path.new) (terms.load (seen D.Domain setting.now) (array_seen array) (site_seen site) (form_seen index)) (value_seen v)) (λ e. Stops (followed path.old) e (terms.load (seen D.Domain setting.now) (array_seen array) (site_seen site) (form_seen index))) }
 {
-    access(alloc, setting, path, false, array, site, index)?;
-    unknown(alloc, setting, path, array_kind(setting, array))
+    access(setting, path, false, array, site, index)?;
+    unknown(setting, path, array_kind(setting, array))
 }

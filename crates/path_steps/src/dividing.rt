@@ -79,7 +79,6 @@ fn know_under<D: Copy>(
 
 /// A form that is at least 0 by a number above 0: the quotient, a new symbol, and what it leaves.
 pub fn quotient<D: Domain>(
-    alloc: Global,
     setting: &Setting<D>,
     path: &mut Path<D>,
     kind: Kind,
@@ -89,8 +88,8 @@ pub fn quotient<D: Domain>(
     requires { pos 0 <ℤ number }
     ensures { MatchResult result (λ v. LeadsTwo (followed path.old) (followed path.new) (operators.quotient (seen D.Domain setting.now) (kind_seen kind) (form_seen of.now) number) (form_seen v.0) (form_seen v.1)) (λ e. StopsTwo (followed path.old) e (operators.quotient (seen D.Domain setting.now) (kind_seen kind) (form_seen of.now) number)) }
 {
-    let quotient = invent(alloc, setting, path, any_of(kind))?;
-    let left = know_left(alloc, path, of, number, &quotient)?;
-    know_under(alloc, path, number, &left)?;
+    let quotient = invent(setting, path, any_of(kind))?;
+    let left = know_left(setting.alloc, path, of, number, &quotient)?;
+    know_under(setting.alloc, path, number, &left)?;
     Ok((quotient, left))
 }

@@ -53,7 +53,6 @@ fn divisor_goal(alloc: Global, divisor: &Form) -> Result<Goal, WalkError>
 
 /// A claim that a divisor is not 0 (C99 6.5.5).
 fn claim_nonzero<D: Domain>(
-    alloc: Global,
     setting: &Setting<D>,
     path: &mut Path<D>,
     divisor: &Form,
@@ -61,7 +60,7 @@ fn claim_nonzero<D: Domain>(
     ensures { MatchResult result (λ _. Steps (followed path.old) (followed path.new) (claim_nonzero (seen D.Domain setting.now) (form_seen divisor.now))) (λ e. StopsAtStep (followed path.old) e (claim_nonzero (seen D.Domain setting.now) (form_seen divisor.now))) }
 {
     let settled = lacks_zero(bounds_of(setting, path, divisor));
-    let goal = divisor_goal(alloc, divisor)?;
+    let goal = divisor_goal(setting.alloc, divisor)?;
     path.claim(Sort::OfDivisor, true, settled, goal)?;
     Ok(())
 }
@@ -120,7 +119,6 @@ fn is_quotient_settled<D: Domain>(
 
 /// A claim that a quotient is an `int` (C99 6.5.5): the least one is not divided by -1.
 fn claim_overflow<D: Domain>(
-    alloc: Global,
     setting: &Setting<D>,
     path: &mut Path<D>,
     dividend: &Form,
@@ -129,14 +127,13 @@ fn claim_overflow<D: Domain>(
     ensures { MatchResult result (λ _. Steps (followed path.old) (followed path.new) (claim_overflow (seen D.Domain setting.now) (form_seen dividend.now) (form_seen divisor.now))) (λ e. StopsAtStep (followed path.old) e (claim_overflow (seen D.Domain setting.now) (form_seen dividend.now) (form_seen divisor.now))) }
 {
     let settled = is_quotient_settled(setting, path, dividend, divisor);
-    let goal = quotient_goal(alloc, dividend, divisor)?;
+    let goal = quotient_goal(setting.alloc, dividend, divisor)?;
     path.claim(Sort::OfQuotient, true, settled, goal)?;
     Ok(())
 }
 
 /// The claim of a quotient, which only an `int` has.
 fn claim_quotient<D: Domain>(
-    alloc: Global,
     setting: &Setting<D>,
     path: &mut Path<D>,
     kind: Kind,
@@ -146,14 +143,13 @@ fn claim_quotient<D: Domain>(
     ensures { MatchResult result (λ _. Steps (followed path.old) (followed path.new) (operators.claim_quotient (seen D.Domain setting.now) (kind_seen kind) (form_seen dividend.now) (form_seen divisor.now))) (λ e. StopsAtStep (followed path.old) e (operators.claim_quotient (seen D.Domain setting.now) (kind_seen kind) (form_seen dividend.now) (form_seen divisor.now))) }
 {
     match kind {
-        Kind::Int => claim_overflow(alloc, setting, path, dividend, divisor),
+        Kind::Int => claim_overflow(setting, path, dividend, divisor),
         Kind::Uint => Ok(()),
     }
 }
 
 /// The claims of a division: that of its divisor, then that of its quotient.
 pub fn claim_divisor<D: Domain>(
-    alloc: Global,
     setting: &Setting<D>,
     path: &mut Path<D>,
     kind: Kind,
@@ -162,6 +158,6 @@ pub fn claim_divisor<D: Domain>(
 ) -> Result<(), WalkError>
     ensures { MatchResult result (λ _. Steps (followed path.old) (followed path.new) (operators.claim_divisor (seen D.Domain setting.now) (kind_seen kind) (form_seen dividend.now) (form_seen divisor.now))) (λ e. StopsAtStep (followed path.old) e (operators.claim_divisor (seen D.Domain setting.now) (kind_seen kind) (form_seen dividend.now) (form_seen divisor.now))) }
 {
-    claim_nonzero(alloc, setting, path, divisor)?;
-    claim_quotient(alloc, setting, path, kind, dividend, divisor)
+    claim_nonzero(setting, path, divisor)?;
+    claim_quotient(setting, path, kind, dividend, divisor)
 }

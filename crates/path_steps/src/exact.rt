@@ -34,7 +34,6 @@ fn total(alloc: Global, left: &Form, right: &Form) -> Result<Form, WalkError>
 
 /// The sum of two operands, claimed to be in the range of its kind or, of a `uint`, a new symbol.
 pub fn ranged_sum<D: Domain>(
-    alloc: Global,
     setting: &Setting<D>,
     path: &mut Path<D>,
     kind: Kind,
@@ -43,13 +42,12 @@ pub fn ranged_sum<D: Domain>(
 ) -> Result<Value, WalkError>
     ensures { MatchResult result (λ v. Leads (followed path.old) (followed path.new) (walks.ranged (seen D.Domain setting.now) (kind_seen kind) (sum (form_seen left.now) (form_seen right.now))) (value_seen v)) (λ e. Stops (followed path.old) e (walks.ranged (seen D.Domain setting.now) (kind_seen kind) (sum (form_seen left.now) (form_seen right.now)))) }
 {
-    let form = total(alloc, left, right)?;
-    ranged(alloc, setting, path, kind, form)
+    let form = total(setting.alloc, left, right)?;
+    ranged(setting, path, kind, form)
 }
 
 /// The difference of two operands, claimed to be in the range of its kind or, of a `uint`, a new symbol.
 pub fn ranged_difference<D: Domain>(
-    alloc: Global,
     setting: &Setting<D>,
     path: &mut Path<D>,
     kind: Kind,
@@ -58,13 +56,12 @@ pub fn ranged_difference<D: Domain>(
 ) -> Result<Value, WalkError>
     ensures { MatchResult result (λ v. Leads (followed path.old) (followed path.new) (walks.ranged (seen D.Domain setting.now) (kind_seen kind) (minus (form_seen left.now) (form_seen right.now))) (value_seen v)) (λ e. Stops (followed path.old) e (walks.ranged (seen D.Domain setting.now) (kind_seen kind) (minus (form_seen left.now) (form_seen right.now)))) }
 {
-    let form = difference(alloc, left, right)?;
-    ranged(alloc, setting, path, kind, form)
+    let form = difference(setting.alloc, left, right)?;
+    ranged(setting, path, kind, form)
 }
 
 /// The negation of an operand, claimed to be in the range of its kind or, of a `uint`, a new symbol.
 pub fn ranged_negation<D: Domain>(
-    alloc: Global,
     setting: &Setting<D>,
     path: &mut Path<D>,
     kind: Kind,
@@ -72,8 +69,8 @@ pub fn ranged_negation<D: Domain>(
 ) -> Result<Value, WalkError>
     ensures { MatchResult result (λ v. Leads (followed path.old) (followed path.new) (walks.ranged (seen D.Domain setting.now) (kind_seen kind) (multiple (negsuc 0) (form_seen of.now))) (value_seen v)) (λ e. Stops (followed path.old) e (walks.ranged (seen D.Domain setting.now) (kind_seen kind) (multiple (negsuc 0) (form_seen of.now)))) }
 {
-    let form = negated(alloc, of)?;
-    ranged(alloc, setting, path, kind, form)
+    let form = negated(setting.alloc, of)?;
+    ranged(setting, path, kind, form)
 }
 
 /// All bits turned round: the greatest number of a `uint` less a form, or -1 less it.
@@ -88,7 +85,6 @@ fn complement(alloc: Global, kind: Kind, of: &Form) -> Result<Form, WalkError>
 
 /// The complement of an operand, claimed to be in the range of its kind or, of a `uint`, a new symbol.
 pub fn ranged_complement<D: Domain>(
-    alloc: Global,
     setting: &Setting<D>,
     path: &mut Path<D>,
     kind: Kind,
@@ -96,13 +92,12 @@ pub fn ranged_complement<D: Domain>(
 ) -> Result<Value, WalkError>
     ensures { MatchResult result (λ v. Leads (followed path.old) (followed path.new) (walks.ranged (seen D.Domain setting.now) (kind_seen kind) (operators.complement (kind_seen kind) (form_seen of.now))) (value_seen v)) (λ e. Stops (followed path.old) e (walks.ranged (seen D.Domain setting.now) (kind_seen kind) (operators.complement (kind_seen kind) (form_seen of.now)))) }
 {
-    let form = complement(alloc, kind, of)?;
-    ranged(alloc, setting, path, kind, form)
+    let form = complement(setting.alloc, kind, of)?;
+    ranged(setting, path, kind, form)
 }
 
 /// The product of two forms: exact where one of them is a number, else a new symbol.
 fn product<D: Domain>(
-    alloc: Global,
     setting: &Setting<D>,
     path: &mut Path<D>,
     left: &Form,
@@ -111,20 +106,19 @@ fn product<D: Domain>(
     ensures { MatchResult result (λ f. Leads (followed path.old) (followed path.new) (operators.product (seen D.Domain setting.now) (form_seen left.now).terms (form_seen right.now).terms (form_seen left.now) (form_seen right.now)) (form_seen f)) (λ e. StopsAtForm (seen D.Domain setting.now) (followed path.old) e (operators.product (seen D.Domain setting.now) (form_seen left.now).terms (form_seen right.now).terms (form_seen left.now) (form_seen right.now))) }
 {
     if is_number(right) {
-        let form = left.times(alloc, right.constant_part())?;
+        let form = left.times(setting.alloc, right.constant_part())?;
         return Ok(form);
     }
     if is_number(left) {
-        let form = right.times(alloc, left.constant_part())?;
+        let form = right.times(setting.alloc, left.constant_part())?;
         return Ok(form);
     }
     let element = element_at(setting, path, left).mul(element_at(setting, path, right));
-    invent(alloc, setting, path, element)
+    invent(setting, path, element)
 }
 
 /// The product of two operands, claimed to be in the range of its kind or, of a `uint`, a new symbol.
 pub fn ranged_product<D: Domain>(
-    alloc: Global,
     setting: &Setting<D>,
     path: &mut Path<D>,
     kind: Kind,
@@ -133,6 +127,6 @@ pub fn ranged_product<D: Domain>(
 ) -> Result<Value, WalkError>
     ensures { MatchResult result (λ v. Leads (followed path.old) (followed path.new) (operators.binary (seen D.Domain setting.now) Multiply (kind_seen kind) (form_seen left.now) (form_seen right.now)) (value_seen v)) (λ e. Stops (followed path.old) e (operators.binary (seen D.Domain setting.now) Multiply (kind_seen kind) (form_seen left.now) (form_seen right.now))) }
 {
-    let form = product(alloc, setting, path, left, right)?;
-    ranged(alloc, setting, path, kind, form)
+    let form = product(setting, path, left, right)?;
+    ranged(setting, path, kind, form)
 }

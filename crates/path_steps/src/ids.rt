@@ -16,7 +16,6 @@ use std::alloc::Global;
 
 /// The form of what a work-item function answers in a dimension below 3 (OpenCL 1.2, 6.12.1).
 fn id_inside<D: Domain>(
-    alloc: Global,
     setting: &Setting<D>,
     function: Function,
     dimension: u32,
@@ -27,18 +26,24 @@ fn id_inside<D: Domain>(
     let size = setting.sizes[dimension as usize];
     match function {
         Function::GlobalId => {
-            let begin = once_group(alloc, Side::First, dimension)?.times(alloc, size as i64)?;
-            let form = begin.add(alloc, &once_local(alloc, Side::First, dimension)?)?;
+            let begin = once_group(setting.alloc, Side::First, dimension)?.times(
+                setting.alloc,
+                size as i64,
+            )?;
+            let form = begin.add(
+                setting.alloc,
+                &once_local(setting.alloc, Side::First, dimension)?,
+            )?;
             Ok(form)
         }
-        Function::LocalId => once_local(alloc, Side::First, dimension),
-        Function::GroupId => once_group(alloc, Side::First, dimension),
+        Function::LocalId => once_local(setting.alloc, Side::First, dimension),
+        Function::GroupId => once_group(setting.alloc, Side::First, dimension),
         Function::GlobalSize => {
-            let form = once_groups(alloc, dimension)?.times(alloc, size as i64)?;
+            let form = once_groups(setting.alloc, dimension)?.times(setting.alloc, size as i64)?;
             Ok(form)
         }
-        Function::LocalSize => Ok(Form::constant(alloc, size as i64)),
-        Function::NumGroups => once_groups(alloc, dimension),
+        Function::LocalSize => Ok(Form::constant(setting.alloc, size as i64)),
+        Function::NumGroups => once_groups(setting.alloc, dimension),
     }
 }
 
@@ -56,7 +61,6 @@ fn id_outside(alloc: Global, function: Function) -> Form
 
 /// The form of what a work-item function answers in a dimension (OpenCL 1.2, 6.12.1).
 pub fn id_form<D: Domain>(
-    alloc: Global,
     setting: &Setting<D>,
     function: Function,
     dimension: u32,
@@ -64,8 +68,8 @@ pub fn id_form<D: Domain>(
     ensures { MatchResult result (λ f. form_seen f ≡ terms.id_form (seen D.Domain setting.now) (function_seen function) dimension) IsMemory }
 {
     if dimension < 3 {
-        id_inside(alloc, setting, function, dimension)
+        id_inside(setting, function, dimension)
     } else {
-        Ok(id_outside(alloc, function))
+        Ok(id_outside(setting.alloc, function))
     }
 }

@@ -49,7 +49,6 @@ fn count_of_news<D: Copy>(path: &Path<D>) -> usize
 
 /// A new symbol, with its bounds as facts.
 pub fn invent<D: Domain>(
-    alloc: Global,
     setting: &Setting<D>,
     path: &mut Path<D>,
     element: D,
@@ -58,10 +57,10 @@ pub fn invent<D: Domain>(
     ensures small { IfOk result (λ f. size (form_seen f) ≡ 1) }
 {
     let index = count_of_news(path);
-    let newest = once_new(alloc, Side::First, index)?;
+    let newest = once_new(setting.alloc, Side::First, index)?;
     let bounds = element.bounds();
-    know_low(alloc, path, &newest, bounds.low)?;
-    know_high(alloc, path, &newest, bounds.high)?;
+    know_low(setting.alloc, path, &newest, bounds.low)?;
+    know_high(setting.alloc, path, &newest, bounds.high)?;
     path.invent(element)?;
     Ok(newest)
 }
@@ -78,14 +77,13 @@ pub fn any_of<D: Domain>(kind: Kind) -> D
 
 /// A value of which no more is known than its kind.
 pub fn unknown<D: Domain>(
-    alloc: Global,
     setting: &Setting<D>,
     path: &mut Path<D>,
     kind: Kind,
 ) -> Result<Value, WalkError>
     ensures { MatchResult result (λ v. Leads (followed path.old) (followed path.new) (walks.unknown (seen D.Domain setting.now) (kind_seen kind)) (value_seen v)) (λ e. Stops (followed path.old) e (walks.unknown (seen D.Domain setting.now) (kind_seen kind))) }
 {
-    let form = invent(alloc, setting, path, any_of(kind))?;
+    let form = invent(setting, path, any_of(kind))?;
     Ok(Value { kind, form })
 }
 
@@ -137,7 +135,6 @@ fn has_entry<D: Domain>(setting: &Setting<D>, number: usize) -> bool
 
 /// The two ends of a kind's range.
 fn in_range<D: Domain>(
-    alloc: Global,
     setting: &Setting<D>,
     path: &mut Path<D>,
     needed: bool,
@@ -146,8 +143,8 @@ fn in_range<D: Domain>(
 ) -> Result<(), WalkError>
     ensures { MatchResult result (λ _. Steps (followed path.old) (followed path.new) (walks.in_range (seen D.Domain setting.now) needed (kind_seen kind) (form_seen form.now))) (λ e. StopsAtStep (followed path.old) e (walks.in_range (seen D.Domain setting.now) needed (kind_seen kind) (form_seen form.now))) }
 {
-    let low = low_end(alloc, kind, form)?;
-    let high = high_end(alloc, kind, form)?;
+    let low = low_end(setting.alloc, kind, form)?;
+    let high = high_end(setting.alloc, kind, form)?;
     claim_form(setting, path, Sort::OfRange(kind), needed, low)?;
     claim_form(setting, path, Sort::OfRange(kind), needed, high)?;
     Ok(())
@@ -175,16 +172,11 @@ fn high_end(alloc: Global, kind: Kind, of: &Form) -> Result<Form, WalkError>
 
 #[tactic(auto, unfolding(crate::specs::View::followed))]
 /// The two claims that a form is in the range of `uint` are each settled by the domain or have an entry.
-fn is_kept<D: Domain>(
-    alloc: Global,
-    setting: &Setting<D>,
-    path: &Path<D>,
-    form: &Form,
-) -> Result<bool, WalkError>
+fn is_kept<D: Domain>(setting: &Setting<D>, path: &Path<D>, form: &Form) -> Result<bool, WalkError>
     ensures { MatchResult result (λ b. b ≡ walks.is_kept (seen D.Domain setting.now) (form_seen form.now) (followed path.now).state) (λ e. IsUnfit e (walks.low_end Uint (form_seen form.now)) ⊎ IsUnfit e (walks.high_end Uint (form_seen form.now))) }
 {
-    let low = low_end(alloc, Kind::Uint, form)?;
-    let high = high_end(alloc, Kind::Uint, form)?;
+    let low = low_end(setting.alloc, Kind::Uint, form)?;
+    let high = high_end(setting.alloc, Kind::Uint, form)?;
     let claims = path.count as usize;
     let keeps_low = settles(setting, path, &low) || has_entry(setting, claims + 1);
     let keeps_high = settles(setting, path, &high) || has_entry(setting, claims + 2);
@@ -193,7 +185,6 @@ fn is_kept<D: Domain>(
 
 /// An exact result as a value of its kind: an `int` is claimed to be in range, a `uint` that may not be is a new symbol.
 pub fn ranged<D: Domain>(
-    alloc: Global,
     setting: &Setting<D>,
     path: &mut Path<D>,
     kind: Kind,
@@ -203,36 +194,34 @@ pub fn ranged<D: Domain>(
 {
     match kind {
         Kind::Int => {
-            in_range(alloc, setting, path, true, Kind::Int, &form)?;
+            in_range(setting, path, true, Kind::Int, &form)?;
             Ok(Value { kind, form })
         }
-        Kind::Uint => ranged_uint(alloc, setting, path, form),
+        Kind::Uint => ranged_uint(setting, path, form),
     }
 }
 
 /// A `uint` that is kept, or else has wrapped and is a new symbol.
 fn ranged_uint<D: Domain>(
-    alloc: Global,
     setting: &Setting<D>,
     path: &mut Path<D>,
     form: Form,
 ) -> Result<Value, WalkError>
     ensures { MatchResult result (λ v. Leads (followed path.old) (followed path.new) (walks.ranged (seen D.Domain setting.now) Uint (form_seen form)) (value_seen v)) (λ e. Stops (followed path.old) e (walks.ranged (seen D.Domain setting.now) Uint (form_seen form))) }
 {
-    let kept = is_kept(alloc, setting, path, &form)?;
-    in_range(alloc, setting, path, kept, Kind::Uint, &form)?;
+    let kept = is_kept(setting, path, &form)?;
+    in_range(setting, path, kept, Kind::Uint, &form)?;
     if kept {
         return Ok(Value {
             kind: Kind::Uint,
             form,
         });
     }
-    unknown(alloc, setting, path, Kind::Uint)
+    unknown(setting, path, Kind::Uint)
 }
 
 /// A value brought to a kind.
 pub fn brought<D: Domain>(
-    alloc: Global,
     setting: &Setting<D>,
     path: &mut Path<D>,
     kind: Kind,
@@ -242,15 +231,14 @@ pub fn brought<D: Domain>(
 {
     match (kind, value.kind) {
         (Kind::Int, Kind::Int) => Ok(value),
-        (Kind::Int, Kind::Uint) => ranged(alloc, setting, path, Kind::Int, value.form),
-        (Kind::Uint, Kind::Int) => ranged(alloc, setting, path, Kind::Uint, value.form),
+        (Kind::Int, Kind::Uint) => ranged(setting, path, Kind::Int, value.form),
+        (Kind::Uint, Kind::Int) => ranged(setting, path, Kind::Uint, value.form),
         (Kind::Uint, Kind::Uint) => Ok(value),
     }
 }
 
 /// Two values brought to a kind, the left one first.
 pub fn both_brought<D: Domain>(
-    alloc: Global,
     setting: &Setting<D>,
     path: &mut Path<D>,
     kind: Kind,
@@ -259,7 +247,7 @@ pub fn both_brought<D: Domain>(
 ) -> Result<(Value, Value), WalkError>
     ensures { MatchResult result (λ v. LeadsTwo (followed path.old) (followed path.new) (walks.both_brought (seen D.Domain setting.now) (kind_seen kind) (value_seen left) (value_seen right)) (value_seen v.0) (value_seen v.1)) (λ e. StopsTwo (followed path.old) e (walks.both_brought (seen D.Domain setting.now) (kind_seen kind) (value_seen left) (value_seen right))) }
 {
-    let first = brought(alloc, setting, path, kind, left)?;
-    let second = brought(alloc, setting, path, kind, right)?;
+    let first = brought(setting, path, kind, left)?;
+    let second = brought(setting, path, kind, right)?;
     Ok((first, second))
 }

@@ -2,12 +2,14 @@
 
 use core_code::tree::LocalArray;
 use facts::Known;
+use std::alloc::Global;
 use words::Kind;
 
-/// The setting of a walk: what the domain knows, the local sizes, the kinds of the buffers, the local arrays, and, by its number, whether
-/// an obligation has an entry.
+/// The setting of a walk: where its memory comes from, what the domain knows, the local sizes, the kinds of the buffers, the local arrays,
+/// and, by its number, whether an obligation has an entry.
 #[derive(Drop)]
 pub struct Setting<D> {
+    pub alloc: Global,
     pub known: Known<D>,
     pub sizes: [u32; 3],
     pub buffers: Vec<Kind>,

@@ -99,7 +99,6 @@ fn side_fact(
 
 /// The fact of a way of a comparison.
 fn know_side<D: Domain>(
-    alloc: Global,
     setting: &Setting<D>,
     path: &mut Path<D>,
     relation: Relation,
@@ -109,13 +108,12 @@ fn know_side<D: Domain>(
 ) -> Result<(), Halt>
     ensures { MatchResult result (λ _. Steps (followed path.old) (followed path.new) (walks.know_test (seen D.Domain setting.now) (side (relation_seen relation) first (form_seen left.now) (form_seen right.now)))) (λ h. HaltsAtStep (followed path.old) (followed path.new) h (walks.know_test (seen D.Domain setting.now) (side (relation_seen relation) first (form_seen left.now) (form_seen right.now)))) }
 {
-    let fact = side_fact(alloc, relation, first, left, right)?;
+    let fact = side_fact(setting.alloc, relation, first, left, right)?;
     know_test(setting, path, fact)
 }
 
 /// Two facts of a test: the forms are equal.
 fn know_equal<D: Domain>(
-    alloc: Global,
     setting: &Setting<D>,
     path: &mut Path<D>,
     left: &Form,
@@ -123,13 +121,12 @@ fn know_equal<D: Domain>(
 ) -> Result<(), Halt>
     ensures { MatchResult result (λ _. Steps (followed path.old) (followed path.new) (walks.know_two (seen D.Domain setting.now) (minus (form_seen left.now) (form_seen right.now)) (minus (form_seen right.now) (form_seen left.now)))) (λ h. HaltsAtStep (followed path.old) (followed path.new) h (walks.know_two (seen D.Domain setting.now) (minus (form_seen left.now) (form_seen right.now)) (minus (form_seen right.now) (form_seen left.now)))) }
 {
-    know_side(alloc, setting, path, Relation::AtLeast, true, left, right)?;
-    know_side(alloc, setting, path, Relation::AtLeast, true, right, left)
+    know_side(setting, path, Relation::AtLeast, true, left, right)?;
+    know_side(setting, path, Relation::AtLeast, true, right, left)
 }
 
 /// The two ways of a relation, one form below the other on one of them.
 fn split_sides<D: Domain>(
-    alloc: Global,
     setting: &Setting<D>,
     path: &mut Path<D>,
     relation: Relation,
@@ -139,13 +136,12 @@ fn split_sides<D: Domain>(
     ensures { MatchResult result (λ b. Leads (followed path.old) (followed path.new) (split_sides (seen D.Domain setting.now) (relation_seen relation) (form_seen left.now) (form_seen right.now)) b) (λ h. Halts (followed path.old) (followed path.new) h (split_sides (seen D.Domain setting.now) (relation_seen relation) (form_seen left.now) (form_seen right.now))) }
 {
     let first = path.choose()?;
-    know_side(alloc, setting, path, relation, first, left, right)?;
+    know_side(setting, path, relation, first, left, right)?;
     Ok(first)
 }
 
 /// The ways of equality: equal, below, above.
 fn split_equal<D: Domain>(
-    alloc: Global,
     setting: &Setting<D>,
     path: &mut Path<D>,
     left: &Form,
@@ -154,17 +150,16 @@ fn split_equal<D: Domain>(
     ensures { MatchResult result (λ b. Leads (followed path.old) (followed path.new) (tests.split (seen D.Domain setting.now) Equal (form_seen left.now) (form_seen right.now)) b) (λ h. Halts (followed path.old) (followed path.new) h (tests.split (seen D.Domain setting.now) Equal (form_seen left.now) (form_seen right.now))) }
 {
     if path.choose()? {
-        know_equal(alloc, setting, path, left, right)?;
+        know_equal(setting, path, left, right)?;
         return Ok(true);
     }
     let first = path.choose()?;
-    know_side(alloc, setting, path, Relation::Equal, first, left, right)?;
+    know_side(setting, path, Relation::Equal, first, left, right)?;
     Ok(false)
 }
 
 /// The ways of inequality: below, above, equal.
 fn split_unequal<D: Domain>(
-    alloc: Global,
     setting: &Setting<D>,
     path: &mut Path<D>,
     left: &Form,
@@ -173,20 +168,19 @@ fn split_unequal<D: Domain>(
     ensures { MatchResult result (λ b. Leads (followed path.old) (followed path.new) (tests.split (seen D.Domain setting.now) Unequal (form_seen left.now) (form_seen right.now)) b) (λ h. Halts (followed path.old) (followed path.new) h (tests.split (seen D.Domain setting.now) Unequal (form_seen left.now) (form_seen right.now))) }
 {
     if path.choose()? {
-        know_side(alloc, setting, path, Relation::Unequal, true, left, right)?;
+        know_side(setting, path, Relation::Unequal, true, left, right)?;
         return Ok(true);
     }
     if path.choose()? {
-        know_side(alloc, setting, path, Relation::Unequal, false, left, right)?;
+        know_side(setting, path, Relation::Unequal, false, left, right)?;
         return Ok(true);
     }
-    know_equal(alloc, setting, path, left, right)?;
+    know_equal(setting, path, left, right)?;
     Ok(false)
 }
 
 /// The ways of a comparison, in their order.
 pub fn split<D: Domain>(
-    alloc: Global,
     setting: &Setting<D>,
     path: &mut Path<D>,
     relation: Relation,
@@ -196,12 +190,12 @@ pub fn split<D: Domain>(
     ensures { MatchResult result (λ b. Leads (followed path.old) (followed path.new) (tests.split (seen D.Domain setting.now) (relation_seen relation) (form_seen left.now) (form_seen right.now)) b) (λ h. Halts (followed path.old) (followed path.new) h (tests.split (seen D.Domain setting.now) (relation_seen relation) (form_seen left.now) (form_seen right.now))) }
 {
     match relation {
-        Relation::Less => split_sides(alloc, setting, path, Relation::Less, left, right),
-        Relation::AtMost => split_sides(alloc, setting, path, Relation::AtMost, left, right),
-        Relation::More => split_sides(alloc, setting, path, Relation::More, left, right),
-        Relation::AtLeast => split_sides(alloc, setting, path, Relation::AtLeast, left, right),
-        Relation::Equal => split_equal(alloc, setting, path, left, right),
-        Relation::Unequal => split_unequal(alloc, setting, path, left, right),
+        Relation::Less => split_sides(setting, path, Relation::Less, left, right),
+        Relation::AtMost => split_sides(setting, path, Relation::AtMost, left, right),
+        Relation::More => split_sides(setting, path, Relation::More, left, right),
+        Relation::AtLeast => split_sides(setting, path, Relation::AtLeast, left, right),
+        Relation::Equal => split_equal(setting, path, left, right),
+        Relation::Unequal => split_unequal(setting, path, left, right),
     }
 }
 
@@ -222,73 +216,51 @@ pub fn negated(alloc: Global, form: &Form) -> Result<Form, WalkError>
 }
 
 /// Goes on where a form is above 0: that is known, and the domain is narrowed by it.
-fn know_above<D: Domain>(
-    alloc: Global,
-    setting: &Setting<D>,
-    path: &mut Path<D>,
-    form: &Form,
-) -> Result<(), Halt>
+fn know_above<D: Domain>(setting: &Setting<D>, path: &mut Path<D>, form: &Form) -> Result<(), Halt>
     ensures { MatchResult result (λ _. Steps (followed path.old) (followed path.new) (walks.know_test (seen D.Domain setting.now) (minus (form_seen form.now) (constant (pos 1))))) (λ h. HaltsAtStep (followed path.old) (followed path.new) h (walks.know_test (seen D.Domain setting.now) (minus (form_seen form.now) (constant (pos 1))))) }
 {
-    let fact = less_number(alloc, form, 1)?;
+    let fact = less_number(setting.alloc, form, 1)?;
     know_test(setting, path, fact)
 }
 
 /// Goes on where a form is below 0: that is known, and the domain is narrowed by it.
-fn know_below<D: Domain>(
-    alloc: Global,
-    setting: &Setting<D>,
-    path: &mut Path<D>,
-    form: &Form,
-) -> Result<(), Halt>
+fn know_below<D: Domain>(setting: &Setting<D>, path: &mut Path<D>, form: &Form) -> Result<(), Halt>
     ensures { MatchResult result (λ _. Steps (followed path.old) (followed path.new) (walks.know_test (seen D.Domain setting.now) (minus (constant (negsuc 0)) (form_seen form.now)))) (λ h. HaltsAtStep (followed path.old) (followed path.new) h (walks.know_test (seen D.Domain setting.now) (minus (constant (negsuc 0)) (form_seen form.now)))) }
 {
-    let fact = number_less(alloc, -1, form)?;
+    let fact = number_less(setting.alloc, -1, form)?;
     know_test(setting, path, fact)
 }
 
 /// A form is at least 0.
-fn know_form<D: Domain>(
-    alloc: Global,
-    setting: &Setting<D>,
-    path: &mut Path<D>,
-    form: &Form,
-) -> Result<(), Halt>
+fn know_form<D: Domain>(setting: &Setting<D>, path: &mut Path<D>, form: &Form) -> Result<(), Halt>
     ensures { MatchResult result (λ _. Steps (followed path.old) (followed path.new) (walks.know_test (seen D.Domain setting.now) (form_seen form.now))) (λ h. HaltsAtStep (followed path.old) (followed path.new) h (walks.know_test (seen D.Domain setting.now) (form_seen form.now))) }
 {
-    let fact = copied(alloc, form)?;
+    let fact = copied(setting.alloc, form)?;
     know_test(setting, path, fact)
 }
 
 /// A form is at most 0.
 fn know_negated<D: Domain>(
-    alloc: Global,
     setting: &Setting<D>,
     path: &mut Path<D>,
     form: &Form,
 ) -> Result<(), Halt>
     ensures { MatchResult result (λ _. Steps (followed path.old) (followed path.new) (walks.know_test (seen D.Domain setting.now) (multiple (negsuc 0) (form_seen form.now)))) (λ h. HaltsAtStep (followed path.old) (followed path.new) h (walks.know_test (seen D.Domain setting.now) (multiple (negsuc 0) (form_seen form.now)))) }
 {
-    let fact = negated(alloc, form)?;
+    let fact = negated(setting.alloc, form)?;
     know_test(setting, path, fact)
 }
 
 /// Two facts of a test: a form is 0.
-fn know_zero<D: Domain>(
-    alloc: Global,
-    setting: &Setting<D>,
-    path: &mut Path<D>,
-    form: &Form,
-) -> Result<(), Halt>
+fn know_zero<D: Domain>(setting: &Setting<D>, path: &mut Path<D>, form: &Form) -> Result<(), Halt>
     ensures { MatchResult result (λ _. Steps (followed path.old) (followed path.new) (walks.know_two (seen D.Domain setting.now) (form_seen form.now) (multiple (negsuc 0) (form_seen form.now)))) (λ h. HaltsAtStep (followed path.old) (followed path.new) h (walks.know_two (seen D.Domain setting.now) (form_seen form.now) (multiple (negsuc 0) (form_seen form.now)))) }
 {
-    know_form(alloc, setting, path, form)?;
-    know_negated(alloc, setting, path, form)
+    know_form(setting, path, form)?;
+    know_negated(setting, path, form)
 }
 
 /// A number as a test: above 0, below 0, or 0.
 pub fn split_number<D: Domain>(
-    alloc: Global,
     setting: &Setting<D>,
     path: &mut Path<D>,
     form: &Form,
@@ -296,13 +268,13 @@ pub fn split_number<D: Domain>(
     ensures { MatchResult result (λ b. Leads (followed path.old) (followed path.new) (tests.split_number (seen D.Domain setting.now) (form_seen form.now)) b) (λ h. Halts (followed path.old) (followed path.new) h (tests.split_number (seen D.Domain setting.now) (form_seen form.now))) }
 {
     if path.choose()? {
-        know_above(alloc, setting, path, form)?;
+        know_above(setting, path, form)?;
         return Ok(true);
     }
     if path.choose()? {
-        know_below(alloc, setting, path, form)?;
+        know_below(setting, path, form)?;
         return Ok(true);
     }
-    know_zero(alloc, setting, path, form)?;
+    know_zero(setting, path, form)?;
     Ok(false)
 }

@@ -14,11 +14,9 @@ use arrival_claims::{Placing, refuse, stand_before};
 use core_code::tree::{Array, Site, Term};
 use domain::Domain;
 use path_steps::{Halt, Path, Value, access};
-use std::alloc::Global;
 
 /// A term's value at a statement.
 pub fn value_at<D: Domain>(
-    alloc: Global,
     placing: &Placing<'_, D>,
     path: &mut Path<D>,
     statement: u32,
@@ -27,16 +25,15 @@ pub fn value_at<D: Domain>(
     ensures { MatchResult result (λ v. Leads (followed path.old) (followed path.new) (steps.value_at (placed D.Domain placing.now) statement (term_seen term.now)) (value_seen v)) (λ h. Halts (followed path.old) (followed path.new) h (steps.value_at (placed D.Domain placing.now) statement (term_seen term.now))) }
 {
     if !is_lawful(term) {
-        refuse(alloc, path)?;
+        refuse(placing.setting.alloc, path)?;
         return Err(Halt::Dead);
     }
     stand_before(path, statement);
-    value_of(alloc, placing.setting, path, term)
+    value_of(placing.setting, path, term)
 }
 
 /// Walks a test at a statement, and gives its truth on this path.
 pub fn test_at<D: Domain>(
-    alloc: Global,
     placing: &Placing<'_, D>,
     path: &mut Path<D>,
     statement: u32,
@@ -45,11 +42,11 @@ pub fn test_at<D: Domain>(
     ensures { MatchResult result (λ b. Leads (followed path.old) (followed path.new) (steps.test_at (placed D.Domain placing.now) statement (term_seen term.now)) b) (λ h. Halts (followed path.old) (followed path.new) h (steps.test_at (placed D.Domain placing.now) statement (term_seen term.now))) }
 {
     if !is_lawful(term) {
-        refuse(alloc, path)?;
+        refuse(placing.setting.alloc, path)?;
         return Err(Halt::Dead);
     }
     stand_before(path, statement);
-    test_of(alloc, placing.setting, path, term)
+    test_of(placing.setting, path, term)
 }
 
 #[tactic(auto, using(crate::proofs::SetSlots::set_seen, crate::proofs::SetSlots::set_beyond))]
@@ -72,7 +69,6 @@ fn assign<D: Domain>(path: &mut Path<D>, slot: u32, value: Value)
 
 /// Walks an assignment: its value is walked, and its variable has that value from there on.
 pub fn walk_set<D: Domain>(
-    alloc: Global,
     placing: &Placing<'_, D>,
     path: &mut Path<D>,
     statement: u32,
@@ -81,26 +77,38 @@ pub fn walk_set<D: Domain>(
 ) -> Result<(), Halt>
     ensures { MatchResult result (λ _. Steps (followed path.old) (followed path.new) (steps.set_at (placed D.Domain placing.now) statement slot (term_seen value.now))) (λ h. HaltsAtStep (followed path.old) (followed path.new) h (steps.set_at (placed D.Domain placing.now) statement slot (term_seen value.now))) }
 {
-    let value = value_at(alloc, placing, path, statement, value)?;
+    let value = value_at(placing, path, statement, value)?;
     assign(path, slot, value);
     Ok(())
 }
 
+/// What is stored, and where: the array, the site where it is named, the index, and the value.
+#[derive(Clone, Copy)]
+pub struct Store<'a> {
+    pub array: Array,
+    pub site: Site,
+    pub index: &'a Term,
+    pub value: &'a Term,
+}
+
 /// A store: the index, the value, then the access.
 pub fn walk_store<D: Domain>(
-    alloc: Global,
     placing: &Placing<'_, D>,
     path: &mut Path<D>,
     statement: u32,
-    array: Array,
-    site: Site,
-    index: &Term,
-    value: &Term,
+    store: Store<'_>,
 ) -> Result<(), Halt>
-    ensures { MatchResult result (λ _. Steps (followed path.old) (followed path.new) (steps.store_at (placed D.Domain placing.now) statement (array_seen array) (site_seen site) (term_seen index.now) (term_seen value.now))) (λ h. HaltsAtStep (followed path.old) (followed path.new) h (steps.store_at (placed D.Domain placing.now) statement (array_seen array) (site_seen site) (term_seen index.now) (term_seen value.now))) }
+    ensures { MatchResult result (λ _. Steps (followed path.old) (followed path.new) (steps.store_at (placed D.Domain placing.now) statement (array_seen store.entry.array) (site_seen store.entry.site) (term_seen store.entry.index.now) (term_seen store.entry.value.now))) (λ h. HaltsAtStep (followed path.old) (followed path.new) h (steps.store_at (placed D.Domain placing.now) statement (array_seen store.entry.array) (site_seen store.entry.site) (term_seen store.entry.index.now) (term_seen store.entry.value.now))) }
 {
-    let place = value_at(alloc, placing, path, statement, index)?;
-    value_at(alloc, placing, path, statement, value)?;
-    access(alloc, placing.setting, path, true, array, site, place.form)?;
+    let place = value_at(placing, path, statement, store.index)?;
+    value_at(placing, path, statement, store.value)?;
+    access(
+        placing.setting,
+        path,
+        true,
+        store.array,
+        store.site,
+        place.form,
+    )?;
     Ok(())
 }

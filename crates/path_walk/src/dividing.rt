@@ -15,12 +15,10 @@ use domain::Domain;
 use facts::WalkError;
 use linear::Form;
 use path_steps::{Path, Setting, Value, claim_divisor, element_at, invent, quotient};
-use std::alloc::Global;
 use words::Kind;
 
 /// The quotient of a form that is at least 0 by a number above 0.
 pub fn quotient_alone<D: Domain>(
-    alloc: Global,
     setting: &Setting<D>,
     path: &mut Path<D>,
     kind: Kind,
@@ -30,13 +28,12 @@ pub fn quotient_alone<D: Domain>(
     requires { pos 0 <ℤ number }
     ensures { MatchResult result (λ f. Leads (followed path.old) (followed path.new) (quotient_alone (seen D.Domain setting.now) (kind_seen kind) (form_seen of.now) number) (form_seen f)) (λ e. Stops (followed path.old) e (quotient_alone (seen D.Domain setting.now) (kind_seen kind) (form_seen of.now) number)) }
 {
-    let parts = quotient(alloc, setting, path, kind, of, number)?;
+    let parts = quotient(setting, path, kind, of, number)?;
     Ok(parts.0)
 }
 
 /// The remainder of a form that is at least 0 by a number above 0.
 pub fn left_alone<D: Domain>(
-    alloc: Global,
     setting: &Setting<D>,
     path: &mut Path<D>,
     kind: Kind,
@@ -46,13 +43,12 @@ pub fn left_alone<D: Domain>(
     requires { pos 0 <ℤ number }
     ensures { MatchResult result (λ f. Leads (followed path.old) (followed path.new) (left_alone (seen D.Domain setting.now) (kind_seen kind) (form_seen of.now) number) (form_seen f)) (λ e. Stops (followed path.old) e (left_alone (seen D.Domain setting.now) (kind_seen kind) (form_seen of.now) number)) }
 {
-    let parts = quotient(alloc, setting, path, kind, of, number)?;
+    let parts = quotient(setting, path, kind, of, number)?;
     Ok(parts.1)
 }
 
 /// A quotient: exact, or a new symbol with what the domain tells of it.
 fn divided<D: Domain>(
-    alloc: Global,
     setting: &Setting<D>,
     path: &mut Path<D>,
     kind: Kind,
@@ -63,15 +59,14 @@ fn divided<D: Domain>(
 {
     if is_exact(setting, path, dividend, divisor) {
         let number = divisor.constant_part();
-        return quotient_alone(alloc, setting, path, kind, dividend, number);
+        return quotient_alone(setting, path, kind, dividend, number);
     }
     let element = element_at(setting, path, dividend).div(element_at(setting, path, divisor));
-    invent(alloc, setting, path, element)
+    invent(setting, path, element)
 }
 
 /// A quotient, behind the claims of its divisor.
 pub fn divide<D: Domain>(
-    alloc: Global,
     setting: &Setting<D>,
     path: &mut Path<D>,
     kind: Kind,
@@ -80,7 +75,7 @@ pub fn divide<D: Domain>(
 ) -> Result<Value, WalkError>
     ensures { MatchResult result (λ v. Leads (followed path.old) (followed path.new) (operators.binary (seen D.Domain setting.now) Divide (kind_seen kind) (form_seen left.now) (form_seen right.now)) (value_seen v)) (λ e. Stops (followed path.old) e (operators.binary (seen D.Domain setting.now) Divide (kind_seen kind) (form_seen left.now) (form_seen right.now))) }
 {
-    claim_divisor(alloc, setting, path, kind, left, right)?;
-    let form = divided(alloc, setting, path, kind, left, right)?;
+    claim_divisor(setting, path, kind, left, right)?;
+    let form = divided(setting, path, kind, left, right)?;
     Ok(Value { kind, form })
 }

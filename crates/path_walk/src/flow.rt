@@ -12,7 +12,6 @@ use arrival_claims::{Placing, stop};
 use domain::Domain;
 use facts::WalkError;
 use path_steps::{Path, Stop};
-use std::alloc::Global;
 
 /// The ways in which statements are left: through, by a `break` or a `continue` of the loop of that number, or the path stopped in them.
 #[derive(Clone, Copy)]
@@ -36,7 +35,6 @@ pub fn turn(turns: &mut Option<Vec<u32>>, number: u32) -> Result<(), WalkError>
 
 /// Stops the path at a place, with the loops that turned since its anchor.
 pub fn stop_here<D: Domain>(
-    alloc: Global,
     placing: &Placing<'_, D>,
     path: &mut Path<D>,
     place: Stop,
@@ -45,5 +43,5 @@ pub fn stop_here<D: Domain>(
     ensures { MatchResult result (λ _. Comes (followed path.old) (walking.stops (placed D.Domain placing.now) (stop_seen place) (turns_seen turns.old)) (followed path.new).found) (IsRefusedAt (followed path.old) (walking.stops (placed D.Domain placing.now) (stop_seen place) (turns_seen turns.old))) }
 {
     let list = turns.take();
-    stop(alloc, placing, path, place, list)
+    stop(placing, path, place, list)
 }

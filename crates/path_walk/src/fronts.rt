@@ -13,11 +13,9 @@ use arrival_claims::Placing;
 use core_code::tree::Statement;
 use domain::Domain;
 use path_steps::{Halt, Path};
-use std::alloc::Global;
 
 /// Goes on after a `continue` of a loop: with its update, then the loop itself.
 pub fn walk_again<D: Domain>(
-    alloc: Global,
     placing: &Placing<'_, D>,
     path: &mut Path<D>,
     again: bool,
@@ -26,8 +24,8 @@ pub fn walk_again<D: Domain>(
 ) -> Result<Flow, Halt>
     ensures { MatchResult result (λ f. Goes (followed path.old) (turns_seen turns.old) (updated (placed D.Domain placing.now) again (statement_seen statement.now)) f (followed path.new) (turns_seen turns.new)) (λ h. Fails (followed path.old) (turns_seen turns.old) (updated (placed D.Domain placing.now) again (statement_seen statement.now)) h (followed path.new)) }
 {
-    match walk_statements(alloc, placing, path, statement.update(), turns)? {
-        Flow::Through => walk_statement(alloc, placing, path, again, statement, turns),
+    match walk_statements(placing, path, statement.update(), turns)? {
+        Flow::Through => walk_statement(placing, path, again, statement, turns),
         Flow::Broke(number) => Ok(Flow::Broke(number)),
         Flow::Continued(number) => Ok(Flow::Continued(number)),
         Flow::Stopped => Ok(Flow::Stopped),
@@ -36,7 +34,6 @@ pub fn walk_again<D: Domain>(
 
 /// A statement in front of what is left, where what stands before it was left that way.
 pub fn walk_front<D: Domain>(
-    alloc: Global,
     placing: &Placing<'_, D>,
     path: &mut Path<D>,
     flow: Flow,
@@ -47,7 +44,7 @@ pub fn walk_front<D: Domain>(
     ensures { MatchResult result (λ f. Passes (placed D.Domain placing.now) again (statement_seen statement.now) flow (followed path.old) (turns_seen turns.old) f (followed path.new) (turns_seen turns.new)) (λ h. NotPassed (placed D.Domain placing.now) again (statement_seen statement.now) flow (followed path.old) (turns_seen turns.old) h (followed path.new)) }
 {
     match flow {
-        Flow::Through => walk_statement(alloc, placing, path, again, statement, turns),
+        Flow::Through => walk_statement(placing, path, again, statement, turns),
         Flow::Broke(number) => {
             if statement.number() == number {
                 return Ok(Flow::Through);
@@ -56,7 +53,7 @@ pub fn walk_front<D: Domain>(
         }
         Flow::Continued(number) => {
             if statement.number() == number {
-                return walk_again(alloc, placing, path, again, statement, turns);
+                return walk_again(placing, path, again, statement, turns);
             }
             Ok(Flow::Continued(number))
         }
@@ -66,7 +63,6 @@ pub fn walk_front<D: Domain>(
 
 /// Statements in front of what is left, where what stands before them was left that way.
 pub fn walk_fronts<D: Domain>(
-    alloc: Global,
     placing: &Placing<'_, D>,
     path: &mut Path<D>,
     flow: Flow,
@@ -77,7 +73,7 @@ pub fn walk_fronts<D: Domain>(
 {
     let mut left = flow;
     for statement in statements {
-        left = walk_front(alloc, placing, path, left, false, statement, turns)?;
+        left = walk_front(placing, path, left, false, statement, turns)?;
     }
     Ok(left)
 }

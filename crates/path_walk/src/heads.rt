@@ -22,11 +22,9 @@ use core_code::tree::Statement;
 use domain::Domain;
 use path_steps::{Halt, Path};
 use places::{Point, Rest};
-use std::alloc::Global;
 
 /// A loop whose test was true: its body, its update and the loop itself.
 fn turn_on<D: Domain>(
-    alloc: Global,
     placing: &Placing<'_, D>,
     path: &mut Path<D>,
     body: &[Statement],
@@ -36,14 +34,13 @@ fn turn_on<D: Domain>(
 ) -> Result<Flow, Halt>
     ensures { MatchResult result (λ f. TurnsOn (placed D.Domain placing.now) (statements_seen body.now) (statements_seen update.now) (statement_seen statement.now) (followed path.old) (turns_seen turns.old) f (followed path.new) (turns_seen turns.new)) (λ h. NotTurned (placed D.Domain placing.now) (statements_seen body.now) (statements_seen update.now) (statement_seen statement.now) (followed path.old) (turns_seen turns.old) h (followed path.new)) }
 {
-    let flow = walk_fronts(alloc, placing, path, Flow::Through, body, turns)?;
-    let flow = walk_fronts(alloc, placing, path, flow, update, turns)?;
-    walk_front(alloc, placing, path, flow, true, statement, turns)
+    let flow = walk_fronts(placing, path, Flow::Through, body, turns)?;
+    let flow = walk_fronts(placing, path, flow, update, turns)?;
+    walk_front(placing, path, flow, true, statement, turns)
 }
 
 /// A statement that has not begun, and what is left behind it.
 fn walk_fresh<D: Domain>(
-    alloc: Global,
     placing: &Placing<'_, D>,
     path: &mut Path<D>,
     statement: &Statement,
@@ -52,13 +49,12 @@ fn walk_fresh<D: Domain>(
 ) -> Result<(), Halt>
     ensures { MatchResult result (λ _. ComesAlong (placed D.Domain placing.now) (fresh (statement_seen statement.now) ∷ left rests.now) Through (followed path.old) (turns_seen turns.old) (followed path.new)) (λ h. NotLeft (placed D.Domain placing.now) (fresh (statement_seen statement.now) ∷ left rests.now) Through (followed path.old) (turns_seen turns.old) h (followed path.new)) }
 {
-    let flow = walk_front(alloc, placing, path, Flow::Through, false, statement, turns)?;
-    walk_left(alloc, placing, path, flow, rests, turns)
+    let flow = walk_front(placing, path, Flow::Through, false, statement, turns)?;
+    walk_left(placing, path, flow, rests, turns)
 }
 
 /// Walks from a loop's head: its test comes first, then a turn or what is left behind the loop.
 pub fn walk_head<D: Domain>(
-    alloc: Global,
     placing: &Placing<'_, D>,
     path: &mut Path<D>,
     head: &Point<'_>,
@@ -74,14 +70,14 @@ pub fn walk_head<D: Domain>(
             body,
             update,
         } => {
-            let holds = test_head(alloc, placing, path, *number, test)?;
+            let holds = test_head(placing, path, *number, test)?;
             if !holds {
-                return walk_left(alloc, placing, path, Flow::Through, rests, turns);
+                return walk_left(placing, path, Flow::Through, rests, turns);
             }
             let body = body.as_slice();
             let update = update.as_slice();
-            let flow = turn_on(alloc, placing, path, body, update, head.statement, turns)?;
-            walk_left(alloc, placing, path, flow, rests, turns)
+            let flow = turn_on(placing, path, body, update, head.statement, turns)?;
+            walk_left(placing, path, flow, rests, turns)
         }
         Statement::Set { .. }
         | Statement::Store { .. }
@@ -89,8 +85,6 @@ pub fn walk_head<D: Domain>(
         | Statement::Barrier { .. }
         | Statement::Return { .. }
         | Statement::Break { .. }
-        | Statement::Continue { .. } => {
-            walk_fresh(alloc, placing, path, head.statement, rests, turns)
-        }
+        | Statement::Continue { .. } => { walk_fresh(placing, path, head.statement, rests, turns) }
     }
 }

@@ -14,11 +14,9 @@ use core_code::tree::Term;
 use domain::Domain;
 use facts::WalkError;
 use path_steps::{Halt, Path, Stop};
-use std::alloc::Global;
 
 /// The path stops at the test of a loop without a barrier.
 pub fn stop_at_head<D: Domain>(
-    alloc: Global,
     placing: &Placing<'_, D>,
     path: &mut Path<D>,
     number: u32,
@@ -27,13 +25,12 @@ pub fn stop_at_head<D: Domain>(
 ) -> Result<(), WalkError>
     ensures { MatchResult result (λ _. Comes (followed path.old) (head_of (placed D.Domain placing.now) number again (turns_seen turns.old)) (followed path.new).found) (IsRefusedAt (followed path.old) (head_of (placed D.Domain placing.now) number again (turns_seen turns.old))) }
 {
-    arrive(alloc, placing, path, number, again)?;
-    stop_here(alloc, placing, path, Stop::Head { number, again }, turns)
+    arrive(placing, path, number, again)?;
+    stop_here(placing, path, Stop::Head { number, again }, turns)
 }
 
 /// A loop with a barrier: its test, and whether it was true.
 pub fn open_loop<D: Domain>(
-    alloc: Global,
     placing: &Placing<'_, D>,
     path: &mut Path<D>,
     number: u32,
@@ -43,12 +40,12 @@ pub fn open_loop<D: Domain>(
 ) -> Result<bool, Halt>
     ensures { MatchResult result (λ b. Opens (placed D.Domain placing.now) number again (term_seen test.now) (followed path.old) (turns_seen turns.old) b (followed path.new) (turns_seen turns.new)) (λ h. NotOpened (placed D.Domain placing.now) number again (term_seen test.now) (followed path.old) (turns_seen turns.old) h (followed path.new)) }
 {
-    arrive(alloc, placing, path, number, again)?;
-    let holds = test_at(alloc, placing, path, number, test)?;
+    arrive(placing, path, number, again)?;
+    let holds = test_at(placing, path, number, test)?;
     if !holds {
         return Ok(false);
     }
-    enter(alloc, placing, path, number)?;
+    enter(placing, path, number)?;
     turn(turns, number)?;
     Ok(true)
 }
@@ -56,7 +53,6 @@ pub fn open_loop<D: Domain>(
 /// Leaves the body of a loop with a barrier: a `break` goes on behind the loop, and a path that comes to the body's end without a barrier
 /// stops.
 pub fn close_loop<D: Domain>(
-    alloc: Global,
     placing: &Placing<'_, D>,
     path: &mut Path<D>,
     flow: Flow,
@@ -68,7 +64,7 @@ pub fn close_loop<D: Domain>(
         Flow::Broke(_) => Ok(Flow::Through),
         Flow::Stopped => Ok(Flow::Stopped),
         Flow::Through | Flow::Continued(_) => {
-            stop_here(alloc, placing, path, Stop::End, turns)?;
+            stop_here(placing, path, Stop::End, turns)?;
             Ok(Flow::Stopped)
         }
     }
@@ -76,7 +72,6 @@ pub fn close_loop<D: Domain>(
 
 /// The test of a head, from which a path begins, and whether it was true.
 pub fn test_head<D: Domain>(
-    alloc: Global,
     placing: &Placing<'_, D>,
     path: &mut Path<D>,
     number: u32,
@@ -84,10 +79,10 @@ pub fn test_head<D: Domain>(
 ) -> Result<bool, Halt>
     ensures { MatchResult result (λ b. Tested (placed D.Domain placing.now) number (term_seen test.now) (followed path.old) b (followed path.new)) (λ h. NotTested (placed D.Domain placing.now) number (term_seen test.now) (followed path.old) h (followed path.new)) }
 {
-    let holds = test_at(alloc, placing, path, number, test)?;
+    let holds = test_at(placing, path, number, test)?;
     if !holds {
         return Ok(false);
     }
-    enter(alloc, placing, path, number)?;
+    enter(placing, path, number)?;
     Ok(true)
 }

@@ -17,12 +17,10 @@ use domain::Domain;
 use facts::WalkError;
 use linear::Form;
 use path_steps::{Path, Setting, Value, any_of, element_at, invent};
-use std::alloc::Global;
 use words::Kind;
 
 /// A new symbol: with what the domain tells of bits where both forms are known to be at least 0, else any number of the kind.
 fn masked_by<D: Domain>(
-    alloc: Global,
     setting: &Setting<D>,
     path: &mut Path<D>,
     kind: Kind,
@@ -33,14 +31,13 @@ fn masked_by<D: Domain>(
 {
     if are_from_zero(setting, path, left, right) {
         let element = element_at(setting, path, left).mask(element_at(setting, path, right));
-        return invent(alloc, setting, path, element);
+        return invent(setting, path, element);
     }
-    invent(alloc, setting, path, any_of(kind))
+    invent(setting, path, any_of(kind))
 }
 
 /// The lowest bits are a remainder; of other ones there is a new symbol.
 fn masked<D: Domain>(
-    alloc: Global,
     setting: &Setting<D>,
     path: &mut Path<D>,
     kind: Kind,
@@ -51,14 +48,13 @@ fn masked<D: Domain>(
 {
     if is_mask(kind, right) {
         let number = above_bits(right.constant_part());
-        return left_alone(alloc, setting, path, kind, left, number);
+        return left_alone(setting, path, kind, left, number);
     }
-    masked_by(alloc, setting, path, kind, left, right)
+    masked_by(setting, path, kind, left, right)
 }
 
 /// The value of the bits that two operands both have.
 pub fn mask<D: Domain>(
-    alloc: Global,
     setting: &Setting<D>,
     path: &mut Path<D>,
     kind: Kind,
@@ -67,6 +63,6 @@ pub fn mask<D: Domain>(
 ) -> Result<Value, WalkError>
     ensures { MatchResult result (λ v. Leads (followed path.old) (followed path.new) (operators.binary (seen D.Domain setting.now) BitAnd (kind_seen kind) (form_seen left.now) (form_seen right.now)) (value_seen v)) (λ e. Stops (followed path.old) e (operators.binary (seen D.Domain setting.now) BitAnd (kind_seen kind) (form_seen left.now) (form_seen right.now))) }
 {
-    let form = masked(alloc, setting, path, kind, left, right)?;
+    let form = masked(setting, path, kind, left, right)?;
     Ok(Value { kind, form })
 }

@@ -74,14 +74,13 @@ pub fn variable<D: Domain>(alloc: Global, path: &Path<D>, slot: u32) -> Result<V
 
 /// The value of what a work-item function answers in a dimension, a `uint`.
 pub fn id_value<D: Domain>(
-    alloc: Global,
     setting: &Setting<D>,
     function: Function,
     dimension: u32,
 ) -> Result<Value, WalkError>
     ensures { MatchResult result (λ v. value_seen v ≡ values.value Uint (terms.id_form (seen D.Domain setting.now) (function_seen function) dimension)) IsMemory }
 {
-    let form = id_form(alloc, setting, function, dimension)?;
+    let form = id_form(setting, function, dimension)?;
     Ok(Value {
         kind: Kind::Uint,
         form,
@@ -98,7 +97,6 @@ fn stand_at<D: Domain>(path: &mut Path<D>, site: Site)
 
 /// A load of the element that an index names.
 pub fn loaded<D: Domain>(
-    alloc: Global,
     setting: &Setting<D>,
     path: &mut Path<D>,
     array: Array,
@@ -107,13 +105,12 @@ pub fn loaded<D: Domain>(
 ) -> Result<Value, Halt>
     ensures { MatchResult result (λ v. Leads (followed path.old) (followed path.new) (terms.load (seen D.Domain setting.now) (array_seen array) (site_seen site) (value_seen index).form) (value_seen v)) (λ h. Halts (followed path.old) (followed path.new) h (terms.load (seen D.Domain setting.now) (array_seen array) (site_seen site) (value_seen index).form)) }
 {
-    let value = load(alloc, setting, path, array, site, index.form)?;
+    let value = load(setting, path, array, site, index.form)?;
     Ok(value)
 }
 
 /// An operator with one operand, at its site.
 pub fn unary_at<D: Domain>(
-    alloc: Global,
     setting: &Setting<D>,
     path: &mut Path<D>,
     operator: UnaryOperator,
@@ -125,13 +122,12 @@ pub fn unary_at<D: Domain>(
     ensures { MatchResult result (λ v. Leads (followed path.old) (followed path.new) (unary_at (seen D.Domain setting.now) (unary_seen operator) (kind_seen kind) (site_seen site) (value_seen of)) (value_seen v)) (λ h. Halts (followed path.old) (followed path.new) h (unary_at (seen D.Domain setting.now) (unary_seen operator) (kind_seen kind) (site_seen site) (value_seen of))) }
 {
     stand_at(path, site);
-    let value = unary(alloc, setting, path, operator, kind, &of)?;
+    let value = unary(setting, path, operator, kind, &of)?;
     Ok(value)
 }
 
 /// A value that is converted to a kind, at the site of the conversion.
 pub fn brought_at<D: Domain>(
-    alloc: Global,
     setting: &Setting<D>,
     path: &mut Path<D>,
     kind: Kind,
@@ -141,31 +137,35 @@ pub fn brought_at<D: Domain>(
     ensures { MatchResult result (λ v. Leads (followed path.old) (followed path.new) (brought_at (seen D.Domain setting.now) (kind_seen kind) (site_seen site) (value_seen of)) (value_seen v)) (λ h. Halts (followed path.old) (followed path.new) h (brought_at (seen D.Domain setting.now) (kind_seen kind) (site_seen site) (value_seen of))) }
 {
     stand_at(path, site);
-    let value = brought(alloc, setting, path, kind, of)?;
+    let value = brought(setting, path, kind, of)?;
     Ok(value)
+}
+
+/// An operator with two operands, of a kind, at its site.
+#[derive(Clone, Copy)]
+pub struct Operation {
+    pub operator: Operator,
+    pub kind: Kind,
+    pub site: Site,
 }
 
 /// An operator with two operands, at its site, which first brings both to its kind.
 pub fn binary_at<D: Domain>(
-    alloc: Global,
     setting: &Setting<D>,
     path: &mut Path<D>,
-    operator: Operator,
-    kind: Kind,
-    site: Site,
+    operation: Operation,
     left: Value,
     right: Value,
 ) -> Result<Value, Halt>
-    ensures { MatchResult result (λ v. Leads (followed path.old) (followed path.new) (binary_at (seen D.Domain setting.now) (operator_seen operator) (kind_seen kind) (site_seen site) (value_seen left) (value_seen right)) (value_seen v)) (λ h. Halts (followed path.old) (followed path.new) h (binary_at (seen D.Domain setting.now) (operator_seen operator) (kind_seen kind) (site_seen site) (value_seen left) (value_seen right))) }
+    ensures { MatchResult result (λ v. Leads (followed path.old) (followed path.new) (binary_at (seen D.Domain setting.now) (operator_seen operation.operator) (kind_seen operation.kind) (site_seen operation.site) (value_seen left) (value_seen right)) (value_seen v)) (λ h. Halts (followed path.old) (followed path.new) h (binary_at (seen D.Domain setting.now) (operator_seen operation.operator) (kind_seen operation.kind) (site_seen operation.site) (value_seen left) (value_seen right))) }
 {
-    stand_at(path, site);
-    let (first, second) = both_brought(alloc, setting, path, kind, left, right)?;
+    stand_at(path, operation.site);
+    let (first, second) = both_brought(setting, path, operation.kind, left, right)?;
     let value = binary(
-        alloc,
         setting,
         path,
-        operator,
-        kind,
+        operation.operator,
+        operation.kind,
         &first.form,
         &second.form,
     )?;
@@ -174,7 +174,6 @@ pub fn binary_at<D: Domain>(
 
 /// A comparison, which first brings both operands to its kind.
 pub fn compare_values<D: Domain>(
-    alloc: Global,
     setting: &Setting<D>,
     path: &mut Path<D>,
     relation: Relation,
@@ -184,13 +183,12 @@ pub fn compare_values<D: Domain>(
 ) -> Result<bool, Halt>
     ensures { MatchResult result (λ b. Leads (followed path.old) (followed path.new) (compare_values (seen D.Domain setting.now) (relation_seen relation) (kind_seen kind) (value_seen left) (value_seen right)) b) (λ h. Halts (followed path.old) (followed path.new) h (compare_values (seen D.Domain setting.now) (relation_seen relation) (kind_seen kind) (value_seen left) (value_seen right))) }
 {
-    let (first, second) = both_brought(alloc, setting, path, kind, left, right)?;
-    split(alloc, setting, path, relation, &first.form, &second.form)
+    let (first, second) = both_brought(setting, path, kind, left, right)?;
+    split(setting, path, relation, &first.form, &second.form)
 }
 
 /// The smaller of two values (OpenCL 1.2, 6.12.3): the right one where it is less, else the left one.
 pub fn smaller<D: Domain>(
-    alloc: Global,
     setting: &Setting<D>,
     path: &mut Path<D>,
     left: Value,
@@ -198,20 +196,12 @@ pub fn smaller<D: Domain>(
 ) -> Result<Value, Halt>
     ensures { MatchResult result (λ v. Leads (followed path.old) (followed path.new) (terms.pick (seen D.Domain setting.now) (value_seen right) (value_seen left) (value_seen right) (value_seen left)) (value_seen v)) (λ h. Halts (followed path.old) (followed path.new) h (terms.pick (seen D.Domain setting.now) (value_seen right) (value_seen left) (value_seen right) (value_seen left))) }
 {
-    let is_less = split(
-        alloc,
-        setting,
-        path,
-        Relation::Less,
-        &right.form,
-        &left.form,
-    )?;
+    let is_less = split(setting, path, Relation::Less, &right.form, &left.form)?;
     if is_less { Ok(right) } else { Ok(left) }
 }
 
 /// The larger of two values (OpenCL 1.2, 6.12.3): the right one where the left one is less, else the left one.
 pub fn larger<D: Domain>(
-    alloc: Global,
     setting: &Setting<D>,
     path: &mut Path<D>,
     left: Value,
@@ -219,13 +209,6 @@ pub fn larger<D: Domain>(
 ) -> Result<Value, Halt>
     ensures { MatchResult result (λ v. Leads (followed path.old) (followed path.new) (terms.pick (seen D.Domain setting.now) (value_seen left) (value_seen right) (value_seen right) (value_seen left)) (value_seen v)) (λ h. Halts (followed path.old) (followed path.new) h (terms.pick (seen D.Domain setting.now) (value_seen left) (value_seen right) (value_seen right) (value_seen left))) }
 {
-    let is_less = split(
-        alloc,
-        setting,
-        path,
-        Relation::Less,
-        &left.form,
-        &right.form,
-    )?;
+    let is_less = split(setting, path, Relation::Less, &left.form, &right.form)?;
     if is_less { Ok(right) } else { Ok(left) }
 }

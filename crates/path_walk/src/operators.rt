@@ -22,12 +22,10 @@ use path_steps::{
     Path, Setting, Value, ranged_complement, ranged_difference, ranged_negation, ranged_product,
     ranged_sum, unknown,
 };
-use std::alloc::Global;
 use words::Kind;
 
 /// The result of an operator with two operands that were brought to its kind.
 pub fn binary<D: Domain>(
-    alloc: Global,
     setting: &Setting<D>,
     path: &mut Path<D>,
     operator: Operator,
@@ -38,19 +36,18 @@ pub fn binary<D: Domain>(
     ensures { MatchResult result (λ v. Leads (followed path.old) (followed path.new) (operators.binary (seen D.Domain setting.now) (operator_seen operator) (kind_seen kind) (form_seen left.now) (form_seen right.now)) (value_seen v)) (λ e. Stops (followed path.old) e (operators.binary (seen D.Domain setting.now) (operator_seen operator) (kind_seen kind) (form_seen left.now) (form_seen right.now))) }
 {
     match operator {
-        Operator::Add => ranged_sum(alloc, setting, path, kind, left, right),
-        Operator::Subtract => ranged_difference(alloc, setting, path, kind, left, right),
-        Operator::Multiply => ranged_product(alloc, setting, path, kind, left, right),
-        Operator::Divide => divide(alloc, setting, path, kind, left, right),
-        Operator::Remainder => remain(alloc, setting, path, kind, left, right),
-        Operator::BitAnd => mask(alloc, setting, path, kind, left, right),
-        Operator::BitOr | Operator::BitXor => unknown(alloc, setting, path, kind),
+        Operator::Add => ranged_sum(setting, path, kind, left, right),
+        Operator::Subtract => ranged_difference(setting, path, kind, left, right),
+        Operator::Multiply => ranged_product(setting, path, kind, left, right),
+        Operator::Divide => divide(setting, path, kind, left, right),
+        Operator::Remainder => remain(setting, path, kind, left, right),
+        Operator::BitAnd => mask(setting, path, kind, left, right),
+        Operator::BitOr | Operator::BitXor => unknown(setting, path, kind),
     }
 }
 
 /// The result of an operator with one operand that was brought to its kind.
 pub fn unary<D: Domain>(
-    alloc: Global,
     setting: &Setting<D>,
     path: &mut Path<D>,
     operator: UnaryOperator,
@@ -61,13 +58,11 @@ pub fn unary<D: Domain>(
     ensures { MatchResult result (λ v. Leads (followed path.old) (followed path.new) (operators.unary (seen D.Domain setting.now) (unary_seen operator) (kind_seen kind) (value_seen of.now)) (value_seen v)) (λ e. Stops (followed path.old) e (operators.unary (seen D.Domain setting.now) (unary_seen operator) (kind_seen kind) (value_seen of.now))) }
 {
     match operator {
-        UnaryOperator::Negate => ranged_negation(alloc, setting, path, kind, &of.form),
-        UnaryOperator::Complement => ranged_complement(alloc, setting, path, kind, &of.form),
-        UnaryOperator::ShiftLeft(count) => {
-            shifted_left(alloc, setting, path, kind, &of.form, count)
-        }
+        UnaryOperator::Negate => ranged_negation(setting, path, kind, &of.form),
+        UnaryOperator::Complement => ranged_complement(setting, path, kind, &of.form),
+        UnaryOperator::ShiftLeft(count) => { shifted_left(setting, path, kind, &of.form, count) }
         UnaryOperator::ShiftRight(count) => {
-            shifted_right(alloc, setting, path, of.kind, kind, &of.form, count)
+            shifted_right(setting, path, of.kind, kind, &of.form, count)
         }
     }
 }

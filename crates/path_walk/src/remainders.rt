@@ -16,12 +16,10 @@ use domain::Domain;
 use facts::WalkError;
 use linear::Form;
 use path_steps::{Path, Setting, Value, claim_divisor, element_at, invent};
-use std::alloc::Global;
 use words::Kind;
 
 /// A remainder: exact, or a new symbol with what the domain tells of it.
 fn remaining<D: Domain>(
-    alloc: Global,
     setting: &Setting<D>,
     path: &mut Path<D>,
     kind: Kind,
@@ -32,15 +30,14 @@ fn remaining<D: Domain>(
 {
     if is_exact(setting, path, dividend, divisor) {
         let number = divisor.constant_part();
-        return left_alone(alloc, setting, path, kind, dividend, number);
+        return left_alone(setting, path, kind, dividend, number);
     }
     let element = element_at(setting, path, dividend).rem(element_at(setting, path, divisor));
-    invent(alloc, setting, path, element)
+    invent(setting, path, element)
 }
 
 /// A remainder, behind the claims of its divisor.
 pub fn remain<D: Domain>(
-    alloc: Global,
     setting: &Setting<D>,
     path: &mut Path<D>,
     kind: Kind,
@@ -49,7 +46,7 @@ pub fn remain<D: Domain>(
 ) -> Result<Value, WalkError>
     ensures { MatchResult result (λ v. Leads (followed path.old) (followed path.new) (operators.binary (seen D.Domain setting.now) Remainder (kind_seen kind) (form_seen left.now) (form_seen right.now)) (value_seen v)) (λ e. Stops (followed path.old) e (operators.binary (seen D.Domain setting.now) Remainder (kind_seen kind) (form_seen left.now) (form_seen right.now))) }
 {
-    claim_divisor(alloc, setting, path, kind, left, right)?;
-    let form = remaining(alloc, setting, path, kind, left, right)?;
+    claim_divisor(setting, path, kind, left, right)?;
+    let form = remaining(setting, path, kind, left, right)?;
     Ok(Value { kind, form })
 }

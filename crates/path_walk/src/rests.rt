@@ -13,11 +13,9 @@ use domain::Domain;
 use facts::WalkError;
 use path_steps::{Halt, Path, Stop};
 use places::Rest;
-use std::alloc::Global;
 
 /// The statements of a list, or a loop that has turned.
 fn walk_rest<D: Domain>(
-    alloc: Global,
     placing: &Placing<'_, D>,
     path: &mut Path<D>,
     flow: Flow,
@@ -27,16 +25,13 @@ fn walk_rest<D: Domain>(
     ensures { MatchResult result (λ f. PassesOne (placed D.Domain placing.now) rest.entry flow (followed path.old) (turns_seen turns.old) f (followed path.new) (turns_seen turns.new)) (λ h. NotOne (placed D.Domain placing.now) rest.entry flow (followed path.old) (turns_seen turns.old) h (followed path.new)) }
 {
     match rest {
-        Rest::Fresh(body) => walk_fronts(alloc, placing, path, flow, body, turns),
-        Rest::Turning(statement) => {
-            walk_front(alloc, placing, path, flow, true, statement, turns)
-        }
+        Rest::Fresh(body) => walk_fronts(placing, path, flow, body, turns),
+        Rest::Turning(statement) => { walk_front(placing, path, flow, true, statement, turns) }
     }
 }
 
 /// Walks the lists of statements that are left behind a point, from the innermost list, which is the last one, and says how they are left.
 fn walk_rests<D: Domain>(
-    alloc: Global,
     placing: &Placing<'_, D>,
     path: &mut Path<D>,
     flow: Flow,
@@ -49,14 +44,13 @@ fn walk_rests<D: Domain>(
     let mut at = rests.len();
     while at > 0 {
         at -= 1;
-        here = walk_rest(alloc, placing, path, here, rests[at], turns)?;
+        here = walk_rest(placing, path, here, rests[at], turns)?;
     }
     Ok(here)
 }
 
 /// Stops the path at the item's end behind all that was left, unless it was stopped before.
 fn end<D: Domain>(
-    alloc: Global,
     placing: &Placing<'_, D>,
     path: &mut Path<D>,
     flow: Flow,
@@ -67,14 +61,13 @@ fn end<D: Domain>(
     match flow {
         Flow::Stopped => Ok(()),
         Flow::Through | Flow::Broke(_) | Flow::Continued(_) => {
-            stop_here(alloc, placing, path, Stop::End, turns)
+            stop_here(placing, path, Stop::End, turns)
         }
     }
 }
 
 /// Walks what is left behind a point, to the path's end.
 pub fn walk_left<D: Domain>(
-    alloc: Global,
     placing: &Placing<'_, D>,
     path: &mut Path<D>,
     flow: Flow,
@@ -83,7 +76,7 @@ pub fn walk_left<D: Domain>(
 ) -> Result<(), Halt>
     ensures { MatchResult result (λ _. ComesAlong (placed D.Domain placing.now) (left rests.now) flow (followed path.old) (turns_seen turns.old) (followed path.new)) (λ h. NotLeft (placed D.Domain placing.now) (left rests.now) flow (followed path.old) (turns_seen turns.old) h (followed path.new)) }
 {
-    let flow = walk_rests(alloc, placing, path, flow, rests, turns)?;
-    end(alloc, placing, path, flow, turns)?;
+    let flow = walk_rests(placing, path, flow, rests, turns)?;
+    end(placing, path, flow, turns)?;
     Ok(())
 }

@@ -14,11 +14,11 @@ use crate::holding::{root_narrowed, tops};
 use crate::known::root_facts;
 use crate::said::congruences_at;
 use crate::variables::root_values;
-use core_code::tree::{Core, Site};
+use arrival_claims::Placing;
+use core_code::tree::Site;
 use domain::Domain;
 use facts::WalkError;
 use linear::Form;
-use obligations::Notes;
 use path_steps::{Choice, Invented, Narrowed, Path, Spot, Value};
 use std::alloc::Global;
 
@@ -55,22 +55,22 @@ fn planted<D: Domain>(alloc: Global, root: Root<D>, claims: u32, given: Vec<Choi
     }
 }
 
-/// A path of a place, by the numbers of its barrier and of its loop, with so many claims before it, along these choices.
+/// A path of a place, with so many claims before it, along these choices.
 pub fn root_of<D: Domain>(
-    alloc: Global,
-    core: &Core,
-    notes: &Notes,
-    anchor: Option<u32>,
-    head: Option<u32>,
+    placing: &Placing<'_, D>,
     claims: u32,
     given: Vec<Choice>,
 ) -> Result<Path<D>, WalkError>
-    requires { are_sizes (core_seen core.now).sizes ≡ true }
-    ensures { MatchResult result (λ p. (entries : List Bool) → followed p ≡ rooted D.Domain (core_seen core.now) (seen notes.now entries) claims anchor head (map choice_seen given.items)) (λ e. (entries : List Bool) → IsUnrooted (root_facts (core_seen core.now) (seen notes.now entries) anchor head) e) }
+    requires { are_sizes (core_seen placing.now.core.now).sizes ≡ true }
+    ensures { MatchResult result (λ p. (entries : List Bool) → followed p ≡ rooted D.Domain (core_seen placing.now.core.now) (seen placing.now.notes.now entries) claims placing.now.anchor placing.now.head (map choice_seen given.items)) (λ e. (entries : List Bool) → IsUnrooted (root_facts (core_seen placing.now.core.now) (seen placing.now.notes.now entries) placing.now.anchor placing.now.head) e) }
 {
-    let known = root_facts(alloc, core, notes, anchor, head)?;
+    let alloc = placing.setting.alloc;
+    let core = placing.core;
+    let anchor = placing.anchor;
+    let head = placing.head;
+    let known = root_facts(alloc, core, placing.notes, anchor, head)?;
     let variables = root_values(alloc, core, anchor, head)?;
-    let news = tops(alloc, congruences_at(notes, anchor, head))?;
+    let news = tops(alloc, congruences_at(placing.notes, anchor, head))?;
     let narrowed = root_narrowed(alloc, core, variables.as_slice(), anchor, head)?;
     let root = Root {
         known,

@@ -17,12 +17,10 @@ use domain::Domain;
 use facts::WalkError;
 use linear::Form;
 use path_steps::{Path, Setting, Value, ranged_product, unknown};
-use std::alloc::Global;
 use words::Kind;
 
 /// A form times a power of 2, in its kind.
 pub fn shifted_left<D: Domain>(
-    alloc: Global,
     setting: &Setting<D>,
     path: &mut Path<D>,
     kind: Kind,
@@ -32,13 +30,12 @@ pub fn shifted_left<D: Domain>(
     requires { count ≤ 31 }
     ensures { MatchResult result (λ v. Leads (followed path.old) (followed path.new) (walks.ranged (seen D.Domain setting.now) (kind_seen kind) (multiple (pos (2 ^ count)) (form_seen of.now))) (value_seen v)) (λ e. Stops (followed path.old) e (walks.ranged (seen D.Domain setting.now) (kind_seen kind) (multiple (pos (2 ^ count)) (form_seen of.now)))) }
 {
-    let factor = Form::constant(alloc, power_of(count));
-    ranged_product(alloc, setting, path, kind, of, &factor)
+    let factor = Form::constant(setting.alloc, power_of(count));
+    ranged_product(setting, path, kind, of, &factor)
 }
 
 /// The quotient by a power of 2, which is a form of this kind.
 fn halved<D: Domain>(
-    alloc: Global,
     setting: &Setting<D>,
     path: &mut Path<D>,
     kind: Kind,
@@ -49,13 +46,12 @@ fn halved<D: Domain>(
     ensures { MatchResult result (λ v. Leads (followed path.old) (followed path.new) (operators.shifted (seen D.Domain setting.now) Uint (kind_seen kind) (form_seen of.now) count) (value_seen v)) (λ e. Stops (followed path.old) e (operators.shifted (seen D.Domain setting.now) Uint (kind_seen kind) (form_seen of.now) count)) }
 {
     let divisor = power_of(count);
-    let form = quotient_alone(alloc, setting, path, kind, of, divisor)?;
+    let form = quotient_alone(setting, path, kind, of, divisor)?;
     Ok(Value { kind, form })
 }
 
 /// The value of a shift to the right: of a `uint` the quotient by a power of 2, else any number of the kind.
 pub fn shifted_right<D: Domain>(
-    alloc: Global,
     setting: &Setting<D>,
     path: &mut Path<D>,
     from: Kind,
@@ -67,7 +63,7 @@ pub fn shifted_right<D: Domain>(
     ensures { MatchResult result (λ v. Leads (followed path.old) (followed path.new) (operators.shifted (seen D.Domain setting.now) (kind_seen from) (kind_seen kind) (form_seen of.now) count) (value_seen v)) (λ e. Stops (followed path.old) e (operators.shifted (seen D.Domain setting.now) (kind_seen from) (kind_seen kind) (form_seen of.now) count)) }
 {
     match from {
-        Kind::Uint => halved(alloc, setting, path, kind, of, count),
-        Kind::Int => unknown(alloc, setting, path, kind),
+        Kind::Uint => halved(setting, path, kind, of, count),
+        Kind::Int => unknown(setting, path, kind),
     }
 }

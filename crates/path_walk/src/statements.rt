@@ -8,7 +8,7 @@ ghost use Rattle.path_steps.specs.View.{followed, turns as turns_seen};
 ghost use Rattle.arrival_claims.specs.View.{placed};
 ghost use Rattle.path_walk.specs.Flows.{Goes, Fails};
 
-use crate::course::{test_at, walk_set, walk_store};
+use crate::course::{Store, test_at, walk_set, walk_store};
 use crate::flow::{Flow, stop_here};
 use crate::loops::{close_loop, open_loop, stop_at_head};
 use arrival_claims::Placing;
@@ -16,12 +16,10 @@ use core_code::tree::Statement;
 use domain::Domain;
 use path_steps::{Halt, Path, Stop};
 use places::holds_barrier;
-use std::alloc::Global;
 
 /// One statement, a loop where it has turned or has not.
 #[cycle(statements)]
 pub fn walk_statement<D: Domain>(
-    alloc: Global,
     placing: &Placing<'_, D>,
     path: &mut Path<D>,
     again: bool,
@@ -36,7 +34,7 @@ pub fn walk_statement<D: Domain>(
             slot,
             value,
         } => {
-            walk_set(alloc, placing, path, *number, *slot, value)?;
+            walk_set(placing, path, *number, *slot, value)?;
             Ok(Flow::Through)
         }
         Statement::Store {
@@ -46,7 +44,13 @@ pub fn walk_statement<D: Domain>(
             index,
             value,
         } => {
-            walk_store(alloc, placing, path, *number, *array, *site, index, value)?;
+            let store = Store {
+                array: *array,
+                site: *site,
+                index,
+                value,
+            };
+            walk_store(placing, path, *number, store)?;
             Ok(Flow::Through)
         }
         Statement::If {
@@ -55,11 +59,11 @@ pub fn walk_statement<D: Domain>(
             taken,
             skipped,
         } => {
-            let holds = test_at(alloc, placing, path, *number, test)?;
+            let holds = test_at(placing, path, *number, test)?;
             if holds {
-                return walk_statements(alloc, placing, path, taken.as_slice(), turns);
+                return walk_statements(placing, path, taken.as_slice(), turns);
             }
-            walk_statements(alloc, placing, path, skipped.as_slice(), turns)
+            walk_statements(placing, path, skipped.as_slice(), turns)
         }
         Statement::Loop {
             number,
@@ -68,22 +72,22 @@ pub fn walk_statement<D: Domain>(
             update,
         } => {
             if !holds_barrier(body.as_slice(), update.as_slice()) {
-                stop_at_head(alloc, placing, path, *number, again, turns)?;
+                stop_at_head(placing, path, *number, again, turns)?;
                 return Ok(Flow::Stopped);
             }
-            let holds = open_loop(alloc, placing, path, *number, again, test, turns)?;
+            let holds = open_loop(placing, path, *number, again, test, turns)?;
             if !holds {
                 return Ok(Flow::Through);
             }
-            let flow = walk_statements(alloc, placing, path, body.as_slice(), turns)?;
-            close_loop(alloc, placing, path, flow, turns)
+            let flow = walk_statements(placing, path, body.as_slice(), turns)?;
+            close_loop(placing, path, flow, turns)
         }
         Statement::Barrier { number, .. } => {
-            stop_here(alloc, placing, path, Stop::Barrier(*number), turns)?;
+            stop_here(placing, path, Stop::Barrier(*number), turns)?;
             Ok(Flow::Stopped)
         }
         Statement::Return { .. } => {
-            stop_here(alloc, placing, path, Stop::End, turns)?;
+            stop_here(placing, path, Stop::End, turns)?;
             Ok(Flow::Stopped)
         }
         Statement::Break { of, .. } => Ok(Flow::Broke(*of)),
@@ -94,7 +98,6 @@ pub fn walk_statement<D: Domain>(
 /// Walks statements one after the other, and says how they are left.
 #[cycle(statements)]
 pub fn walk_statements<D: Domain>(
-    alloc: Global,
     placing: &Placing<'_, D>,
     path: &mut Path<D>,
     statements: &[Statement],
@@ -103,7 +106,7 @@ pub fn walk_statements<D: Domain>(
     ensures { MatchResult result (λ f. Goes (followed path.old) (turns_seen turns.old) (draw (course (placed D.Domain placing.now)) (statements_seen statements.now)) f (followed path.new) (turns_seen turns.new)) (λ h. Fails (followed path.old) (turns_seen turns.old) (draw (course (placed D.Domain placing.now)) (statements_seen statements.now)) h (followed path.new)) }
 {
     for statement in statements {
-        match walk_statement(alloc, placing, path, false, statement, turns)? {
+        match walk_statement(placing, path, false, statement, turns)? {
             Flow::Through => {}
             Flow::Broke(number) => return Ok(Flow::Broke(number)),
             Flow::Continued(number) => return Ok(Flow::Continued(number)),

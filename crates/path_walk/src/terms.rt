@@ -12,19 +12,17 @@ ghost use Rattle.path_steps.specs.View.{followed, setting as seen, value as valu
 ghost use Rattle.path_walk.specs.Parts.{both_values, HaltsTwo};
 
 use crate::operands::{
-    binary_at, brought_at, compare_values, id_value, larger, literal, loaded, smaller, truth,
-    unary_at, variable,
+    Operation, binary_at, brought_at, compare_values, id_value, larger, literal, loaded, smaller,
+    truth, unary_at, variable,
 };
 use core_code::tree::{Relation, Term};
 use domain::Domain;
 use path_steps::{Halt, Path, Setting, Value, split_number};
-use std::alloc::Global;
 use words::Kind;
 
 /// Two terms as values, the left one first.
 #[cycle(terms)]
 fn both_values<D: Domain>(
-    alloc: Global,
     setting: &Setting<D>,
     path: &mut Path<D>,
     left: &Term,
@@ -34,15 +32,14 @@ fn both_values<D: Domain>(
     requires right { is_lawful (term_seen right.now) ≡ true }
     ensures { MatchResult result (λ v. LeadsTwo (followed path.old) (followed path.new) (both_values (seen D.Domain setting.now) (term_seen left.now) (term_seen right.now)) (value_seen v.0) (value_seen v.1)) (λ h. HaltsTwo (followed path.old) (followed path.new) h (both_values (seen D.Domain setting.now) (term_seen left.now) (term_seen right.now))) }
 {
-    let first = value_of(alloc, setting, path, left)?;
-    let second = value_of(alloc, setting, path, right)?;
+    let first = value_of(setting, path, left)?;
+    let second = value_of(setting, path, right)?;
     Ok((first, second))
 }
 
 /// Walks a comparison of two terms, and gives its truth on this path.
 #[cycle(terms)]
 fn compared<D: Domain>(
-    alloc: Global,
     setting: &Setting<D>,
     path: &mut Path<D>,
     relation: Relation,
@@ -54,14 +51,13 @@ fn compared<D: Domain>(
     requires right { is_lawful (term_seen right.now) ≡ true }
     ensures { MatchResult result (λ b. Leads (followed path.old) (followed path.new) (terms.walk (seen D.Domain setting.now) (core.Compare (relation_seen relation) (kind_seen kind) (term_seen left.now) (term_seen right.now))).test b) (λ h. Halts (followed path.old) (followed path.new) h (terms.walk (seen D.Domain setting.now) (core.Compare (relation_seen relation) (kind_seen kind) (term_seen left.now) (term_seen right.now))).test) }
 {
-    let (first, second) = both_values(alloc, setting, path, left, right)?;
-    compare_values(alloc, setting, path, relation, kind, first, second)
+    let (first, second) = both_values(setting, path, left, right)?;
+    compare_values(setting, path, relation, kind, first, second)
 }
 
 /// Walks a test with `&&` and gives its truth on this path: the right test is walked only where the left one holds.
 #[cycle(terms)]
 fn both_hold<D: Domain>(
-    alloc: Global,
     setting: &Setting<D>,
     path: &mut Path<D>,
     left: &Term,
@@ -71,9 +67,9 @@ fn both_hold<D: Domain>(
     requires right { is_lawful (term_seen right.now) ≡ true }
     ensures { MatchResult result (λ b. Leads (followed path.old) (followed path.new) (terms.walk (seen D.Domain setting.now) (core.And (term_seen left.now) (term_seen right.now))).test b) (λ h. Halts (followed path.old) (followed path.new) h (terms.walk (seen D.Domain setting.now) (core.And (term_seen left.now) (term_seen right.now))).test) }
 {
-    let holds = test_of(alloc, setting, path, left)?;
+    let holds = test_of(setting, path, left)?;
     if holds {
-        return test_of(alloc, setting, path, right);
+        return test_of(setting, path, right);
     }
     Ok(false)
 }
@@ -81,7 +77,6 @@ fn both_hold<D: Domain>(
 /// Walks a test with `||` and gives its truth on this path: the right test is walked only where the left one does not hold.
 #[cycle(terms)]
 fn either_holds<D: Domain>(
-    alloc: Global,
     setting: &Setting<D>,
     path: &mut Path<D>,
     left: &Term,
@@ -91,17 +86,16 @@ fn either_holds<D: Domain>(
     requires right { is_lawful (term_seen right.now) ≡ true }
     ensures { MatchResult result (λ b. Leads (followed path.old) (followed path.new) (terms.walk (seen D.Domain setting.now) (core.Or (term_seen left.now) (term_seen right.now))).test b) (λ h. Halts (followed path.old) (followed path.new) h (terms.walk (seen D.Domain setting.now) (core.Or (term_seen left.now) (term_seen right.now))).test) }
 {
-    let holds = test_of(alloc, setting, path, left)?;
+    let holds = test_of(setting, path, left)?;
     if holds {
         return Ok(true);
     }
-    test_of(alloc, setting, path, right)
+    test_of(setting, path, right)
 }
 
 /// The walk of a term as a value.
 #[cycle(terms)]
 pub fn value_of<D: Domain>(
-    alloc: Global,
     setting: &Setting<D>,
     path: &mut Path<D>,
     term: &Term,
@@ -110,21 +104,21 @@ pub fn value_of<D: Domain>(
     ensures { MatchResult result (λ v. Leads (followed path.old) (followed path.new) ((terms.walk (seen D.Domain setting.now) (term_seen term.now)).value) (value_seen v)) (λ h. Halts (followed path.old) (followed path.new) h ((terms.walk (seen D.Domain setting.now) (term_seen term.now)).value)) }
 {
     match term {
-        Term::Literal { kind, value } => Ok(literal(alloc, *kind, *value)),
+        Term::Literal { kind, value } => Ok(literal(setting.alloc, *kind, *value)),
         Term::Variable { slot } => {
-            let value = variable(alloc, path, *slot)?;
+            let value = variable(setting.alloc, path, *slot)?;
             Ok(value)
         }
         Term::Id {
             function,
             dimension,
         } => {
-            let value = id_value(alloc, setting, *function, *dimension)?;
+            let value = id_value(setting, *function, *dimension)?;
             Ok(value)
         }
         Term::Load { array, site, index } => {
-            let index = value_of(alloc, setting, path, index)?;
-            loaded(alloc, setting, path, *array, *site, index)
+            let index = value_of(setting, path, index)?;
+            loaded(setting, path, *array, *site, index)
         }
         Term::Unary {
             operator,
@@ -132,8 +126,8 @@ pub fn value_of<D: Domain>(
             site,
             of,
         } => {
-            let of = value_of(alloc, setting, path, of)?;
-            unary_at(alloc, setting, path, *operator, *kind, *site, of)
+            let of = value_of(setting, path, of)?;
+            unary_at(setting, path, *operator, *kind, *site, of)
         }
         Term::Binary {
             operator,
@@ -142,12 +136,17 @@ pub fn value_of<D: Domain>(
             left,
             right,
         } => {
-            let (first, second) = both_values(alloc, setting, path, left, right)?;
-            binary_at(alloc, setting, path, *operator, *kind, *site, first, second)
+            let (first, second) = both_values(setting, path, left, right)?;
+            let operation = Operation {
+                operator: *operator,
+                kind: *kind,
+                site: *site,
+            };
+            binary_at(setting, path, operation, first, second)
         }
         Term::Convert { kind, site, of } => {
-            let of = value_of(alloc, setting, path, of)?;
-            brought_at(alloc, setting, path, *kind, *site, of)
+            let of = value_of(setting, path, of)?;
+            brought_at(setting, path, *kind, *site, of)
         }
         Term::Compare {
             relation,
@@ -155,40 +154,40 @@ pub fn value_of<D: Domain>(
             left,
             right,
         } => {
-            let holds = compared(alloc, setting, path, *relation, *kind, left, right)?;
-            Ok(truth(alloc, holds))
+            let holds = compared(setting, path, *relation, *kind, left, right)?;
+            Ok(truth(setting.alloc, holds))
         }
         Term::Not { of } => {
-            let holds = test_of(alloc, setting, path, of)?;
-            Ok(truth(alloc, !holds))
+            let holds = test_of(setting, path, of)?;
+            Ok(truth(setting.alloc, !holds))
         }
         Term::And { left, right } => {
-            let holds = both_hold(alloc, setting, path, left, right)?;
-            Ok(truth(alloc, holds))
+            let holds = both_hold(setting, path, left, right)?;
+            Ok(truth(setting.alloc, holds))
         }
         Term::Or { left, right } => {
-            let holds = either_holds(alloc, setting, path, left, right)?;
-            Ok(truth(alloc, holds))
+            let holds = either_holds(setting, path, left, right)?;
+            Ok(truth(setting.alloc, holds))
         }
         Term::Select {
             test,
             taken,
             skipped,
         } => {
-            let holds = test_of(alloc, setting, path, test)?;
+            let holds = test_of(setting, path, test)?;
             if holds {
-                value_of(alloc, setting, path, taken)
+                value_of(setting, path, taken)
             } else {
-                value_of(alloc, setting, path, skipped)
+                value_of(setting, path, skipped)
             }
         }
         Term::Minimum { left, right } => {
-            let (first, second) = both_values(alloc, setting, path, left, right)?;
-            smaller(alloc, setting, path, first, second)
+            let (first, second) = both_values(setting, path, left, right)?;
+            smaller(setting, path, first, second)
         }
         Term::Maximum { left, right } => {
-            let (first, second) = both_values(alloc, setting, path, left, right)?;
-            larger(alloc, setting, path, first, second)
+            let (first, second) = both_values(setting, path, left, right)?;
+            larger(setting, path, first, second)
         }
     }
 }
@@ -196,7 +195,6 @@ pub fn value_of<D: Domain>(
 /// The walk of a term as a test.
 #[cycle(terms)]
 pub fn test_of<D: Domain>(
-    alloc: Global,
     setting: &Setting<D>,
     path: &mut Path<D>,
     term: &Term,
@@ -210,16 +208,16 @@ pub fn test_of<D: Domain>(
             kind,
             left,
             right,
-        } => compared(alloc, setting, path, *relation, *kind, left, right),
+        } => compared(setting, path, *relation, *kind, left, right),
         Term::Not { of } => {
-            let holds = test_of(alloc, setting, path, of)?;
+            let holds = test_of(setting, path, of)?;
             Ok(!holds)
         }
-        Term::And { left, right } => both_hold(alloc, setting, path, left, right),
-        Term::Or { left, right } => either_holds(alloc, setting, path, left, right),
+        Term::And { left, right } => both_hold(setting, path, left, right),
+        Term::Or { left, right } => either_holds(setting, path, left, right),
         _ => {
-            let value = value_of(alloc, setting, path, term)?;
-            split_number(alloc, setting, path, &value.form)
+            let value = value_of(setting, path, term)?;
+            split_number(setting, path, &value.form)
         }
     }
 }

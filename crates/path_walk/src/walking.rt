@@ -42,7 +42,6 @@ fn oldest_first(alloc: Global, turns: &Option<Vec<u32>>) -> Result<Option<Vec<u3
 
 /// The anchor itself: the whole body, or what is left behind a barrier.
 fn walk_anchor<D: Domain>(
-    alloc: Global,
     placing: &Placing<'_, D>,
     path: &mut Path<D>,
     anchor: &Option<Point<'_>>,
@@ -53,18 +52,17 @@ fn walk_anchor<D: Domain>(
     match anchor {
         None => {
             let rests = [Rest::Fresh(placing.core.body.as_slice())];
-            walk_left(alloc, placing, path, Flow::Through, &rests, turns)
+            walk_left(placing, path, Flow::Through, &rests, turns)
         }
         Some(point) => {
             let rests = point.rest.as_slice();
-            walk_left(alloc, placing, path, Flow::Through, rests, turns)
+            walk_left(placing, path, Flow::Through, rests, turns)
         }
     }
 }
 
 /// Walks from a place to the path's end: from behind its anchor, or from the test of its loop.
 fn walk_from<D: Domain>(
-    alloc: Global,
     placing: &Placing<'_, D>,
     path: &mut Path<D>,
     place: &Place<'_>,
@@ -73,14 +71,13 @@ fn walk_from<D: Domain>(
     ensures { MatchResult result (λ _. Comes (followed path.old) (sketch_from (course (placed D.Domain placing.now)) (core_seen placing.now.core.now).body (place_seen place.now).anchor (place_seen place.now).head (turns_seen turns.old)) (followed path.new).found) (λ h. EndsAt (followed path.old) (sketch_from (course (placed D.Domain placing.now)) (core_seen placing.now.core.now).body (place_seen place.now).anchor (place_seen place.now).head (turns_seen turns.old)) h (followed path.new)) }
 {
     match &place.head {
-        None => walk_anchor(alloc, placing, path, &place.anchor, turns),
-        Some(head) => walk_head(alloc, placing, path, head, turns),
+        None => walk_anchor(placing, path, &place.anchor, turns),
+        Some(head) => walk_head(placing, path, head, turns),
     }
 }
 
 /// A path from a place, from where it stands to its end.
 pub fn walk_place<D: Domain>(
-    alloc: Global,
     placing: &Placing<'_, D>,
     place: &Place<'_>,
     path: Path<D>,
@@ -88,8 +85,8 @@ pub fn walk_place<D: Domain>(
     ensures { MatchResult result (λ p. (followed p).found ≡ collect (followed path).found (sketch (course (placed D.Domain placing.now)) (core_seen placing.now.core.now).body (place_seen place.now) (followed path).state)) (λ e. Refused e (collect (followed path).found (sketch (course (placed D.Domain placing.now)) (core_seen placing.now.core.now).body (place_seen place.now) (followed path).state))) }
 {
     let mut path = path;
-    let mut turns = oldest_first(alloc, &place.turns)?;
-    match walk_from(alloc, placing, &mut path, place, &mut turns) {
+    let mut turns = oldest_first(placing.setting.alloc, &place.turns)?;
+    match walk_from(placing, &mut path, place, &mut turns) {
         Ok(()) | Err(Halt::Dead) => Ok(path),
         Err(Halt::Refused(error)) => Err(error),
     }

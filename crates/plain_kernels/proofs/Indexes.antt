@@ -102,7 +102,7 @@ module _ (k : Kernel) (c : Conditions) (h : ℕ → Bool) (m n : ℕ) (em : k.si
     settles_up st o =
         let r = multiple-in st o (pos f) (pos z) (pos 0) (pos (f * m)) (pos 0) (pos (f * suc m * n)) (scales_up _ f m e1) (scales_up _ (f * suc m) n e2)
         (omega (arith, ints, b), omega (arith, ints, b)) (omega (arith, ints, lf), omega (arith, ints, lf)) (omega (arith, ints, few), omega (arith, ints, few)) (omega (arith, ints, b), omega (arith, ints, b)) (omega (arith, ints, b), omega (arith, ints, b)) (omega (arith, ints, b), omega (arith, ints, b)) (omega (arith, ints, b), omega (arith, ints, b)) in
-        settled _ _ _ (omega (arith, ints)) r
+        settled _ _ (element_of s st (id_multiple (suc m) (pos f) (pos z))) (omega (arith, ints)) r
 
     pub settles_down : (st : State Both) → IsPlainState k st → settles s st (id_multiple (suc m) (negsuc 0 *ℤ pos f) (pos 4294967295 -ℤ pos z)) ≡ true
     settles_down st o =
@@ -110,7 +110,7 @@ module _ (k : Kernel) (c : Conditions) (h : ℕ → Bool) (m n : ℕ) (em : k.si
         let d2 : (negsuc 0 *ℤ pos f) *ℤ pos (suc m) ≡ neg_ℤ (pos (f * suc m)) = mul_assoc (negsuc 0) (pos f) (pos (suc m)) ∙ omega (arith, ints) in
         let r = multiple-in st o (negsuc 0 *ℤ pos f) (pos 4294967295 -ℤ pos z) (neg_ℤ (pos (f * m))) (pos 0) (neg_ℤ (pos (f * suc m * n))) (pos 0) (scales_down _ f m d1) (scales_down _ (f * suc m) n d2)
         (omega (arith, ints, b), omega (arith, ints, b)) (omega (arith, ints, d1, lf), omega (arith, ints, d1, lf)) (omega (arith, ints, d2, few), omega (arith, ints, d2, few)) (omega (arith, ints, b), omega (arith, ints, b)) (omega (arith, ints), omega (arith, ints)) (omega (arith, ints, b), omega (arith, ints, b)) (omega (arith, ints), omega (arith, ints)) in
-        settled _ _ _ (omega (arith, ints, b)) r
+        settled _ _ (element_of s st (id_multiple (suc m) (negsuc 0 *ℤ pos f) (pos 4294967295 -ℤ pos z))) (omega (arith, ints, b)) r
 
 -- the low end of a multiple's range is the multiple itself, and what is left to the high end the turned multiple
 pub low-multiple : (size : ℕ) (f z : ℤ) → low_end Uint (id_multiple size f z) ≡ id_multiple size f z

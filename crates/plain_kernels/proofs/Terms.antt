@@ -10,6 +10,7 @@ use Rattle.domain.specs.declared.Residue.{Residue}
 use Rattle.domain.specs.IntervalMembers.{yes-le}
 use Rattle.domain.specs.Products.{mul-le_pos}
 use Rattle.domain.specs.Both.{larger}
+use Rattle.domain.specs.KnownBits.{Bits}
 use Rattle.domain.specs.declared.product.Product.{Product}
 use Rattle.facts.specs.Elements.{is_from_zero}
 use Rattle.walk_trees.specs.Held.{terms_with}
@@ -17,19 +18,19 @@ use Rattle.plain_kernels.specs.Domains.{domain}
 use Rattle.plain_kernels.proofs.Ends.{EndsIn, EndIn, IsEnd, Scales, wider, adds, multiplies, one-number}
 
 abbrev pub Both : Type 0
-Both = Product Bounds Residue
+Both = Product (Product Bounds Residue) Bits
 
 abbrev pub FirstIn : (low high : ℤ) → Both → Type 0
-FirstIn low high x = EndsIn low high x.first
+FirstIn low high x = EndsIn low high x.first.first
 
-from_zero : (low high : ℤ) (o p : Option ℤ) → pos 0 ≤ℤ low → EndIn low high o → is_from_zero (larger o p) ≡ true
+from_zero : (low high : ℤ) (o p : Option ℤ) → pos 0 ≤ℤ low → EndIn low high o → is_from_zero (larger (larger o p) None) ≡ true
 from_zero low high None p h e = absurd e
 from_zero low high (Some n) None h e = yes-le (pos 0) n (omega (arith, ints, e))
 from_zero low high (Some n) (Some m) h e = yes-le (pos 0) (int_max n m) (omega (arith, ints, clamps, e))
 
 -- what stands from 0 on is settled
 pub settled : (low high : ℤ) (x : Both) → pos 0 ≤ℤ low → FirstIn low high x → is_from_zero (domain.bounds_of x).low ≡ true
-settled low high x h e = from_zero low high x.first.low _ h e.0
+settled low high x h e = from_zero low high x.first.first.low _ h e.0
 
 pub scales_up : (a : ℤ) (k n : ℕ) → a ≡ pos k → Scales a (pos 0) (pos n) (pos 0) (pos (k * n))
 scales_up a k n e z p q =
@@ -51,11 +52,11 @@ pub one_more : (e : ℕ → Both) (k : ℤ) (s n : ℕ) (ts : Terms) (x : Both) 
     (y : Both) × (terms_with domain e x (put k s ts) ≡ terms_with domain e y ts) × FirstIn (a +ℤ low) (b +ℤ high) y
 one_more e (pos zero) s n ts x a b low high h m c i j k p q =
     let z = c (pos 0) (omega (arith, ints)) (omega (arith, ints)) in
-    (x, refl, wider a b (a +ℤ low) (b +ℤ high) x.first h (omega (arith, ints, z)) (omega (arith, ints, z)))
+    (x, refl, wider a b (a +ℤ low) (b +ℤ high) x.first.first h (omega (arith, ints, z)) (omega (arith, ints, z)))
 one_more e (pos (suc k)) s n ts x a b low high h m c i j l p q =
-    (domain.add_of x (domain.mul_of (domain.number_of (pos (suc k))) (e s)), refl, adds a b low high x.first _ h (multiplies (pos (suc k)) (pos 0) (pos n) low high _ _ (one-number (pos (suc k)) i) m j l c) p q)
+    (domain.add_of x (domain.mul_of (domain.number_of (pos (suc k))) (e s)), refl, adds a b low high x.first.first _ h (multiplies (pos (suc k)) (pos 0) (pos n) low high _ _ (one-number (pos (suc k)) i) m j l c) p q)
 one_more e (negsuc k) s n ts x a b low high h m c i j l p q =
-    (domain.add_of x (domain.mul_of (domain.number_of (negsuc k)) (e s)), refl, adds a b low high x.first _ h (multiplies (negsuc k) (pos 0) (pos n) low high _ _ (one-number (negsuc k) i) m j l c) p q)
+    (domain.add_of x (domain.mul_of (domain.number_of (negsuc k)) (e s)), refl, adds a b low high x.first.first _ h (multiplies (negsuc k) (pos 0) (pos n) low high _ _ (one-number (negsuc k) i) m j l c) p q)
 
 pub merge-nil : (ts : Terms) → merge ts [] ≡ ts
 merge-nil [] = refl

@@ -1,10 +1,12 @@
--- The domain that a check takes: an interval and a congruence of each number.
+-- The domain that a check takes: an interval, a congruence and known bits of each number.
 use Rattle.std.specs.Prelude.{◌&&◌}
 use Rattle.domain.specs.contracts.congruence.CongruenceDomain.TheImpl as congruence
 use Rattle.domain.specs.declared.congruence.Congruence.{Congruence}
 use Rattle.domain.specs.declared.Domain.{Ghosts}
 use Rattle.domain.specs.contracts.interval.IntervalDomain.TheImpl as interval
 use Rattle.domain.specs.declared.interval.Interval.{Interval}
+use Rattle.domain.specs.contracts.known_bits.KnownBitsDomain.TheImpl as known_bits
+use Rattle.domain.specs.declared.known_bits.KnownBits.{KnownBits}
 use Rattle.domain.specs.Both.{narrowed, finer}
 use Rattle.domain.specs.declared.product.Product.{Product}
 
@@ -29,5 +31,5 @@ both a b = record {
   residue_of = λ p. finer (a.residue_of p.first) (b.residue_of p.second);
 }
 
-abbrev pub domain : Ghosts (Product Interval Congruence)
-domain = both interval.ghosts congruence.ghosts
+abbrev pub domain : Ghosts (Product (Product Interval Congruence) KnownBits)
+domain = both (both interval.ghosts congruence.ghosts) known_bits.ghosts

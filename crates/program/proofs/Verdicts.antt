@@ -20,10 +20,12 @@ use Rattle.launch.specs.View.{conditions as conditions_seen}
 use Rattle.telling.specs.Telling.{accepted_line}
 use Rattle.telling.specs.Proving.{no_launch_line}
 use Rattle.telling.specs.ProvingVerdicts.{Begins, Explains}
-use Rattle.program.specs.Running.{kernel_read, conditions_read, saving, Request, CheckOwn, Check, Run, Prove, Explain, ExplainCheck, Print, Texts, Asks, Answered, IsSafeText, Fulfils}
+use Rattle.telling.specs.Migrating.{IsUnmigrated}
+use Rattle.cert_check.specs.declared.error.CheckError.TheVariants as errors
+use Rattle.program.specs.Running.{kernel_read, conditions_read, certificate_read, saving, Request, CheckOwn, Check, Run, Prove, Explain, ExplainCheck, Print, Migrate, Texts, Asks, Answered, IsSafeText, Fulfils}
 use Rattle.program.specs.Running.{Read, Write, IsOf, Reads, Does, Saves, IsRefusalText, Success, Output, done, refused, silent, torn}
 use Rattle.program.specs.Refusing.{Refuses, Refusal}
-use Rattle.program.specs.Verdicts.{IsAnsweredBy, Tells, Finds, Kept, Explained, IsTold, IsWritten}
+use Rattle.program.specs.Verdicts.{IsAnsweredBy, Tells, Finds, Kept, Moves, Moved, Explained, IsTold, IsWritten}
 use Rattle.telling.specs.declared.Verdict.{Verdict}
 use Rattle.telling.specs.declared.Verdict.TheVariants as verdicts
 
@@ -38,6 +40,9 @@ run_line workers k c p l line (inr (inr (e, kernel, conditions, launch, s, q, r,
 
 print_line : (k line : List ℕ) → IsRefusedKernel k line → IsRefusalLine line
 print_line k line (e, r, h) = (kernels.error_number e, place_seen (checks.at_place (kernels.error_place e)), h)
+
+migrate_line : (old line : List ℕ) → IsUnmigrated old line → IsRefusalLine line
+migrate_line old line (e, r, h) = (checks.error_number (errors.Certificate e), place_seen (checks.error_place (errors.Certificate e)), h)
 
 search_text : (workers : ℕ) (kernel conditions text : List ℕ) → IsUnproved workers kernel conditions text → IsRefusalText text
 search_text workers kernel conditions text (e, h) =
@@ -62,6 +67,7 @@ text_of (Explain k c) t saved text h = begun (IsUnproved 1 t.kernel t.conditions
 text_of (ExplainCheck k c p) t saved text h =
     begun (IsRefusedText t.kernel t.conditions t.certificate) (λ line refusal. alone line (check_line t.kernel t.conditions t.certificate line refusal)) text h
 text_of (Print k) t saved text h = alone text (print_line t.kernel text h)
+text_of (Migrate o n) t saved text h = alone text (migrate_line t.certificate text h.0)
 
 -- what a verdict tells fulfils the request, or refuses it
 fulfils : (text : Vec ℕ Global) (r : Request) (t : Texts) (saved : Option Write) → IsAnsweredBy (verdicts.Done text) r t saved → Fulfils IsProvedText r t saved text.items
@@ -72,6 +78,7 @@ fulfils text (Prove k c workers out) t saved h = h
 fulfils text (Explain k c) t saved h = h
 fulfils text (ExplainCheck k c p) t saved h = h
 fulfils text (Print k) t saved h = h
+fulfils text (Migrate o n) t saved h = h
 
 refuses : (line : String Global) (r : Request) (t : Texts) (saved : Option Write) → IsAnsweredBy (verdicts.Refused line) r t saved → Refuses r t saved (string_bytes line)
 refuses line CheckOwn t saved h = h
@@ -81,6 +88,7 @@ refuses line (Prove k c workers out) t saved h = h
 refuses line (Explain k c) t saved h = h
 refuses line (ExplainCheck k c p) t saved h = h
 refuses line (Print k) t saved h = h
+refuses line (Migrate o n) t saved h = h
 
 module _ (given : List Read → Option Write → Type 0) (ws : List (List ℕ)) (old new : Option (List ℕ)) (status : ℕ) where
   abbrev Gained : Type 0
@@ -145,6 +153,23 @@ module _ {F : Type 0} (contents : F → List ℕ → Option (List ℕ)) (gives :
   tells (verdicts.Done text) w r h = asked_of (verdicts.Done text) (saving out h.0) w r h.2 (is_safe_text kernel conditions h.0 text.items h.1, (h.0, h.1, refl))
   tells (verdicts.Refused line) w r h = asked_of (verdicts.Refused line) None w r h.1 (h.0, refl)
   tells verdicts.OutOfMemory w r h = asked_of verdicts.OutOfMemory None w r h tt
+
+-- a certificate that was read and put into a file in version 2 is told of
+module _ {F : Type 0} (contents : F → List ℕ → Option (List ℕ)) (gives : F → List ℕ → ℕ → List ℕ → F → Type 0) (before next after : F) (ws : List (List ℕ)) (o n old : List ℕ) where
+  abbrev IsRead : Type 0
+  IsRead = Reads contents gives before next (certificate_read o old ∷ [])
+
+  abbrev of_certificate : Texts
+  of_certificate = record { kernel = []; conditions = []; certificate = old; launch = [] }
+
+  moved_as : (v : Verdict) (saved : Option Write) → Asks ws (Migrate o n) → IsRead → Saves contents next after saved → Moves n v old saved → Tells (Does contents gives before after) ws v
+  moved_as v saved w r s h =
+      record { request = Migrate o n; texts = of_certificate; saved = saved; asked = w; done = does contents gives before next after (certificate_read o old ∷ []) saved r s; may_write = tt; is_told = h }
+
+  pub moves : (v : Verdict) → Asks ws (Migrate o n) → IsRead → Moved contents next after (Some n) old v → Tells (Does contents gives before after) ws v
+  moves (verdicts.Done text) w r h = moved_as (verdicts.Done text) (saving (Some n) h.0) w r h.2 (h.0, h.1, refl)
+  moves (verdicts.Refused line) w r h = moved_as (verdicts.Refused line) None w r h.1 (h.0, refl)
+  moves verdicts.OutOfMemory w r h = moved_as verdicts.OutOfMemory None w r h tt
 
 -- what follows of each answer
 pub follows : {T E : Type 0} (r : Result T E) (P Q : T → Type 0) → ((t : T) → P t → Q t) → IfOk r P → IfOk r Q

@@ -3,10 +3,11 @@ use Rattle.std.specs.Prelude.{◌≡◌, ℕ, List, Option, None}
 use Rattle.telling.specs.Refusing.{IsRefusedText, IsRefusedKernel, IsUnanswered}
 use Rattle.telling.specs.Proving.{IsUnproved}
 use Rattle.telling.specs.ProvingVerdicts.{Begins}
+use Rattle.telling.specs.Migrating.{IsUnmigrated}
 use Rattle.program.specs.First.{first_kernel, first_conditions, first_certificate}
-use Rattle.program.specs.Running.{Read, Write, Request, CheckOwn, Check, Run, Prove, Explain, ExplainCheck, Print, Texts, Answered}
+use Rattle.program.specs.Running.{Read, Write, Request, CheckOwn, Check, Run, Prove, Explain, ExplainCheck, Print, Migrate, Texts, Answered}
 
--- what refuses a request; where no certificate is found none is written; where a refusal is explained, it begins the text
+-- what refuses a request; where no certificate is found or migrated none is written; where a refusal is explained, it begins the text
 abbrev pub Refuses : Request → Texts → Option Write → (line : List ℕ) → Type 0
 Refuses CheckOwn t saved line = IsRefusedText first_kernel first_conditions first_certificate line
 Refuses (Check k c p) t saved line = IsRefusedText t.kernel t.conditions t.certificate line
@@ -15,6 +16,7 @@ Refuses (Prove k c workers out) t saved line = IsUnproved workers t.kernel t.con
 Refuses (Explain k c) t saved line = Begins (IsUnproved 1 t.kernel t.conditions) line
 Refuses (ExplainCheck k c p) t saved line = Begins (IsRefusedText t.kernel t.conditions t.certificate) line
 Refuses (Print k) t saved line = IsRefusedKernel t.kernel line
+Refuses (Migrate o n) t saved line = IsUnmigrated t.certificate line × (saved ≡ None)
 
 abbrev pub Refusal : (given : List Read → Option Write → Type 0) (ws : List (List ℕ)) (line : List ℕ) → Type 0
 Refusal given ws line = Answered given ws (λ request texts saved. Refuses request texts saved line)

@@ -6,6 +6,7 @@ use Rattle.semantics.specs.Conditions.{Conditions, Meets}
 use Rattle.reading.specs.Kernels.{Kernel}
 use Rattle.telling.specs.Telling.{AreSafeTexts, IsAcceptedText, IsResultText, IsPrintedText, accepted_line}
 use Rattle.telling.specs.Proving.{no_launch_line}
+use Rattle.telling.specs.Migrating.{IsMigrated}
 use Rattle.telling.specs.Refusals.{IsRefusalLine}
 use Rattle.command_line.specs.Words.{operands, HasWord, AsksWorkers, saved_as}
 use Rattle.program.specs.First.{first_kernel, first_conditions}
@@ -62,8 +63,8 @@ certificate_read name bytes = record { name = name; limit = 16777216; bytes = by
 abbrev pub launch_read : (name bytes : List ℕ) → Read
 launch_read name bytes = record { name = name; limit = 4194304; bytes = bytes }
 
--- what the words ask of it: a check of the texts that stand in the program, or a check, a run, a search, an explanation or a canonical text
--- of files, each by its name
+-- what the words ask of it: a check of the texts that stand in the program, or a check, a run, a search, an explanation, a canonical text or
+-- a certificate in version 2 of files, each by its name
 pub data Request : Type 0 where
   CheckOwn : Request
   Check : (kernel conditions certificate : List ℕ) → Request
@@ -72,6 +73,7 @@ pub data Request : Type 0 where
   Explain : (kernel conditions : List ℕ) → Request
   ExplainCheck : (kernel conditions certificate : List ℕ) → Request
   Print : (kernel : List ℕ) → Request
+  Migrate : (old new : List ℕ) → Request
 
 -- there is no n-th word that is no option, from 0
 abbrev pub HasNoWord : List (List ℕ) → ℕ → Type 0
@@ -86,6 +88,7 @@ Asks ws (Prove k c workers out) = HasWord ws 0 (codes "prove") × HasWord ws 1 k
 Asks ws (Explain k c) = HasWord ws 0 (codes "explain") × HasWord ws 1 k × HasWord ws 2 c × HasNoWord ws 3
 Asks ws (ExplainCheck k c p) = HasWord ws 0 (codes "explain") × HasWord ws 1 k × HasWord ws 2 c × HasWord ws 3 p
 Asks ws (Print k) = HasWord ws 0 (codes "print") × HasWord ws 1 k
+Asks ws (Migrate o n) = HasWord ws 0 (codes "migrate") × HasWord ws 1 o × HasWord ws 2 n
 
 -- what was read of files; a text that the request does not name is any
 pub record Texts : Type 0 where
@@ -103,8 +106,9 @@ reads (Prove k c workers out) t = kernel_read k t.kernel ∷ conditions_read c t
 reads (Explain k c) t = kernel_read k t.kernel ∷ conditions_read c t.conditions ∷ []
 reads (ExplainCheck k c p) t = kernel_read k t.kernel ∷ conditions_read c t.conditions ∷ certificate_read p t.certificate ∷ []
 reads (Print k) t = kernel_read k t.kernel ∷ []
+reads (Migrate o n) t = certificate_read o t.certificate ∷ []
 
--- a search alone may write a file
+-- a search may write a file, and so may `migrate`
 abbrev pub MayWrite : Request → Option Write → Type 0
 MayWrite CheckOwn saved = saved ≡ None
 MayWrite (Check k c p) saved = saved ≡ None
@@ -113,6 +117,7 @@ MayWrite (Prove k c workers out) saved = Unit {0}
 MayWrite (Explain k c) saved = saved ≡ None
 MayWrite (ExplainCheck k c p) saved = saved ≡ None
 MayWrite (Print k) saved = saved ≡ None
+MayWrite (Migrate o n) saved = Unit {0}
 
 -- the words ask for a request, its reads were made, and a text was written behind them where there is one (`given`), and this is told of it
 pub record Answered (given : List Read → Option Write → Type 0) (ws : List (List ℕ)) (told : Request → Texts → Option Write → Type 0) : Type 0 where
@@ -138,7 +143,11 @@ IsFound proof out kernel conditions written saved =
 abbrev pub IsSought : (proof : (kernel conditions certificate written : List ℕ) → Type 0) (kernel conditions written : List ℕ) → Type 0
 IsSought proof kernel conditions written = IsSafeText kernel conditions written × ((certificate : List ℕ) × proof kernel conditions certificate written)
 
--- what fulfils a request: `accepted`, the buffers of a launch, or a canonical text
+-- the certificate of version 1 that was read was written in version 2 to the file of this name
+abbrev pub IsMoved : (name old written : List ℕ) → Option Write → Type 0
+IsMoved name old written saved = (new : List ℕ) × IsMigrated old new written × (saved ≡ saving (Some name) new)
+
+-- what fulfils a request: `accepted`, the buffers of a launch, a canonical text, or `migrated`
 abbrev pub Fulfils : (proof : (kernel conditions certificate written : List ℕ) → Type 0) → Request → Texts → Option Write → (written : List ℕ) → Type 0
 Fulfils proof CheckOwn t saved written = IsAcceptedText first_kernel first_conditions written
 Fulfils proof (Check k c p) t saved written = IsAcceptedText t.kernel t.conditions written
@@ -147,13 +156,14 @@ Fulfils proof (Prove k c workers out) t saved written = IsFound proof out t.kern
 Fulfils proof (Explain k c) t saved written = IsSought proof t.kernel t.conditions written
 Fulfils proof (ExplainCheck k c p) t saved written = IsAcceptedText t.kernel t.conditions written
 Fulfils proof (Print k) t saved written = IsPrintedText t.kernel written
+Fulfils proof (Migrate o n) t saved written = IsMoved n t.certificate written saved
 
 abbrev pub Success : (given : List Read → Option Write → Type 0) (proof : (kernel conditions certificate written : List ℕ) → Type 0) (ws : List (List ℕ)) (written : List ℕ) → Type 0
 Success given proof ws written = Answered given ws (λ request texts saved. Fulfils proof request texts saved written)
 
--- the one file that may change: that which `prove` is asked to write
+-- the one file that may change: that which `prove` or `migrate` is asked to write
 abbrev pub IsOut : (ws : List (List ℕ)) (name : List ℕ) → Type 0
-IsOut ws name = HasWord ws 0 (codes "prove") × (saved_as false ws ≡ Some name)
+IsOut ws name = (HasWord ws 0 (codes "prove") × (saved_as false ws ≡ Some name)) ⊎ (HasWord ws 0 (codes "migrate") × HasWord ws 2 name)
 
 -- a line that refuses, and what stands behind it
 abbrev pub IsRefusalText : List ℕ → Type 0

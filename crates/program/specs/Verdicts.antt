@@ -7,8 +7,9 @@ use Rattle.telling.specs.Proving.{IsProvedText, IsUnproved}
 use Rattle.telling.specs.declared.Verdict.{Verdict}
 use Rattle.telling.specs.declared.Verdict.TheVariants as verdicts
 use Rattle.telling.specs.ProvingVerdicts.{Begins, ExplainsCheck}
+use Rattle.telling.specs.Migrating.{IsMigrated, IsUnmigrated}
 use Rattle.program.specs.First.{first_kernel, first_conditions, first_certificate}
-use Rattle.program.specs.Running.{Read, Write, Request, CheckOwn, Check, Run, Prove, Explain, ExplainCheck, Print, Texts, Answered, Saves, saving, IsFound, IsSought}
+use Rattle.program.specs.Running.{Read, Write, Request, CheckOwn, Check, Run, Prove, Explain, ExplainCheck, Print, Migrate, Texts, Answered, Saves, saving, IsFound, IsSought, IsMoved}
 
 -- of a search: what was found is in the file that the words name, if they name one; a refusal writes none
 abbrev pub Finds : (out : Option (List ℕ)) → Verdict → (workers : ℕ) → (kernel conditions : List ℕ) → Option Write → Type 0
@@ -28,6 +29,18 @@ Kept contents before after out workers kernel conditions (verdicts.Done text) = 
 Kept contents before after out workers kernel conditions (verdicts.Refused line) = IsUnproved workers kernel conditions (string_bytes line) × (after ≡ before)
 Kept contents before after out workers kernel conditions verdicts.OutOfMemory = after ≡ before
 
+-- of a certificate of version 1: that of version 2 is in the file of this name; a refusal writes none
+abbrev pub Moves : (name : List ℕ) → Verdict → (old : List ℕ) → Option Write → Type 0
+Moves name (verdicts.Done text) old saved = IsMoved name old text.items saved
+Moves name (verdicts.Refused line) old saved = IsUnmigrated old (string_bytes line) × (saved ≡ None)
+Moves name verdicts.OutOfMemory old saved = Unit {0}
+
+-- where that of version 2 is put into a file of this name
+abbrev pub Moved : {F : Type 0} → (contents : F → List ℕ → Option (List ℕ)) → (before after : F) → (out : Option (List ℕ)) → (old : List ℕ) → Verdict → Type 0
+Moved contents before after out old (verdicts.Done text) = (new : List ℕ) × IsMigrated old new text.items × Saves contents before after (saving out new)
+Moved contents before after out old (verdicts.Refused line) = IsUnmigrated old (string_bytes line) × (after ≡ before)
+Moved contents before after out old verdicts.OutOfMemory = after ≡ before
+
 -- of a request and the texts that it is about
 abbrev pub IsAnsweredBy : Verdict → Request → Texts → Option Write → Type 0
 IsAnsweredBy v CheckOwn t saved = Checks v first_kernel first_conditions first_certificate
@@ -37,6 +50,7 @@ IsAnsweredBy v (Prove k c workers out) t saved = Finds out v workers t.kernel t.
 IsAnsweredBy v (Explain k c) t saved = Explained v t.kernel t.conditions
 IsAnsweredBy v (ExplainCheck k c p) t saved = ExplainsCheck v t.kernel t.conditions t.certificate
 IsAnsweredBy v (Print k) t saved = Prints v t.kernel
+IsAnsweredBy v (Migrate o n) t saved = Moves n v t.certificate saved
 
 abbrev pub Tells : (given : List Read → Option Write → Type 0) (ws : List (List ℕ)) → Verdict → Type 0
 Tells given ws v = Answered given ws (λ request texts saved. IsAnsweredBy v request texts saved)

@@ -5,11 +5,12 @@ ghost use Rattle.std.specs.Option.{option_map};
 ghost use Rattle.telling.specs.Verdicts.{Checks};
 ghost use Rattle.telling.specs.Proving.{IsProvedText};
 ghost use Rattle.telling.specs.ProvingVerdicts.{Proves};
+ghost use Rattle.telling.specs.Migrating.{Migrates};
 ghost use Rattle.command_line.specs.Words.{texts, HasWord, HasNames, AsksWorkers, HasSearch, HasSubject};
 ghost use Rattle.program.specs.First.{first_kernel, first_conditions, first_certificate};
 ghost use Rattle.program.specs.Running.{IsOf, Reads, Does, IsPut, Saves, saving, kernel_read, conditions_read, certificate_read, HasNoWord, Success, IsOut, Output};
 ghost use Rattle.program.specs.Refusing.{Refusal};
-ghost use Rattle.program.specs.Verdicts.{Tells, Kept, IsTold, IsWritten, IsStopped};
+ghost use Rattle.program.specs.Verdicts.{Tells, Kept, Moved, IsTold, IsWritten, IsStopped};
 
 use crate::files::{FileFault, Files};
 use crate::first::first_texts;
@@ -20,12 +21,12 @@ use std::io::Write;
 use std::sync::Wait;
 use std::thread::Threads;
 use telling::{
-    Sought, Texts, Verdict, check_texts, explain_check, explain_texts, print_text, prove_texts,
-    run_texts,
+    Sought, Texts, Verdict, check_texts, explain_check, explain_texts, migrate_text, print_text,
+    prove_texts, run_texts,
 };
 
 /// The line on the standard error where words are no command line.
-pub const USAGE: &str = "usage: kverify prove | check | run | print\n";
+pub const USAGE: &str = "usage: kverify prove | check | run | print | migrate\n";
 
 /// The reasons for which there is no verdict.
 #[derive(Clone, Copy)]
@@ -146,13 +147,14 @@ fn saved<'a, F: Files>(files: &mut F, out: Option<&'a str>, text: &[u8]) -> Resu
     }
 }
 
-/// Writes a certificate that was found to the file that the words name, if they do; only then anything is told of it.
+/// Writes a certificate that was found or migrated to the file that the words name, if they do; only then anything is told of it.
 fn kept<'a, F: Files>(
     files: &mut F,
     out: Option<&'a str>,
     sought: Sought,
 ) -> Result<Verdict, Stop<'a>>
     ensures verdict { (workers : ℕ) (kernel conditions : List ℕ) → Proves sought workers kernel conditions → IfOk result (λ v. Kept F.contents files.old files.new (option_map (λ w. w.now) out.entry) workers kernel conditions v) }
+    ensures moved { (old : List ℕ) → Migrates sought old → IfOk result (λ v. Moved F.contents files.old files.new (option_map (λ w. w.now) out.entry) old v) }
     ensures others { (n : List ℕ) → option_map (λ w. w.now) out.entry ≢ Some n → F.contents files.new n ≡ F.contents files.old n }
 {
     match sought {
@@ -263,6 +265,21 @@ fn printed<'a, F: Files>(alloc: Global, kernel: &'a str, files: &mut F) -> Resul
     Ok(print_text(alloc, &text))
 }
 
+/// Reads a certificate of version 1 from a file, and writes it in version 2 to another one.
+fn migrated<'a, F: Files>(
+    alloc: Global,
+    old: &'a str,
+    new: &'a str,
+    files: &mut F,
+) -> Result<Verdict, Stop<'a>>
+    ensures verdict { (ws : List (List ℕ)) → HasWord ws 0 (codes "migrate") → HasWord ws 1 old.now → HasWord ws 2 new.now → IfOk result (λ v. Tells (Does F.contents F.gives files.old files.new) ws v) }
+    ensures others { (n : List ℕ) → n ≢ new.now → F.contents files.new n ≡ F.contents files.old n }
+{
+    let text = text_of(files, old, 16_777_216)?;
+    let sought = migrate_text(alloc, &text);
+    kept(files, Some(new), sought)
+}
+
 /// The verdict on what the words ask for.
 fn verdict_of<'a, R: Threads + Wait + Sync, F: Files>(
     rt: &R,
@@ -286,6 +303,7 @@ fn verdict_of<'a, R: Threads + Wait + Sync, F: Files>(
         Ok(Line::Prove(search)) => proved(rt, alloc, search, files),
         Ok(Line::Explain(subject)) => explained(rt, alloc, subject, files),
         Ok(Line::Print(kernel)) => printed(alloc, kernel, files),
+        Ok(Line::Migrate { old, new }) => migrated(alloc, old, new, files),
         Ok(Line::Usage) => Err(Stop::Usage),
         Err(_) => Err(Stop::Memory),
     }

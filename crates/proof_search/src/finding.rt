@@ -11,7 +11,7 @@ ghost use Rattle.work_item.specs.Proper.{is_proper};
 ghost use Rattle.facts.specs.Launching.{are_sizes};
 ghost use Rattle.places.specs.Answers.{IsRefused};
 ghost use Rattle.texts.specs.ConditionsReading.{Lined};
-ghost use Rattle.certificate_text.specs.Text.{text_of};
+ghost use Rattle.certificate_text.specs.NumberedText.{text_of_two};
 ghost use Rattle.certificate.specs.Certificates.{certificate as certificate_seen};
 ghost use Rattle.cert_check.specs.Refusing.{AreRead};
 ghost use Rattle.proof_search.specs.Searching.{IsCount, IsNoCount, Ends, TellsOf};
@@ -113,7 +113,7 @@ fn counted(workers: u32) -> Result<(), VerifyError>
 
 /// A certificate with its text, of at most so many bytes as are read.
 fn with_text(alloc: Global, certificate: Certificate) -> Result<Found, VerifyError>
-    ensures written { IfOk result (λ f. f.text.items ≡ text_of (certificate_seen f.certificate)) }
+    ensures written { IfOk result (λ f. f.text.items ≡ text_of_two (certificate_seen f.certificate)) }
     ensures ends { IfErr result (λ e. (t : trees.Kernel × Core) (c : code.Conditions) → Ends t c e) }
 {
     let Ok(text) = write(alloc, &certificate) else {
@@ -137,7 +137,7 @@ fn searched<R: Threads + Sync>(
     requires sizes { are_sizes (core_seen typed.now.1).sizes ≡ true }
     requires proper { is_proper (core_seen typed.now.1) ≡ true }
     requires of { IsOf (core_seen typed.now.1) (lined conditions.now) }
-    ensures written { IfOk result (λ f. f.text.items ≡ text_of (certificate_seen f.certificate)) }
+    ensures written { IfOk result (λ f. f.text.items ≡ text_of_two (certificate_seen f.certificate)) }
     ensures ends { IfErr result (Ends typed.now conditions.now) }
 {
     let subject = Subject {
@@ -160,7 +160,7 @@ pub fn find<R: Threads + Sync>(
     conditions: &[u8],
     workers: u32,
 ) -> Result<Found, VerifyError>
-    ensures written { IfOk result (λ f. f.text.items ≡ text_of (certificate_seen f.certificate)) }
+    ensures written { IfOk result (λ f. f.text.items ≡ text_of_two (certificate_seen f.certificate)) }
     ensures workers { IfOk result (λ _. IsCount workers) }
     ensures told { IfErr result (λ e. TellsOf e workers kernel.now conditions.now) }
 {

@@ -4,3 +4,4 @@ pub mod Refusals
 pub mod Refusing
 pub mod Telling
 pub mod Verdicts
+pub mod Migrating

@@ -5,7 +5,7 @@ use Rattle.semantics.specs.Launch.{Launch, Fits}
 use Rattle.semantics.specs.Conditions as meaning
 use Rattle.semantics.specs.Conditions.{Meets}
 use Rattle.certificate_text.specs.Certificate.{Certificate}
-use Rattle.certificate_text.specs.Reading.{certificate_of}
+use Rattle.certificate_text.specs.Versions.{certificate_in}
 use Rattle.arrivals.specs.Loops.{unmet}
 use Rattle.launch.specs.Least.{probe}
 use Rattle.launch.specs.View.{conditions as conditions_seen}
@@ -26,7 +26,7 @@ use Rattle.telling.specs.Telling.{AreSafeTexts, accepted_line}
 -- the check accepts the kernel with the certificate of these bytes: no loop misses its barrier, the bytes say a certificate, and with it
 -- nothing stops the check
 abbrev pub IsProof : Kernel → meaning.Conditions → (certificate : List ℕ) → Type 0
-IsProof k c certificate = (unmet k.core.body ≡ None) × (cert : Certificate) × (certificate_of certificate ≡ Ok cert) × PassesWith k.core k.tree c cert
+IsProof k c certificate = (unmet k.core.body ≡ None) × (cert : Certificate) × (certificate_in certificate ≡ Ok cert) × PassesWith k.core k.tree c cert
 
 abbrev pub no_launch_line : List ℕ
 no_launch_line = codes "no launch found at least values\n"

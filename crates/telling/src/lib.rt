@@ -1,8 +1,8 @@
 //! Section: Answers. Promises that `accepted` is told only of what is, and of a refusal that what its findings confirm is true;
 //! stands on `cert_check`, `executor` and `verify`.
 //!
-//! What the program says of texts: it checks them, runs an accepted kernel, prints a kernel's canonical text, or looks for a certificate,
-//! and tells the answer or the refusal with its findings. What it says besides, where a refusal is explained, stands behind what is told.
+//! What the program says of texts: it checks them, runs an accepted kernel, prints a kernel's canonical text, looks for a certificate, or
+//! writes one in version 2, and tells the answer or the refusal with its findings. What it says besides, where a refusal is explained, stands behind what is told.
 #![tactic(auto)]
 
 ghost use Rattle.std.specs.Prelude.{◌≡◌};
@@ -13,6 +13,7 @@ ghost use Rattle.executor.specs.Numbers as runs;
 ghost use Rattle.telling.specs.Verdicts.{Checks, Runs, Prints, IsRefusal};
 
 mod explained;
+mod migrating;
 mod proving;
 mod refusal;
 
@@ -25,6 +26,7 @@ use launch_text::laws::{
     what_is_read_of_a_launch_is_its_text, what_is_read_of_conditions_is_their_text,
 };
 use launch_text::{read_launch, write_buffers};
+pub use migrating::migrate_text;
 use printer::print;
 pub use proving::{Sought, prove_texts};
 use reading::laws::bytes_are_the_text_of_what_is_read;

@@ -23,10 +23,10 @@ use std::sync::Wait;
 use std::thread::Threads;
 use verify::{Verified, VerifyError, verify};
 
-/// The program's answer where it searches a certificate.
+/// The program's answer where it searches a certificate, or writes one in version 2.
 #[derive(Drop)]
 pub enum Sought {
-    /// Proved: the text that is written, and the certificate's.
+    /// The text that is written, and the certificate's.
     Found {
         written: Vec<u8>,
         certificate: Vec<u8>,

@@ -9,7 +9,7 @@ ghost use Rattle.obligations.specs.Crossings as specs;
 ghost use Rattle.two_thread.specs.Refusals.{IsInside, IsOver};
 ghost use Rattle.two_thread.specs.View.{crossing as crossing_seen, met_accesses, Adds};
 
-use crate::crossings::{Crossing, Scope, Sought, crossings_in};
+use crate::crossings::{Crossing, Pairing, Scope, Sought, crossings_in};
 use crate::fences::is_fenced;
 use crate::met::Met;
 use core_code::tree::{Core, Space};
@@ -20,16 +20,13 @@ use std::alloc::Global;
 /// Adds the crossings of one array: within a group, and, if it is a buffer, across groups.
 fn crossings_of<D: Copy>(
     found: &mut Vec<Crossing>,
-    most: usize,
-    sizes: [u32; 3],
-    conditions: &Conditions,
-    met: &Met<D>,
+    pairing: &Pairing<'_, D>,
     fenced: bool,
     space: Space,
     number: usize,
 ) -> Result<(), WalkError>
-    ensures exact { MatchResult result (λ _. Adds (met_accesses met.now) found.old.items found.new.items (specs.crossings_of (three sizes) (conditions_seen conditions.now) (λ _. fenced) (met_accesses met.now) (space_seen space) number)) (IsOver most (length found.old.items + length (specs.crossings_of (three sizes) (conditions_seen conditions.now) (λ _. fenced) (met_accesses met.now) (space_seen space) number))) }
-    ensures inside { IfOk result (λ _. All (IsInside (length met.now.accesses.items)) found.old.items → All (IsInside (length met.now.accesses.items)) found.new.items) }
+    ensures exact { MatchResult result (λ _. Adds (met_accesses pairing.now.met.now) found.old.items found.new.items (specs.crossings_of (three pairing.now.sizes) (conditions_seen pairing.now.conditions.now) (λ _. fenced) (met_accesses pairing.now.met.now) (space_seen space) number)) (IsOver pairing.now.most (length found.old.items + length (specs.crossings_of (three pairing.now.sizes) (conditions_seen pairing.now.conditions.now) (λ _. fenced) (met_accesses pairing.now.met.now) (space_seen space) number))) }
+    ensures inside { IfOk result (λ _. All (IsInside (length pairing.now.met.now.accesses.items)) found.old.items → All (IsInside (length pairing.now.met.now.accesses.items)) found.new.items) }
 {
     let within = Sought {
         space,
@@ -37,13 +34,13 @@ fn crossings_of<D: Copy>(
         fenced,
         scope: Scope::Within,
     };
-    crossings_in(found, most, sizes, conditions, met, within)?;
+    crossings_in(found, pairing, within)?;
     if let Space::Global = space {
         let across = Sought {
             scope: Scope::Across,
             ..within
         };
-        crossings_in(found, most, sizes, conditions, met, across)?;
+        crossings_in(found, pairing, across)?;
     }
     Ok(())
 }
@@ -51,19 +48,16 @@ fn crossings_of<D: Copy>(
 /// The pairs of all arrays of a space.
 fn crossings_from<D: Copy, A>(
     found: &mut Vec<Crossing>,
-    most: usize,
-    sizes: [u32; 3],
-    conditions: &Conditions,
-    met: &Met<D>,
+    pairing: &Pairing<'_, D>,
     fenced: bool,
     space: Space,
     arrays: &[A],
 ) -> Result<(), WalkError>
-    ensures exact { MatchResult result (λ _. Adds (met_accesses met.now) found.old.items found.new.items (specs.crossings_from (three sizes) (conditions_seen conditions.now) (λ _. fenced) (met_accesses met.now) (space_seen space) 0 arrays.now)) (IsOver most (length found.old.items + length (specs.crossings_from (three sizes) (conditions_seen conditions.now) (λ _. fenced) (met_accesses met.now) (space_seen space) 0 arrays.now))) }
-    ensures inside { IfOk result (λ _. All (IsInside (length met.now.accesses.items)) found.old.items → All (IsInside (length met.now.accesses.items)) found.new.items) }
+    ensures exact { MatchResult result (λ _. Adds (met_accesses pairing.now.met.now) found.old.items found.new.items (specs.crossings_from (three pairing.now.sizes) (conditions_seen pairing.now.conditions.now) (λ _. fenced) (met_accesses pairing.now.met.now) (space_seen space) 0 arrays.now)) (IsOver pairing.now.most (length found.old.items + length (specs.crossings_from (three pairing.now.sizes) (conditions_seen pairing.now.conditions.now) (λ _. fenced) (met_accesses pairing.now.met.now) (space_seen space) 0 arrays.now))) }
+    ensures inside { IfOk result (λ _. All (IsInside (length pairing.now.met.now.accesses.items)) found.old.items → All (IsInside (length pairing.now.met.now.accesses.items)) found.new.items) }
 {
     for number in 0..arrays.len() {
-        crossings_of(found, most, sizes, conditions, met, fenced, space, number)?;
+        crossings_of(found, pairing, fenced, space, number)?;
     }
     Ok(())
 }
@@ -80,31 +74,18 @@ pub fn all_crossings<D: Copy>(
     ensures inside { IfOk result (λ v. All (IsInside (length met.now.accesses.items)) v.items) }
 {
     let mut found = Vec::new(alloc);
-    let sizes = core.sizes;
+    let pairing = Pairing {
+        sizes: core.sizes,
+        conditions,
+        met,
+        most,
+    };
     let body = core.body.as_slice();
     let global = is_fenced(body, Space::Global);
     let buffers = core.buffers.as_slice();
-    crossings_from(
-        &mut found,
-        most,
-        sizes,
-        conditions,
-        met,
-        global,
-        Space::Global,
-        buffers,
-    )?;
+    crossings_from(&mut found, &pairing, global, Space::Global, buffers)?;
     let local = is_fenced(body, Space::Local);
     let arrays = core.arrays.as_slice();
-    crossings_from(
-        &mut found,
-        most,
-        sizes,
-        conditions,
-        met,
-        local,
-        Space::Local,
-        arrays,
-    )?;
+    crossings_from(&mut found, &pairing, local, Space::Local, arrays)?;
     Ok(found)
 }

@@ -55,6 +55,15 @@ pub struct Sought {
     pub scope: Scope,
 }
 
+/// What pairs are formed of, and under what: the local sizes, the conditions, and what was met; and how many pairs there may be at most.
+#[derive(Drop)]
+pub struct Pairing<'a, D> {
+    pub sizes: [u32; 3],
+    pub conditions: &'a Conditions,
+    pub met: &'a Met<D>,
+    pub most: usize,
+}
+
 /// The largest group count of a dimension.
 fn highest_count(conditions: &Conditions, dimension: u32) -> u32
     requires { dimension < 3 }
@@ -159,15 +168,12 @@ fn two_orders<D: Copy>(
 /// Adds the crossings of two accesses in each of the three dimensions in which the items' ids can differ, both orders of each.
 fn all_orders<D: Copy>(
     found: &mut Vec<Crossing>,
-    most: usize,
-    sizes: [u32; 3],
-    conditions: &Conditions,
-    met: &Met<D>,
+    pairing: &Pairing<'_, D>,
     sought: Sought,
     i: usize,
     j: usize,
 ) -> Result<(), WalkError>
-    ensures exact { MatchResult result (λ _. Adds (met_accesses met.now) found.old.items found.new.items (specs.all_orders (three sizes) (conditions_seen conditions.now) (scope_seen sought.scope) sought.fenced (met_access met.now i) (met_access met.now j))) (IsOver most (length found.old.items + length (specs.all_orders (three sizes) (conditions_seen conditions.now) (scope_seen sought.scope) sought.fenced (met_access met.now i) (met_access met.now j)))) }
+    ensures exact { MatchResult result (λ _. Adds (met_accesses pairing.now.met.now) found.old.items found.new.items (specs.all_orders (three pairing.now.sizes) (conditions_seen pairing.now.conditions.now) (scope_seen sought.scope) sought.fenced (met_access pairing.now.met.now i) (met_access pairing.now.met.now j))) (IsOver pairing.now.most (length found.old.items + length (specs.all_orders (three pairing.now.sizes) (conditions_seen pairing.now.conditions.now) (scope_seen sought.scope) sought.fenced (met_access pairing.now.met.now i) (met_access pairing.now.met.now j)))) }
     ensures inside { IfOk result (λ _. (n : ℕ) → i < n → j < n → All (IsInside n) found.old.items → All (IsInside n) found.new.items) }
 {
     let crossing = Crossing {
@@ -178,24 +184,24 @@ fn all_orders<D: Copy>(
         order: Order::Below,
         alike: sought.fenced,
     };
-    let x = differs(sizes, conditions, sought.scope, 0);
-    two_orders(found, most, met, x, crossing)?;
-    let y = differs(sizes, conditions, sought.scope, 1);
+    let x = differs(pairing.sizes, pairing.conditions, sought.scope, 0);
+    two_orders(found, pairing.most, pairing.met, x, crossing)?;
+    let y = differs(pairing.sizes, pairing.conditions, sought.scope, 1);
     two_orders(
         found,
-        most,
-        met,
+        pairing.most,
+        pairing.met,
         y,
         Crossing {
             dimension: 1,
             ..crossing
         },
     )?;
-    let z = differs(sizes, conditions, sought.scope, 2);
+    let z = differs(pairing.sizes, pairing.conditions, sought.scope, 2);
     two_orders(
         found,
-        most,
-        met,
+        pairing.most,
+        pairing.met,
         z,
         Crossing {
             dimension: 2,
@@ -208,21 +214,19 @@ fn all_orders<D: Copy>(
 /// Adds the crossings of one access of each item, if these conflict and may meet.
 fn with_one<D: Copy>(
     found: &mut Vec<Crossing>,
-    most: usize,
-    sizes: [u32; 3],
-    conditions: &Conditions,
-    met: &Met<D>,
+    pairing: &Pairing<'_, D>,
     sought: Sought,
     i: usize,
     j: usize,
 ) -> Result<(), WalkError>
-    requires first { i < length met.now.accesses.items }
-    requires second { j < length met.now.accesses.items }
-    ensures exact { MatchResult result (λ _. Adds (met_accesses met.now) found.old.items found.new.items (specs.with_one (three sizes) (conditions_seen conditions.now) sought.fenced (sought_array sought) (scope_seen sought.scope) (met_access met.now i) (met_access met.now j))) (IsOver most (length found.old.items + length (specs.with_one (three sizes) (conditions_seen conditions.now) sought.fenced (sought_array sought) (scope_seen sought.scope) (met_access met.now i) (met_access met.now j)))) }
-    ensures inside { IfOk result (λ _. All (IsInside (length met.now.accesses.items)) found.old.items → All (IsInside (length met.now.accesses.items)) found.new.items) }
+    requires first { i < length pairing.now.met.now.accesses.items }
+    requires second { j < length pairing.now.met.now.accesses.items }
+    ensures exact { MatchResult result (λ _. Adds (met_accesses pairing.now.met.now) found.old.items found.new.items (specs.with_one (three pairing.now.sizes) (conditions_seen pairing.now.conditions.now) sought.fenced (sought_array sought) (scope_seen sought.scope) (met_access pairing.now.met.now i) (met_access pairing.now.met.now j))) (IsOver pairing.now.most (length found.old.items + length (specs.with_one (three pairing.now.sizes) (conditions_seen pairing.now.conditions.now) sought.fenced (sought_array sought) (scope_seen sought.scope) (met_access pairing.now.met.now i) (met_access pairing.now.met.now j)))) }
+    ensures inside { IfOk result (λ _. All (IsInside (length pairing.now.met.now.accesses.items)) found.old.items → All (IsInside (length pairing.now.met.now.accesses.items)) found.new.items) }
 {
+    let met = pairing.met;
     if conflict(sought, met, i, j) && may_meet(sought, anchor_of(met, i), anchor_of(met, j)) {
-        all_orders(found, most, sizes, conditions, met, sought, i, j)?;
+        all_orders(found, pairing, sought, i, j)?;
     }
     Ok(())
 }
@@ -230,19 +234,16 @@ fn with_one<D: Copy>(
 /// An access with those of the second item from the same one on.
 fn with_each<D: Copy>(
     found: &mut Vec<Crossing>,
-    most: usize,
-    sizes: [u32; 3],
-    conditions: &Conditions,
-    met: &Met<D>,
+    pairing: &Pairing<'_, D>,
     sought: Sought,
     i: usize,
 ) -> Result<(), WalkError>
-    requires { i < length met.now.accesses.items }
-    ensures exact { MatchResult result (λ _. Adds (met_accesses met.now) found.old.items found.new.items (specs.with_each (three sizes) (conditions_seen conditions.now) sought.fenced (sought_array sought) (scope_seen sought.scope) (met_access met.now i) (drop i (met_accesses met.now)))) (IsOver most (length found.old.items + length (specs.with_each (three sizes) (conditions_seen conditions.now) sought.fenced (sought_array sought) (scope_seen sought.scope) (met_access met.now i) (drop i (met_accesses met.now))))) }
-    ensures inside { IfOk result (λ _. All (IsInside (length met.now.accesses.items)) found.old.items → All (IsInside (length met.now.accesses.items)) found.new.items) }
+    requires { i < length pairing.now.met.now.accesses.items }
+    ensures exact { MatchResult result (λ _. Adds (met_accesses pairing.now.met.now) found.old.items found.new.items (specs.with_each (three pairing.now.sizes) (conditions_seen pairing.now.conditions.now) sought.fenced (sought_array sought) (scope_seen sought.scope) (met_access pairing.now.met.now i) (drop i (met_accesses pairing.now.met.now)))) (IsOver pairing.now.most (length found.old.items + length (specs.with_each (three pairing.now.sizes) (conditions_seen pairing.now.conditions.now) sought.fenced (sought_array sought) (scope_seen sought.scope) (met_access pairing.now.met.now i) (drop i (met_accesses pairing.now.met.now))))) }
+    ensures inside { IfOk result (λ _. All (IsInside (length pairing.now.met.now.accesses.items)) found.old.items → All (IsInside (length pairing.now.met.now.accesses.items)) found.new.items) }
 {
-    for j in i..met.accesses.len() {
-        with_one(found, most, sizes, conditions, met, sought, i, j)?;
+    for j in i..pairing.met.accesses.len() {
+        with_one(found, pairing, sought, i, j)?;
     }
     Ok(())
 }
@@ -250,17 +251,14 @@ fn with_each<D: Copy>(
 /// The pairs of one array in one scope.
 pub fn crossings_in<D: Copy>(
     found: &mut Vec<Crossing>,
-    most: usize,
-    sizes: [u32; 3],
-    conditions: &Conditions,
-    met: &Met<D>,
+    pairing: &Pairing<'_, D>,
     sought: Sought,
 ) -> Result<(), WalkError>
-    ensures exact { MatchResult result (λ _. Adds (met_accesses met.now) found.old.items found.new.items (specs.crossings_in (three sizes) (conditions_seen conditions.now) sought.fenced (sought_array sought) (scope_seen sought.scope) (met_accesses met.now))) (IsOver most (length found.old.items + length (specs.crossings_in (three sizes) (conditions_seen conditions.now) sought.fenced (sought_array sought) (scope_seen sought.scope) (met_accesses met.now)))) }
-    ensures inside { IfOk result (λ _. All (IsInside (length met.now.accesses.items)) found.old.items → All (IsInside (length met.now.accesses.items)) found.new.items) }
+    ensures exact { MatchResult result (λ _. Adds (met_accesses pairing.now.met.now) found.old.items found.new.items (specs.crossings_in (three pairing.now.sizes) (conditions_seen pairing.now.conditions.now) sought.fenced (sought_array sought) (scope_seen sought.scope) (met_accesses pairing.now.met.now))) (IsOver pairing.now.most (length found.old.items + length (specs.crossings_in (three pairing.now.sizes) (conditions_seen pairing.now.conditions.now) sought.fenced (sought_array sought) (scope_seen sought.scope) (met_accesses pairing.now.met.now)))) }
+    ensures inside { IfOk result (λ _. All (IsInside (length pairing.now.met.now.accesses.items)) found.old.items → All (IsInside (length pairing.now.met.now.accesses.items)) found.new.items) }
 {
-    for i in 0..met.accesses.len() {
-        with_each(found, most, sizes, conditions, met, sought, i)?;
+    for i in 0..pairing.met.accesses.len() {
+        with_each(found, pairing, sought, i)?;
     }
     Ok(())
 }

@@ -31,7 +31,7 @@ mod walked;
 
 pub use manner::Manner;
 pub use meetings::About;
-pub use numbered::Obligations;
+pub use numbered::{Obligations, Premises};
 pub use on_path::OnPath;
 pub use parts::Part;
 pub use walked::{Tagged, Walked};

@@ -30,6 +30,13 @@ pub enum Which {
     OfCrossing(Crossing),
 }
 
+/// What is known of every launch: its facts, and what the domain knows of its symbols.
+#[derive(Drop)]
+pub struct Premises<D> {
+    pub launch: Vec<Form>,
+    pub known: Known<D>,
+}
+
 /// The obligations of a kernel's places, numbered from 1: the claims of one item, then the pairs of stops and the pairs of accesses of
 /// two items. There are at most 65,536.
 #[derive(Drop)]
@@ -65,8 +72,7 @@ impl<D: Domain> Obligations<D> {
     /// All that is to be shown of what was met along paths, whether or not its forms are of `i64`.
     fn gather(
         alloc: Global,
-        launch: Vec<Form>,
-        known: Known<D>,
+        premises: Premises<D>,
         paths: Vec<Tagged<D>>,
         alike: Vec<Alike>,
         core: &Core,
@@ -74,9 +80,9 @@ impl<D: Domain> Obligations<D> {
     ) -> Result<Obligations<D>, WalkError>
         requires accesses { all_own_accesses (all_accesses paths.items) ≡ true }
         requires ends { all_own_ends (all_ends paths.items) ≡ true }
-        ensures listed { IfOk result (λ o. listed D.Domain o ≡ all_listed D.Domain (known_seen known) (forms launch.items) (notes_of alike.items) (core_seen core.now) (conditions_seen conditions.now) (all_claims paths.items) (all_ends paths.items) (all_accesses paths.items)) }
-        ensures fits { IfOk result (λ o. made_fit o ≡ all_fit D.Domain (known_seen known) (forms launch.items) (notes_of alike.items) (core_seen core.now) (conditions_seen conditions.now) (all_claims paths.items) (all_ends paths.items) (all_accesses paths.items)) }
-        ensures ungathered { IfErr result (AreUngathered (all_listed D.Domain (known_seen known) (forms launch.items) (notes_of alike.items) (core_seen core.now) (conditions_seen conditions.now) (all_claims paths.items) (all_ends paths.items) (all_accesses paths.items)) (all_fit D.Domain (known_seen known) (forms launch.items) (notes_of alike.items) (core_seen core.now) (conditions_seen conditions.now) (all_claims paths.items) (all_ends paths.items) (all_accesses paths.items))) }
+        ensures listed { IfOk result (λ o. listed D.Domain o ≡ all_listed D.Domain (known_seen premises.known) (forms premises.launch.items) (notes_of alike.items) (core_seen core.now) (conditions_seen conditions.now) (all_claims paths.items) (all_ends paths.items) (all_accesses paths.items)) }
+        ensures fits { IfOk result (λ o. made_fit o ≡ all_fit D.Domain (known_seen premises.known) (forms premises.launch.items) (notes_of alike.items) (core_seen core.now) (conditions_seen conditions.now) (all_claims paths.items) (all_ends paths.items) (all_accesses paths.items)) }
+        ensures ungathered { IfErr result (AreUngathered (all_listed D.Domain (known_seen premises.known) (forms premises.launch.items) (notes_of alike.items) (core_seen core.now) (conditions_seen conditions.now) (all_claims paths.items) (all_ends paths.items) (all_accesses paths.items)) (all_fit D.Domain (known_seen premises.known) (forms premises.launch.items) (notes_of alike.items) (core_seen core.now) (conditions_seen conditions.now) (all_claims paths.items) (all_ends paths.items) (all_accesses paths.items))) }
     {
         let met = Met::of(alloc, paths)?;
         let claims = met.claims.len();
@@ -94,8 +100,8 @@ impl<D: Domain> Obligations<D> {
             return Err(WalkError::TooMany);
         }
         Ok(Obligations {
-            launch,
-            known,
+            launch: premises.launch,
+            known: premises.known,
             alike,
             met,
             meetings,
@@ -149,8 +155,7 @@ impl<D: Domain> Obligations<D> {
     /// item. A form that is not of `i64` is refused here, before an obligation is looked at. It heeds no entries.
     pub fn of(
         alloc: Global,
-        launch: Vec<Form>,
-        known: Known<D>,
+        premises: Premises<D>,
         walked: Vec<Walked<D>>,
         core: &Core,
         conditions: &Conditions,
@@ -158,14 +163,14 @@ impl<D: Domain> Obligations<D> {
     ) -> Result<Obligations<D>, WalkError>
         requires accesses { all_own_accesses (accesses_of walked.items) ≡ true }
         requires ends { all_own_ends (ends_of walked.items) ≡ true }
-        ensures listed { IfOk result (λ o. (entries : List Bool) → listed D.Domain o ≡ all_listed D.Domain (known_seen known) (forms launch.items) (seen notes.now entries) (core_seen core.now) (conditions_seen conditions.now) (claims_of walked.items) (ends_of walked.items) (accesses_of walked.items)) }
-        ensures fits { OnOk result ((entries : List Bool) → all_fit D.Domain (known_seen known) (forms launch.items) (seen notes.now entries) (core_seen core.now) (conditions_seen conditions.now) (claims_of walked.items) (ends_of walked.items) (accesses_of walked.items) ≡ true) }
+        ensures listed { IfOk result (λ o. (entries : List Bool) → listed D.Domain o ≡ all_listed D.Domain (known_seen premises.known) (forms premises.launch.items) (seen notes.now entries) (core_seen core.now) (conditions_seen conditions.now) (claims_of walked.items) (ends_of walked.items) (accesses_of walked.items)) }
+        ensures fits { OnOk result ((entries : List Bool) → all_fit D.Domain (known_seen premises.known) (forms premises.launch.items) (seen notes.now entries) (core_seen core.now) (conditions_seen conditions.now) (claims_of walked.items) (ends_of walked.items) (accesses_of walked.items) ≡ true) }
         ensures made { IfOk result (λ o. made_fit o ≡ true) }
-        ensures ungathered { IfErr result (λ e. (entries : List Bool) → AreUngathered (all_listed D.Domain (known_seen known) (forms launch.items) (seen notes.now entries) (core_seen core.now) (conditions_seen conditions.now) (claims_of walked.items) (ends_of walked.items) (accesses_of walked.items)) (all_fit D.Domain (known_seen known) (forms launch.items) (seen notes.now entries) (core_seen core.now) (conditions_seen conditions.now) (claims_of walked.items) (ends_of walked.items) (accesses_of walked.items)) e) }
+        ensures ungathered { IfErr result (λ e. (entries : List Bool) → AreUngathered (all_listed D.Domain (known_seen premises.known) (forms premises.launch.items) (seen notes.now entries) (core_seen core.now) (conditions_seen conditions.now) (claims_of walked.items) (ends_of walked.items) (accesses_of walked.items)) (all_fit D.Domain (known_seen premises.known) (forms premises.launch.items) (seen notes.now entries) (core_seen core.now) (conditions_seen conditions.now) (claims_of walked.items) (ends_of walked.items) (accesses_of walked.items)) e) }
     {
         let alike = copy_alike(alloc, notes)?;
         let paths = spread(alloc, walked)?;
-        let found = Obligations::gather(alloc, launch, known, paths, alike, core, conditions)?;
+        let found = Obligations::gather(alloc, premises, paths, alike, core, conditions)?;
         found.try_forms(alloc)?;
         Ok(found)
     }

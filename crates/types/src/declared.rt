@@ -19,10 +19,9 @@ use crate::error::{TypeError, TypeFault};
 use crate::jumps::Around;
 use crate::scope::Scope;
 use crate::typing::type_of;
-use core_code::tree::{Site, Statement};
+use core_code::tree::{LocalArray, Site, Statement};
 use std::alloc::Global;
 use syntax::tree::{Declaration, First};
-use words::Kind;
 
 /// The core statement of a declaration, whose name is visible after its value.
 #[tactic(auto, unfolding(texts::specs::Elaboration::elaborate_declaration))]
@@ -66,11 +65,10 @@ pub fn declare_local<'a>(
     site: Site,
     name_site: Site,
     name: &'a str,
-    kind: Kind,
-    length: u32,
+    array: LocalArray,
 ) -> Result<(), TypeError>
     requires { HasRoom (scope_seen scope.old) 1 }
-    ensures { (n : ℕ) → Gives (λ _. elaboration.elaborated core.none (scope_seen scope.new)) result (elaboration.elaborate_statement (around_of around) (scope_seen scope.old) (surface.DeclareArray n (site_of site) (kind_of kind) (site_of name_site) name.now length)) }
+    ensures { (n : ℕ) → Gives (λ _. elaboration.elaborated core.none (scope_seen scope.new)) result (elaboration.elaborate_statement (around_of around) (scope_seen scope.old) (surface.DeclareArray n (site_of site) (kind_of array.kind) (site_of name_site) name.now array.length)) }
 {
     if !around.is_in_kernel() {
         return Err(TypeError::At {
@@ -78,5 +76,5 @@ pub fn declare_local<'a>(
             site,
         });
     }
-    scope.declare_array(name_site, name, kind, length)
+    scope.declare_array(name_site, name, array.kind, array.length)
 }

@@ -22,7 +22,7 @@ use crate::error::TypeError;
 use crate::jumps::{Around, jump_to};
 use crate::scope::Scope;
 use crate::typing::type_of;
-use core_code::tree::{Statement, Term};
+use core_code::tree::{LocalArray, Statement, Term};
 use std::alloc::Global;
 use syntax::tree::{Assignment, Expr, First, Stmt};
 
@@ -63,6 +63,14 @@ fn elaborate_block<'a>(
     Ok(())
 }
 
+/// A statement `if` without what is behind its `else`: its test, and what is done where that holds.
+#[derive(Drop)]
+struct Branch {
+    number: u32,
+    test: Term,
+    taken: Vec<Statement>,
+}
+
 #[cycle(statements)]
 #[tactic(auto, using(crate::proofs::Blocks::alone))]
 fn elaborate_else<'a>(
@@ -70,19 +78,17 @@ fn elaborate_else<'a>(
     around: Around,
     scope: &mut Scope<'a>,
     skipped: &'a [Stmt],
-    number: u32,
-    test: Term,
-    taken: Vec<Statement>,
+    branch: Branch,
 ) -> Result<Statement, TypeError>
     requires { HasRoom (scope_seen scope.old) (declared_by (stmts skipped.now)) }
-    ensures { Gives (one_seen scope.new) result (otherwise (around_of around) (scope_seen scope.old) number (term test) (statements taken.items) (stmts skipped.now)) }
+    ensures { Gives (one_seen scope.new) result (otherwise (around_of around) (scope_seen scope.old) branch.number (term branch.test) (statements branch.taken.items) (stmts skipped.now)) }
 {
     let mut inside = Vec::new(alloc);
     elaborate_block(alloc, around, scope, skipped, &mut inside)?;
     Ok(Statement::If {
-        number,
-        test,
-        taken,
+        number: branch.number,
+        test: branch.test,
+        taken: branch.taken,
         skipped: inside,
     })
 }
@@ -163,6 +169,14 @@ fn elaborate_repeated<'a>(
     loop_with(alloc, number, test, inside, update)
 }
 
+/// What a `for` has in parentheses.
+#[derive(Clone, Copy)]
+struct Header<'a> {
+    first: &'a First,
+    test: &'a Expr,
+    update: &'a Assignment,
+}
+
 #[cycle(statements)]
 #[tactic(auto, using(crate::proofs::Blocks::alone))]
 fn elaborate_for<'a>(
@@ -171,16 +185,14 @@ fn elaborate_for<'a>(
     body: &'a [Stmt],
     out: &mut Vec<Statement>,
     number: u32,
-    first: &'a First,
-    test: &Expr,
-    update: &Assignment,
+    header: Header<'a>,
 ) -> Result<(), TypeError>
-    requires { HasRoom (scope_seen scope.old) (declared_first (first_of first.now) + declared_by (stmts body.now)) }
-    ensures { (around : elaboration.Around) (at : core.Site) → Gives (λ _. all_seen out.new.items scope.new) result (behind (statements out.old.items) (elaboration.elaborate_statement around (scope_seen scope.old) (surface.For number at (first_of first.now) (expression test.now) (assignment update.now) (stmts body.now)))) }
+    requires { HasRoom (scope_seen scope.old) (declared_first (first_of header.first.now) + declared_by (stmts body.now)) }
+    ensures { (around : elaboration.Around) (at : core.Site) → Gives (λ _. all_seen out.new.items scope.new) result (behind (statements out.old.items) (elaboration.elaborate_statement around (scope_seen scope.old) (surface.For number at (first_of header.entry.first.now) (expression header.entry.test.now) (assignment header.entry.update.now) (stmts body.now)))) }
 {
     let outside = scope.visible.len();
-    out.push(elaborate_first(alloc, scope, first)?)?;
-    out.push(elaborate_repeated(alloc, scope, body, number, test, update)?)?;
+    out.push(elaborate_first(alloc, scope, header.first)?)?;
+    out.push(elaborate_repeated(alloc, scope, body, number, header.test, header.update)?)?;
     scope.visible.truncate(outside);
     Ok(())
 }
@@ -217,15 +229,13 @@ fn elaborate_statement<'a>(
             name,
             length,
             ..
-        } => declare_local(
-            scope,
-            around,
-            *site,
-            *name_site,
-            name.as_str(),
-            *kind,
-            *length,
-        ),
+        } => {
+            let array = LocalArray {
+                kind: *kind,
+                length: *length,
+            };
+            declare_local(scope, around, *site, *name_site, name.as_str(), array)
+        }
         Stmt::Assign(assignment) => push_one(out, elaborate_assignment(alloc, scope, assignment)),
         Stmt::If {
             number,
@@ -237,10 +247,12 @@ fn elaborate_statement<'a>(
             let test = type_of(alloc, &scope.visible, test)?;
             let mut inside = Vec::new(alloc);
             elaborate_block(alloc, around, scope, taken, &mut inside)?;
-            push_one(
-                out,
-                elaborate_else(alloc, around, scope, skipped, *number, test.term, inside),
-            )
+            let branch = Branch {
+                number: *number,
+                test: test.term,
+                taken: inside,
+            };
+            push_one(out, elaborate_else(alloc, around, scope, skipped, branch))
         }
         Stmt::While {
             number,
@@ -255,7 +267,14 @@ fn elaborate_statement<'a>(
             update,
             body,
             ..
-        } => elaborate_for(alloc, scope, body, out, *number, first, test, update),
+        } => {
+            let header = Header {
+                first,
+                test,
+                update,
+            };
+            elaborate_for(alloc, scope, body, out, *number, header)
+        }
         Stmt::Barrier { number, flags, .. } => push_one(out, barrier_of(*number, flags)),
         Stmt::Jump { number, site, jump } => push_one(out, jump_to(*number, *site, around, *jump)),
         Stmt::Block { body, .. } => elaborate_block(alloc, around, scope, body, out),

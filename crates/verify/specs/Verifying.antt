@@ -1,7 +1,7 @@
 -- What is promised of a kernel that is proved.
 use Rattle.std.specs.Prelude.{◌≡◌, ℕ, List, Ok}
 use Rattle.certificate_text.specs.Certificate.{Certificate}
-use Rattle.certificate_text.specs.Text.{text_of}
+use Rattle.certificate_text.specs.NumberedText.{text_of_two}
 use Rattle.texts.specs.ConditionsReading.{conditions_of}
 use Rattle.syntax.specs.View.{kernel as tree_seen}
 use Rattle.core_code.specs.View.{kernel as core_seen}
@@ -19,6 +19,6 @@ use Rattle.cert_check.specs.declared.accepted.Accepted.{Accepted}
 pub record IsVerified (kernel_text conditions_text : List ℕ) (certificate : Certificate) (a : Accepted) : Type 0 where
   pub kernel : read kernel_text ≡ Ok (kernel_seen (typed_of a))
   pub conditions : conditions_of (tree_seen (typed_of a).0).parameters conditions_text ≡ Ok (lined (kept a))
-  pub passed : IsPassed (typed_of a) (conditions_seen (kept a)) (text_of certificate)
+  pub passed : IsPassed (typed_of a) (conditions_seen (kept a)) (text_of_two certificate)
   pub pair : IsAccepted (core_seen (typed_of a).1) (conditions_seen (kept a))
   pub headline : HasHeadline (core_seen (typed_of a).1) (conditions_seen (kept a))

@@ -16,12 +16,10 @@ use domain::Domain;
 use obligations::Notes;
 use path_steps::Setting;
 use places::Place;
-use std::alloc::Global;
 use two_thread::Walked;
 
 /// The paths of these places, place by place in order.
 pub fn walk_all<D: Domain>(
-    alloc: Global,
     setting: &Setting<D>,
     core: &Core,
     notes: &Notes,
@@ -31,10 +29,10 @@ pub fn walk_all<D: Domain>(
     ensures walked { IfOk result (λ ws. Walks ws.items (all_by D.Domain (setting_seen D.Domain setting.now) (core_seen core.now) (seen notes.now setting.now.entries.items) 0 (map place_seen places.now)) []) }
     ensures stuck { IfErr result (IsAnyStuck (all_by D.Domain (setting_seen D.Domain setting.now) (core_seen core.now) (seen notes.now setting.now.entries.items) 0 (map place_seen places.now))) }
 {
-    let mut all = Vec::new(alloc);
+    let mut all = Vec::new(setting.alloc);
     let mut claims = 0;
     for place in places {
-        let FromPlace { walked, after } = walk_from(alloc, setting, core, notes, place, claims)?;
+        let FromPlace { walked, after } = walk_from(setting, core, notes, place, claims)?;
         all.push(walked)?;
         claims = after;
     }

@@ -29,11 +29,11 @@ use obligations::laws::trees_have_own_symbols;
 use path_steps::Setting;
 use places::Place;
 use std::alloc::Global;
-use two_thread::Obligations;
+use two_thread::{Obligations, Premises};
 
 /// The setting in which a kernel's places are walked: what the domain knows under the conditions, the kernel's sizes and arrays, and the
 /// entries.
-fn setting_of<D: Domain>(
+pub fn setting_of<D: Domain>(
     alloc: Global,
     core: &Core,
     conditions: &Conditions,
@@ -50,6 +50,7 @@ fn setting_of<D: Domain>(
     let buffers = Vec::from_slice(alloc, core.buffers.as_slice())?;
     let arrays = Vec::from_slice(alloc, core.arrays.as_slice())?;
     Ok(Setting {
+        alloc,
         known,
         sizes: core.sizes,
         buffers,
@@ -78,16 +79,12 @@ pub fn find<D: Domain>(
 {
     trees_have_own_symbols::<D>();
     let setting = setting_of::<D>(alloc, core, conditions, entries)?;
-    let walked = walk_all(alloc, &setting, core, notes, places)?;
+    let walked = walk_all(&setting, core, notes, places)?;
     let launch = launch_facts(alloc, conditions)?;
-    let found = Obligations::of(
-        alloc,
+    let premises = Premises {
         launch,
-        setting.known,
-        walked,
-        core,
-        conditions,
-        notes,
-    )?;
+        known: setting.known,
+    };
+    let found = Obligations::of(alloc, premises, walked, core, conditions, notes)?;
     Ok(found)
 }

@@ -18,11 +18,9 @@ use facts::WalkError;
 use path_steps::{Choice, Path};
 use path_walk::{root_of, walk_place};
 use places::Place;
-use std::alloc::Global;
 
 /// One path from a place to its end, with so many claims before it, along these choices.
 pub fn follow<D: Domain>(
-    alloc: Global,
     placing: &Placing<'_, D>,
     place: &Place<'_>,
     claims: u32,
@@ -33,14 +31,6 @@ pub fn follow<D: Domain>(
     ensures known { OnOk result (all_fit (planted_at D.Domain (placed D.Domain placing.now) claims (place_seen place.now)).facts ≡ true) }
     ensures cut { IfErr result (IsCut (planted_at D.Domain (placed D.Domain placing.now) claims (place_seen place.now)) (map choice_seen given.items)) }
 {
-    let path = root_of(
-        alloc,
-        placing.core,
-        placing.notes,
-        placing.anchor,
-        placing.head,
-        claims,
-        given,
-    )?;
-    walk_place(alloc, placing, place, path)
+    let path = root_of(placing, claims, given)?;
+    walk_place(placing, place, path)
 }

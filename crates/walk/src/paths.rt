@@ -23,7 +23,6 @@ use domain::Domain;
 use obligations::Notes;
 use path_steps::{Choice, Path, Setting};
 use places::Place;
-use std::alloc::Global;
 use two_thread::Walked;
 
 /// The findings along the paths of a place so far: the paths, how many of them came to an end, 256 at most, and how many claims stand
@@ -56,7 +55,6 @@ fn count_ends(statement: Option<u32>, ends: usize, more: usize) -> Result<usize,
 
 /// One path more, along these choices; and the choices of the next one.
 fn turn<D: Domain>(
-    alloc: Global,
     placing: &Placing<'_, D>,
     place: &Place<'_>,
     claims: u32,
@@ -69,12 +67,12 @@ fn turn<D: Domain>(
     ensures fewer { IfOk result (λ next. left_of (planted_at D.Domain (placed D.Domain placing.now) claims (place_seen place.now)) (maybe_choices next) < left_of (planted_at D.Domain (placed D.Domain placing.now) claims (place_seen place.now)) (Some (map choice_seen given.items))) }
     ensures stuck { IfErr result (IsStuck (planted_at D.Domain (placed D.Domain placing.now) claims (place_seen place.now))) }
 {
-    let path = follow(alloc, placing, place, claims, given)?;
+    let path = follow(placing, place, claims, given)?;
     let more = path.ends.len();
     let statement = statement_of(placing.anchor, placing.head);
     let ends = count_ends(statement, so_far.ends, more)?;
     let count = path.count;
-    let next = next_choices(alloc, path.taken.as_slice(), count)?;
+    let next = next_choices(placing.setting.alloc, path.taken.as_slice(), count)?;
     so_far.paths.push(path)?;
     so_far.ends = ends;
     so_far.count = count;
@@ -83,7 +81,6 @@ fn turn<D: Domain>(
 
 /// All paths of a place, with so many claims before it.
 fn walk_paths<D: Domain>(
-    alloc: Global,
     placing: &Placing<'_, D>,
     place: &Place<'_>,
     claims: u32,
@@ -94,20 +91,19 @@ fn walk_paths<D: Domain>(
     ensures stuck { IfErr result (IsStuck (planted_at D.Domain (placed D.Domain placing.now) claims (place_seen place.now))) }
 {
     let mut so_far = SoFar {
-        paths: Vec::new(alloc),
+        paths: Vec::new(placing.setting.alloc),
         ends: 0,
         count: claims,
     };
-    let mut next = Some(Vec::new(alloc));
+    let mut next = Some(Vec::new(placing.setting.alloc));
     while let Some(given) = next {
-        next = turn(alloc, placing, place, claims, &mut so_far, given)?;
+        next = turn(placing, place, claims, &mut so_far, given)?;
     }
     Ok(so_far)
 }
 
 /// All paths of a place, with so many claims before it; at most 256 of them come to an end.
 pub fn walk_from<D: Domain>(
-    alloc: Global,
     setting: &Setting<D>,
     core: &Core,
     notes: &Notes,
@@ -128,7 +124,7 @@ pub fn walk_from<D: Domain>(
         anchor,
         head,
     };
-    let SoFar { paths, count, .. } = walk_paths(alloc, &placing, place, claims)?;
+    let SoFar { paths, count, .. } = walk_paths(&placing, place, claims)?;
     Ok(FromPlace {
         walked: Walked {
             anchor,

@@ -11,6 +11,7 @@ use Rattle.cert_check.specs.Accepting.{IsAccepted}
 use Rattle.cert_check.specs.Checked.{Stops}
 use Rattle.cert_check.specs.Refusing.{IsPassed}
 use Rattle.cert_check.specs.View.{typed_of, kept}
+use Rattle.cert_check.proofs.Alike.{passed_alike, refused_alike}
 use Rattle.cert_check.proofs.Headlines.{has_headline}
 use Rattle.cert_check.proofs.Plainly.{stops_plain}
 use Rattle.cert_check.proofs.Sizes.{has_items, sizes_fit}
@@ -78,3 +79,37 @@ returns-in-Err-accept-clause-plain c =
 
 pub of-requires-clause-orderly : goal.of-requires-clause-orderly
 of-requires-clause-orderly c = ∣ c.what_is_read_is_orderly.ensures c.args.kernel.now (kernel_seen c.in-Ok.typed) c.in-Ok.ensures ∣₁
+
+pub returns-in-Err-accept-clause-two : goal.returns-in-Err-accept-clause-two
+returns-in-Err-accept-clause-two c = λ two alike.
+    let cond = c.in-Ok-read_conditions.conditions in
+    let e = c.in-Err-accept.error in
+    let s = subst (λ x. Stops c.in-Ok.typed x c.args.certificate.now e) (sym (conditions_meant cond)) c.in-Err-accept.ensures.stopped in
+    let told = refused c.in-Ok.typed (lined cond) c.args.kernel.now c.args.conditions.now c.args.certificate.now (c.in-Ok.ensures, c.in-Ok-read_conditions.ensures.value) e s in
+    refused_alike e c.args.kernel.now c.args.conditions.now c.args.certificate.now two (sym (c.either_version_is_read.ensures.same c.args.certificate.now two alike.0 alike.1)) told
+
+pub returns-in-Err-accept-clause-one : goal.returns-in-Err-accept-clause-one
+returns-in-Err-accept-clause-one c = λ one alike.
+    let cond = c.in-Ok-read_conditions.conditions in
+    let e = c.in-Err-accept.error in
+    let s = subst (λ x. Stops c.in-Ok.typed x c.args.certificate.now e) (sym (conditions_meant cond)) c.in-Err-accept.ensures.stopped in
+    let told = refused c.in-Ok.typed (lined cond) c.args.kernel.now c.args.conditions.now c.args.certificate.now (c.in-Ok.ensures, c.in-Ok-read_conditions.ensures.value) e s in
+    refused_alike e c.args.kernel.now c.args.conditions.now c.args.certificate.now one (c.either_version_is_read.ensures.same one c.args.certificate.now alike.0 alike.1) told
+
+pub returns-clause-two : goal.returns-clause-two
+returns-clause-two c = λ two alike.
+    let passed =
+    subst
+    (λ t. IsPassed t (conditions (kept c.of.result)) c.args.certificate.now)
+    (sym c.of.ensures.typed)
+    (subst (λ x. IsPassed c.in-Ok.typed (conditions x) c.args.certificate.now) (sym c.of.ensures.conditions) c.in-Ok-accept.ensures.passed) in
+    passed_alike (typed_of c.of.result) (conditions (kept c.of.result)) c.args.certificate.now two (sym (c.either_version_is_read.ensures.same c.args.certificate.now two alike.0 alike.1)) passed
+
+pub returns-clause-one : goal.returns-clause-one
+returns-clause-one c = λ one alike.
+    let passed =
+    subst
+    (λ t. IsPassed t (conditions (kept c.of.result)) c.args.certificate.now)
+    (sym c.of.ensures.typed)
+    (subst (λ x. IsPassed c.in-Ok.typed (conditions x) c.args.certificate.now) (sym c.of.ensures.conditions) c.in-Ok-accept.ensures.passed) in
+    passed_alike (typed_of c.of.result) (conditions (kept c.of.result)) c.args.certificate.now one (c.either_version_is_read.ensures.same one c.args.certificate.now alike.0 alike.1) passed

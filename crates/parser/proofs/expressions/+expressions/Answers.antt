@@ -15,28 +15,28 @@ use Rattle.parser.proofs.expressions.+expressions.Goals as goal
 pub chain-returns-then-left-eq0 : goal.chain-returns-then-left-eq0
 chain-returns-then-left-eq0 t c =
     let ts = lexemes c.args.tokens.now in
-    let operand = ranked (operand_reader c.args.room (suc c.args.depth)) (suc c.args.depth) c.args.below in
-    let goes : infix_at (c.args.below + 1) (front ts).kind ≡ Some (infix_sign c.in-Some.sign) = ap (infix_at (c.args.below + 1)) (sym c.kind_at.ensures) ∙ sym c.infix_at.ensures ∙ ap (option_map infix_sign) c.in-Some.is in
-    chain-goes operand (c.args.below + 1) c.args.left (expression c.args.first) ts (infix_sign c.in-Some.sign) goes
-    ∙ longer-none operand (c.args.below + 1) c.args.left (expression c.args.first) (front ts).site (infix_sign c.in-Some.sign) ts c.if-left-eq0.true
+    let operand = ranked (operand_reader c.args.room (suc c.args.depth)) (suc c.args.depth) c.args.series.below in
+    let goes : infix_at (c.args.series.below + 1) (front ts).kind ≡ Some (infix_sign c.in-Some.sign) = ap (infix_at (c.args.series.below + 1)) (sym c.kind_at.ensures) ∙ sym c.infix_at.ensures ∙ ap (option_map infix_sign) c.in-Some.is in
+    chain-goes operand (c.args.series.below + 1) c.args.series.left (expression c.args.series.first) ts (infix_sign c.in-Some.sign) goes
+    ∙ longer-none operand (c.args.series.below + 1) c.args.series.left (expression c.args.series.first) (front ts).site (infix_sign c.in-Some.sign) ts c.if-left-eq0.true
 
 pub chain-returns : goal.chain-returns
 chain-returns t c =
     let ts = lexemes c.args.tokens.now in
-    let operand = ranked (operand_reader c.args.room (suc c.args.depth)) (suc c.args.depth) c.args.below in
-    let goes : infix_at (c.args.below + 1) (front ts).kind ≡ Some (infix_sign c.in-Some.sign) = ap (infix_at (c.args.below + 1)) (sym c.kind_at.ensures) ∙ sym c.infix_at.ensures ∙ ap (option_map infix_sign) c.in-Some.is in
+    let operand = ranked (operand_reader c.args.room (suc c.args.depth)) (suc c.args.depth) c.args.series.below in
+    let goes : infix_at (c.args.series.below + 1) (front ts).kind ≡ Some (infix_sign c.in-Some.sign) = ap (infix_at (c.args.series.below + 1)) (sym c.kind_at.ensures) ∙ sym c.infix_at.ensures ∙ ap (option_map infix_sign) c.in-Some.is in
     let right : run operand (behind ts) ≡ Took (expression c.in_ok-right.right) (lexemes c.in_ok-right.rest.now) = ap (run operand) (sym c.behind.ensures) ∙ c.in_ok-right.ensures in
-    rw (chain-goes operand (c.args.below + 1) c.args.left (expression c.args.first) ts (infix_sign c.in-Some.sign) goes
-    ∙ longer-more operand (c.args.below + 1) c.args.left (expression c.args.first) (front ts).site (infix_sign c.in-Some.sign) ts c.if-left-eq0.false
-    ∙ ap (λ o. carry o (λ r rest. run (chain operand (c.args.below + 1) (c.args.left - 1) (Infix (front ts).site (infix_sign c.in-Some.sign) (expression c.args.first) r)) rest)) right) (search rules)
+    rw (chain-goes operand (c.args.series.below + 1) c.args.series.left (expression c.args.series.first) ts (infix_sign c.in-Some.sign) goes
+    ∙ longer-more operand (c.args.series.below + 1) c.args.series.left (expression c.args.series.first) (front ts).site (infix_sign c.in-Some.sign) ts c.if-left-eq0.false
+    ∙ ap (λ o. carry o (λ r rest. run (chain operand (c.args.series.below + 1) (c.args.series.left - 1) (Infix (front ts).site (infix_sign c.in-Some.sign) (expression c.args.series.first) r)) rest)) right) (search rules)
 
 pub chain-returns-in_err-right : goal.chain-returns-in_err-right
 chain-returns-in_err-right t c =
     let ts = lexemes c.args.tokens.now in
-    let operand = ranked (operand_reader c.args.room (suc c.args.depth)) (suc c.args.depth) c.args.below in
-    let goes : infix_at (c.args.below + 1) (front ts).kind ≡ Some (infix_sign c.in-Some.sign) = ap (infix_at (c.args.below + 1)) (sym c.kind_at.ensures) ∙ sym c.infix_at.ensures ∙ ap (option_map infix_sign) c.in-Some.is in
-    rw (chain-goes operand (c.args.below + 1) c.args.left (expression c.args.first) ts (infix_sign c.in-Some.sign) goes
-    ∙ longer-more operand (c.args.below + 1) c.args.left (expression c.args.first) (front ts).site (infix_sign c.in-Some.sign) ts c.if-left-eq0.false) (search (rules, stops-carry))
+    let operand = ranked (operand_reader c.args.room (suc c.args.depth)) (suc c.args.depth) c.args.series.below in
+    let goes : infix_at (c.args.series.below + 1) (front ts).kind ≡ Some (infix_sign c.in-Some.sign) = ap (infix_at (c.args.series.below + 1)) (sym c.kind_at.ensures) ∙ sym c.infix_at.ensures ∙ ap (option_map infix_sign) c.in-Some.is in
+    rw (chain-goes operand (c.args.series.below + 1) c.args.series.left (expression c.args.series.first) ts (infix_sign c.in-Some.sign) goes
+    ∙ longer-more operand (c.args.series.below + 1) c.args.series.left (expression c.args.series.first) (front ts).site (infix_sign c.in-Some.sign) ts c.if-left-eq0.false) (search (rules, stops-carry))
 
 pub after_name-returns-in_ok-arguments : goal.after_name-returns-in_ok-arguments
 after_name-returns-in_ok-arguments t c =

@@ -13,7 +13,7 @@ abbrev pub decreases-arguments : goal.decreases-arguments
 decreases-arguments l = (l.room + l.depth) * 1000 + 970
 
 abbrev pub decreases-chain : goal.decreases-chain
-decreases-chain l = (l.room + l.depth + 1) * 1000 + l.below * 80 + l.left + 50
+decreases-chain l = (l.room + l.depth + 1) * 1000 + l.series.below * 80 + l.series.left + 50
 
 abbrev pub decreases-expression : goal.decreases-expression
 decreases-expression l = (l.room + l.depth) * 1000 + 950

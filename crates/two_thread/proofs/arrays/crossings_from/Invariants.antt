@@ -10,6 +10,6 @@ use Rattle.two_thread.proofs.arrays.crossings_from.Given as goal
 
 abbrev pub invariant-loop-number : goal.invariant-loop-number
 invariant-loop-number g l = record {
-  found : map (crossing (met_accesses l.met)) l.found.items ++ specs.crossings_from (three l.sizes) (conditions l.conditions) (λ _. l.fenced) (met_accesses l.met) (space l.space) l.number (drop l.number l.arrays) ≡ map (crossing (met_accesses l.met)) l.fn.found.items ++ specs.crossings_from (three l.sizes) (conditions l.conditions) (λ _. l.fenced) (met_accesses l.met) (space l.space) 0 l.arrays;
-  inside : All (IsInside (length l.met.accesses.items)) l.fn.found.items → All (IsInside (length l.met.accesses.items)) l.found.items;
+  found : map (crossing (met_accesses l.pairing.met.now)) l.found.items ++ specs.crossings_from (three l.pairing.sizes) (conditions l.pairing.conditions.now) (λ _. l.fenced) (met_accesses l.pairing.met.now) (space l.space) l.number (drop l.number l.arrays) ≡ map (crossing (met_accesses l.pairing.met.now)) l.fn.found.items ++ specs.crossings_from (three l.pairing.sizes) (conditions l.pairing.conditions.now) (λ _. l.fenced) (met_accesses l.pairing.met.now) (space l.space) 0 l.arrays;
+  inside : All (IsInside (length l.pairing.met.now.accesses.items)) l.fn.found.items → All (IsInside (length l.pairing.met.now.accesses.items)) l.found.items;
 }

@@ -9,6 +9,6 @@ use Rattle.two_thread.proofs.crossings.crossings_in.Given as goal
 
 abbrev pub invariant-loop-i : goal.invariant-loop-i
 invariant-loop-i g l = record {
-  found : map (crossing (met_accesses l.met)) l.found.items ++ specs.crossings_in (three l.sizes) (conditions l.conditions) l.sought.fenced (sought_array l.sought) (scope l.sought.scope) (drop l.i (met_accesses l.met)) ≡ map (crossing (met_accesses l.met)) l.fn.found.items ++ specs.crossings_in (three l.sizes) (conditions l.conditions) l.sought.fenced (sought_array l.sought) (scope l.sought.scope) (met_accesses l.met);
-  inside : All (IsInside (length l.met.accesses.items)) l.fn.found.items → All (IsInside (length l.met.accesses.items)) l.found.items;
+  found : map (crossing (met_accesses l.pairing.met.now)) l.found.items ++ specs.crossings_in (three l.pairing.sizes) (conditions l.pairing.conditions.now) l.sought.fenced (sought_array l.sought) (scope l.sought.scope) (drop l.i (met_accesses l.pairing.met.now)) ≡ map (crossing (met_accesses l.pairing.met.now)) l.fn.found.items ++ specs.crossings_in (three l.pairing.sizes) (conditions l.pairing.conditions.now) l.sought.fenced (sought_array l.sought) (scope l.sought.scope) (met_accesses l.pairing.met.now);
+  inside : All (IsInside (length l.pairing.met.now.accesses.items)) l.fn.found.items → All (IsInside (length l.pairing.met.now.accesses.items)) l.found.items;
 }

@@ -9,6 +9,6 @@ use Rattle.two_thread.proofs.crossings.with_each.Given as goal
 
 abbrev pub invariant-loop-j : goal.invariant-loop-j
 invariant-loop-j g l = record {
-  found : map (crossing (met_accesses l.met)) l.found.items ++ specs.with_each (three l.sizes) (conditions l.conditions) l.sought.fenced (sought_array l.sought) (scope l.sought.scope) (nth_access (met_accesses l.met) l.i) (drop l.j (met_accesses l.met)) ≡ map (crossing (met_accesses l.met)) l.fn.found.items ++ specs.with_each (three l.sizes) (conditions l.conditions) l.sought.fenced (sought_array l.sought) (scope l.sought.scope) (nth_access (met_accesses l.met) l.i) (drop l.i (met_accesses l.met));
-  inside : All (IsInside (length l.met.accesses.items)) l.fn.found.items → All (IsInside (length l.met.accesses.items)) l.found.items;
+  found : map (crossing (met_accesses l.pairing.met.now)) l.found.items ++ specs.with_each (three l.pairing.sizes) (conditions l.pairing.conditions.now) l.sought.fenced (sought_array l.sought) (scope l.sought.scope) (nth_access (met_accesses l.pairing.met.now) l.i) (drop l.j (met_accesses l.pairing.met.now)) ≡ map (crossing (met_accesses l.pairing.met.now)) l.fn.found.items ++ specs.with_each (three l.pairing.sizes) (conditions l.pairing.conditions.now) l.sought.fenced (sought_array l.sought) (scope l.sought.scope) (nth_access (met_accesses l.pairing.met.now) l.i) (drop l.i (met_accesses l.pairing.met.now));
+  inside : All (IsInside (length l.pairing.met.now.accesses.items)) l.fn.found.items → All (IsInside (length l.pairing.met.now.accesses.items)) l.found.items;
 }

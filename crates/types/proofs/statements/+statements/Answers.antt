@@ -45,6 +45,12 @@ elaborate_statement-returns-in-DeclareArray t c =
     let x = elaborate_statement (around_of c.args.around) (scope_seen c.args.scope.now) (DeclareArray c.in-DeclareArray.number (site_of c.in-DeclareArray.site) (kind c.in-DeclareArray.kind) (site_of c.in-DeclareArray.name_site) (string_bytes c.in-DeclareArray.name) c.in-DeclareArray.length) in
     rw e (gives-behind c.declare_local.result x (statements c.args.out.now.items) (scope_seen c.declare_local.new.scope) k)
 
+pub elaborate_statement-returns-in-Declare : goal.elaborate_statement-returns-in-Declare
+unfolding elaborate_statement
+elaborate_statement-returns-in-Declare t c =
+    let e = ap stmt c.in-Declare.is in
+    rw e (c.push_one.ensures _ (scope_seen c.elaborate_declaration.new.scope) c.elaborate_declaration.ensures)
+
 pub elaborate_statement-returns-in-Assign : goal.elaborate_statement-returns-in-Assign
 unfolding elaborate_statement
 elaborate_statement-returns-in-Assign t c =
@@ -103,13 +109,13 @@ elaborate_statement-returns-in-Block t c =
 
 pub elaborate_for-returns-in_err-elaborate_first : goal.elaborate_for-returns-in_err-elaborate_first
 elaborate_for-returns-in_err-elaborate_first t c = λ around at.
-    let k = for-first around (scope_seen c.args.scope.now) c.args.number at (first_of c.args.first.now) (expression c.args.test.now) (assignment c.args.update.now) (stmts c.args.body.now) c.in_err-elaborate_first.field-0.0 (statements c.args.out.now.items) c.in_err-elaborate_first.ensures in
+    let k = for-first around (scope_seen c.args.scope.now) c.args.number at (first_of c.args.header.first.now) (expression c.args.header.test.now) (assignment c.args.header.update.now) (stmts c.args.body.now) c.in_err-elaborate_first.field-0.0 (statements c.args.out.now.items) c.in_err-elaborate_first.ensures in
     grind (arith, common_steps, k)
 
 pub elaborate_for-returns-in_err-elaborate_repeated : goal.elaborate_for-returns-in_err-elaborate_repeated
 elaborate_for-returns-in_err-elaborate_repeated t c = λ around at.
     let f = one_seen c.elaborate_first.new.scope c.in_ok-elaborate_first.field-0 in
-    let k = for-repeated around (scope_seen c.args.scope.now) c.args.number at (first_of c.args.first.now) (expression c.args.test.now) (assignment c.args.update.now) (stmts c.args.body.now) f c.in_err-elaborate_repeated.field-0.0 (statements c.args.out.now.items) c.in_ok-elaborate_first.ensures c.in_err-elaborate_repeated.ensures in
+    let k = for-repeated around (scope_seen c.args.scope.now) c.args.number at (first_of c.args.header.first.now) (expression c.args.header.test.now) (assignment c.args.header.update.now) (stmts c.args.body.now) f c.in_err-elaborate_repeated.field-0.0 (statements c.args.out.now.items) c.in_ok-elaborate_first.ensures c.in_err-elaborate_repeated.ensures in
     grind (arith, common_steps, k)
 
 pub elaborate_for-returns : goal.elaborate_for-returns
@@ -117,8 +123,8 @@ elaborate_for-returns t c = λ around at.
     let sc = scope_seen c.args.scope.now in
     let f = one_seen c.elaborate_first.new.scope c.in_ok-elaborate_first.field-0 in
     let x = one_seen c.elaborate_repeated.new.scope c.in_ok-elaborate_repeated.field-0 in
-    let k = for-done around sc c.args.number at (first_of c.args.first.now) (expression c.args.test.now) (assignment c.args.update.now) (stmts c.args.body.now) f x c.in_ok-elaborate_first.ensures c.in_ok-elaborate_repeated.ensures in
-    let l = for-left sc (first_of c.args.first.now) f c.args.number (expression c.args.test.now) (assignment c.args.update.now) (stmts c.args.body.now) x c.in_ok-elaborate_first.ensures c.in_ok-elaborate_repeated.ensures in
+    let k = for-done around sc c.args.number at (first_of c.args.header.first.now) (expression c.args.header.test.now) (assignment c.args.header.update.now) (stmts c.args.body.now) f x c.in_ok-elaborate_first.ensures c.in_ok-elaborate_repeated.ensures in
+    let l = for-left sc (first_of c.args.header.first.now) f c.args.number (expression c.args.header.test.now) (assignment c.args.header.update.now) (stmts c.args.body.now) x c.in_ok-elaborate_first.ensures c.in_ok-elaborate_repeated.ensures in
     let n : c.len-outside.result ≡ length c.args.scope.now.visible.entries = search rules in
     let v = names-kept c.args.scope.now.visible c.elaborate_repeated.new.scope.visible c.truncate.new.self c.len-outside.result n c.truncate.ensures.entries l in
     let p = c.in_ok-push.ensures.items in
@@ -138,8 +144,8 @@ pub elaborate_else-returns : goal.elaborate_else-returns
 elaborate_else-returns t c =
     let after = c.elaborate_block.new in
     let q = rw c.new-inside.ensures.items at c.in_ok-elaborate_block.ensures in
-    otherwise-done (around_of c.args.around) (scope_seen c.args.scope.now) c.args.number (term c.args.test) (statements c.args.taken.items) (stmts c.args.skipped.now) (all_seen after.out.items after.scope) q
-    ∙ ap (λ s. Ok (elaborated (single s) (scope_seen after.scope))) (sym (core_rows.seen_if c.args.number c.args.test c.args.taken after.out))
+    otherwise-done (around_of c.args.around) (scope_seen c.args.scope.now) c.args.branch.number (term c.args.branch.test) (statements c.args.branch.taken.items) (stmts c.args.skipped.now) (all_seen after.out.items after.scope) q
+    ∙ ap (λ s. Ok (elaborated (single s) (scope_seen after.scope))) (sym (core_rows.seen_if c.args.branch.number c.args.branch.test c.args.branch.taken after.out))
 
 pub elaborate_while-returns : goal.elaborate_while-returns
 elaborate_while-returns t c = λ around at.
@@ -160,7 +166,7 @@ elaborate_repeated-returns t c =
 
 pub elaborate_for-elaborate_repeated-requires : goal.elaborate_for-elaborate_repeated-requires
 elaborate_for-elaborate_repeated-requires t c =
-    let g = first-grown (scope_seen c.args.scope.now) (first_of c.args.first.now) (one_seen c.elaborate_first.new.scope c.in_ok-elaborate_first.field-0) c.in_ok-elaborate_first.ensures in
+    let g = first-grown (scope_seen c.args.scope.now) (first_of c.args.header.first.now) (one_seen c.elaborate_first.new.scope c.in_ok-elaborate_first.field-0) c.in_ok-elaborate_first.ensures in
     omega (arith, c.requires, g)
 
 pub elaborate_statement-elaborate_block-requires : goal.elaborate_statement-elaborate_block-requires

@@ -22,22 +22,22 @@ pub gather-requires-clause-ends : goal.gather-requires-clause-ends
 gather-requires-clause-ends g c = ap all_own_ends (ap all_ends c.in_ok-paths.ensures ∙ ends_are c.args.walked.items) ∙ c.requires.ends
 
 pub returns-clause-listed : goal.returns-clause-listed
-returns-clause-listed g c = λ x. c.in_ok-found.ensures.listed ∙ listed_same (notes_of c.in_ok-alike.alike.items) (seen c.args.notes.now x) c.in_ok-alike.ensures.same g.D.Domain (known_seen c.args.known) (forms c.args.launch.items) (kernel c.args.core.now) (conditions c.args.conditions.now) c.in_ok-paths.paths.items c.args.walked.items c.in_ok-paths.ensures
+returns-clause-listed g c = λ x. c.in_ok-found.ensures.listed ∙ listed_same (notes_of c.in_ok-alike.alike.items) (seen c.args.notes.now x) c.in_ok-alike.ensures.same g.D.Domain (known_seen c.args.premises.known) (forms c.args.premises.launch.items) (kernel c.args.core.now) (conditions c.args.conditions.now) c.in_ok-paths.paths.items c.args.walked.items c.in_ok-paths.ensures
 
 pub returns-clause-fits : goal.returns-clause-fits
-returns-clause-fits g c = λ x. sym (fit_same (notes_of c.in_ok-alike.alike.items) (seen c.args.notes.now x) c.in_ok-alike.ensures.same g.D.Domain (known_seen c.args.known) (forms c.args.launch.items) (kernel c.args.core.now) (conditions c.args.conditions.now) c.in_ok-paths.paths.items c.args.walked.items c.in_ok-paths.ensures) ∙ (sym c.in_ok-found.ensures.fits ∙ c.in_ok-try_forms.ensures)
+returns-clause-fits g c = λ x. sym (fit_same (notes_of c.in_ok-alike.alike.items) (seen c.args.notes.now x) c.in_ok-alike.ensures.same g.D.Domain (known_seen c.args.premises.known) (forms c.args.premises.launch.items) (kernel c.args.core.now) (conditions c.args.conditions.now) c.in_ok-paths.paths.items c.args.walked.items c.in_ok-paths.ensures) ∙ (sym c.in_ok-found.ensures.fits ∙ c.in_ok-try_forms.ensures)
 
 pub returns-in_err-found-clause-ungathered : goal.returns-in_err-found-clause-ungathered
 returns-in_err-found-clause-ungathered g c =
     let ps = c.in_ok-paths.paths.items in
     let ws = c.args.walked.items in
     let e = c.in_err-found.field-0.0 in
-    passed c.from_residual-in_err-found.result e (λ e. (x : List Bool) → AreUngathered (all_listed g.D.Domain (known_seen c.args.known) (forms c.args.launch.items) (seen c.args.notes.now x) (kernel c.args.core.now) (conditions c.args.conditions.now) (claims_of ws) (ends_of ws) (accesses_of ws)) (all_fit g.D.Domain (known_seen c.args.known) (forms c.args.launch.items) (seen c.args.notes.now x) (kernel c.args.core.now) (conditions c.args.conditions.now) (claims_of ws) (ends_of ws) (accesses_of ws)) e) c.from_residual-in_err-found.ensures.1
-    (λ x. moved (all_listed g.D.Domain (known_seen c.args.known) (forms c.args.launch.items) (notes_of c.in_ok-alike.alike.items) (kernel c.args.core.now) (conditions c.args.conditions.now) (all_claims ps) (all_ends ps) (all_accesses ps)) (all_listed g.D.Domain (known_seen c.args.known) (forms c.args.launch.items) (seen c.args.notes.now x) (kernel c.args.core.now) (conditions c.args.conditions.now) (claims_of ws) (ends_of ws) (accesses_of ws)) (all_fit g.D.Domain (known_seen c.args.known) (forms c.args.launch.items) (notes_of c.in_ok-alike.alike.items) (kernel c.args.core.now) (conditions c.args.conditions.now) (all_claims ps) (all_ends ps) (all_accesses ps)) (all_fit g.D.Domain (known_seen c.args.known) (forms c.args.launch.items) (seen c.args.notes.now x) (kernel c.args.core.now) (conditions c.args.conditions.now) (claims_of ws) (ends_of ws) (accesses_of ws)) e (listed_same (notes_of c.in_ok-alike.alike.items) (seen c.args.notes.now x) c.in_ok-alike.ensures.same g.D.Domain (known_seen c.args.known) (forms c.args.launch.items) (kernel c.args.core.now) (conditions c.args.conditions.now) c.in_ok-paths.paths.items c.args.walked.items c.in_ok-paths.ensures) (fit_same (notes_of c.in_ok-alike.alike.items) (seen c.args.notes.now x) c.in_ok-alike.ensures.same g.D.Domain (known_seen c.args.known) (forms c.args.launch.items) (kernel c.args.core.now) (conditions c.args.conditions.now) c.in_ok-paths.paths.items c.args.walked.items c.in_ok-paths.ensures) c.in_err-found.ensures.ungathered)
+    passed c.from_residual-in_err-found.result e (λ e. (x : List Bool) → AreUngathered (all_listed g.D.Domain (known_seen c.args.premises.known) (forms c.args.premises.launch.items) (seen c.args.notes.now x) (kernel c.args.core.now) (conditions c.args.conditions.now) (claims_of ws) (ends_of ws) (accesses_of ws)) (all_fit g.D.Domain (known_seen c.args.premises.known) (forms c.args.premises.launch.items) (seen c.args.notes.now x) (kernel c.args.core.now) (conditions c.args.conditions.now) (claims_of ws) (ends_of ws) (accesses_of ws)) e) c.from_residual-in_err-found.ensures.1
+    (λ x. moved (all_listed g.D.Domain (known_seen c.args.premises.known) (forms c.args.premises.launch.items) (notes_of c.in_ok-alike.alike.items) (kernel c.args.core.now) (conditions c.args.conditions.now) (all_claims ps) (all_ends ps) (all_accesses ps)) (all_listed g.D.Domain (known_seen c.args.premises.known) (forms c.args.premises.launch.items) (seen c.args.notes.now x) (kernel c.args.core.now) (conditions c.args.conditions.now) (claims_of ws) (ends_of ws) (accesses_of ws)) (all_fit g.D.Domain (known_seen c.args.premises.known) (forms c.args.premises.launch.items) (notes_of c.in_ok-alike.alike.items) (kernel c.args.core.now) (conditions c.args.conditions.now) (all_claims ps) (all_ends ps) (all_accesses ps)) (all_fit g.D.Domain (known_seen c.args.premises.known) (forms c.args.premises.launch.items) (seen c.args.notes.now x) (kernel c.args.core.now) (conditions c.args.conditions.now) (claims_of ws) (ends_of ws) (accesses_of ws)) e (listed_same (notes_of c.in_ok-alike.alike.items) (seen c.args.notes.now x) c.in_ok-alike.ensures.same g.D.Domain (known_seen c.args.premises.known) (forms c.args.premises.launch.items) (kernel c.args.core.now) (conditions c.args.conditions.now) c.in_ok-paths.paths.items c.args.walked.items c.in_ok-paths.ensures) (fit_same (notes_of c.in_ok-alike.alike.items) (seen c.args.notes.now x) c.in_ok-alike.ensures.same g.D.Domain (known_seen c.args.premises.known) (forms c.args.premises.launch.items) (kernel c.args.core.now) (conditions c.args.conditions.now) c.in_ok-paths.paths.items c.args.walked.items c.in_ok-paths.ensures) c.in_err-found.ensures.ungathered)
 
 pub returns-in_err-try_forms-clause-ungathered : goal.returns-in_err-try_forms-clause-ungathered
 returns-in_err-try_forms-clause-ungathered g c =
     let ws = c.args.walked.items in
     let e = c.in_err-try_forms.field-0.0 in
-    passed c.from_residual-in_err-try_forms.result e (λ e. (x : List Bool) → AreUngathered (all_listed g.D.Domain (known_seen c.args.known) (forms c.args.launch.items) (seen c.args.notes.now x) (kernel c.args.core.now) (conditions c.args.conditions.now) (claims_of ws) (ends_of ws) (accesses_of ws)) (all_fit g.D.Domain (known_seen c.args.known) (forms c.args.launch.items) (seen c.args.notes.now x) (kernel c.args.core.now) (conditions c.args.conditions.now) (claims_of ws) (ends_of ws) (accesses_of ws)) e) c.from_residual-in_err-try_forms.ensures.1
-    (λ x. unfit_ungathered (all_listed g.D.Domain (known_seen c.args.known) (forms c.args.launch.items) (seen c.args.notes.now x) (kernel c.args.core.now) (conditions c.args.conditions.now) (claims_of ws) (ends_of ws) (accesses_of ws)) (made_fit c.in_ok-found.found) (all_fit g.D.Domain (known_seen c.args.known) (forms c.args.launch.items) (seen c.args.notes.now x) (kernel c.args.core.now) (conditions c.args.conditions.now) (claims_of ws) (ends_of ws) (accesses_of ws)) e (c.in_ok-found.ensures.fits ∙ fit_same (notes_of c.in_ok-alike.alike.items) (seen c.args.notes.now x) c.in_ok-alike.ensures.same g.D.Domain (known_seen c.args.known) (forms c.args.launch.items) (kernel c.args.core.now) (conditions c.args.conditions.now) c.in_ok-paths.paths.items c.args.walked.items c.in_ok-paths.ensures) c.in_err-try_forms.ensures)
+    passed c.from_residual-in_err-try_forms.result e (λ e. (x : List Bool) → AreUngathered (all_listed g.D.Domain (known_seen c.args.premises.known) (forms c.args.premises.launch.items) (seen c.args.notes.now x) (kernel c.args.core.now) (conditions c.args.conditions.now) (claims_of ws) (ends_of ws) (accesses_of ws)) (all_fit g.D.Domain (known_seen c.args.premises.known) (forms c.args.premises.launch.items) (seen c.args.notes.now x) (kernel c.args.core.now) (conditions c.args.conditions.now) (claims_of ws) (ends_of ws) (accesses_of ws)) e) c.from_residual-in_err-try_forms.ensures.1
+    (λ x. unfit_ungathered (all_listed g.D.Domain (known_seen c.args.premises.known) (forms c.args.premises.launch.items) (seen c.args.notes.now x) (kernel c.args.core.now) (conditions c.args.conditions.now) (claims_of ws) (ends_of ws) (accesses_of ws)) (made_fit c.in_ok-found.found) (all_fit g.D.Domain (known_seen c.args.premises.known) (forms c.args.premises.launch.items) (seen c.args.notes.now x) (kernel c.args.core.now) (conditions c.args.conditions.now) (claims_of ws) (ends_of ws) (accesses_of ws)) e (c.in_ok-found.ensures.fits ∙ fit_same (notes_of c.in_ok-alike.alike.items) (seen c.args.notes.now x) c.in_ok-alike.ensures.same g.D.Domain (known_seen c.args.premises.known) (forms c.args.premises.launch.items) (kernel c.args.core.now) (conditions c.args.conditions.now) c.in_ok-paths.paths.items c.args.walked.items c.in_ok-paths.ensures) c.in_err-try_forms.ensures)

@@ -1,0 +1,16 @@
+use Rattle.std.proofs.Common.{◌≡◌, ◌+◌, ◌≤◌, ◌^◌, true, [], length}
+use Rattle.certificate_text.specs.NumberedReading as reading
+use Rattle.certificate_text.specs.Rules.{all, is_form}
+use Rattle.lines.specs.Left.{left}
+use Rattle.certificate.specs.Tables.{table}
+use Rattle.certificate.proofs.numbered_reader.read_table.Given as goal
+
+abbrev pub invariant-loop-line : goal.invariant-loop-line
+invariant-loop-line l = record {
+  room : l.number + length (left l.rest) ≤ 2 ^ 32 + 2;
+  good : all is_form (table l.table) ≡ true;
+  same : reading.read_table [] 2 (left l.lines) ≡ reading.read_table (table l.table) l.number (left l.rest);
+}
+
+abbrev pub decreases-loop-line : goal.decreases-loop-line
+decreases-loop-line l = length (left l.rest)

@@ -1,0 +1,200 @@
+//! A certificate of its text of version 2.
+
+ghost use Rattle.std.specs.Prelude.{◌≡◌, ◌+◌, ◌≤◌, ◌^◌, [], true, length};
+ghost use Rattle.std.specs.Option.{option_map};
+ghost use Rattle.texts.specs.Lines.{words};
+ghost use Rattle.certificate_text.specs.Drafts as drafting;
+ghost use Rattle.certificate_text.specs.NumberedReading as reading;
+ghost use Rattle.certificate_text.specs.Reading as reading_one;
+ghost use Rattle.certificate_text.specs.Rules.{all, is_form, is_certificate};
+ghost use Rattle.lines.specs.Left.{left};
+ghost use Rattle.certificate.specs.Answers.{fault};
+ghost use Rattle.certificate.specs.Certificates.{Says};
+ghost use Rattle.certificate.specs.Drafts as drafts;
+ghost use Rattle.certificate.specs.Numbers as numbers;
+ghost use Rattle.certificate.specs.Tables.{table as table_seen};
+ghost use Rattle.certificate.specs.WordAnswers.{Means};
+
+use crate::certificate::Certificate;
+use crate::draft::{Draft, Open, Parts, add};
+use crate::error::{CertError, CertFault};
+use crate::form_table::FormTable;
+use crate::item::read_item;
+use crate::line_error::LineError;
+use crate::name::form;
+use crate::numbers::filled;
+use crate::reader::{LIMIT, bad, version};
+use crate::word::is;
+use lines::pieces::Pieces;
+use std::alloc::Global;
+
+/// A draft, and the largest number of a form that its lines used.
+#[derive(Drop)]
+pub struct NumberedDraft {
+    pub used: u64,
+    pub read: Draft,
+}
+
+fn nothing_yet(alloc: Global) -> NumberedDraft
+    ensures { numbers.numbered_draft result ≡ reading.numbered_draft 0 drafting.nothing_yet }
+{
+    let settled = Parts {
+        places: Vec::new(alloc),
+        bounds: Vec::new(alloc),
+        entries: Vec::new(alloc),
+    };
+    let read = Draft {
+        settled,
+        opened: Open::Nothing,
+    };
+    NumberedDraft { used: 0, read }
+}
+
+/// The draft with one more line.
+pub fn add_numbered(
+    alloc: Global,
+    table: &FormTable,
+    draft: NumberedDraft,
+    line: &[u8],
+) -> Result<NumberedDraft, LineError>
+    ensures { Means numbers.numbered_draft result (reading.add_numbered (table_seen table.now) (numbers.numbered_draft draft) line.now) }
+{
+    let item = read_item(alloc, Pieces::of(line, b' '))?;
+    let (used, item) = filled(alloc, table, draft.used, item)?;
+    let read = add(alloc, draft.read, item)?;
+    Ok(NumberedDraft { used, read })
+}
+
+/// The certificate that is read, if nothing stands behind its last line and each form was used.
+fn finish(
+    table: &FormTable,
+    number: usize,
+    draft: NumberedDraft,
+    rest: &[u8],
+) -> Result<Certificate, CertError>
+    requires proper { is_certificate (drafts.parts draft.read.settled) ≡ true }
+    requires used { draft.used ≤ length (table_seen table.now) }
+    ensures { Says result (reading.finish_numbered (table_seen table.now) number (numbers.numbered_draft draft) rest.now) }
+{
+    let NumberedDraft { used, read } = draft;
+    let Draft { settled, opened } = read;
+    let Open::Ended = opened else {
+        return Err(bad(number));
+    };
+    if !rest.is_empty() {
+        return Err(bad(number));
+    }
+    let used = used as usize;
+    if used != table.len() {
+        return Err(bad(used + 2));
+    }
+    Ok(Certificate::of(settled))
+}
+
+fn read_numbered(
+    alloc: Global,
+    table: &FormTable,
+    start: usize,
+    lines: Pieces<'_>,
+) -> Result<Certificate, CertError>
+    requires room { start + length (left lines) ≤ 2 ^ 32 + 2 }
+    requires good { all is_form (table_seen table.now) ≡ true }
+    ensures { Says result (reading.read_numbered (table_seen table.now) start (reading.numbered_draft 0 drafting.nothing_yet) (left lines.entry)) }
+{
+    let mut draft = nothing_yet(alloc);
+    let mut number = start;
+    let mut rest = lines;
+    while let Some((line, others)) = rest.next() {
+        if others.is_over() {
+            return finish(table, number, draft, line);
+        }
+        match add_numbered(alloc, table, draft, line) {
+            Ok(next) => draft = next,
+            Err(LineError::Bad) => return Err(bad(number)),
+            Err(LineError::Memory) => return Err(CertError::Memory),
+        }
+        number += 1;
+        rest = others;
+    }
+    Err(bad(number))
+}
+
+/// The words behind `form`, where a line begins so.
+pub fn table_words(line: &[u8]) -> Option<Pieces<'_>>
+    ensures { option_map left result ≡ reading.table_words (words line.now) }
+{
+    let Some((keyword, others)) = Pieces::of(line, b' ').next() else {
+        return None;
+    };
+    if !is(keyword, "form") {
+        return None;
+    }
+    Some(others)
+}
+
+/// The table with one form more; an error where the words make none, or one that is there already.
+pub fn add_form(alloc: Global, table: FormTable, words: Pieces<'_>) -> Result<FormTable, LineError>
+    ensures { Means table_seen result (reading.add_form (table_seen table) (left words.entry)) }
+{
+    let mut table = table;
+    let form = form(alloc, words)?;
+    if !table.add(alloc, form)? {
+        return Err(LineError::Bad);
+    }
+    Ok(table)
+}
+
+fn read_table(alloc: Global, lines: Pieces<'_>) -> Result<Certificate, CertError>
+    requires { length (left lines) ≤ 2 ^ 32 }
+    ensures { Says result (reading.read_table [] 2 (left lines.entry)) }
+{
+    let mut table = FormTable::new(alloc);
+    let mut number = 2;
+    let mut rest = lines;
+    while let Some((line, others)) = rest.next() {
+        if others.is_over() {
+            return Err(bad(number));
+        }
+        let Some(words) = table_words(line) else {
+            return read_numbered(alloc, &table, number, rest);
+        };
+        match add_form(alloc, table, words) {
+            Ok(next) => table = next,
+            Err(LineError::Bad) => return Err(bad(number)),
+            Err(LineError::Memory) => return Err(CertError::Memory),
+        }
+        number += 1;
+        rest = others;
+    }
+    Err(bad(number))
+}
+
+/// The fault of a certificate's first line: it is no such line, or the version is not 2; none where it is `certificate 2`.
+fn head_fault(line: &[u8]) -> Option<CertFault>
+    ensures { option_map fault result ≡ reading.head_of_two (reading_one.version_of (words line.now)) }
+{
+    match version(line) {
+        None => Some(CertFault::BadLine(1)),
+        Some(2) => None,
+        Some(_) => Some(CertFault::OtherVersion),
+    }
+}
+
+/// The certificate of a text of version 2, or its first fault. The text is gone through once.
+pub fn read(alloc: Global, text: &[u8]) -> Result<Certificate, CertError>
+    ensures { Says result (reading.certificate_of_two text.now) }
+{
+    if text.len() > LIMIT {
+        return Err(bad(1));
+    }
+    let Some((first, others)) = Pieces::of(text, b'\n').next() else {
+        return Err(bad(1));
+    };
+    if others.is_over() {
+        return Err(bad(1));
+    }
+    if let Some(fault) = head_fault(first) {
+        return Err(CertError::Refused(fault));
+    }
+    read_table(alloc, others)
+}

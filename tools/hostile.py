@@ -1,5 +1,5 @@
 #!/usr/bin/env python3
-"""Uses the program as nobody should: memory that is refused, texts that are cut or forged, outputs that take nothing, threads that are held.
+"""Uses the program as nobody should: memory that is refused, texts that are cut or forged, outputs that take nothing, held threads.
 
     hostile.py [PART..] [--count COUNT] [--seed SEED] [--oracle FOLDER]
 
@@ -10,9 +10,9 @@
                whose modules are in FOLDER; without a FOLDER for their form alone
     threads    the same answer with each number of workers, again and again
 
-Without a PART all are tried. It prints a table, and ends with status 1 where something is not as it has to be; what that is stands below the
-table. To be quick on machines on which a process takes long to start, most is tried by the program of the tests of texts, which runs the
-program on many texts, one after the other; a few of each kind are tried by the program itself. It needs a C compiler.
+Without a PART all are tried. It prints a table, and ends with status 1 where something is not as it has to be; what that is stands in front
+of its line. To be quick on machines on which a process takes long to start, most is tried by the program of the tests of texts, which runs
+the program on many texts, one after the other; a few of each kind are tried by the program itself. It needs a C compiler.
 
 Build both programs first, by `rt run` in crates/kverify and crates/cases, or name others by KVERIFY and CASES.
 """

@@ -1,12 +1,12 @@
 #!/usr/bin/env python3
 """Compares with an independent program how texts of certificates are read and migrated, in both versions.
 
-    certificates.py FOLDER COUNT SEED       COUNT random certificates; FOLDER has the modules of the independent program; each certificate in
-                                            both versions, and of each text two changed ones
+    certificates.py FOLDER COUNT SEED       COUNT random certificates; FOLDER has the modules of the independent program; each certificate
+                                            in both versions, and of each text two changed ones
 
 Half of the certificates have random lines, and are for a kernel with a barrier and two loops; the others are those of examples/ and two
-that `prove` finds, with some lines changed. Each text is given to `migrate`, of which the status, what is printed and the file are compared,
-and to `check`. What `check` answers of a text that is none, 50 with a line or 51, is compared as strictly; what it answers of others is
+that `prove` finds, with some lines changed. Each text is given to `migrate`, of which the status, what is printed and the file are
+compared, and to `check`. What `check` answers of a text that is none, 50 with a line or 51, is compared as strictly; what it answers of others is
 told, too, where it differs, as it does where a certificate has numbers at the ends of 64 bits.
 
 Build the program first: ./kverify build

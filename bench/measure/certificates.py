@@ -1,12 +1,12 @@
 #!/usr/bin/env python3
 """Measures certificates in both versions: the bytes of those that `prove` finds, and what the longest texts cost to read.
 
-    certificates.py [KERNELS] [--budgets N]     the kernels of a folder, as measure/prove.py takes them, else those of bench/kernels; N times
-                                                the budget of each safe one
+    certificates.py [KERNELS] [--budgets N]     the kernels of a folder, as measure/prove.py takes them, else those of bench/kernels; N
+                                                times the budget of each safe one
     certificates.py longest                     the longest texts
 
-Of each certificate that is found the text of version 1 is made here, and `migrate` has to make the same certificate of it again. The longest
-texts, of up to 16,777,216 bytes, are of one kind of line each; `check` reads them for a kernel of one store, and refuses what they say.
+Of each certificate that is found the text of version 1 is made here, and `migrate` has to make the same certificate of it again. The
+longest texts, of up to 16,777,216 bytes, are of one kind of line each; `check` reads them for a kernel of one store, and refuses what they say.
 `migrate` writes those of version 1 anew. Memory is that of the whole process, text included, which may take 4 GiB. Build the program
 first: ./kverify build
 """

@@ -1,9 +1,10 @@
 #!/usr/bin/env python3
 """Proves the kernels of a folder and prints a table: kernel, what it is, verdict and first finding, milliseconds, certificate.
 
-    prove.py KERNELS [--budgets N] [WORKERS] [NAME ..]    NAME.cl with NAME.conditions, and a table in README.md that says which are safe,
+    prove.py KERNELS [--wide] [--budgets N] [WORKERS] [NAME ..]    NAME.cl with NAME.conditions, and a table in README.md that says which are safe,
                                             as bench/kernels; or with NAME.cond, and NAME.expect, which begins with safe or unsafe KIND;
-                                            all, or these names; --budgets: of each safe kernel N times the budget of its conditions
+                                            all, or these names; --budgets: of each safe kernel N times the budget of its conditions; --wide: with
+                                            that word, and of certificates of version 4 it is told how many there are
 
 Each certificate is given to `check`, which has to accept it. A finding has to have the kind of an unsafe kernel. Build the program first:
 ./kverify build
@@ -68,23 +69,25 @@ def conditions_of(folder, place, name, times):
     return f"{folder}/conditions.txt"
 
 
-def row(folder, place, name, workers, times):
+def row(folder, place, name, words, times):
     """One kernel's row: the safe ones are to be accepted, and their certificates checked."""
     files = [f"{place}/{name}.cl", conditions_of(folder, place, name, times)]
     out = f"{folder}/certificate.txt"
     if os.path.exists(out):
         os.remove(out)
-    told, taken = said(["prove", *files, "--workers", workers, "--out", out])
+    told, taken = said(["prove", *files, *words, "--out", out])
     line = told[0]
     kind = expected(place, name)
     lines = size = entries = 0
+    is_wide = False
     is_accepted = line == "accepted"
     if is_accepted:
         with open(out, encoding="utf-8") as it:
             text = it.read()
         size, entries = len(text), len(re.findall("(?m)^ob ", text))
+        is_wide = text.startswith("certificate 4\n")
         lines = len(re.findall("(?m)^(same|fact|mod) ", text))
-        checked = said(["check", *files, out])[0]
+        checked = said(["check", *files, out, *(["--wide"] if "--wide" in words else [])])[0]
         if checked != ["accepted"]:
             is_accepted, line = False, f"BROKEN: check says {checked}"
     is_right = is_accepted if kind == "safe" else line.startswith("refused ") and is_told(kind, told)
@@ -92,12 +95,14 @@ def row(folder, place, name, workers, times):
         line += "; " + told[1].split(":")[0]
     mark = "" if is_right else " <--"
     print(f"| `{name}` | {kind} | {line} | {taken:.0f} | {lines} | {entries} | {size} |{mark}", flush=True)
-    return kind, is_accepted, taken, size
+    return kind, is_accepted, taken, size, is_wide
 
 
 def main():
     place = sys.argv[1]
     words = sys.argv[2:]
+    wide = [it for it in words if it == "--wide"]
+    words = [it for it in words if it != "--wide"]
     times = int(words[1]) if words[:1] == ["--budgets"] else 1
     words = words[2:] if words[:1] == ["--budgets"] else words
     workers = words[0] if words else "1"
@@ -105,11 +110,13 @@ def main():
     names = sorted(it[:-3] for it in os.listdir(place) if it.endswith(".cl") and (not only or it[:-3] in only))
     print("| Kernel | What it is | Verdict | ms | Lines of places | Entries | Bytes |\n|---|---|---|---|---|---|---|")
     with tempfile.TemporaryDirectory() as folder:
-        rows = [row(folder, place, name, workers, times) for name in names]
+        rows = [row(folder, place, name, ["--workers", workers, *wide], times) for name in names]
     safe = [it for it in rows if it[0] == "safe"]
     proved = [it for it in safe if it[1]]
     wrong = [it for it in rows if it[0] != "safe" and it[1]]
     print(f"{len(proved)} of {len(safe)} safe kernels accepted, {len(wrong)} of {len(rows) - len(safe)} unsafe ones")
+    if wide:
+        print(f"{sum(it[4] for it in rows)} certificates of version 4")
     if proved:
         times = [it[2] for it in proved]
         print(f"accepted ones: median {statistics.median(times):.0f} ms, worst {max(times):.0f} ms, {sum(it[3] for it in proved)} bytes")

@@ -1,12 +1,12 @@
 -- A loop's ranking on a path.
-use Rattle.std.proofs.Common.{◌≡◌, ℕ, Bool, true, List, [], ◌∷◌, ◌++◌, refl, sym, ap, subst, ◌∙◌}
-use Rattle.std.specs.Prelude.{pos, Result, Ok, Err, MatchResult}
-use Rattle.facts.specs.Symbols.{Fact, constant, minus}
+use Rattle.std.proofs.Common.{◌≡◌, ℕ, Bool, true, List, [], ◌∷◌, ◌++◌, sym, ap, subst, ◌∙◌}
+use Rattle.std.specs.Prelude.{Result, Ok, Err, MatchResult}
+use Rattle.facts.specs.Symbols.{Fact}
 use Rattle.facts.specs.Refusals.{IsUnfit}
 use Rattle.facts.specs.declared.error.WalkError.{WalkError}
 use Rattle.walk_trees.specs.Trees.{OfRanking, Spot, Tree, Replaced}
 use Rattle.walk_trees.specs.Walks.{State, settles, with_rank, stand}
-use Rattle.obligations.specs.Notes.{Bound, Down, Halving, fallen, fallen_by}
+use Rattle.obligations.specs.Notes.{holds}
 use Rattle.obligations.specs.Replacing.{made}
 use Rattle.obligations.specs.Walking.{Placed, on_path, claim_rank, rank_on, arrive}
 use Rattle.path_steps.specs.Paths.{Followed, collect, with_spot, with_ranked}
@@ -14,17 +14,9 @@ use Rattle.path_steps.specs.Leads.{Steps}
 use Rattle.path_steps.specs.Refusals.{StopsAtStep}
 use Rattle.path_steps.proofs.Refusing.{refused_from, unfit_goal}
 use Rattle.arrival_claims.specs.Unfit.{AreUnfit}
-use Rattle.arrival_claims.specs.Claims.{claim_told, step_of, left_by, way_by, claim_entered}
+use Rattle.arrival_claims.specs.Claims.{claim_told, claim_entered}
 use Rattle.arrival_claims.proofs.Lines.{unfit_replaced, unfit_told, before}
 use Rattle.arrival_claims.proofs.Making.{unfit_among}
-
-pub left_is : (b : Bound) (x y : Fact) → fallen b x y ≡ left_by (step_of b) x y
-left_is (Down s n) x y = refl
-left_is (Halving n) x y = refl
-
-pub way_is : (b : Bound) (x y : Fact) → fallen_by b x y ≡ way_by (step_of b) x y
-way_is (Down s n) x y = refl
-way_is (Halving n) x y = refl
 
 -- a claim of a ranking, by the forms that were made
 module _ {E : Type 0} (w : Placed E) (n : ℕ) (extra : List Fact) (f : Fact) (l : Followed E) where
@@ -45,13 +37,13 @@ way_unfit w n x f l e h = unfit_goal OfRanking true (settles w.setting l.state f
 
 -- the ranking is kept where the test was true
 module _ {E : Type 0} (w : Placed E) (n : ℕ) (l : Followed E) where
-  pub entered : (m o : Followed E) (k : Fact) → Steps l m (claim_rank w n [] (minus (rank_on w n l.state) (constant (pos 1)))) → k ≡ rank_on w n l.state → o ≡ with_ranked m n k → Steps l o (claim_entered w n)
+  pub entered : (m o : Followed E) (k : Fact) → Steps l m (claim_rank w n [] (holds (w.notes.ranking n).bound (rank_on w n l.state))) → k ≡ rank_on w n l.state → o ≡ with_ranked m n k → Steps l o (claim_entered w n)
   entered m o k s e d go =
       s (λ st. go (with_rank n (rank_on w n l.state) st))
       ∙ ap (λ x. collect m.found (go (with_rank n x m.state))) (sym e)
       ∙ ap (λ (u : Followed E). collect u.found (go u.state)) (sym d)
 
-  pub not_entered : (e : WalkError) → StopsAtStep l e (claim_rank w n [] (minus (rank_on w n l.state) (constant (pos 1)))) → StopsAtStep l e (claim_entered w n)
+  pub not_entered : (e : WalkError) → StopsAtStep l e (claim_rank w n [] (holds (w.notes.ranking n).bound (rank_on w n l.state))) → StopsAtStep l e (claim_entered w n)
   not_entered e s go = s (λ st. go (with_rank n (rank_on w n l.state) st))
 
 -- from where the walk stands

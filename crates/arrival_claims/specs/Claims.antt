@@ -1,12 +1,12 @@
 -- The steps of a path that comes to a place or to a loop's test, one by one; and where it ends.
-use Rattle.std.specs.Prelude.{ℕ, ◌+◌, pos, true, ◌≡◌, List, [], ◌∷◌, ◌++◌, Option, Some, None}
-use Rattle.facts.specs.Symbols.{Fact, constant, minus}
+use Rattle.std.specs.Prelude.{ℕ, ◌+◌, pos, true, ◌≡◌, List, [], ◌∷◌, ◌++◌, Option}
+use Rattle.facts.specs.Symbols.{Fact, minus}
 use Rattle.facts.specs.declared.error.WalkError.{WalkError}
 use Rattle.arrivals.specs.Trees.{Turns, AtEnd}
 use Rattle.linear.specs.Exact.{multiple}
 use Rattle.walk_trees.specs.Trees.{Sort, OfFact, OfCongruence, Replaced, Divided, Tree, Leaf}
 use Rattle.walk_trees.specs.Walks.{Setting, State, settles, claim, arrived, with_rank, rank_form}
-use Rattle.obligations.specs.Notes.{Congruence, Bound, Down, Halving, most, fallen, fallen_by}
+use Rattle.obligations.specs.Notes.{Congruence, opens, holds, fallen, fallen_by}
 use Rattle.obligations.specs.Replacing.{replaced, made}
 use Rattle.obligations.specs.Walking.{Placed, on_path, divides_form, claim_facts, claim_congruences, claim_rank, rank_on}
 use Rattle.obligations.specs.Roots.{facts_at, congruences_at}
@@ -44,30 +44,16 @@ Comes l walk n = n ≡ collect l.found (walk l.state)
 abbrev pub IsRefusedAt : {E : Type 0} → Followed E → (State E → Tree E) → WalkError → Type 0
 IsRefusedAt l walk e = Refused e (collect l.found (walk l.state))
 
--- by how much a ranking falls; none where it halves
-abbrev pub step_of : Bound → Option ℕ
-step_of (Down step n) = Some step
-step_of (Halving n) = None
-
 -- the end of an item
 abbrev pub end_at : {E : Type 0} → Turns → State E → Tree E
 end_at t st = Leaf (arrived AtEnd t st)
 
 -- a loop's ranking where it opens, where it has turned, and where its test was true
 abbrev pub claim_opened : {E : Type 0} → Placed E → ℕ → State E → (State E → Tree E) → Tree E
-claim_opened w n st go = claim_rank w n [] (minus (constant (most (w.notes.ranking n).bound)) (rank_on w n st)) st go
+claim_opened w n st go = claim_rank w n [] (opens (w.notes.ranking n).bound (rank_on w n st)) st go
 
 abbrev pub claim_fallen : {E : Type 0} → Placed E → ℕ → State E → (State E → Tree E) → Tree E
 claim_fallen w n st go = claim_rank w n (fallen_by (w.notes.ranking n).bound (rank_form st.ranks n) (rank_on w n st) ∷ []) (fallen (w.notes.ranking n).bound (rank_form st.ranks n) (rank_on w n st)) st go
 
 abbrev pub claim_entered : {E : Type 0} → Placed E → ℕ → State E → (State E → Tree E) → Tree E
-claim_entered w n st go = claim_rank w n [] (minus (rank_on w n st) (constant (pos 1))) st (λ st'. go (with_rank n (rank_on w n st) st'))
-
--- what is left of a ranking, and the form on the way, by its step
-abbrev pub left_by : Option ℕ → Fact → Fact → Fact
-left_by (Some step) before now = minus (minus before now) (constant (pos step))
-left_by None before now = minus before (multiple (pos 2) now)
-
-abbrev pub way_by : Option ℕ → Fact → Fact → Fact
-way_by (Some step) before now = minus before now
-way_by None before now = multiple (pos 2) now
+claim_entered w n st go = claim_rank w n [] (holds (w.notes.ranking n).bound (rank_on w n st)) st (λ st'. go (with_rank n (rank_on w n st) st'))

@@ -1,3 +1,4 @@
 pub mod View
 pub mod Unfit
 pub mod Claims
+pub mod Bounds

@@ -10,6 +10,7 @@ mod claiming;
 mod dividing;
 mod lookups;
 mod placing;
+mod progress;
 mod ranking;
 mod replacing;
 mod slots;

@@ -1,7 +1,7 @@
 // Turns at their edges.
 
 use linear::Form;
-use loop_bounds::{Bound, Step, turns};
+use loop_bounds::{Bound, Least, Step, turns};
 use std::alloc::Global;
 use std::test::Fail;
 
@@ -16,6 +16,14 @@ fn down(alloc: Global, step: u64, most: i64) -> u64 {
 fn halving(alloc: Global, most: i64) -> u64 {
     let form = Form::constant(alloc, 0);
     turns(&Bound::Halving { form, most })
+}
+
+fn doubling(alloc: Global, least: i64, most: i64) -> u64 {
+    let Some(least) = Least::new(least) else {
+        return u64::MAX;
+    };
+    let form = Form::constant(alloc, 0);
+    turns(&Bound::Doubling { form, least, most })
 }
 
 #[test]
@@ -39,5 +47,22 @@ fn counts_turns(rt: HostRuntime) -> Result<(), Fail> {
     ];
     let wanted = [4, 3, 0, 0, 9_223_372_036_854_775_807, u64::MAX];
     assert_eq!(rt; (downs, halvings), (wanted, [0, 0, 1, 8, 9, 63]));
+    Ok(())
+}
+
+#[test]
+fn counts_doublings(rt: HostRuntime) -> Result<(), Fail> {
+    let alloc = rt.alloc();
+    let doublings = [
+        doubling(alloc, 1, 0),
+        doubling(alloc, 1, -1),
+        doubling(alloc, 1, 1),
+        doubling(alloc, 3, 11),
+        doubling(alloc, 3, 12),
+        doubling(alloc, 4, 3),
+        doubling(alloc, 1, i64::MAX),
+        doubling(alloc, 0, 1),
+    ];
+    assert_eq!(rt; doublings, [0, 0, 1, 2, 3, 0, 63, u64::MAX]);
     Ok(())
 }

@@ -68,6 +68,10 @@ fn push_bound(out: &mut String, number: u32, bound: &Bound) -> Result<(), AllocE
     match bound {
         Bound::Down { most, .. } => write!(out, "loop {number} down from {most}")?,
         Bound::Halving { most, .. } => write!(out, "loop {number} halves from {most}")?,
+        Bound::Doubling { least, most, .. } => {
+            let least = least.number();
+            write!(out, "loop {number} doubles from {least} to {most}")?
+        }
     }
     writeln!(out, ", {} turns", turns(bound))
 }

@@ -13,7 +13,7 @@ use crate::noted::{push_placed, push_site};
 use crate::play::{push_found, push_played};
 use crate::spots::push_parsed;
 use certificate::error::CertError;
-use certificate::{Certificate, read_any, write, write_one};
+use certificate::{Certificate, read_wide, write, write_one, write_wide};
 use launch::launches::Launch;
 use launch_text::read_launch;
 use lexer::{Token, lex};
@@ -143,7 +143,9 @@ fn push_written(
     certificate: &Certificate,
     read: &[u8],
 ) -> Result<(), AllocError> {
-    let bytes = if read.starts_with(b"certificate 2\n") {
+    let bytes = if certificate.is_wide() {
+        write_wide(alloc, certificate)?
+    } else if read.starts_with(b"certificate 2\n") {
         write(alloc, certificate)?
     } else {
         write_one(alloc, certificate)?
@@ -154,7 +156,7 @@ fn push_written(
 
 /// A certificate, read and written back in its version.
 fn push_certificate(alloc: Global, out: &mut String, text: &[u8]) -> Result<(), AllocError> {
-    match read_any(alloc, text) {
+    match read_wide(alloc, text) {
         Ok(certificate) => push_written(alloc, out, &certificate, text),
         Err(error) => push_refused(out, &error),
     }

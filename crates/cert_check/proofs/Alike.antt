@@ -1,21 +1,50 @@
 -- What is told of a text holds of each text that says the same.
-use Rattle.std.proofs.Common.{◌≡◌, ◌∙◌, ℕ, List, Err, subst, sym}
+use Rattle.std.proofs.Common.{◌≡◌, ◌∙◌, ℕ, List, Bool, true, false, Ok, Err, refl, ap, subst, sym}
 use Rattle.syntax.specs.declared.tree.Kernel.{Kernel}
 use Rattle.core_code.specs.declared.tree.Core.{Core}
 use Rattle.semantics.specs.Conditions.{Conditions}
-use Rattle.certificate_text.specs.Versions.{certificate_in}
+use Rattle.certificate_text.specs.Certificate.{BadLine, OtherVersion}
+use Rattle.certificate_text.specs.Reading.{Read, certificate_of}
+use Rattle.certificate_text.specs.NumberedReading.{certificate_of_two, certificate_of_four}
+use Rattle.certificate_text.specs.Migrated.{written, migrated}
+use Rattle.certificate_text.specs.Versions.{unless_other, certificate_in}
 use Rattle.certificate.specs.Certificates.{Says}
-use Rattle.cert_check.specs.Refusing.{IsPassed, Refuses}
+use Rattle.cert_check.specs.Alike.{IsOfOneOrTwo}
+use Rattle.cert_check.specs.Breadth.{text_says}
+use Rattle.cert_check.specs.Refusing.{IsPassedBy, RefusesBy}
 use Rattle.cert_check.specs.declared.error.CheckError.{CheckError}
 use Rattle.cert_check.specs.declared.error.CheckError.TheVariants as errors
 
-pub passed_alike : (typed : Kernel × Core) (c : Conditions) (one two : List ℕ) → certificate_in one ≡ certificate_in two → IsPassed typed c one → IsPassed typed c two
-passed_alike typed c one two same (met, cert, n, read, said, passes) = (met, cert, n, sym same ∙ read, said, passes)
+-- the second text says to one check what the first one says to another
+module _ (says answers : List ℕ → Read) (one two : List ℕ) (same : says one ≡ answers two) where
+  pub passed_alike : (typed : Kernel × Core) (c : Conditions) → IsPassedBy says typed c one → IsPassedBy answers typed c two
+  passed_alike typed c (met, cert, n, read, said, passes) = (met, cert, n, sym same ∙ read, said, passes)
 
-pub refused_alike : (e : CheckError) (kernel conditions one two : List ℕ) → certificate_in one ≡ certificate_in two → Refuses e kernel conditions one → Refuses e kernel conditions two
-refused_alike (errors.Kernel e) kernel conditions one two same told = told
-refused_alike (errors.Conditions e) kernel conditions one two same told = told
-refused_alike (errors.Missed site) kernel conditions one two same told = told
-refused_alike (errors.Certificate e) kernel conditions one two same (typed, found, are_read, met, says) = (typed, found, are_read, met, subst (Says (Err e)) same says)
-refused_alike (errors.ManyPaths site) kernel conditions one two same (typed, found, cert, (are_read, met, read), many) = (typed, found, cert, (are_read, met, sym same ∙ read), many)
-refused_alike (errors.Show e) kernel conditions one two same (typed, found, cert, (are_read, met, read), shows) = (typed, found, cert, (are_read, met, sym same ∙ read), shows)
+  pub refused_alike : (e : CheckError) (kernel conditions : List ℕ) → RefusesBy says e kernel conditions one → RefusesBy answers e kernel conditions two
+  refused_alike (errors.Kernel e) kernel conditions told = told
+  refused_alike (errors.Conditions e) kernel conditions told = told
+  refused_alike (errors.Missed site) kernel conditions told = told
+  refused_alike (errors.Certificate e) kernel conditions (typed, found, are_read, met, told) = (typed, found, are_read, met, subst (Says (Err e)) same told)
+  refused_alike (errors.ManyPaths site) kernel conditions (typed, found, cert, (are_read, met, read), many) = (typed, found, cert, (are_read, met, sym same ∙ read), many)
+  refused_alike (errors.Show e) kernel conditions (typed, found, cert, (are_read, met, read), shows) = (typed, found, cert, (are_read, met, sym same ∙ read), shows)
+
+-- what has its version is not read in another one
+of_its_version : (one four : Read) → (one ≡ Err OtherVersion → ⊥) → one ≡ unless_other one four
+of_its_version (Ok c) four h = refl
+of_its_version (Err (BadLine n)) four h = refl
+of_its_version (Err OtherVersion) four h = absurd (h refl)
+
+pub narrow_alike : (is_wide : Bool) (text : List ℕ) → IsOfOneOrTwo text → text_says is_wide text ≡ certificate_in text
+narrow_alike false text h = refl
+narrow_alike true text h = sym (of_its_version (certificate_in text) (certificate_of_four text) h)
+
+-- a text that is migrated says a certificate in version 1, and so it is of no other version
+not_other : (text two : List ℕ) (r : Read) → certificate_of text ≡ r → migrated text ≡ Ok two → IsOfOneOrTwo text
+not_other text two (Ok c) e w = λ h. let q : Ok c ≡ Err OtherVersion = sym (ap (λ r. unless_other r (certificate_of_two text)) e) ∙ h in cc
+not_other text two (Err f) e w = λ h. let q : written (Err f) ≡ Ok two = ap written (sym e) ∙ w in cc
+
+-- and to each check it says what it says in version 2
+pub migrated_alike : (is_wide : Bool) (text two : List ℕ) → migrated text ≡ Ok two → certificate_in two ≡ certificate_in text → text_says is_wide two ≡ text_says is_wide text
+migrated_alike is_wide text two w same =
+    let own = not_other text two (certificate_of text) refl w in
+    narrow_alike is_wide two (λ h. own (sym same ∙ h)) ∙ (same ∙ sym (narrow_alike is_wide text own))

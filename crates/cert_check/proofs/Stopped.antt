@@ -4,7 +4,7 @@ use Rattle.std.specs.Prelude.{Ok}
 use Rattle.semantics.specs.Conditions.{Conditions}
 use Rattle.certificate_text.specs.Certificate.{Certificate}
 use Rattle.texts.specs.ConditionsReading.{Lined, conditions_of, meant}
-use Rattle.certificate_text.specs.Versions.{certificate_in}
+use Rattle.certificate_text.specs.Reading.{Read}
 use Rattle.syntax.specs.View.{kernel as tree_seen}
 use Rattle.syntax.specs.declared.tree.Kernel.{Kernel}
 use Rattle.core_code.specs.View.{kernel as core_seen}
@@ -12,15 +12,15 @@ use Rattle.core_code.specs.declared.tree.Core.{Core}
 use Rattle.launch_text.specs.Answers as answers
 use Rattle.entry_check.specs.declared.error.ShowError.{ShowError}
 use Rattle.entry_check.specs.declared.error.ShowError.TheVariants as shows
-use Rattle.cert_check.specs.Refusing.{AreRead, AreMet, Refuses, Shows}
-use Rattle.cert_check.specs.Checked.{Stops, IsTold, Unshown}
+use Rattle.cert_check.specs.Refusing.{AreRead, AreMet, RefusesBy, Shows}
+use Rattle.cert_check.specs.Checked.{StopsBy, IsTold, Unshown}
 use Rattle.cert_check.specs.declared.error.CheckError.{CheckError}
 use Rattle.cert_check.specs.declared.error.CheckError.TheVariants as errors
 
 -- what is not shown, as it is told of the source
-module _ (typed : Kernel × Core) (c : Conditions) (certificate : List ℕ) (cert : Certificate) (met : AreMet typed) (is : certificate_in certificate ≡ Ok cert) where
+module _ (says : List ℕ → Read) (typed : Kernel × Core) (c : Conditions) (certificate : List ℕ) (cert : Certificate) (met : AreMet typed) (is : says certificate ≡ Ok cert) where
   abbrev Has : CheckError → Type 0
-  Has e = Stops typed c certificate e
+  Has e = StopsBy says typed c certificate e
 
   -- it is told as it is
   as_is : (e : ShowError) (told : CheckError) → told ≡ errors.Show e → Shows (core_seen typed.1) (tree_seen typed.0) c cert e → Has told
@@ -42,10 +42,10 @@ module _ (typed : Kernel × Core) (c : Conditions) (certificate : List ℕ) (cer
   stopped shows.Memory told h u = as_is shows.Memory told h u
 
 -- what stops the check refuses the texts
-pub refused : (typed : Kernel × Core) (found : Lined) (kernel conditions certificate : List ℕ) → AreRead typed found kernel conditions → (e : CheckError) → Stops typed (meant found) certificate e → Refuses e kernel conditions certificate
-refused typed found k l p read (errors.Kernel e) s = absurd s
-refused typed found k l p read (errors.Conditions e) s = (typed, read.0, subst (λ x. answers.Refuses x (conditions_of (tree_seen typed.0).parameters l)) (sym s) tt)
-refused typed found k l p read (errors.Missed site) (loop, missed, at) = (typed, found, loop, read, missed, at)
-refused typed found k l p read (errors.Certificate e) (met, says) = (typed, found, read, met, says)
-refused typed found k l p read (errors.ManyPaths site) (cert, met, is, many) = (typed, found, cert, (read, met, is), many)
-refused typed found k l p read (errors.Show e) (cert, met, is, shown) = (typed, found, cert, (read, met, is), shown)
+pub refused : (says : List ℕ → Read) (typed : Kernel × Core) (found : Lined) (kernel conditions certificate : List ℕ) → AreRead typed found kernel conditions → (e : CheckError) → StopsBy says typed (meant found) certificate e → RefusesBy says e kernel conditions certificate
+refused says typed found k l p read (errors.Kernel e) s = absurd s
+refused says typed found k l p read (errors.Conditions e) s = (typed, read.0, subst (λ x. answers.Refuses x (conditions_of (tree_seen typed.0).parameters l)) (sym s) tt)
+refused says typed found k l p read (errors.Missed site) (loop, missed, at) = (typed, found, loop, read, missed, at)
+refused says typed found k l p read (errors.Certificate e) (met, told) = (typed, found, read, met, told)
+refused says typed found k l p read (errors.ManyPaths site) (cert, met, is, many) = (typed, found, cert, (read, met, is), many)
+refused says typed found k l p read (errors.Show e) (cert, met, is, shown) = (typed, found, cert, (read, met, is), shown)

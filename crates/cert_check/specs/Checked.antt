@@ -5,7 +5,7 @@ use Rattle.semantics.specs.Launch as semantics
 use Rattle.semantics.specs.Conditions.{Conditions}
 use Rattle.certificate_text.specs.Certificate.{Certificate}
 use Rattle.texts.specs.Surface as surface
-use Rattle.certificate_text.specs.Versions.{certificate_in}
+use Rattle.certificate_text.specs.Reading.{Read}
 use Rattle.syntax.specs.View.{kernel as tree_seen}
 use Rattle.syntax.specs.declared.tree.Kernel.{Kernel}
 use Rattle.core_code.specs.View.{kernel as core_seen, site as site_seen}
@@ -61,11 +61,11 @@ IsTold tree (shows.Walk e) told = told ≡ errors.Show (shows.Walk e)
 IsTold tree shows.OverBudget told = told ≡ errors.Show shows.OverBudget
 IsTold tree shows.Memory told = told ≡ errors.Show shows.Memory
 
--- what an error tells once the kernel and the conditions are read; want of memory may be told as theirs
-abbrev pub Stops : Kernel × Core → Conditions → (certificate : List ℕ) → CheckError → Type 0
-Stops typed c certificate (errors.Kernel e) = ⊥
-Stops typed c certificate (errors.Conditions e) = e ≡ launches.Memory
-Stops typed c certificate (errors.Missed site) = (loop : ℕ) × (unmet (core_seen typed.1).body ≡ Some loop) × (site_seen site ≡ site_at (tree_seen typed.0) (Some loop))
-Stops typed c certificate (errors.Certificate e) = AreMet typed × Says (Err e) (certificate_in certificate)
-Stops typed c certificate (errors.ManyPaths site) = (cert : Certificate) × AreMet typed × (certificate_in certificate ≡ Ok cert) × HasManyPathsAt site typed c cert
-Stops typed c certificate (errors.Show e) = (cert : Certificate) × AreMet typed × (certificate_in certificate ≡ Ok cert) × Shows (core_seen typed.1) (tree_seen typed.0) c cert e
+-- what an error tells once the kernel and the conditions are read; want of memory may be told as theirs; `says` is what texts say
+abbrev pub StopsBy : (says : List ℕ → Read) → Kernel × Core → Conditions → (certificate : List ℕ) → CheckError → Type 0
+StopsBy says typed c certificate (errors.Kernel e) = ⊥
+StopsBy says typed c certificate (errors.Conditions e) = e ≡ launches.Memory
+StopsBy says typed c certificate (errors.Missed site) = (loop : ℕ) × (unmet (core_seen typed.1).body ≡ Some loop) × (site_seen site ≡ site_at (tree_seen typed.0) (Some loop))
+StopsBy says typed c certificate (errors.Certificate e) = AreMet typed × Says (Err e) (says certificate)
+StopsBy says typed c certificate (errors.ManyPaths site) = (cert : Certificate) × AreMet typed × (says certificate ≡ Ok cert) × HasManyPathsAt site typed c cert
+StopsBy says typed c certificate (errors.Show e) = (cert : Certificate) × AreMet typed × (says certificate ≡ Ok cert) × Shows (core_seen typed.1) (tree_seen typed.0) c cert e

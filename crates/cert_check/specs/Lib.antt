@@ -1,5 +1,6 @@
 pub mod Accepting
 pub mod View
+pub mod Breadth
 pub mod Refusing
 pub mod Alike
 pub mod Plainly

@@ -4,6 +4,7 @@ use Rattle.semantics.specs.Launch as semantics
 use Rattle.semantics.specs.Conditions.{Conditions}
 use Rattle.certificate_text.specs.Certificate.{Certificate}
 use Rattle.texts.specs.ConditionsReading.{Lined, meant}
+use Rattle.certificate_text.specs.Reading.{Read}
 use Rattle.certificate_text.specs.Versions.{certificate_in}
 use Rattle.texts.specs.Surface as surface
 use Rattle.syntax.specs.View.{kernel as tree_seen}
@@ -51,14 +52,18 @@ TellsPlain k tree c cert shows.Memory = Unit {0}
 abbrev pub IsNotPlain : (kernel conditions : List ℕ) → Type 0
 IsNotPlain kernel conditions = (typed : Kernel × Core) × (found : Lined) × AreRead typed found kernel conditions × (IsPlain (core_seen typed.1) (meant found) → ⊥)
 
--- the texts are read, and where the kernel is plain the error tells this of it
-abbrev pub OnPlain : Result Accepted CheckError → (kernel conditions certificate : List ℕ) → Type 0
-OnPlain (Err (errors.Show e)) kernel conditions certificate =
-    (typed : Kernel × Core) × (found : Lined) × (cert : Certificate) × AreRead typed found kernel conditions × (certificate_in certificate ≡ Ok cert)
+-- the texts are read, and where the kernel is plain the error tells this of it; `says` is what texts say
+abbrev pub OnPlainBy : (says : List ℕ → Read) → Result Accepted CheckError → (kernel conditions certificate : List ℕ) → Type 0
+OnPlainBy says (Err (errors.Show e)) kernel conditions certificate =
+    (typed : Kernel × Core) × (found : Lined) × (cert : Certificate) × AreRead typed found kernel conditions × (says certificate ≡ Ok cert)
     × (IsPlain (core_seen typed.1) (meant found) → TellsPlain (core_seen typed.1) (tree_seen typed.0) (meant found) cert e)
-OnPlain (Err (errors.Missed site)) kernel conditions certificate = IsNotPlain kernel conditions
-OnPlain (Err (errors.ManyPaths site)) kernel conditions certificate = IsNotPlain kernel conditions
-OnPlain (Err (errors.Kernel e)) kernel conditions certificate = Unit {0}
-OnPlain (Err (errors.Conditions e)) kernel conditions certificate = Unit {0}
-OnPlain (Err (errors.Certificate e)) kernel conditions certificate = Unit {0}
-OnPlain (Ok a) kernel conditions certificate = Unit {0}
+OnPlainBy says (Err (errors.Missed site)) kernel conditions certificate = IsNotPlain kernel conditions
+OnPlainBy says (Err (errors.ManyPaths site)) kernel conditions certificate = IsNotPlain kernel conditions
+OnPlainBy says (Err (errors.Kernel e)) kernel conditions certificate = Unit {0}
+OnPlainBy says (Err (errors.Conditions e)) kernel conditions certificate = Unit {0}
+OnPlainBy says (Err (errors.Certificate e)) kernel conditions certificate = Unit {0}
+OnPlainBy says (Ok a) kernel conditions certificate = Unit {0}
+
+-- of the check of versions 1 and 2
+abbrev pub OnPlain : Result Accepted CheckError → (kernel conditions certificate : List ℕ) → Type 0
+OnPlain answer kernel conditions certificate = OnPlainBy certificate_in answer kernel conditions certificate

@@ -5,7 +5,8 @@ use Rattle.semantics.specs.Conditions.{Conditions}
 use Rattle.certificate_text.specs.Certificate.{Certificate}
 use Rattle.texts.specs.Surface as surface
 use Rattle.texts.specs.ConditionsReading.{Lined, conditions_of, meant}
-use Rattle.certificate_text.specs.Versions as certificates
+use Rattle.certificate_text.specs.Reading.{Read}
+use Rattle.certificate_text.specs.Versions.{certificate_in}
 use Rattle.syntax.specs.View.{kernel as tree_seen}
 use Rattle.syntax.specs.declared.tree.Kernel.{Kernel}
 use Rattle.core_code.specs.View.{kernel as core_seen}
@@ -58,30 +59,40 @@ Shows k tree c cert shows.Memory = Unit {0}
 abbrev pub AreMet : Kernel × Core → Type 0
 AreMet typed = unmet (core_seen typed.1).body ≡ None
 
--- the kernel and the conditions are read, the kernel's barriers are met, and the certificate is read
-abbrev pub AllRead : Kernel × Core → Lined → Certificate → (kernel conditions certificate : List ℕ) → Type 0
-AllRead typed found cert kernel conditions certificate = AreRead typed found kernel conditions × AreMet typed × (certificates.certificate_in certificate ≡ Ok cert)
+-- the kernel and the conditions are read, the kernel's barriers are met, and the certificate is read; `says` is what texts say
+abbrev pub AllReadBy : (says : List ℕ → Read) → Kernel × Core → Lined → Certificate → (kernel conditions certificate : List ℕ) → Type 0
+AllReadBy says typed found cert kernel conditions certificate = AreRead typed found kernel conditions × AreMet typed × (says certificate ≡ Ok cert)
 
 -- over 256 paths come to an end from a place whose statement begins there
 abbrev pub HasManyPathsAt : Site → Kernel × Core → Conditions → Certificate → Type 0
 HasManyPathsAt site typed c cert =
     (n : Notes) × (s : Option ℕ) × IsSaid (core_seen typed.1) (tree_seen typed.0) cert n × IsFirstOfMany s (all_trees domain (core_seen typed.1) c (with_entries cert.entries n)) × (site_seen site ≡ site_at (tree_seen typed.0) s)
 
-abbrev pub Refuses : CheckError → (kernel conditions certificate : List ℕ) → Type 0
-Refuses (errors.Kernel e) kernel conditions certificate = reading.Refuses e (read kernel)
-Refuses (errors.Conditions e) kernel conditions certificate = (typed : Kernel × Core) × IsRead typed kernel × launches.Refuses e (conditions_of (tree_seen typed.0).parameters conditions)
-Refuses (errors.Missed site) kernel conditions certificate =
+abbrev pub RefusesBy : (says : List ℕ → Read) → CheckError → (kernel conditions certificate : List ℕ) → Type 0
+RefusesBy says (errors.Kernel e) kernel conditions certificate = reading.Refuses e (read kernel)
+RefusesBy says (errors.Conditions e) kernel conditions certificate = (typed : Kernel × Core) × IsRead typed kernel × launches.Refuses e (conditions_of (tree_seen typed.0).parameters conditions)
+RefusesBy says (errors.Missed site) kernel conditions certificate =
     (typed : Kernel × Core) × (found : Lined) × (loop : ℕ) × AreRead typed found kernel conditions × (unmet (core_seen typed.1).body ≡ Some loop) × (site_seen site ≡ site_at (tree_seen typed.0) (Some loop))
-Refuses (errors.Certificate e) kernel conditions certificate = (typed : Kernel × Core) × (found : Lined) × AreRead typed found kernel conditions × AreMet typed × Says (Err e) (certificates.certificate_in certificate)
-Refuses (errors.ManyPaths site) kernel conditions certificate = (typed : Kernel × Core) × (found : Lined) × (cert : Certificate) × AllRead typed found cert kernel conditions certificate × HasManyPathsAt site typed (meant found) cert
-Refuses (errors.Show e) kernel conditions certificate = (typed : Kernel × Core) × (found : Lined) × (cert : Certificate) × AllRead typed found cert kernel conditions certificate × Shows (core_seen typed.1) (tree_seen typed.0) (meant found) cert e
+RefusesBy says (errors.Certificate e) kernel conditions certificate = (typed : Kernel × Core) × (found : Lined) × AreRead typed found kernel conditions × AreMet typed × Says (Err e) (says certificate)
+RefusesBy says (errors.ManyPaths site) kernel conditions certificate = (typed : Kernel × Core) × (found : Lined) × (cert : Certificate) × AllReadBy says typed found cert kernel conditions certificate × HasManyPathsAt site typed (meant found) cert
+RefusesBy says (errors.Show e) kernel conditions certificate = (typed : Kernel × Core) × (found : Lined) × (cert : Certificate) × AllReadBy says typed found cert kernel conditions certificate × Shows (core_seen typed.1) (tree_seen typed.0) (meant found) cert e
 
-abbrev pub Tells : Result Accepted CheckError → (kernel conditions certificate : List ℕ) → Type 0
-Tells (Ok a) kernel conditions certificate = Unit {0}
-Tells (Err e) kernel conditions certificate = Refuses e kernel conditions certificate
+abbrev pub TellsBy : (says : List ℕ → Read) → Result Accepted CheckError → (kernel conditions certificate : List ℕ) → Type 0
+TellsBy says (Ok a) kernel conditions certificate = Unit {0}
+TellsBy says (Err e) kernel conditions certificate = RefusesBy says e kernel conditions certificate
 
 -- what is accepted: the kernel's barriers are met, the certificate is read, it names nothing that the kernel lacks, and with it nothing stops
 -- the check
+abbrev pub IsPassedBy : (says : List ℕ → Read) → Kernel × Core → Conditions → (certificate : List ℕ) → Type 0
+IsPassedBy says typed c certificate =
+    AreMet typed × (cert : Certificate) × (n : Notes) × (says certificate ≡ Ok cert) × IsSaid (core_seen typed.1) (tree_seen typed.0) cert n × PassesOf domain (core_seen typed.1) c n cert.entries
+
+-- of the check of versions 1 and 2
+abbrev pub Refuses : CheckError → (kernel conditions certificate : List ℕ) → Type 0
+Refuses e kernel conditions certificate = RefusesBy certificate_in e kernel conditions certificate
+
+abbrev pub Tells : Result Accepted CheckError → (kernel conditions certificate : List ℕ) → Type 0
+Tells answer kernel conditions certificate = TellsBy certificate_in answer kernel conditions certificate
+
 abbrev pub IsPassed : Kernel × Core → Conditions → (certificate : List ℕ) → Type 0
-IsPassed typed c certificate =
-    AreMet typed × (cert : Certificate) × (n : Notes) × (certificates.certificate_in certificate ≡ Ok cert) × IsSaid (core_seen typed.1) (tree_seen typed.0) cert n × PassesOf domain (core_seen typed.1) c n cert.entries
+IsPassed typed c certificate = IsPassedBy certificate_in typed c certificate

@@ -1,9 +1,12 @@
-//! The check.
+//! The check, narrow or wide.
 
 ghost use Rattle.std.specs.Prelude.{◌≡◌, ℕ, List, true, Ok, IfOk, IfErr};
 ghost use Rattle.semantics.specs.Conditions as meaning;
 ghost use Rattle.launch.specs.View.{conditions as conditions_seen};
 ghost use Rattle.launch_text.specs.View.{lined};
+ghost use Rattle.certificate_text.specs.Reading.{Read};
+ghost use Rattle.certificate_text.specs.Versions.{certificate_any};
+ghost use Rattle.certificate.specs.Certificates.{Says};
 ghost use Rattle.texts.specs.ConditionsReading.{conditions_of};
 ghost use Rattle.syntax.specs.View.{kernel as tree_seen};
 ghost use Rattle.core_code.specs.View.{kernel as core_seen};
@@ -12,15 +15,18 @@ ghost use Rattle.places.specs.Answers.{IsRefused};
 ghost use Rattle.reading.specs.Kernels.{read};
 ghost use Rattle.reading.specs.Answers.{kernel_seen};
 ghost use Rattle.cert_check.specs.Accepting.{IsAccepted, HasHeadline};
-ghost use Rattle.cert_check.specs.Alike.{AreAlike, HoldsOf};
-ghost use Rattle.cert_check.specs.Checked.{AllIsShown, IsTold, Stops};
-ghost use Rattle.cert_check.specs.Refusing.{IsPassed, Tells};
-ghost use Rattle.cert_check.specs.Plainly.{OnPlain};
+ghost use Rattle.cert_check.specs.Alike.{AreAlike, HoldsOf, HoldsOfBy, IsOfOneOrTwo};
+ghost use Rattle.cert_check.specs.Breadth.{text_says};
+ghost use Rattle.cert_check.specs.Checked.{AllIsShown, IsTold, StopsBy};
+ghost use Rattle.cert_check.specs.Refusing.{IsPassed, IsPassedBy, Tells, TellsBy};
+ghost use Rattle.cert_check.specs.Plainly.{OnPlain, OnPlainBy};
 ghost use Rattle.cert_check.specs.View.{typed_of, kept};
 
 use crate::accepted::Accepted;
 use crate::error::CheckError;
 use crate::showing::show;
+use certificate::error::CertError;
+use certificate::{Certificate, read_any, read_wide};
 use certificate_text::laws::either_version_is_read;
 use domain::Elements;
 use entry_check::ShowError;
@@ -42,10 +48,21 @@ use syntax::site_at;
 use syntax::tree::Kernel;
 use types::typed::Typed;
 
+/// The certificate of a text of version 1 or 2, or, where the check is wide, of version 4.
+fn read_as(alloc: Global, text: &[u8], is_wide: bool) -> Result<Certificate, CertError>
+    ensures { Says result (text_says is_wide text.now) }
+{
+    if is_wide {
+        read_wide(alloc, text)
+    } else {
+        read_any(alloc, text)
+    }
+}
+
 /// The refusal of a kernel that has no places, with its place in the source.
 fn unplaced(typed: &Typed, error: PlaceError) -> CheckError
     requires { IsRefused (core_seen typed.now.1).body error }
-    ensures { (c : meaning.Conditions) (certificate : List ℕ) → Stops typed.now c certificate result }
+    ensures { (says : List ℕ → Read) (c : meaning.Conditions) (certificate : List ℕ) → StopsBy says typed.now c certificate result }
 {
     match error {
         PlaceError::Missed(number) => CheckError::Missed(site_at(typed.kernel(), Some(number))),
@@ -72,17 +89,18 @@ fn accept(
     typed: &Typed,
     conditions: &Conditions,
     certificate: &[u8],
+    is_wide: bool,
 ) -> Result<(), CheckError>
     requires { are_sizes (core_seen typed.now.1).sizes ≡ true }
-    ensures passed { IfOk result (λ _. IsPassed typed.now (conditions_seen conditions.now) certificate.now) }
+    ensures passed { IfOk result (λ _. IsPassedBy (text_says is_wide) typed.now (conditions_seen conditions.now) certificate.now) }
     ensures shown { IfOk result (λ _. AllIsShown (core_seen typed.now.1) (conditions_seen conditions.now)) }
-    ensures stopped { IfErr result (Stops typed.now (conditions_seen conditions.now) certificate.now) }
+    ensures stopped { IfErr result (StopsBy (text_says is_wide) typed.now (conditions_seen conditions.now) certificate.now) }
 {
     let places = match places(alloc, typed.core()) {
         Ok(places) => places,
         Err(error) => return Err(unplaced(typed, error)),
     };
-    let certificate = match certificate::read_any(alloc, certificate) {
+    let certificate = match read_as(alloc, certificate, is_wide) {
         Ok(certificate) => certificate,
         Err(error) => return Err(CheckError::Certificate(error)),
     };
@@ -91,6 +109,49 @@ fn accept(
         Err(error) => return Err(unshown(typed.kernel(), error)),
     }
     Ok(())
+}
+
+/// The check as `check` has it, or as `check_wide` does.
+pub fn check_as(
+    alloc: Global,
+    kernel: &[u8],
+    conditions: &[u8],
+    certificate: &[u8],
+    is_wide: bool,
+) -> Result<Accepted, CheckError>
+    ensures kernel { IfOk result (λ a. read kernel.now ≡ Ok (kernel_seen (typed_of a))) }
+    ensures conditions { IfOk result (λ a. conditions_of (tree_seen (typed_of a).0).parameters conditions.now ≡ Ok (lined (kept a))) }
+    ensures passed { IfOk result (λ a. IsPassedBy (text_says is_wide) (typed_of a) (conditions_seen (kept a)) certificate.now) }
+    ensures refused { TellsBy (text_says is_wide) result kernel.now conditions.now certificate.now }
+    ensures plain { OnPlainBy (text_says is_wide) result kernel.now conditions.now certificate.now }
+    ensures two { (two : List ℕ) → AreAlike certificate.now two → HoldsOfBy (text_says is_wide) result kernel.now conditions.now two }
+    ensures one { (one : List ℕ) → AreAlike one certificate.now → HoldsOfBy (text_says is_wide) result kernel.now conditions.now one }
+    ensures alike { IsOfOneOrTwo certificate.now → HoldsOf result kernel.now conditions.now certificate.now }
+    ensures pair { IfOk result (λ a. IsAccepted (core_seen (typed_of a).1) (conditions_seen (kept a))) }
+    ensures headline { IfOk result (λ a. HasHeadline (core_seen (typed_of a).1) (conditions_seen (kept a))) }
+{
+    either_version_is_read();
+    plain_kernels_have_one_place();
+    forms_of_plain_kernels_fit();
+    ranges_of_plain_kernels_are_settled();
+    let typed = match read_kernel(alloc, kernel) {
+        Ok(typed) => typed,
+        Err(error) => return Err(CheckError::Kernel(error)),
+    };
+    let conditions = match read_conditions(alloc, &typed, conditions) {
+        Ok(conditions) => conditions,
+        Err(error) => return Err(CheckError::Conditions(error)),
+    };
+    local_sizes_are_within_limits();
+    match accept(alloc, &typed, &conditions, certificate, is_wide) {
+        Ok(()) => {}
+        Err(error) => return Err(error),
+    }
+    headline();
+    what_is_read_is_proper();
+    what_is_read_is_orderly();
+    what_is_read_and_shown_is_pair_safe::<Elements>();
+    Ok(Accepted::of(typed, conditions))
 }
 
 /// A kernel, launch conditions and a certificate, each by its text. What is accepted is pair-safe at each launch that meets the
@@ -114,26 +175,27 @@ pub fn check(
     ensures pair { IfOk result (λ a. IsAccepted (core_seen (typed_of a).1) (conditions_seen (kept a))) }
     ensures headline { IfOk result (λ a. HasHeadline (core_seen (typed_of a).1) (conditions_seen (kept a))) }
 {
-    either_version_is_read();
-    plain_kernels_have_one_place();
-    forms_of_plain_kernels_fit();
-    ranges_of_plain_kernels_are_settled();
-    let typed = match read_kernel(alloc, kernel) {
-        Ok(typed) => typed,
-        Err(error) => return Err(CheckError::Kernel(error)),
-    };
-    let conditions = match read_conditions(alloc, &typed, conditions) {
-        Ok(conditions) => conditions,
-        Err(error) => return Err(CheckError::Conditions(error)),
-    };
-    local_sizes_are_within_limits();
-    match accept(alloc, &typed, &conditions, certificate) {
-        Ok(()) => {}
-        Err(error) => return Err(error),
-    }
-    headline();
-    what_is_read_is_proper();
-    what_is_read_is_orderly();
-    what_is_read_and_shown_is_pair_safe::<Elements>();
-    Ok(Accepted::of(typed, conditions))
+    check_as(alloc, kernel, conditions, certificate, false)
+}
+
+/// As `check`, of certificates of version 4, too: these are wide, and with them the check knows more of a kernel. What is accepted is
+/// pair-safe as ever. Of a certificate of version 1 or 2 the answer holds as that of `check`.
+pub fn check_wide(
+    alloc: Global,
+    kernel: &[u8],
+    conditions: &[u8],
+    certificate: &[u8],
+) -> Result<Accepted, CheckError>
+    ensures kernel { IfOk result (λ a. read kernel.now ≡ Ok (kernel_seen (typed_of a))) }
+    ensures conditions { IfOk result (λ a. conditions_of (tree_seen (typed_of a).0).parameters conditions.now ≡ Ok (lined (kept a))) }
+    ensures passed { IfOk result (λ a. IsPassedBy certificate_any (typed_of a) (conditions_seen (kept a)) certificate.now) }
+    ensures refused { TellsBy certificate_any result kernel.now conditions.now certificate.now }
+    ensures plain { OnPlainBy certificate_any result kernel.now conditions.now certificate.now }
+    ensures two { (two : List ℕ) → AreAlike certificate.now two → HoldsOfBy certificate_any result kernel.now conditions.now two }
+    ensures one { (one : List ℕ) → AreAlike one certificate.now → HoldsOfBy certificate_any result kernel.now conditions.now one }
+    ensures alike { IsOfOneOrTwo certificate.now → HoldsOf result kernel.now conditions.now certificate.now }
+    ensures pair { IfOk result (λ a. IsAccepted (core_seen (typed_of a).1) (conditions_seen (kept a))) }
+    ensures headline { IfOk result (λ a. HasHeadline (core_seen (typed_of a).1) (conditions_seen (kept a))) }
+{
+    check_as(alloc, kernel, conditions, certificate, true)
 }

@@ -11,4 +11,4 @@ mod keeping;
 mod showing;
 
 pub use accepted::Accepted;
-pub use checking::check;
+pub use checking::{check, check_as, check_wide};

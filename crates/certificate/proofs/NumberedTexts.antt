@@ -1,4 +1,4 @@
--- Texts of version 2, part after part.
+-- Texts of versions 2 and 4, part after part.
 use Rattle.std.proofs.Common.{◌≡◌, ℕ, ◌+◌, ◌≤◌, List, [], ◌∷◌, ◌++◌, length, drop, map, Some, ap, refl, sym, ◌∙◌, append_assoc}
 use Rattle.std.specs.Prelude.{codes, slice_get}
 use Rattle.std.specs.List.{flat_map}
@@ -11,7 +11,7 @@ use Rattle.certificate_text.specs.Certificate.{Name, Place, Bound, EntrySort, Sh
 use Rattle.certificate_text.specs.Lines.{EntryItem, StepItem}
 use Rattle.certificate_text.specs.Items.{items_of}
 use Rattle.certificate_text.specs.FormTables.{FormTable}
-use Rattle.certificate_text.specs.NumberedText.{forms_of, numbered_line, table_line, text_of_two}
+use Rattle.certificate_text.specs.NumberedText.{forms_of, numbered_line, table_line, lines_of_two}
 use Rattle.certificate_text.proofs.ItemsNumbered.{entry_by, items_written}
 use Rattle.certificate.specs.NumberedLines.{place_lines, bound_line, sort_text, entry_lines}
 use Rattle.certificate.proofs.Texts.{lines-append, whole}
@@ -34,12 +34,11 @@ parts_are forms c =
     items_written (numbered_line forms) c ∙ ap (λ ls. flat_map (place_lines forms) c.places ++ (map (bound_line forms) c.bounds ++ ls)) (entries_are forms c.entries)
 
 -- the first line, the table, three rows of lines, and the last line
-whole_of_two : (forms : FormTable) (c : Certificate) → forms ≡ forms_of c → ((((codes "certificate 2\n" ++ text_of_lines (map table_line forms)) ++ text_of_lines (flat_map (place_lines forms) c.places)) ++ text_of_lines (map (bound_line forms) c.bounds)) ++ text_of_lines (flat_map (entry_lines forms) c.entries)) ++ codes "end\n" ≡ text_of_two c
-whole_of_two forms c e =
+whole_of : (first : List ℕ) (forms : FormTable) (c : Certificate) → forms ≡ forms_of c → ((((first ++ text_of_lines (map table_line forms)) ++ text_of_lines (flat_map (place_lines forms) c.places)) ++ text_of_lines (map (bound_line forms) c.bounds)) ++ text_of_lines (flat_map (entry_lines forms) c.entries)) ++ codes "end\n" ≡ first ++ text_of_lines (lines_of_two (forms_of c) c)
+whole_of first forms c e =
     let a = flat_map (place_lines forms) c.places in
     let b = map (bound_line forms) c.bounds in
     let d = flat_map (entry_lines forms) c.entries in
-    let first : List ℕ = codes "certificate 2\n" in
     let table : List ℕ = text_of_lines (map table_line forms) in
     whole (first ++ table) (codes "end") a b d
     ∙ append_assoc first table (text_of_lines ((a ++ (b ++ d)) ++ codes "end" ∷ []))
@@ -48,20 +47,20 @@ whole_of_two forms c e =
     ∙ ap (λ t. first ++ text_of_lines (map table_line t ++ (map (numbered_line t) (items_of c) ++ codes "end" ∷ []))) e
 
 -- one after another, as they are written
-pub written_in_turn : (forms : FormTable) (c : Certificate) (ps : List Place) (bs : List Bound) (es : List Entry) (begun table places bounds entries all : List ℕ) → forms ≡ forms_of c → ps ≡ c.places → bs ≡ c.bounds → es ≡ c.entries → begun ≡ codes "certificate 2\n" → table ≡ begun ++ text_of_lines (map table_line forms) → places ≡ table ++ text_of_lines (flat_map (place_lines forms) ps) → bounds ≡ places ++ text_of_lines (map (bound_line forms) bs) → entries ≡ bounds ++ text_of_lines (flat_map (entry_lines forms) es) → all ≡ entries ++ codes "end\n" → all ≡ text_of_two c
-written_in_turn forms c ps bs es begun table places bounds entries all e p b d q1 q2 q3 q4 q5 q6 =
+pub written_in_turn : (first : List ℕ) (forms : FormTable) (c : Certificate) (ps : List Place) (bs : List Bound) (es : List Entry) (begun table places bounds entries all : List ℕ) → forms ≡ forms_of c → ps ≡ c.places → bs ≡ c.bounds → es ≡ c.entries → begun ≡ first → table ≡ begun ++ text_of_lines (map table_line forms) → places ≡ table ++ text_of_lines (flat_map (place_lines forms) ps) → bounds ≡ places ++ text_of_lines (map (bound_line forms) bs) → entries ≡ bounds ++ text_of_lines (flat_map (entry_lines forms) es) → all ≡ entries ++ codes "end\n" → all ≡ first ++ text_of_lines (lines_of_two (forms_of c) c)
+written_in_turn first forms c ps bs es begun table places bounds entries all e p b d q1 q2 q3 q4 q5 q6 =
     let t : List ℕ = text_of_lines (map table_line forms) in
     let one = λ (o : List ℕ). o ++ t in
     let two = λ (o : List ℕ) (xs : List Place). o ++ text_of_lines (flat_map (place_lines forms) xs) in
     let three = λ (o : List ℕ) (xs : List Bound). o ++ text_of_lines (map (bound_line forms) xs) in
     let four = λ (o : List ℕ) (xs : List Entry). o ++ text_of_lines (flat_map (entry_lines forms) xs) in
-    let r2 : table ≡ codes "certificate 2\n" ++ t = q2 ∙ ap one q1 in
-    let r3 : places ≡ two (codes "certificate 2\n" ++ t) c.places = q3 ∙ ap (λ o. two o ps) r2 ∙ ap (two (codes "certificate 2\n" ++ t)) p in
-    let r4 : bounds ≡ three (two (codes "certificate 2\n" ++ t) c.places) c.bounds = q4 ∙ ap (λ o. three o bs) r3 ∙ ap (three (two (codes "certificate 2\n" ++ t) c.places)) b in
-    let r5 : entries ≡ four (three (two (codes "certificate 2\n" ++ t) c.places) c.bounds) c.entries =
-    q5 ∙ ap (λ o. four o es) r4 ∙ ap (four (three (two (codes "certificate 2\n" ++ t) c.places) c.bounds)) d
+    let r2 : table ≡ first ++ t = q2 ∙ ap one q1 in
+    let r3 : places ≡ two (first ++ t) c.places = q3 ∙ ap (λ o. two o ps) r2 ∙ ap (two (first ++ t)) p in
+    let r4 : bounds ≡ three (two (first ++ t) c.places) c.bounds = q4 ∙ ap (λ o. three o bs) r3 ∙ ap (three (two (first ++ t) c.places)) b in
+    let r5 : entries ≡ four (three (two (first ++ t) c.places) c.bounds) c.entries =
+    q5 ∙ ap (λ o. four o es) r4 ∙ ap (four (three (two (first ++ t) c.places) c.bounds)) d
     in
-    q6 ∙ ap (λ o. o ++ codes "end\n") r5 ∙ whole_of_two forms c e
+    q6 ∙ ap (λ o. o ++ codes "end\n") r5 ∙ whole_of first forms c e
 
 -- the line of the form at an index of the table
 from_index : {A : Type 0} (xs : List A) (i : ℕ) (x : A) → slice_get xs i ≡ Some x → drop i xs ≡ x ∷ drop (i + 1) xs

@@ -1,9 +1,8 @@
 -- Forms that are looked up by their spellings.
-use Rattle.std.proofs.Common.{◌≡◌, ℕ, ◌+◌, ◌<◌, ◌≤◌, Bool, true, false, cond, List, [], ◌∷◌, ◌++◌, length, map, Option, None, Some, Result, Ok, Err, is_some, is_err, refl, ap, sym, ◌∙◌, arith, inl, inr}
+use Rattle.std.proofs.Common.{◌≡◌, ℕ, ◌+◌, ◌<◌, ◌≤◌, Bool, true, false, cond, List, [], ◌∷◌, ◌++◌, length, None, Some, Result, Ok, Err, is_some, is_err, refl, ap, sym, ◌∙◌, arith, inl, inr}
 use Rattle.std.specs.Prelude.{String, OnOk, bytes_eq, nat_lt, nat_eq, position}
 use Rattle.std.specs.BTreeMap.{BTreeMap, get_by_text, Updates}
 use Rattle.std.specs.List.{list_any, position_or_len}
-use Rattle.std.specs.Map.{update}
 use Rattle.std.specs.String.{string_bytes, string_cmp}
 use Rattle.std.specs.declared.alloc.Global.{Global}
 use Rattle.std.proofs.lemmas.Bool.{cond_both, cond-true, cond-false}

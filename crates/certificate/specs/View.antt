@@ -67,6 +67,7 @@ place p = record {
 abbrev pub descent : Descent → certificate.Descent
 descent (descents.Down n) = certificate.Down n
 descent descents.Halve = certificate.Halve
+descent (descents.Double n) = certificate.Double n
 
 abbrev pub bound : Bound → certificate.Bound
 bound b = record { loop = b.number; descent = descent b.descent; most = b.most; form = form b.form }

@@ -10,12 +10,13 @@ ghost use Rattle.certificate.specs.WordAnswers.{Means};
 use crate::item::Item;
 use crate::line_error::LineError;
 use crate::order::{bound_follows, entry_follows, has_line, place_follows};
-use crate::tree::{Bound, Entry, EntrySort, Place, Spot, Step};
+use crate::tree::{Bound, Descent, Entry, EntrySort, Place, Spot, Step};
 use std::alloc::Global;
 
-/// The parts of a certificate whose lines are complete.
+/// The parts of a certificate whose lines are complete, and whether it is wide.
 #[derive(Drop)]
 pub struct Parts {
+    pub is_wide: bool,
     pub places: Vec<Place>,
     pub bounds: Vec<Bound>,
     pub entries: Vec<Entry>,
@@ -45,10 +46,20 @@ fn place_fits(settled: &Parts, spot: Spot) -> bool
     place_follows(settled.places.as_slice(), spot)
 }
 
+/// Whether loops may end so: they double in a wide certificate alone.
+pub(crate) fn descent_fits(is_wide: bool, descent: Descent) -> bool
+    ensures { result ≡ drafting.descent_fits is_wide (view.descent descent) }
+{
+    match descent {
+        Descent::Down(_) | Descent::Halve => true,
+        Descent::Double(_) => is_wide,
+    }
+}
+
 fn bound_fits(settled: &Parts, bound: &Bound) -> bool
     ensures { result ≡ drafting.bound_fits (drafts.parts settled.now) (view.bound bound.now) }
 {
-    if !settled.entries.is_empty() {
+    if !(descent_fits(settled.is_wide, bound.descent) && settled.entries.is_empty()) {
         return false;
     }
     bound_follows(settled.bounds.as_slice(), bound.number)

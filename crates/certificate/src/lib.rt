@@ -1,4 +1,4 @@
-//! Section: Gate. Promises exactly the certificate of a text, and the text of a certificate, in both versions; stands on `texts` and
+//! Section: Gate. Promises exactly the certificate of a text, and the text of a certificate, in all three versions; stands on `texts` and
 //! `lines`.
 //!
 //! Certificates as trees, and what may stand behind what in them; their words, their lines, and their whole texts.
@@ -30,9 +30,9 @@ pub mod word;
 mod writer;
 
 pub use certificate::Certificate;
-pub use either_reader::read_any;
+pub use either_reader::{read_any, read_wide};
 pub use migration::migrate;
 pub use numbered_reader::read;
-pub use numbered_writer::write;
+pub use numbered_writer::{write, write_wide};
 pub use reader::{LIMIT, read_one};
 pub use writer::write_one;

@@ -1,4 +1,4 @@
-//! A certificate of its text of version 2.
+//! A certificate of its text of version 2, or a wide one of its text of version 4.
 
 ghost use Rattle.std.specs.Prelude.{◌≡◌, ◌+◌, ◌≤◌, ◌^◌, [], true, length};
 ghost use Rattle.std.specs.Option.{option_map};
@@ -6,7 +6,7 @@ ghost use Rattle.texts.specs.Lines.{words};
 ghost use Rattle.certificate_text.specs.Drafts as drafting;
 ghost use Rattle.certificate_text.specs.NumberedReading as reading;
 ghost use Rattle.certificate_text.specs.Reading as reading_one;
-ghost use Rattle.certificate_text.specs.Rules.{all, is_form, is_certificate};
+ghost use Rattle.certificate_text.specs.Rules.{all, is_form, is_any_certificate};
 ghost use Rattle.lines.specs.Left.{left};
 ghost use Rattle.certificate.specs.Answers.{fault};
 ghost use Rattle.certificate.specs.Certificates.{Says};
@@ -35,10 +35,11 @@ pub struct NumberedDraft {
     pub read: Draft,
 }
 
-fn nothing_yet(alloc: Global) -> NumberedDraft
-    ensures { numbers.numbered_draft result ≡ reading.numbered_draft 0 drafting.nothing_yet }
+fn begun(alloc: Global, is_wide: bool) -> NumberedDraft
+    ensures { numbers.numbered_draft result ≡ reading.numbered_draft 0 (drafting.begun is_wide) }
 {
     let settled = Parts {
+        is_wide,
         places: Vec::new(alloc),
         bounds: Vec::new(alloc),
         entries: Vec::new(alloc),
@@ -72,7 +73,7 @@ fn finish(
     draft: NumberedDraft,
     rest: &[u8],
 ) -> Result<Certificate, CertError>
-    requires proper { is_certificate (drafts.parts draft.read.settled) ≡ true }
+    requires proper { is_any_certificate (drafts.parts draft.read.settled) ≡ true }
     requires used { draft.used ≤ length (table_seen table.now) }
     ensures { Says result (reading.finish_numbered (table_seen table.now) number (numbers.numbered_draft draft) rest.now) }
 {
@@ -93,15 +94,16 @@ fn finish(
 
 fn read_numbered(
     alloc: Global,
+    is_wide: bool,
     table: &FormTable,
     start: usize,
     lines: Pieces<'_>,
 ) -> Result<Certificate, CertError>
     requires room { start + length (left lines) ≤ 2 ^ 32 + 2 }
     requires good { all is_form (table_seen table.now) ≡ true }
-    ensures { Says result (reading.read_numbered (table_seen table.now) start (reading.numbered_draft 0 drafting.nothing_yet) (left lines.entry)) }
+    ensures { Says result (reading.read_numbered (table_seen table.now) start (reading.numbered_draft 0 (drafting.begun is_wide)) (left lines.entry)) }
 {
-    let mut draft = nothing_yet(alloc);
+    let mut draft = begun(alloc, is_wide);
     let mut number = start;
     let mut rest = lines;
     while let Some((line, others)) = rest.next() {
@@ -144,9 +146,9 @@ pub fn add_form(alloc: Global, table: FormTable, words: Pieces<'_>) -> Result<Fo
     Ok(table)
 }
 
-fn read_table(alloc: Global, lines: Pieces<'_>) -> Result<Certificate, CertError>
+fn read_table(alloc: Global, is_wide: bool, lines: Pieces<'_>) -> Result<Certificate, CertError>
     requires { length (left lines) ≤ 2 ^ 32 }
-    ensures { Says result (reading.read_table [] 2 (left lines.entry)) }
+    ensures { Says result (reading.read_table is_wide [] 2 (left lines.entry)) }
 {
     let mut table = FormTable::new(alloc);
     let mut number = 2;
@@ -156,7 +158,7 @@ fn read_table(alloc: Global, lines: Pieces<'_>) -> Result<Certificate, CertError
             return Err(bad(number));
         }
         let Some(words) = table_words(line) else {
-            return read_numbered(alloc, &table, number, rest);
+            return read_numbered(alloc, is_wide, &table, number, rest);
         };
         match add_form(alloc, table, words) {
             Ok(next) => table = next,
@@ -169,20 +171,34 @@ fn read_table(alloc: Global, lines: Pieces<'_>) -> Result<Certificate, CertError
     Err(bad(number))
 }
 
-/// The fault of a certificate's first line: it is no such line, or the version is not 2; none where it is `certificate 2`.
-fn head_fault(line: &[u8]) -> Option<CertFault>
-    ensures { option_map fault result ≡ reading.head_of_two (reading_one.version_of (words line.now)) }
+/// Whether that is the version: 2, or of a wide certificate 4.
+fn is_version(is_wide: bool, version: i64) -> bool
+    ensures { result ≡ reading.is_version is_wide version }
 {
-    match version(line) {
-        None => Some(CertFault::BadLine(1)),
-        Some(2) => None,
-        Some(_) => Some(CertFault::OtherVersion),
-    }
+    if is_wide { version == 4 } else { version == 2 }
 }
 
-/// The certificate of a text of version 2, or its first fault. The text is gone through once.
-pub fn read(alloc: Global, text: &[u8]) -> Result<Certificate, CertError>
-    ensures { Says result (reading.certificate_of_two text.now) }
+/// The fault of a certificate's first line: it is no such line, or of another version; none where it is `certificate 2`, or
+/// `certificate 4` of a wide one.
+fn head_fault(is_wide: bool, line: &[u8]) -> Option<CertFault>
+    ensures { option_map fault result ≡ reading.numbered_head is_wide (reading_one.version_of (words line.now)) }
+{
+    let Some(version) = version(line) else {
+        return Some(CertFault::BadLine(1));
+    };
+    if is_version(is_wide, version) {
+        return None;
+    }
+    Some(CertFault::OtherVersion)
+}
+
+/// The certificate of a text of version 2, or a wide one of a text of version 4, or its first fault. The text is gone through once.
+pub(crate) fn read_numbered_text(
+    alloc: Global,
+    is_wide: bool,
+    text: &[u8],
+) -> Result<Certificate, CertError>
+    ensures { Says result (reading.numbered_certificate is_wide text.now) }
 {
     if text.len() > LIMIT {
         return Err(bad(1));
@@ -193,8 +209,15 @@ pub fn read(alloc: Global, text: &[u8]) -> Result<Certificate, CertError>
     if others.is_over() {
         return Err(bad(1));
     }
-    if let Some(fault) = head_fault(first) {
+    if let Some(fault) = head_fault(is_wide, first) {
         return Err(CertError::Refused(fault));
     }
-    read_table(alloc, others)
+    read_table(alloc, is_wide, others)
+}
+
+/// The certificate of a text of version 2, or its first fault. The text is gone through once.
+pub fn read(alloc: Global, text: &[u8]) -> Result<Certificate, CertError>
+    ensures { Says result (reading.certificate_of_two text.now) }
+{
+    read_numbered_text(alloc, false, text)
 }

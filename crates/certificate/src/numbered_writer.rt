@@ -220,16 +220,30 @@ fn push_entries(
     Ok(())
 }
 
-/// The text of version 2 of a certificate.
-pub fn write(alloc: Global, from: &Certificate) -> Result<Vec<u8>, AllocError>
-    ensures { IfOk result (λ v. v.items ≡ text.text_of_two (certificate from.now)) }
+/// A first line, and behind it the other lines of versions 2 and 4 of a certificate.
+fn write_behind(alloc: Global, first: &str, from: &Certificate) -> Result<Vec<u8>, AllocError>
+    ensures { IfOk result (λ v. v.items ≡ first.now ++ text_of_lines (text.lines_of_two (text.forms_of (certificate from.now)) (certificate from.now))) }
 {
     let table = table_of(alloc, from)?;
-    let mut out = String::from_str(alloc, "certificate 2\n")?;
+    let mut out = String::from_str(alloc, first)?;
     push_table(&mut out, &table)?;
     push_places(alloc, &mut out, &table, from.places())?;
     push_bounds(alloc, &mut out, &table, from.bounds())?;
     push_entries(alloc, &mut out, &table, from.entries())?;
     out.push_str("end\n")?;
     Ok(out.into_bytes())
+}
+
+/// The text of version 2 of a certificate.
+pub fn write(alloc: Global, from: &Certificate) -> Result<Vec<u8>, AllocError>
+    ensures { IfOk result (λ v. v.items ≡ text.text_of_two (certificate from.now)) }
+{
+    write_behind(alloc, "certificate 2\n", from)
+}
+
+/// The text of version 4 of a certificate.
+pub fn write_wide(alloc: Global, from: &Certificate) -> Result<Vec<u8>, AllocError>
+    ensures { IfOk result (λ v. v.items ≡ text.text_of_four (certificate from.now)) }
+{
+    write_behind(alloc, "certificate 4\n", from)
 }

@@ -133,6 +133,7 @@ pub fn push_descent(out: &mut String, descent: Descent) -> Result<(), AllocError
     match descent {
         Descent::Down(step) => write!(out, "down {step}"),
         Descent::Halve => out.push_str("halve"),
+        Descent::Double(least) => write!(out, "double {least}"),
     }
 }
 

@@ -6,7 +6,7 @@ ghost use Rattle.texts.specs.Lines.{words};
 ghost use Rattle.certificate_text.specs.Lines as meaning;
 ghost use Rattle.certificate_text.specs.Drafts as drafting;
 ghost use Rattle.certificate_text.specs.Reading as reading;
-ghost use Rattle.certificate_text.specs.Rules.{is_certificate};
+ghost use Rattle.certificate_text.specs.Rules.{is_any_certificate};
 ghost use Rattle.lines.specs.Left.{left};
 ghost use Rattle.certificate.specs.WordAnswers.{Means};
 ghost use Rattle.certificate.specs.Answers.{fault};
@@ -68,7 +68,7 @@ fn add_line(alloc: Global, draft: Draft, line: &[u8]) -> Result<Draft, LineError
 
 /// The certificate that is read, if nothing stands behind its last line.
 fn finish(number: usize, draft: Draft, rest: &[u8]) -> Result<Certificate, CertError>
-    requires { is_certificate (drafts.parts draft.settled) ≡ true }
+    requires { is_any_certificate (drafts.parts draft.settled) ≡ true }
     ensures { Says result (reading.finish number (drafts.draft draft) rest.now) }
 {
     let Draft { settled, opened } = draft;
@@ -87,6 +87,7 @@ fn read_lines(alloc: Global, lines: Pieces<'_>) -> Result<Certificate, CertError
 {
     let mut draft = Draft {
         settled: Parts {
+            is_wide: false,
             places: Vec::new(alloc),
             bounds: Vec::new(alloc),
             entries: Vec::new(alloc),

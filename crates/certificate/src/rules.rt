@@ -5,7 +5,7 @@ ghost use Rattle.certificate_text.specs.Rules as rules;
 ghost use Rattle.certificate.specs.View as view;
 ghost use Rattle.certificate.specs.Drafts as drafts;
 
-use crate::draft::Parts;
+use crate::draft::{Parts, descent_fits};
 use crate::entries::{are_entries, entries_rise};
 use crate::order::{has_line, spot_is_before};
 use crate::proper::{are_congruences, are_forms, are_identifiers, is_form, is_integer, is_natural};
@@ -66,6 +66,7 @@ fn is_descent(descent: Descent) -> bool
     match descent {
         Descent::Down(step) => is_natural(step) && 1 <= step,
         Descent::Halve => true,
+        Descent::Double(least) => is_natural(least) && 1 <= least,
     }
 }
 
@@ -76,12 +77,18 @@ fn is_bound(alloc: Global, bound: &Bound) -> Result<bool, AllocError>
     Ok(is_natural(bound.number) && (is_descent(bound.descent) && (is_integer(bound.most) && form)))
 }
 
+fn is_bound_in(alloc: Global, is_wide: bool, bound: &Bound) -> Result<bool, AllocError>
+    ensures { IfOk result (λ b. b ≡ rules.is_bound_in is_wide (view.bound bound.now)) }
+{
+    Ok(is_bound(alloc, bound)? && descent_fits(is_wide, bound.descent))
+}
+
 #[tactic(auto, using(crate::proofs::Rows::all_rows))]
-fn are_bounds(alloc: Global, bounds: &[Bound]) -> Result<bool, AllocError>
-    ensures { IfOk result (λ b. b ≡ rules.all rules.is_bound (map view.bound bounds.now)) }
+fn are_bounds(alloc: Global, is_wide: bool, bounds: &[Bound]) -> Result<bool, AllocError>
+    ensures { IfOk result (λ b. b ≡ rules.all (rules.is_bound_in is_wide) (map view.bound bounds.now)) }
 {
     for bound in bounds {
-        if !is_bound(alloc, bound)? {
+        if !is_bound_in(alloc, is_wide, bound)? {
             return Ok(false);
         }
     }
@@ -102,14 +109,14 @@ fn bounds_rise(bounds: &[Bound]) -> bool
     true
 }
 
-/// Whether the format, length aside, has a text for these parts.
-pub fn is_certificate(alloc: Global, parts: &Parts) -> Result<bool, AllocError>
-    ensures { IfOk result (λ b. b ≡ rules.is_certificate (drafts.parts parts.now)) }
+/// Whether the format, length aside, has a text for these parts, as a certificate that is wide or not.
+pub fn is_any_certificate(alloc: Global, parts: &Parts) -> Result<bool, AllocError>
+    ensures { IfOk result (λ b. b ≡ rules.is_any_certificate (drafts.parts parts.now)) }
 {
     let places = parts.places.as_slice();
     let bounds = parts.bounds.as_slice();
     let entries = parts.entries.as_slice();
     let placed = are_places(alloc, places)? && places_rise(places);
-    let bounded = are_bounds(alloc, bounds)? && bounds_rise(bounds);
+    let bounded = are_bounds(alloc, parts.is_wide, bounds)? && bounds_rise(bounds);
     Ok(placed && (bounded && (are_entries(alloc, entries)? && entries_rise(entries))))
 }

@@ -69,14 +69,15 @@ pub struct Place {
     pub congruences: Vec<Congruence>,
 }
 
-/// How each turn of a loop makes its form less: by a step at least, or at most half.
+/// What each turn of a loop makes of its form: less by a step at least, at most half, or, from that number on, at least twice as large.
 #[derive(Clone, Copy, PartialEq, Eq, Drop)]
 pub enum Descent {
     Down(u64),
     Halve,
+    Double(u64),
 }
 
-/// How a loop ends: its form is at most `most` where it opens.
+/// How a loop ends: its form is at most `most` where it opens, or, where it doubles, where its test is true.
 #[derive(Drop)]
 pub struct Bound {
     pub number: u64,

@@ -166,6 +166,14 @@ pub fn descent<'a>(word: &[u8], words: Pieces<'a>) -> Option<(Descent, Pieces<'a
         Some((Descent::Down(step), others))
     } else if is(word, "halve") {
         Some((Descent::Halve, words))
+    } else if is(word, "double") {
+        let Some((least, others)) = words.next() else {
+            return None;
+        };
+        let Some(least) = natural_from(1, least) else {
+            return None;
+        };
+        Some((Descent::Double(least), others))
     } else {
         None
     }

@@ -61,6 +61,7 @@ seen-agrees n entries = record {
   visible = visible-same n.visible.items;
   quotient = quotient-same n.quotients.items;
   has_entry = λ c. refl;
+  is_wide = refl;
 }
 
 -- and tell of items alone

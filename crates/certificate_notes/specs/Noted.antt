@@ -1,14 +1,15 @@
 -- What a certificate says of a kernel's places and loops, in slots and symbols; nothing where it names what the kernel lacks.
-use Rattle.std.specs.Prelude.{ℕ, ℤ, suc, ◌^◌, Bool, true, false, cond, not, ◌&&◌, ◌||◌, nat_eq, nat_le, nat_lt, List, [], ◌∷◌, map, Option, None, Some}
+use Rattle.std.specs.Prelude.{ℕ, ℤ, pos, suc, ◌^◌, Bool, true, false, cond, not, ◌&&◌, ◌||◌, nat_eq, nat_le, nat_lt, List, [], ◌∷◌, map, Option, None, Some}
 use Rattle.std.specs.Option.{option_map}
 use Rattle.semantics.specs.Launch as launch
 use Rattle.facts.specs.Symbols.{Fact}
 use Rattle.arrivals.specs.Places as places
 use Rattle.obligations.specs.Notes as notes
 use Rattle.certificate_text.specs.Rules.{all}
+use Rattle.texts.specs.Lines.{is_natural}
 use Rattle.texts.specs.Surface as surface
 use Rattle.certificate_text.specs.Certificate as certificate
-use Rattle.certificate_text.specs.Certificate.{Descent, Down, Halve, EntrySort, Show, Positive, Negative, Quotient, Certificate}
+use Rattle.certificate_text.specs.Certificate.{Descent, Down, Halve, Double, EntrySort, Show, Positive, Negative, Quotient, Certificate}
 use Rattle.certificate_notes.specs.Scenes.{Named, Scene}
 use Rattle.certificate_notes.specs.Stations.{loop_at, Station, station, anchor_number, is_place, in_test}
 use Rattle.certificate_notes.specs.Sights.{Chart, chart_of, Sight, slot_of, fact}
@@ -61,9 +62,14 @@ pub record Ranked : Type 0 where
   pub loop : ℕ
   pub ranking : notes.Ranking
 
+-- from where on a form doubles: a number above 0 of the text
+abbrev pub least_of : ℕ → Option ℤ
+least_of n = cond (is_natural n && not (nat_eq n 0)) (Some (pos n)) None
+
 abbrev pub bound_of : Descent → ℤ → Option notes.Bound
 bound_of (Down step) most = cond (nat_eq step 0) None (Some (notes.Down step most))
 bound_of Halve most = Some (notes.Halving most)
+bound_of (Double least) most = option_map (λ l. notes.Doubling l most) (least_of least)
 
 abbrev pub ranked : ℕ → Option Fact → Option notes.Bound → Option Ranked
 ranked n None b = None
@@ -125,21 +131,22 @@ visible_at s = record { statement = Some s.number; slots = map slot s.here }
 abbrev pub visible_in : Chart → List Visible
 visible_in c = record { statement = None; slots = map slot c.entry } ∷ map visible_at c.scenes
 
--- all that is said
+-- all that is said, and whether the walk is the wide one
 pub record Noted : Type 0 where
+  pub is_wide : Bool
   pub places : List Lines
   pub rankings : List Ranked
   pub visible : List Visible
   pub quotients : List Quoted
 
-abbrev pub noted_all : Chart → Option (List Lines) → Option (List Ranked) → Option (List Quoted) → Option Noted
-noted_all c None rs qs = None
-noted_all c (Some ls) None qs = None
-noted_all c (Some ls) (Some rs) None = None
-noted_all c (Some ls) (Some rs) (Some qs) = Some (record { places = ls; rankings = rs; visible = visible_in c; quotients = qs })
+abbrev pub noted_all : (is_wide : Bool) → Chart → Option (List Lines) → Option (List Ranked) → Option (List Quoted) → Option Noted
+noted_all is_wide c None rs qs = None
+noted_all is_wide c (Some ls) None qs = None
+noted_all is_wide c (Some ls) (Some rs) None = None
+noted_all is_wide c (Some ls) (Some rs) (Some qs) = Some (record { is_wide = is_wide; places = ls; rankings = rs; visible = visible_in c; quotients = qs })
 
 abbrev pub noted_by : Chart → List places.Place → Certificate → Option Noted
-noted_by c ps cert = cond (all (has_line cert.bounds) c.scenes) (noted_all c (each (lines_of c ps) cert.places) (each (ranked_of c) cert.bounds) (quotients_of c cert.entries)) None
+noted_by c ps cert = cond (all (has_line cert.bounds) c.scenes) (noted_all cert.is_wide c (each (lines_of c ps) cert.places) (each (ranked_of c) cert.bounds) (quotients_of c cert.entries)) None
 
 abbrev pub noted : launch.Kernel → surface.Kernel → List places.Place → Certificate → Option Noted
 noted k tree ps cert = noted_by (chart_of k tree) ps cert

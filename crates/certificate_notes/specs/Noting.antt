@@ -50,6 +50,7 @@ notes_by m entries = record {
   visible = visible_of m.visible;
   quotient = quotient_of m.quotients;
   has_entry = λ n. slice_index_or entries n false;
+  is_wide = m.is_wide;
 }
 
 -- the same is said of all that can be asked
@@ -61,3 +62,4 @@ pub record Agrees (n m : notes.Notes) : Type 0 where
   pub visible : (statement : Option ℕ) → n.visible statement ≡ m.visible statement
   pub quotient : (claim : ℕ) → n.quotient claim ≡ m.quotient claim
   pub has_entry : (claim : ℕ) → n.has_entry claim ≡ m.has_entry claim
+  pub is_wide : n.is_wide ≡ m.is_wide

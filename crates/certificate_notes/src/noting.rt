@@ -71,6 +71,7 @@ fn noted_by(
     };
     let visible = visible_in(alloc, chart)?;
     Ok(Some(Notes {
+        is_wide: certificate.is_wide(),
         places,
         rankings,
         visible,

@@ -18,8 +18,18 @@ use crate::station::{in_test, loop_at};
 use certificate::tree;
 use certificate::tree::Descent;
 use linear::Form;
-use loop_bounds::{Bound, LoopBound, Step};
+use loop_bounds::{Bound, Least, LoopBound, Step};
 use std::alloc::Global;
+
+/// From where on a form doubles, where the number is one of a certificate's text, and above 0.
+fn least_of(number: u64) -> Option<Least>
+    ensures { option_map (λ l. l.number) result ≡ noted.least_of number }
+{
+    if number >= 1 << 63 {
+        return None;
+    }
+    Least::new(number as i64)
+}
 
 /// How a loop of that number ends, by a form of its own.
 fn ranked(number: u32, form: Form, descent: Descent, most: i64) -> Option<LoopBound>
@@ -37,6 +47,15 @@ fn ranked(number: u32, form: Form, descent: Descent, most: i64) -> Option<LoopBo
             Some(LoopBound {
                 number,
                 bound: Bound::Down { form, step, most },
+            })
+        }
+        Descent::Double(from) => {
+            let Some(least) = least_of(from) else {
+                return None;
+            };
+            Some(LoopBound {
+                number,
+                bound: Bound::Doubling { form, least, most },
             })
         }
     }

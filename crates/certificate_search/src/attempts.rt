@@ -11,7 +11,7 @@ use crate::rounds::{Rounds, push_all, settle};
 use candidates::guess_told;
 use certificate::Certificate;
 use cut_search::Memory;
-use guess_walk::{Names, Subject, certificate_of};
+use guess_walk::{Limits, Names, Subject, certificate_of};
 use guesses::{Candidate, Ranking, Sight};
 use solo_runs::{Observed, observe, told_by_runs};
 use std::alloc::{AllocError, Global};
@@ -83,26 +83,50 @@ fn guesses(
     without_spare(alloc, all)
 }
 
-/// Guesses that stand, assembled; then without those that nothing needs, as long as some fall and all stays shown.
+/// Guesses that stand, with all that they are assembled to.
+type Standing = (Vec<Candidate>, Assembled);
+
+/// The guesses without those that nothing needs, assembled, where some fall and all stays shown. No use tells of a guess that it narrows
+/// elements: such guesses may be kept.
+fn without_needless(
+    alloc: Global,
+    plan: &Plan<'_>,
+    standing: &Standing,
+    keeps_narrowing: bool,
+    memory: &mut Memory,
+) -> Result<Option<Standing>, FindError> {
+    let candidates = standing.0.as_slice();
+    let uses = standing.1.uses.as_slice();
+    let Some(fewer) = needed_only(alloc, candidates, uses, keeps_narrowing)? else {
+        return Ok(None);
+    };
+    let Some(next) = assemble(alloc, plan, fewer.as_slice(), memory)? else {
+        return Ok(None);
+    };
+    if next.missing.is_empty() {
+        Ok(Some((fewer, next)))
+    } else {
+        Ok(None)
+    }
+}
+
+/// Guesses that stand, assembled; then without those that nothing needs, as long as some fall and all stays shown. In the wide walk, where
+/// guesses narrow elements, those that may do so are kept where it is not shown without them.
 fn dropped(
     alloc: Global,
     plan: &Plan<'_>,
     candidates: Vec<Candidate>,
     assembled: Assembled,
     memory: &mut Memory,
-) -> Result<(Vec<Candidate>, Assembled), FindError> {
+) -> Result<Standing, FindError> {
     let mut best = (candidates, assembled);
+    let mut keeps_narrowing = false;
     for _ in 0..3 {
-        let Some(fewer) = needed_only(alloc, best.0.as_slice(), best.1.uses.as_slice())? else {
-            return Ok(best);
-        };
-        let Some(next) = assemble(alloc, plan, fewer.as_slice(), memory)? else {
-            return Ok(best);
-        };
-        if !next.missing.is_empty() {
-            return Ok(best);
+        match without_needless(alloc, plan, &best, keeps_narrowing, memory)? {
+            Some(fewer) => best = fewer,
+            None if plan.subject.is_wide && !keeps_narrowing => keeps_narrowing = true,
+            None => return Ok(best),
         }
-        best = (fewer, next);
     }
     Ok(best)
 }
@@ -117,12 +141,16 @@ fn written(
 ) -> Result<Conclusion, SearchError> {
     let (candidates, assembled) = dropped(alloc, plan, candidates, assembled, memory)?;
     let Assembled { entries, .. } = assembled;
+    let limits = Limits {
+        rankings: plan.rankings,
+        most: plan.limits,
+    };
     let certificate = certificate_of(
         alloc,
+        &plan.subject,
         plan.names,
         candidates.as_slice(),
-        plan.rankings,
-        plan.limits,
+        limits,
         entries,
     )?;
     match certificate {

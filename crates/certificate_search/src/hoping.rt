@@ -4,8 +4,8 @@ use crate::limits::UNLIMITED;
 use cut_search::Memory;
 use facts::copy_all;
 use guess_walk::{
-    Begun, Names, Resolved, Subject, Trust, Walked, begun_of, certificate_of, leaves_of, resolve,
-    sights_of,
+    Begun, Limits, Names, Resolved, Subject, Trust, Walked, begun_of, certificate_of, leaves_of,
+    resolve, sights_of,
 };
 use guesses::{Leaf, Ranking, Sight, copied};
 use linear::Form;
@@ -66,9 +66,13 @@ fn walked(
     rankings: &[Ranking],
     memory: &mut Memory,
 ) -> Result<Option<Resolved>, FindError> {
-    let limits = unlimited(alloc, rankings)?;
+    let most = unlimited(alloc, rankings)?;
+    let limits = Limits {
+        rankings,
+        most: most.as_slice(),
+    };
     let entries = Vec::new(alloc);
-    let certificate = certificate_of(alloc, names, &[], rankings, limits.as_slice(), entries)?;
+    let certificate = certificate_of(alloc, subject, names, &[], limits, entries)?;
     match certificate {
         Some(certificate) => resolve(alloc, subject, &certificate, Trust::Hopeful, memory),
         None => Ok(None),

@@ -8,7 +8,8 @@ use certificate::Certificate;
 use certificate::tree::Entry;
 use cut_search::Memory;
 use guess_walk::{
-    LineTable, Names, Resolved, Subject, Trust, begun_of, certificate_of, places_of_paths, resolve,
+    Limits, LineTable, Names, Resolved, Subject, Trust, begun_of, certificate_of, places_of_paths,
+    resolve,
 };
 use guesses::{Candidate, Ranking, Sight};
 use std::alloc::{AllocError, Global};
@@ -121,12 +122,16 @@ fn bare(
     candidates: &[Candidate],
 ) -> Result<Option<Certificate>, AllocError> {
     let entries = Vec::new(alloc);
+    let limits = Limits {
+        rankings: plan.rankings,
+        most: plan.limits,
+    };
     certificate_of(
         alloc,
+        &plan.subject,
         plan.names,
         candidates,
-        plan.rankings,
-        plan.limits,
+        limits,
         entries,
     )
 }

@@ -1,4 +1,4 @@
-//! What a loop's form is at most where it opens.
+//! What a loop's form is at most: where it opens, or, where it doubles, at its true tests.
 
 use cut_search::{Answer, Memory};
 use domain::Elements;
@@ -10,16 +10,17 @@ use std::alloc::Global;
 use two_thread::{Manner, Obligations, Part};
 use walk::FindError;
 
-/// A limit that no opening of a loop passes by half: walks that look for the least ones have it in the place of them.
+/// A limit that no loop's form passes by half where it has one: walks that look for the least ones have it in the place of them.
 pub const UNLIMITED: i64 = 1 << 48;
 
-/// A question: the facts at an opening, the last one that the form passes `UNLIMITED`.
+/// A question: the facts at an opening, or at a true test of what doubles, the last one that the form passes `UNLIMITED`.
 #[derive(Drop)]
 struct Opening {
     facts: Vec<Form>,
 }
 
-/// An obligation is the claim that the ranking of the loop of this number is at most `UNLIMITED` where the loop opens.
+/// An obligation is the claim that the ranking of the loop of this number is at most `UNLIMITED`, which stands where the loop opens, or, where
+/// the ranking doubles, at each true test.
 fn is_opening(found: &Obligations<Elements>, part: Part, number: u32) -> bool {
     let Part::Claim(at) = part else {
         return false;
@@ -39,7 +40,7 @@ fn is_opening(found: &Obligations<Elements>, part: Part, number: u32) -> bool {
     }
 }
 
-/// The facts of each obligation that is of a loop's ranking where the loop opens.
+/// The facts of each obligation that limits a loop's ranking.
 fn openings_of(
     alloc: Global,
     found: &Obligations<Elements>,
@@ -166,7 +167,7 @@ fn least_between(
     Ok(high)
 }
 
-/// The least limit that a loop's form is shown not to pass where the loop opens; none where no limit is shown.
+/// The least limit that a loop's form is shown not to pass where it has one; none where no limit is shown.
 fn least_limit(
     alloc: Global,
     openings: &[Opening],

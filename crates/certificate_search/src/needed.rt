@@ -1,7 +1,7 @@
 //! Guesses that something needs.
 
 use crate::joining::Use;
-use guesses::Candidate;
+use guesses::{Candidate, Line};
 use std::alloc::{AllocError, Global};
 
 /// Takes in the guesses that an entry uses; whether there was a new one.
@@ -33,13 +33,39 @@ fn pass(flags: &mut [bool], uses: &[Use]) -> bool {
     is_new
 }
 
-/// The guesses that entries of other obligations use, and those that these rest on; nothing where all are needed.
+/// The guess may narrow elements: it is a fact in which some symbol stands once.
+fn narrows(candidate: &Candidate) -> bool {
+    match &candidate.line {
+        Line::Fact(form) => form
+            .terms()
+            .iter()
+            .any(|term| term.coefficient.unsigned_abs() == 1),
+        Line::Same(_) | Line::Multiple { .. } => false,
+    }
+}
+
+/// Of each guess, whether it is to stay whatever uses it: those that may narrow elements, where they are asked for.
+fn kept_of(
+    alloc: Global,
+    candidates: &[Candidate],
+    keeps_narrowing: bool,
+) -> Result<Vec<bool>, AllocError> {
+    let mut flags = Vec::new(alloc);
+    for candidate in candidates {
+        flags.push(keeps_narrowing && narrows(candidate))?;
+    }
+    Ok(flags)
+}
+
+/// The guesses that entries of other obligations use, and those that these rest on; also those that may narrow elements, where they are
+/// asked for. Nothing where all are needed.
 pub fn needed_only(
     alloc: Global,
     candidates: &[Candidate],
     uses: &[Use],
+    keeps_narrowing: bool,
 ) -> Result<Option<Vec<Candidate>>, AllocError> {
-    let mut flags = vec![in alloc; false; candidates.len()]?;
+    let mut flags = kept_of(alloc, candidates, keeps_narrowing)?;
     for _ in 0..candidates.len().saturating_add(1) {
         if !pass(flags.as_mut_slice(), uses) {
             break;

@@ -5,8 +5,8 @@ use crate::table::{BoardError, Demand, greatest};
 use crate::used::Ground;
 use cut_search::Memory;
 use guess_walk::{
-    Begun, LineTable, Names, Resolved, Subject, Trust, begun_of, certificate_of, places_of_paths,
-    resolve,
+    Begun, Limits, LineTable, Names, Resolved, Subject, Trust, begun_of, certificate_of,
+    places_of_paths, resolve,
 };
 use guesses::{Candidate, Ranking, Sight};
 use std::alloc::{AllocError, Global};
@@ -73,12 +73,16 @@ fn walked(
     memory: &mut Memory,
 ) -> Result<Resolved, SettlingError> {
     let entries = Vec::new(alloc);
+    let limits = Limits {
+        rankings: rounds.rankings,
+        most: rounds.most,
+    };
     let certificate = certificate_of(
         alloc,
+        &rounds.subject,
         rounds.names,
         candidates,
-        rounds.rankings,
-        rounds.most,
+        limits,
         entries,
     )?;
     let Some(certificate) = certificate else {

@@ -29,7 +29,7 @@ fn walk_first(
     names: &Names<'_>,
     memory: &mut Memory,
 ) -> Result<Hoped, SearchError> {
-    let first = guess_rankings(alloc, subject.typed.core(), &[])?;
+    let first = guess_rankings(alloc, subject.typed.core(), subject.is_wide, &[])?;
     let rankings = chosen(alloc, first.as_slice(), &[])?;
     match hope(alloc, subject, names, rankings.as_slice(), memory)? {
         Some(hoped) => Ok(hoped),
@@ -50,7 +50,8 @@ fn options_of(
         hoped.known.as_slice(),
         hoped.unsigned.as_slice(),
     )?;
-    guess_rankings(alloc, subject.typed.core(), told.strides.as_slice())
+    let strides = told.strides.as_slice();
+    guess_rankings(alloc, subject.typed.core(), subject.is_wide, strides)
 }
 
 /// How loops may end, without the ways that runs refute.

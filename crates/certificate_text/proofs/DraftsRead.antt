@@ -8,9 +8,9 @@ use Rattle.texts.specs.Lines.{is_empty, follows, words}
 use Rattle.certificate_text.specs.Certificate.{Spot, Place, Bound, Step, EntrySort, Entry, Certificate}
 use Rattle.certificate_text.specs.Text.{place_line, same_line, fact_line, congruence_line, place_lines, bound_line, entry_line, entry_lines, step_line, body_lines}
 use Rattle.certificate_text.specs.Lines.{Item, PlaceItem, SameItem, FactItem, CongruenceItem, BoundItem, EntryItem, StepItem, EndItem, item_of}
-use Rattle.certificate_text.specs.Drafts.{place_is_behind, bound_is_behind, entry_is_behind, Open, Nothing, InPlace, InEntry, Ended, Draft, draft, certificate, has_line, settle, open_place, open_entry, place_fits, bound_fits, entry_fits, place_at, entry_at, add_to_place, add_place, add_bound, add_entry, add_to_entry, add_end, add_within, add}
+use Rattle.certificate_text.specs.Drafts.{place_is_behind, bound_is_behind, entry_is_behind, Open, Nothing, InPlace, InEntry, Ended, Draft, draft, certificate, has_line, settle, open_place, open_entry, place_fits, descent_fits, bound_fits, entry_fits, place_at, entry_at, add_to_place, add_place, add_bound, add_entry, add_to_entry, add_end, add_within, add}
 use Rattle.certificate_text.specs.Reading.{add_line}
-use Rattle.certificate_text.specs.Rules.{all, rises, is_form, is_spot, is_congruence, is_open_place, is_place, is_bound, is_sort, is_step, is_entry, place_is_before, bound_is_before, entry_is_before, is_certificate}
+use Rattle.certificate_text.specs.Rules.{all, rises, is_form, is_spot, is_congruence, is_open_place, is_place, is_bound, is_bound_in, is_sort, is_step, is_entry, place_is_before, bound_is_before, entry_is_before, is_any_certificate}
 use Rattle.texts.specs.Identifiers as identifiers
 use Rattle.texts.proofs.Fits.{both}
 use Rattle.certificate_text.proofs.Cuts.{then_back, when_back, all_push, rises_push}
@@ -26,7 +26,7 @@ OpenFits c (InEntry e) = (entry_fits c e.obligation ≡ true) × (is_entry e ≡
 OpenFits c Ended = Unit {0}
 
 pub record IsDraft (d : Draft) : Type 0 where
-  pub settled : is_certificate d.settled ≡ true
+  pub settled : is_any_certificate d.settled ≡ true
   pub opened : OpenFits d.settled d.opened
 
 abbrev pub open_lines : Open → List (List ℕ)
@@ -76,8 +76,8 @@ row_push test before xs x h t f =
     let p = both (all test xs) (rises before xs) h in
     andt (all test (xs ++ x ∷ [])) (rises before (xs ++ x ∷ [])) (all_push test xs x p.0 t) (rises_push before xs x p.1 f)
 
-settle_back : (c : Certificate) (o : Open) (e : Certificate) → is_certificate c ≡ true → OpenFits c o → settle c o ≡ Some e → (is_certificate e ≡ true) × (body_lines e ≡ body_lines c ++ open_lines o)
-settle_back c Nothing e h f q = let k = same c e q in (ap is_certificate (sym k) ∙ h, ap body_lines (sym k) ∙ sym (append-nil (body_lines c)))
+settle_back : (c : Certificate) (o : Open) (e : Certificate) → is_any_certificate c ≡ true → OpenFits c o → settle c o ≡ Some e → (is_any_certificate e ≡ true) × (body_lines e ≡ body_lines c ++ open_lines o)
+settle_back c Nothing e h f q = let k = same c e q in (ap is_any_certificate (sym k) ∙ h, ap body_lines (sym k) ∙ sym (append-nil (body_lines c)))
 settle_back c (InPlace p) e h f q =
     let w = when_back (has_line p) _ e q in
     let parts = both _ _ h in
@@ -85,14 +85,14 @@ settle_back c (InPlace p) e h f q =
     let none = both (is_empty c.bounds) (is_empty c.entries) fits.0 in
     let good = andt (is_open_place p) (has_line p) f.1 w.0 in
     let row = row_push is_place place_is_before c.places p parts.0 good (sym (place_follows c.places p) ∙ fits.1) in
-    (ap is_certificate (sym w.1) ∙ andt _ _ row parts.1, ap body_lines (sym w.1) ∙ body_place c.places p c.bounds c.entries (none_left c.bounds none.0) (none_left c.entries none.1))
+    (ap is_any_certificate (sym w.1) ∙ andt _ _ row parts.1, ap body_lines (sym w.1) ∙ body_place c.places p c.bounds c.entries (none_left c.bounds none.0) (none_left c.entries none.1))
 settle_back c (InEntry n) e h f q =
     let made : Certificate = record c { entries = c.entries ++ n ∷ [] } in
     let k = same made e q in
     let parts = both _ _ h in
     let later = both _ _ parts.1 in
     let row = row_push is_entry entry_is_before c.entries n later.1 f.1 (sym (entry_follows c.entries n) ∙ f.0) in
-    (ap is_certificate (sym k) ∙ andt _ _ parts.0 (andt _ _ later.0 row), ap body_lines (sym k) ∙ body_entry c.places c.bounds c.entries n)
+    (ap is_any_certificate (sym k) ∙ andt _ _ parts.0 (andt _ _ later.0 row), ap body_lines (sym k) ∙ body_entry c.places c.bounds c.entries n)
 settle_back c Ended e h f q = absurd cc
 
 add_place_back : (d : Draft) (spot : Spot) (e : Draft) → IsDraft d → is_spot spot ≡ true → add_place d spot ≡ Some e → IsDraft e × (draft_lines e ≡ draft_lines d ++ item_line (PlaceItem spot) ∷ [])
@@ -109,10 +109,11 @@ add_bound_back d b e h g q =
     let next : Certificate = record c.0 { bounds = c.0.bounds ++ b ∷ [] } in
     let w = when_back (bound_fits c.0 b) (draft next Nothing) e c.2 in
     let s = settle_back d.settled d.opened c.0 h.settled h.opened c.1 in
-    let fits = both (is_empty c.0.entries) (follows bound_is_behind c.0.bounds b.loop) w.0 in
+    let own = both (descent_fits c.0.is_wide b.descent) (is_empty c.0.entries && follows bound_is_behind c.0.bounds b.loop) w.0 in
+    let fits = both (is_empty c.0.entries) (follows bound_is_behind c.0.bounds b.loop) own.1 in
     let parts = both _ _ s.0 in
     let later = both _ _ parts.1 in
-    let row = row_push is_bound bound_is_before c.0.bounds b later.0 g (sym (bound_follows c.0.bounds b) ∙ fits.1) in
+    let row = row_push (is_bound_in c.0.is_wide) bound_is_before c.0.bounds b later.0 (andt (is_bound b) (descent_fits c.0.is_wide b.descent) g own.0) (sym (bound_follows c.0.bounds b) ∙ fits.1) in
     let made : IsDraft (draft next Nothing) = record { settled = andt _ _ parts.0 (andt _ _ row later.1); opened = tt } in
     (subst IsDraft w.1 made, ap draft_lines (sym w.1) ∙ append-nil (body_lines next) ∙ body_bound c.0.places c.0.bounds b c.0.entries (none_left c.0.entries fits.0) ∙ ap (λ t. t ++ bound_line b ∷ []) s.1)
 
@@ -241,6 +242,46 @@ add_back d EndItem e h g q = add_end_back d e h q
 add_back d (SameItem n) e h g q = add_within_back d (SameItem n) e h g q
 add_back d (FactItem f) e h g q = add_within_back d (FactItem f) e h g q
 add_back d (CongruenceItem c) e h g q = add_within_back d (CongruenceItem c) e h g q
+
+settle_kind : (c : Certificate) (o : Open) (e : Certificate) → settle c o ≡ Some e → e.is_wide ≡ c.is_wide
+settle_kind c Nothing e q = ap (λ (x : Certificate). x.is_wide) (sym (same c e q))
+settle_kind c (InPlace p) e q = ap (λ (x : Certificate). x.is_wide) (sym (when_back (has_line p) _ e q).1)
+settle_kind c (InEntry n) e q = let made : Certificate = record c { entries = c.entries ++ n ∷ [] } in ap (λ (x : Certificate). x.is_wide) (sym (same made e q))
+settle_kind c Ended e q = absurd cc
+
+within_kind : (d : Draft) (i : Item) (e : Draft) → add_within d i ≡ Some e → e.settled.is_wide ≡ d.settled.is_wide
+within_kind d i e q =
+    let p = then_back (open_place d.opened) _ e q in
+    let r = then_back (add_to_place p.0 i) (λ r. Some (draft d.settled (InPlace r))) e p.2 in
+    ap (λ (x : Draft). x.settled.is_wide) (sym (same (draft d.settled (InPlace r.0)) e r.2))
+
+-- a line does not make a certificate wide
+pub add_kind : (d : Draft) (i : Item) (e : Draft) → add d i ≡ Some e → e.settled.is_wide ≡ d.settled.is_wide
+unfolding add
+add_kind d (PlaceItem s) e q =
+    let c = then_back (settle d.settled d.opened) _ e q in
+    let w = when_back (place_fits c.0 s) (draft c.0 (InPlace (place_at s))) e c.2 in
+    ap (λ (x : Draft). x.settled.is_wide) (sym w.1) ∙ settle_kind d.settled d.opened c.0 c.1
+add_kind d (BoundItem b) e q =
+    let c = then_back (settle d.settled d.opened) _ e q in
+    let w = when_back (bound_fits c.0 b) (draft (record c.0 { bounds = c.0.bounds ++ b ∷ [] }) Nothing) e c.2 in
+    ap (λ (x : Draft). x.settled.is_wide) (sym w.1) ∙ settle_kind d.settled d.opened c.0 c.1
+add_kind d (EntryItem n sort) e q =
+    let c = then_back (settle d.settled d.opened) _ e q in
+    let w = when_back (entry_fits c.0 n) (draft c.0 (InEntry (entry_at n sort))) e c.2 in
+    ap (λ (x : Draft). x.settled.is_wide) (sym w.1) ∙ settle_kind d.settled d.opened c.0 c.1
+add_kind d (StepItem s) e q =
+    let n = then_back (open_entry d.opened) _ e q in
+    ap (λ (x : Draft). x.settled.is_wide) (sym (same (draft d.settled (InEntry (record n.0 { steps = n.0.steps ++ s ∷ [] }))) e n.2))
+add_kind d EndItem e q =
+    let c = then_back (settle d.settled d.opened) _ e q in
+    ap (λ (x : Draft). x.settled.is_wide) (sym (same (draft c.0 Ended) e c.2)) ∙ settle_kind d.settled d.opened c.0 c.1
+add_kind d (SameItem n) e q = within_kind d (SameItem n) e q
+add_kind d (FactItem f) e q = within_kind d (FactItem f) e q
+add_kind d (CongruenceItem c) e q = within_kind d (CongruenceItem c) e q
+
+pub add_line_kind : (d : Draft) (line : List ℕ) (e : Draft) → add_line d line ≡ Some e → e.settled.is_wide ≡ d.settled.is_wide
+add_line_kind d line e q = let i = then_back (item_of (words line)) (add d) e q in add_kind d i.0 e i.2
 
 pub add_line_back : (d : Draft) (line : List ℕ) (e : Draft) → IsDraft d → add_line d line ≡ Some e → IsDraft e × (draft_lines e ≡ draft_lines d ++ line ∷ [])
 add_line_back d line e h q =

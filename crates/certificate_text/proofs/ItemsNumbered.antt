@@ -5,14 +5,14 @@ use Rattle.std.specs.List.{flat_map}
 use Rattle.std.proofs.lemmas.List.{map-append}
 use Rattle.linear.specs.Linear.{Form}
 use Rattle.texts.specs.Lines.{is_empty, is_natural, words}
-use Rattle.certificate_text.specs.Certificate.{Name, Place, EntrySort, Show, Positive, Negative, Quotient, Entry, Certificate}
+use Rattle.certificate_text.specs.Certificate.{Name, Place, Bound, EntrySort, Show, Positive, Negative, Quotient, Entry, Certificate}
 use Rattle.certificate_text.specs.Text.{body_lines}
 use Rattle.certificate_text.specs.Forms.{form}
 use Rattle.certificate_text.specs.Lines.{Item, PlaceItem, SameItem, FactItem, CongruenceItem, BoundItem, EntryItem, StepItem, EndItem, item_of}
-use Rattle.certificate_text.specs.Rules.{all, is_form, is_spot, is_congruence, is_open_place, is_place, is_bound, is_descent, is_sort, is_step, is_entry, is_certificate}
+use Rattle.certificate_text.specs.Rules.{all, is_form, is_spot, is_congruence, is_open_place, is_place, is_bound, is_bound_in, is_descent, is_sort, is_step, is_entry, is_any_certificate}
 use Rattle.texts.specs.Identifiers.{is_identifier}
 use Rattle.texts.specs.Lines.{is_integer}
-use Rattle.certificate_text.specs.Drafts.{has_line}
+use Rattle.certificate_text.specs.Drafts.{has_line, descent_fits}
 use Rattle.certificate_text.specs.Items.{place_items, entry_items, items_of, item_line, sort_form, form_in, put_sort_form, put_form}
 use Rattle.certificate_text.specs.NumberedText.{number_form}
 use Rattle.certificate_text.specs.NumberedReading.{whole_number, number_in}
@@ -83,16 +83,22 @@ good_entry e h =
     let b = both (is_sort e.sort) (all is_step e.steps) a.1 in
     andt (is_item (EntryItem e.obligation e.sort)) _ (andt (is_natural e.obligation && nat_le 1 e.obligation) (is_sort e.sort) a.0 b.0) (good_items StepItem is_step (λ _. refl) e.steps b.1)
 
+good_bounds : (is_wide : Bool) (bs : List Bound) → all (is_bound_in is_wide) bs ≡ true → all is_bound bs ≡ true
+good_bounds is_wide [] h = refl
+good_bounds is_wide (b ∷ bs) h =
+    let p = both (is_bound_in is_wide b) (all (is_bound_in is_wide) bs) h in
+    andt (is_bound b) (all is_bound bs) (both (is_bound b) (descent_fits is_wide b.descent) p.0).0 (good_bounds is_wide bs p.1)
+
 -- each item of a certificate that can be written is one that can
-pub items_good : (c : Certificate) → is_certificate c ≡ true → all is_item (items_of c) ≡ true
+pub items_good : (c : Certificate) → is_any_certificate c ≡ true → all is_item (items_of c) ≡ true
 items_good c h =
     let a = both _ _ h in
     let p = both (all is_place c.places) _ a.0 in
     let l = both _ _ a.1 in
-    let b = both (all is_bound c.bounds) _ l.0 in
+    let b = both (all (is_bound_in c.is_wide) c.bounds) _ l.0 in
     let e = both (all is_entry c.entries) _ l.1 in
     all_append is_item (flat_map place_items c.places) (map BoundItem c.bounds ++ flat_map entry_items c.entries) (joined_items place_items is_place good_place c.places p.0)
-    (all_append is_item (map BoundItem c.bounds) (flat_map entry_items c.entries) (good_items BoundItem is_bound (λ _. refl) c.bounds b.0) (joined_items entry_items is_entry good_entry c.entries e.0))
+    (all_append is_item (map BoundItem c.bounds) (flat_map entry_items c.entries) (good_items BoundItem is_bound (λ _. refl) c.bounds (good_bounds c.is_wide c.bounds b.0)) (joined_items entry_items is_entry good_entry c.entries e.0))
 
 -- items of the same lines are the same
 pub same_items : (xs ys : List Item) → all is_item xs ≡ true → all is_item ys ≡ true → map item_line xs ≡ map item_line ys → xs ≡ ys

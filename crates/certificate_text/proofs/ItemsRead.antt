@@ -8,7 +8,7 @@ use Rattle.std.proofs.lemmas.List.{append-nil}
 use Rattle.std.proofs.lemmas.Grind.{flat_map-append}
 use Rattle.linear.specs.Linear.{Form}
 use Rattle.texts.specs.Lines.{is_empty, pieces, words, first, sole, two, natural_of, integer_of, follows}
-use Rattle.certificate_text.specs.Certificate.{Name, Anchor, KernelEntry, Barrier, Spot, Congruence, Descent, Down, Halve, Bound, EntrySort, Show, Positive, Negative, Quotient, Scaled, Step, Given, Sum, Divide}
+use Rattle.certificate_text.specs.Certificate.{Name, Anchor, KernelEntry, Barrier, Spot, Congruence, Descent, Down, Halve, Double, Bound, EntrySort, Show, Positive, Negative, Quotient, Scaled, Step, Given, Sum, Divide}
 use Rattle.certificate_text.specs.Text.{form_text, anchor_text, head_text, place_line, congruence_line, descent_text, bound_line, sort_text, scaled_text, step_line}
 use Rattle.certificate_text.specs.Forms.{when, number, identifier_of, form_of}
 use Rattle.certificate_text.specs.Lines.{Item, PlaceItem, SameItem, FactItem, CongruenceItem, BoundItem, EntryItem, StepItem, EndItem, at_least, anchor_of, head_of, spot_of, congruence_of, descent_of, bound_of, plain_sort, sort_of, entry_of, scaled_of, line_is_before, sum_of, given_of, divide_of, place_item, step_item, item_of}
@@ -112,7 +112,17 @@ descent_back w ws d e = elim (by_word w (codes "down") _ _ d e) [
     | inl h ↦ let made : Descent × List (List ℕ) = (Halve, ws) in
         let q : made ≡ d = cc in
         (ap (λ t. t ++ spaced ws) h.0 ∙ ap (λ (r : Descent × List (List ℕ)). descent_text r.0 ++ spaced r.1) q, ap (λ (r : Descent × List (List ℕ)). is_descent r.0) (sym q))
-    | inr g ↦ absurd cc
+    | inr g ↦ elim (by_word w (codes "double") _ _ d g) [
+      | inl h ↦ let a = then_back (first ws) _ d h.1 in
+          let n = then_back (at_least 1 (natural_of a.0.0)) _ d a.2 in
+          let made : Descent × List (List ℕ) = (Double n.0, a.0.1) in
+          let q : made ≡ d = cc in
+          let l = least_back 1 a.0.0 n.0 n.1 in (
+            ap (λ t. t ++ spaced ws) h.0 ∙ ap (λ t. codes "double" ++ t) (word_front ws a.0.0 a.0.1 (decimal n.0) (spaced a.0.1) (first_back ws a.0 a.1) l.0 refl) ∙ ap (λ (r : Descent × List (List ℕ)). descent_text r.0 ++ spaced r.1) q,
+            ap (λ (r : Descent × List (List ℕ)). is_descent r.0) (sym q) ∙ andt (is_natural n.0) (nat_le 1 n.0) l.1 l.2,
+          )
+      | inr k ↦ absurd cc
+    ]
   ]
 ]
 

@@ -8,7 +8,7 @@ use Rattle.std.proofs.lemmas.Bool.{cond-true}
 use Rattle.std.proofs.lemmas.List.{append-nil}
 use Rattle.linear.specs.Linear.{Form}
 use Rattle.texts.specs.Lines.{is_empty, pieces, words, sole, natural_of, integer_of, follows}
-use Rattle.certificate_text.specs.Certificate.{Name, Anchor, KernelEntry, Barrier, Spot, Congruence, Descent, Down, Halve, Bound, EntrySort, Show, Positive, Negative, Quotient, Scaled, Step, Given, Sum, Divide}
+use Rattle.certificate_text.specs.Certificate.{Name, Anchor, KernelEntry, Barrier, Spot, Congruence, Descent, Down, Halve, Double, Bound, EntrySort, Show, Positive, Negative, Quotient, Scaled, Step, Given, Sum, Divide}
 use Rattle.certificate_text.specs.Text.{form_text, anchor_text, head_text, place_line, congruence_line, descent_text, bound_line, sort_text, entry_line, scaled_text, step_line}
 use Rattle.certificate_text.specs.Forms.{then, when, number, identifier_of, form_of}
 use Rattle.certificate_text.specs.Lines.{Item, PlaceItem, SameItem, FactItem, CongruenceItem, BoundItem, EntryItem, StepItem, EndItem, at_least, anchor_of, spot_of, congruence_of, descent_of, bound_of, sort_of, entry_of, scaled_of, line_is_before, sum_of, given_of, item_of}
@@ -92,6 +92,9 @@ descent_forth (Down step) rest h =
     let p = both (is_natural step) (nat_le 1 step) h in
     (codes "down", decimal step ∷ pieces 32 rest, ap (λ ws. codes "down" ∷ ws) (natural_word step rest p.0), rw (least_read 1 step p.0 p.1) refl)
 descent_forth Halve rest h = (codes "halve", pieces 32 rest, refl, refl)
+descent_forth (Double least) rest h =
+    let p = both (is_natural least) (nat_le 1 least) h in
+    (codes "double", decimal least ∷ pieces 32 rest, ap (λ ws. codes "double" ∷ ws) (natural_word least rest p.0), rw (least_read 1 least p.0 p.1) refl)
 
 bound_read : (ws : List (List ℕ)) (b : Bound) (w : List ℕ) (vs : List (List ℕ)) (rest : List (List ℕ)) → is_natural b.loop ≡ true → is_integer b.most ≡ true → ws ≡ decimal b.loop ∷ w ∷ vs → descent_of w vs ≡ Some (b.descent, signed_decimal b.most ∷ rest) → form_of [] None rest ≡ Some b.form → bound_of ws ≡ Some b
 unfolding bound_of

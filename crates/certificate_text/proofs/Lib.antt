@@ -2,6 +2,7 @@ pub mod Cuts
 pub mod DraftsRead
 pub mod EitherVersion
 pub mod Examples
+pub mod FirstLines
 pub mod FormsRead
 pub mod FormsWritten
 pub mod ItemsNumbered

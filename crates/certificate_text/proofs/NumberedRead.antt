@@ -1,7 +1,7 @@
--- A text of version 2 is that of the certificate that it says.
-use Rattle.std.proofs.Common.{◌≡◌, ℕ, suc, ◌+◌, ◌≤◌, true, false, not, ◌&&◌, List, [], ◌∷◌, ◌++◌, length, map, Option, None, Some, Ok, Err, refl, ap, sym, subst, ◌∙◌, arith}
+-- A text of version 2 or 4 is that of the certificate that it says.
+use Rattle.std.proofs.Common.{◌≡◌, ℕ, suc, ◌+◌, ◌≤◌, Bool, true, false, not, ◌&&◌, List, [], ◌∷◌, ◌++◌, length, map, Option, None, Some, Ok, Err, refl, ap, sym, subst, ◌∙◌, append_assoc, arith}
 use Rattle.std.specs.Prelude.{ℤ, pos, codes, bytes_eq, nat_eq, nat_le, nat_lt, max, fold}
-use Rattle.std.specs.Ordering.{int_eq}
+use Rattle.std.specs.Fmt.{signed_decimal}
 use Rattle.std.specs.List.{join_with_byte, filter_map, cons_option}
 use Rattle.std.proofs.lemmas.Bool.{cond_both}
 use Rattle.std.proofs.lemmas.Bool.Decides.{Decides-int_eq}
@@ -17,21 +17,22 @@ use Rattle.certificate_text.specs.Certificate.{Name, Certificate, BadLine, Other
 use Rattle.certificate_text.specs.Text.{body_lines}
 use Rattle.certificate_text.specs.Forms.{number, form_of}
 use Rattle.certificate_text.specs.Lines.{Item, EndItem, item_of}
-use Rattle.certificate_text.specs.Drafts.{nothing_yet, add}
+use Rattle.certificate_text.specs.Drafts.{begun, add}
 use Rattle.certificate_text.specs.Reading.{Read, is_ended, version_of, unless, certificate_limit}
-use Rattle.certificate_text.specs.Rules.{all, is_form, is_certificate}
+use Rattle.certificate_text.specs.Rules.{all, is_form, is_certificate, is_any_certificate, is_wide_certificate}
 use Rattle.certificate_text.specs.Items.{items_of, item_line, form_in, put_form}
 use Rattle.certificate_text.specs.FormTables.{FormTable, has_form, with_form, form_at}
-use Rattle.certificate_text.specs.NumberedText.{forms_in, forms_of, number_form, numbered_by, numbered, numbered_line, table_line, lines_of_two, text_of_two}
-use Rattle.certificate_text.specs.NumberedReading.{number_in, allowed_form, filled_by, filled, NumberedDraft, numbered_draft, add_filled, add_numbered, all_used, finish_numbered, go_to, read_numbered, table_words, add_form, by_table_words, read_table, head_of_two, read_text_of_two, certificate_of_two}
+use Rattle.certificate_text.specs.NumberedText.{forms_in, forms_of, number_form, numbered_by, numbered, numbered_line, table_line, lines_of_two, text_of_two, text_of_four}
+use Rattle.certificate_text.specs.NumberedReading.{number_in, allowed_form, filled_by, filled, NumberedDraft, numbered_draft, add_filled, add_numbered, all_used, finish_numbered, go_to, read_numbered, table_words, add_form, by_table_words, read_table, is_version, numbered_head, read_numbered_text, numbered_certificate, certificate_of_two, certificate_of_four}
 use Rattle.texts.proofs.Fits.{both}
 use Rattle.texts.proofs.Decimals.{integer_back}
 use Rattle.certificate_text.proofs.Cuts.{spaced, pieces_back, then_back, when_back, cond_back, number_back, two_back, all_push}
-use Rattle.certificate_text.proofs.ItemsRead.{is_item, item_back, same, none_left, whole_back}
-use Rattle.certificate_text.proofs.DraftsRead.{IsDraft, draft_lines, add_back}
-use Rattle.certificate_text.proofs.Read.{joined_more, lines_push, is_open_end, unless_back, nothing_read}
+use Rattle.certificate_text.proofs.ItemsRead.{is_item, item_back, andt, same, none_left, whole_back}
+use Rattle.certificate_text.proofs.DraftsRead.{IsDraft, draft_lines, add_kind, add_back}
+use Rattle.certificate_text.proofs.Read.{joined_more, lines_push, is_open_end, unless_back, nothing_read, narrow}
 use Rattle.certificate_text.proofs.Tables.{le_back, eq_back, denied, is_fresh, fresh_push, all_at, at_place, Grown, grown_back}
 use Rattle.certificate_text.proofs.Tables as tables
+use Rattle.certificate_text.proofs.FirstLines.{number_of_version, first_line, numbered_text}
 use Rattle.certificate_text.proofs.ItemsNumbered.{lines_are, items_good, same_items, form_put, put_back, put_good, number_in_back}
 
 -- a table as it is read
@@ -98,8 +99,9 @@ filled_by_back forms seen left raw u (Some number) r t split l g o e =
     subst (λ (p : ℕ × Item). IsFilled forms seen raw p.0 p.1) (same (max u n.0, put_form f.0 raw) r f.2) made
 
 -- what was read behind the table: its items, whose forms stand in front in the table
-pub record IsNumbered (forms : FormTable) (d : NumberedDraft) (items : List Item) : Type 0 where
+pub record IsNumbered (is_wide : Bool) (forms : FormTable) (d : NumberedDraft) (items : List Item) : Type 0 where
   pub draft : IsDraft d.read
+  pub kind : d.read.settled.is_wide ≡ is_wide
   pub lines : draft_lines d.read ≡ map item_line items
   pub good : all is_item items ≡ true
   pub left : FormTable
@@ -107,13 +109,13 @@ pub record IsNumbered (forms : FormTable) (d : NumberedDraft) (items : List Item
   pub used : length (forms_in items) ≡ d.used
 
 -- one line more
-pub record Says (forms : FormTable) (e : NumberedDraft) (items : List Item) (line : List ℕ) : Type 0 where
+pub record Says (is_wide : Bool) (forms : FormTable) (e : NumberedDraft) (items : List Item) (line : List ℕ) : Type 0 where
   pub item : Item
   pub numbered_as : numbered_line forms item ≡ line
-  pub holds : IsNumbered forms e (items ++ item ∷ [])
+  pub holds : IsNumbered is_wide forms e (items ++ item ∷ [])
 
-pub add_numbered_back : (forms : FormTable) (d : NumberedDraft) (items : List Item) (line : List ℕ) (e : NumberedDraft) → IsTable forms → IsNumbered forms d items → add_numbered forms d line ≡ Some e → Says forms e items line
-add_numbered_back forms d items line e t h q =
+pub add_numbered_back : (is_wide : Bool) (forms : FormTable) (d : NumberedDraft) (items : List Item) (line : List ℕ) (e : NumberedDraft) → IsTable forms → IsNumbered is_wide forms d items → add_numbered forms d line ≡ Some e → Says is_wide forms e items line
+add_numbered_back is_wide forms d items line e t h q =
     let raw = then_back (item_of (words line)) _ e q in
     let b = item_back line raw.0 raw.1 in
     let r = then_back (filled forms d.used raw.0) (add_filled d.read) e raw.2 in
@@ -121,8 +123,9 @@ add_numbered_back forms d items line e t h q =
     let a = then_back (add d.read r.0.1) _ e r.2 in
     let x = add_back d.read r.0.1 a.0 h.draft f.good a.1 in
     let grown : forms_in (items ++ r.0.1 ∷ []) ≡ used_by (forms_in items) (form_in r.0.1) = forms_push items r.0.1 ∙ used_is (forms_in items) (form_in r.0.1) in
-    let made : IsNumbered forms (numbered_draft r.0.0 a.0) (items ++ r.0.1 ∷ []) = record {
+    let made : IsNumbered is_wide forms (numbered_draft r.0.0 a.0) (items ++ r.0.1 ∷ []) = record {
       draft = x.0;
+      kind = add_kind d.read r.0.1 a.0 a.1 ∙ h.kind;
       lines = x.1 ∙ ap (λ ls. ls ++ item_line r.0.1 ∷ []) h.lines ∙ sym (map_push item_line items r.0.1);
       good = all_push is_item items r.0.1 h.good f.good;
       left = f.left;
@@ -132,20 +135,21 @@ add_numbered_back forms d items line e t h q =
     record {
       item = r.0.1;
       numbered_as = ap item_line f.number ∙ b.0;
-      holds = subst (λ g. IsNumbered forms g (items ++ r.0.1 ∷ [])) (same (numbered_draft r.0.0 a.0) e a.2) made;
+      holds = subst (λ g. IsNumbered is_wide forms g (items ++ r.0.1 ∷ [])) (same (numbered_draft r.0.0 a.0) e a.2) made;
     }
 
-nothing_numbered : (forms : FormTable) → IsNumbered forms (numbered_draft 0 nothing_yet) []
-nothing_numbered forms = record { draft = nothing_read; lines = refl; good = refl; left = forms; table = refl; used = refl }
+nothing_numbered : (is_wide : Bool) (forms : FormTable) → IsNumbered is_wide forms (numbered_draft 0 (begun is_wide)) []
+nothing_numbered is_wide forms = record { draft = nothing_read is_wide; kind = refl; lines = refl; good = refl; left = forms; table = refl; used = refl }
 
 abbrev pub numbered_lines : FormTable → List Item → List (List ℕ)
 numbered_lines forms items = map (numbered_line forms) items
 
 -- what is left to read behind the table, where `so_far` was read
-pub record Ends (forms : FormTable) (so_far rest : List ℕ) (c : Certificate) : Type 0 where
+pub record Ends (is_wide : Bool) (forms : FormTable) (so_far rest : List ℕ) (c : Certificate) : Type 0 where
   pub table : forms_of c ≡ forms
   pub text : so_far ++ rest ≡ text_of_lines (numbered_lines forms (items_of c) ++ codes "end" ∷ [])
-  pub good : is_certificate c ≡ true
+  pub good : is_any_certificate c ≡ true
+  pub kind : c.is_wide ≡ is_wide
 
 same_ok : (a c : Certificate) (r : Read) → r ≡ Ok a → r ≡ Ok c → a ≡ c
 same_ok a c r e q = cc
@@ -170,9 +174,9 @@ end_numbered : (forms : FormTable) (items : List Item) → forms_in (items ++ En
 end_numbered forms items = forms_push items EndItem
 
 -- all lines are read
-ended : (forms : FormTable) (d : NumberedDraft) (items : List Item) (c : Certificate) → IsNumbered forms d items → is_ended d.read.opened ≡ true → d.used ≡ length forms → d.read.settled ≡ c → Ends forms (text_of_lines (numbered_lines forms items)) [] c
-ended forms d items c h e u s =
-    let good : is_certificate c ≡ true = ap is_certificate (sym s) ∙ h.draft.settled in
+ended : (is_wide : Bool) (forms : FormTable) (d : NumberedDraft) (items : List Item) (c : Certificate) → IsNumbered is_wide forms d items → is_ended d.read.opened ≡ true → d.used ≡ length forms → d.read.settled ≡ c → Ends is_wide forms (text_of_lines (numbered_lines forms items)) [] c
+ended is_wide forms d items c h e u s =
+    let good : is_any_certificate c ≡ true = ap is_any_certificate (sym s) ∙ h.draft.settled in
     let lines : map item_line items ≡ map item_line (items_of c ++ EndItem ∷ []) =
     sym h.lines ∙ ap (λ ls. body_lines d.read.settled ++ ls) (is_open_end d.read.opened e) ∙ ap (λ x. body_lines x ++ codes "end" ∷ []) s ∙ ap (λ ls. ls ++ codes "end" ∷ []) (sym (lines_are c)) ∙ sym (map_push item_line (items_of c) EndItem)
     in
@@ -182,29 +186,31 @@ ended forms d items c h e u s =
       table = sym (end_numbered forms (items_of c)) ∙ ap forms_in (sym all_of) ∙ sym (append-nil (forms_in items)) ∙ ap (λ l. forms_in items ++ l) (sym none) ∙ sym h.table;
       text = append-nil (text_of_lines (numbered_lines forms items)) ∙ ap (λ is. text_of_lines (numbered_lines forms is)) all_of ∙ ap text_of_lines (map_push (numbered_line forms) (items_of c) EndItem);
       good = good;
+      kind = ap (λ (x : Certificate). x.is_wide) (sym s) ∙ h.kind;
     }
 
 pub went_to : {A : Type 0} (n : ℕ) (o : Option A) (go : A → Read) (c : Certificate) → go_to n o go ≡ Ok c → (a : A) × (o ≡ Some a) × (go a ≡ Ok c)
 went_to n None go c q = absurd cc
 went_to n (Some a) go c q = (a, refl, q)
 
-pub read_numbered_back : (forms : FormTable) (n : ℕ) (d : NumberedDraft) (items : List Item) (ls : List (List ℕ)) (c : Certificate) → IsTable forms → IsNumbered forms d items → read_numbered forms n d ls ≡ Ok c → Ends forms (text_of_lines (numbered_lines forms items)) (join_with_byte 10 ls) c
-read_numbered_back forms n d items [] c t h = λ q. absurd cc
-read_numbered_back forms n d items (line ∷ others) c t h =
-    cond_both (is_empty others) (finish_numbered forms n d line) (go_to n (add_numbered forms d line) (λ e. read_numbered forms (suc n) e others)) (λ r. r ≡ Ok c → Ends forms (text_of_lines (numbered_lines forms items)) (join_with_byte 10 (line ∷ others)) c)
+pub read_numbered_back : (is_wide : Bool) (forms : FormTable) (n : ℕ) (d : NumberedDraft) (items : List Item) (ls : List (List ℕ)) (c : Certificate) → IsTable forms → IsNumbered is_wide forms d items → read_numbered forms n d ls ≡ Ok c → Ends is_wide forms (text_of_lines (numbered_lines forms items)) (join_with_byte 10 ls) c
+read_numbered_back is_wide forms n d items [] c t h = λ q. absurd cc
+read_numbered_back is_wide forms n d items (line ∷ others) c t h =
+    cond_both (is_empty others) (finish_numbered forms n d line) (go_to n (add_numbered forms d line) (λ e. read_numbered forms (suc n) e others)) (λ r. r ≡ Ok c → Ends is_wide forms (text_of_lines (numbered_lines forms items)) (join_with_byte 10 (line ∷ others)) c)
     (λ e q.
     let f = finish_back forms n d line c q in
-    let r = ended forms d items c h f.0 f.2 f.3 in
-    subst (λ rest. Ends forms (text_of_lines (numbered_lines forms items)) rest c) (sym (ap (λ ls. join_with_byte 10 (line ∷ ls)) (none_left others e) ∙ f.1)) r)
+    let r = ended is_wide forms d items c h f.0 f.2 f.3 in
+    subst (λ rest. Ends is_wide forms (text_of_lines (numbered_lines forms items)) rest c) (sym (ap (λ ls. join_with_byte 10 (line ∷ ls)) (none_left others e) ∙ f.1)) r)
     (λ e q.
     let g = went_to n (add_numbered forms d line) (λ x. read_numbered forms (suc n) x others) c q in
-    let a = add_numbered_back forms d items line g.0 t h g.1 in
-    let r = read_numbered_back forms (suc n) g.0 (items ++ a.item ∷ []) others c t a.holds g.2 in
+    let a = add_numbered_back is_wide forms d items line g.0 t h g.1 in
+    let r = read_numbered_back is_wide forms (suc n) g.0 (items ++ a.item ∷ []) others c t a.holds g.2 in
     let more : numbered_lines forms (items ++ a.item ∷ []) ≡ numbered_lines forms items ++ line ∷ [] = map_push (numbered_line forms) items a.item ∙ ap (λ l. numbered_lines forms items ++ l ∷ []) a.numbered_as in
     record {
       table = r.table;
       text = ap (λ x. text_of_lines (numbered_lines forms items) ++ x) (joined_more line others e) ∙ sym (lines_push (numbered_lines forms items) line (join_with_byte 10 others)) ∙ ap (λ ls. text_of_lines ls ++ join_with_byte 10 others) (sym more) ∙ r.text;
       good = r.good;
+      kind = r.kind;
     })
 
 -- a line of the table is that of its form
@@ -234,65 +240,90 @@ add_form_back forms line ws more t p q =
     record { form = f.0; more_is = sym a.1; line_is = b.0; table = subst IsTable a.1 made }
 
 -- what is left to read of the table and behind it
-pub record EndsTable (so_far rest : List ℕ) (c : Certificate) : Type 0 where
+pub record EndsTable (is_wide : Bool) (so_far rest : List ℕ) (c : Certificate) : Type 0 where
   pub text : so_far ++ rest ≡ text_of_lines (lines_of_two (forms_of c) c)
-  pub good : is_certificate c ≡ true
+  pub good : is_any_certificate c ≡ true
+  pub kind : c.is_wide ≡ is_wide
 
-table_ended : (forms : FormTable) (rest : List ℕ) (c : Certificate) → Ends forms [] rest c → EndsTable (text_of_lines (map table_line forms)) rest c
-table_ended forms rest c h = record {
+table_ended : (is_wide : Bool) (forms : FormTable) (rest : List ℕ) (c : Certificate) → Ends is_wide forms [] rest c → EndsTable is_wide (text_of_lines (map table_line forms)) rest c
+table_ended is_wide forms rest c h = record {
   text = ap (λ t. text_of_lines (map table_line forms) ++ t) h.text ∙ sym (flat_map-append (λ (l : List ℕ). l ++ 10 ∷ []) (map table_line forms) (numbered_lines forms (items_of c) ++ codes "end" ∷ [])) ∙ ap (λ t. text_of_lines (lines_of_two t c)) (sym h.table);
   good = h.good;
+  kind = h.kind;
 }
 
-table_line_read : (forms : FormTable) (n : ℕ) (line : List ℕ) (others : List (List ℕ)) (c : Certificate) → IsTable forms → is_empty others ≡ false → ((more : FormTable) → IsTable more → read_table more (suc n) others ≡ Ok c → EndsTable (text_of_lines (map table_line more)) (join_with_byte 10 others) c) → (o : Option (List (List ℕ))) → table_words (words line) ≡ o → by_table_words o (read_numbered forms n (numbered_draft 0 nothing_yet) (line ∷ others)) (λ ws. go_to n (add_form forms ws) (λ more. read_table more (suc n) others)) ≡ Ok c → EndsTable (text_of_lines (map table_line forms)) (join_with_byte 10 (line ∷ others)) c
-table_line_read forms n line others c t e back None w q =
-    table_ended forms (join_with_byte 10 (line ∷ others)) c (read_numbered_back forms n (numbered_draft 0 nothing_yet) [] (line ∷ others) c t (nothing_numbered forms) q)
-table_line_read forms n line others c t e back (Some ws) w q =
-    let g = went_to n (add_form forms ws) (λ more. read_table more (suc n) others) c q in
+table_line_read : (is_wide : Bool) (forms : FormTable) (n : ℕ) (line : List ℕ) (others : List (List ℕ)) (c : Certificate) → IsTable forms → is_empty others ≡ false → ((more : FormTable) → IsTable more → read_table is_wide more (suc n) others ≡ Ok c → EndsTable is_wide (text_of_lines (map table_line more)) (join_with_byte 10 others) c) → (o : Option (List (List ℕ))) → table_words (words line) ≡ o → by_table_words o (read_numbered forms n (numbered_draft 0 (begun is_wide)) (line ∷ others)) (λ ws. go_to n (add_form forms ws) (λ more. read_table is_wide more (suc n) others)) ≡ Ok c → EndsTable is_wide (text_of_lines (map table_line forms)) (join_with_byte 10 (line ∷ others)) c
+table_line_read is_wide forms n line others c t e back None w q =
+    table_ended is_wide forms (join_with_byte 10 (line ∷ others)) c (read_numbered_back is_wide forms n (numbered_draft 0 (begun is_wide)) [] (line ∷ others) c t (nothing_numbered is_wide forms) q)
+table_line_read is_wide forms n line others c t e back (Some ws) w q =
+    let g = went_to n (add_form forms ws) (λ more. read_table is_wide more (suc n) others) c q in
     let a = add_form_back forms line ws g.0 t w g.1 in
     let r = back g.0 a.table g.2 in
     let lines : map table_line g.0 ≡ map table_line forms ++ line ∷ [] = ap (map table_line) a.more_is ∙ map_push table_line forms a.form ∙ ap (λ l. map table_line forms ++ l ∷ []) a.line_is in
     record {
       text = ap (λ x. text_of_lines (map table_line forms) ++ x) (joined_more line others e) ∙ sym (lines_push (map table_line forms) line (join_with_byte 10 others)) ∙ ap (λ ls. text_of_lines ls ++ join_with_byte 10 others) (sym lines) ∙ r.text;
       good = r.good;
+      kind = r.kind;
     }
 
-pub read_table_back : (forms : FormTable) (n : ℕ) (ls : List (List ℕ)) (c : Certificate) → IsTable forms → read_table forms n ls ≡ Ok c → EndsTable (text_of_lines (map table_line forms)) (join_with_byte 10 ls) c
-read_table_back forms n [] c t = λ q. absurd cc
-read_table_back forms n (line ∷ others) c t =
-    cond_both (is_empty others) (Err (BadLine n)) (by_table_words (table_words (words line)) (read_numbered forms n (numbered_draft 0 nothing_yet) (line ∷ others)) (λ ws. go_to n (add_form forms ws) (λ more. read_table more (suc n) others))) (λ r. r ≡ Ok c → EndsTable (text_of_lines (map table_line forms)) (join_with_byte 10 (line ∷ others)) c)
+pub read_table_back : (is_wide : Bool) (forms : FormTable) (n : ℕ) (ls : List (List ℕ)) (c : Certificate) → IsTable forms → read_table is_wide forms n ls ≡ Ok c → EndsTable is_wide (text_of_lines (map table_line forms)) (join_with_byte 10 ls) c
+read_table_back is_wide forms n [] c t = λ q. absurd cc
+read_table_back is_wide forms n (line ∷ others) c t =
+    cond_both (is_empty others) (Err (BadLine n)) (by_table_words (table_words (words line)) (read_numbered forms n (numbered_draft 0 (begun is_wide)) (line ∷ others)) (λ ws. go_to n (add_form forms ws) (λ more. read_table is_wide more (suc n) others))) (λ r. r ≡ Ok c → EndsTable is_wide (text_of_lines (map table_line forms)) (join_with_byte 10 (line ∷ others)) c)
     (λ e q. absurd cc)
-    (λ e q. table_line_read forms n line others c t e (λ more u r. read_table_back more (suc n) others c u r) (table_words (words line)) refl q)
+    (λ e q. table_line_read is_wide forms n line others c t e (λ more u r. read_table_back is_wide more (suc n) others c u r) (table_words (words line)) refl q)
 
-version_back : (v : Option ℤ) → head_of_two v ≡ None → v ≡ Some (pos 2)
-version_back None = λ q. absurd cc
-version_back (Some v) =
-    cond_both (int_eq v (pos 2)) None (Some OtherVersion) (λ o. o ≡ None → Some v ≡ Some (pos 2)) (λ e q. ap Some ((Decides-int_eq v (pos 2)).0 e)) (λ e q. absurd cc)
+version_is : (is_wide : Bool) (v : ℤ) → is_version is_wide v ≡ true → v ≡ number_of_version is_wide
+version_is false v = (Decides-int_eq v (pos 2)).0
+version_is true v = (Decides-int_eq v (pos 4)).0
 
-pub first_line_of_two : (line : List ℕ) → head_of_two (version_of (words line)) ≡ None → line ≡ codes "certificate 2"
-first_line_of_two line q =
-    let v = version_back (version_of (words line)) q in
-    let w = then_back (two (words line)) _ (pos 2) v in
-    let c = cond_back (bytes_eq w.0.0 (codes "certificate")) (number (integer_of w.0.1)) (pos 2) w.2 in
-    let i = integer_back w.0.1 (pos 2) (number_back (integer_of w.0.1) (pos 2) c.1) in
+pub version_back : (is_wide : Bool) (v : Option ℤ) → numbered_head is_wide v ≡ None → v ≡ Some (number_of_version is_wide)
+version_back is_wide None = λ q. absurd cc
+version_back is_wide (Some v) =
+    cond_both (is_version is_wide v) None (Some OtherVersion) (λ o. o ≡ None → Some v ≡ Some (number_of_version is_wide)) (λ e q. ap Some (version_is is_wide v e)) (λ e q. absurd cc)
+
+version_written : (is_wide : Bool) → codes "certificate " ++ signed_decimal (number_of_version is_wide) ≡ first_line is_wide
+version_written false = ap (λ t. codes "certificate " ++ t) (decimal_digit 2 (omega arith))
+version_written true = ap (λ t. codes "certificate " ++ t) (decimal_digit 4 (omega arith))
+
+pub first_line_back : (is_wide : Bool) (line : List ℕ) → numbered_head is_wide (version_of (words line)) ≡ None → line ≡ first_line is_wide
+first_line_back is_wide line q =
+    let n = number_of_version is_wide in
+    let v = version_back is_wide (version_of (words line)) q in
+    let w = then_back (two (words line)) _ n v in
+    let c = cond_back (bytes_eq w.0.0 (codes "certificate")) (number (integer_of w.0.1)) n w.2 in
+    let i = integer_back w.0.1 n (number_back (integer_of w.0.1) n c.1) in
     pieces_back 32 line w.0.0 (w.0.1 ∷ []) (two_back (words line) w.0 w.1) ∙ ap (λ t. t ++ spaced (w.0.1 ∷ [])) ((bytes_eq-Decides w.0.0 (codes "certificate")).0 c.0)
-    ∙ ap (λ t. codes "certificate " ++ t) (append-nil w.0.1 ∙ sym i.0 ∙ decimal_digit 2 (omega arith))
+    ∙ ap (λ t. codes "certificate " ++ t) (append-nil w.0.1 ∙ sym i.0) ∙ version_written is_wide
 
 pub empty_table : IsTable []
 empty_table = record { good = refl; fresh = refl }
 
-text_back : (ls : List (List ℕ)) (c : Certificate) → read_text_of_two ls ≡ Ok c → (text_of_two c ≡ join_with_byte 10 ls) × (is_certificate c ≡ true)
-text_back [] c = λ q. absurd cc
-text_back (line ∷ others) c =
-    cond_both (is_empty others) (Err (BadLine 1)) (unless (head_of_two (version_of (words line))) (read_table [] 2 others)) (λ r. r ≡ Ok c → (text_of_two c ≡ join_with_byte 10 (line ∷ others)) × (is_certificate c ≡ true))
+-- what a text says, it is the text of
+abbrev pub IsOf : (is_wide : Bool) → List ℕ → Certificate → Type 0
+IsOf is_wide text c = (numbered_text is_wide c ≡ text) × (is_any_certificate c ≡ true) × (c.is_wide ≡ is_wide)
+
+text_back : (is_wide : Bool) (ls : List (List ℕ)) (c : Certificate) → read_numbered_text is_wide ls ≡ Ok c → IsOf is_wide (join_with_byte 10 ls) c
+text_back is_wide [] c = λ q. absurd cc
+text_back is_wide (line ∷ others) c =
+    cond_both (is_empty others) (Err (BadLine 1)) (unless (numbered_head is_wide (version_of (words line))) (read_table is_wide [] 2 others)) (λ r. r ≡ Ok c → IsOf is_wide (join_with_byte 10 (line ∷ others)) c)
     (λ e q. absurd cc)
     (λ e q.
-    let u = unless_back (head_of_two (version_of (words line))) (read_table [] 2 others) c q in
-    let r = read_table_back [] 2 others c empty_table u.1 in
-    (ap (λ t. (codes "certificate 2" ++ (10 ∷ [])) ++ t) (sym r.text) ∙ ap (λ t. t ++ (10 ∷ join_with_byte 10 others)) (sym (first_line_of_two line u.0)) ∙ sym (joined_more line others e), r.good))
+    let u = unless_back (numbered_head is_wide (version_of (words line))) (read_table is_wide [] 2 others) c q in
+    let r = read_table_back is_wide [] 2 others c empty_table u.1 in (
+      ap (λ t. (first_line is_wide ++ (10 ∷ [])) ++ t) (sym r.text) ∙ append_assoc (first_line is_wide) (10 ∷ []) (join_with_byte 10 others) ∙ ap (λ t. t ++ (10 ∷ join_with_byte 10 others)) (sym (first_line_back is_wide line u.0)) ∙ sym (joined_more line others e),
+      r.good,
+      r.kind,
+    ))
+
+numbered_back : (is_wide : Bool) (text : List ℕ) (c : Certificate) → numbered_certificate is_wide text ≡ Ok c → IsOf is_wide text c
+numbered_back is_wide text c =
+    cond_both (nat_lt certificate_limit (length text)) (Err (BadLine 1)) (read_numbered_text is_wide (pieces 10 text)) (λ r. r ≡ Ok c → IsOf is_wide text c)
+    (λ e q. absurd cc)
+    (λ e q. let r = text_back is_wide (pieces 10 text) c q in (r.0 ∙ join_with_byte-slice_split 10 text, r.1, r.2))
 
 pub certificate_of_two_back : (text : List ℕ) (c : Certificate) → certificate_of_two text ≡ Ok c → (text_of_two c ≡ text) × (is_certificate c ≡ true)
-certificate_of_two_back text c =
-    cond_both (nat_lt certificate_limit (length text)) (Err (BadLine 1)) (read_text_of_two (pieces 10 text)) (λ r. r ≡ Ok c → (text_of_two c ≡ text) × (is_certificate c ≡ true))
-    (λ e q. absurd cc)
-    (λ e q. let r = text_back (pieces 10 text) c q in (r.0 ∙ join_with_byte-slice_split 10 text, r.1))
+certificate_of_two_back text c q = let r = numbered_back false text c q in (r.0, narrow c r.1 r.2)
+
+pub certificate_of_four_back : (text : List ℕ) (c : Certificate) → certificate_of_four text ≡ Ok c → (text_of_four c ≡ text) × (is_wide_certificate c ≡ true)
+certificate_of_four_back text c q = let r = numbered_back true text c q in (r.0, andt c.is_wide (is_any_certificate c) r.2 r.1)

@@ -1,6 +1,6 @@
--- Reading and writing version 2, a step at a time: for code.
-use Rattle.std.proofs.Common.{◌≡◌, ℕ, suc, ◌+◌, ◌≤◌, false, true, List, [], ◌∷◌, ◌++◌, length, map, Option, None, Some, Err, refl, ap, sym, subst, ◌∙◌, arith}
-use Rattle.std.specs.Prelude.{codes, fold, max, not, nat_le}
+-- Reading and writing versions 2 and 4, a step at a time: for code.
+use Rattle.std.proofs.Common.{◌≡◌, ℕ, suc, ◌+◌, ◌≤◌, Bool, false, true, List, [], ◌∷◌, ◌++◌, length, map, Option, None, Some, Err, refl, ap, sym, subst, ◌∙◌, arith}
+use Rattle.std.specs.Prelude.{ℤ, codes, fold, max, not, nat_le}
 use Rattle.std.specs.List.{filter_map, cons_option}
 use Rattle.std.specs.Fmt.{decimal, signed_decimal}
 use Rattle.std.proofs.lemmas.Bool.{cond-false}
@@ -10,11 +10,11 @@ use Rattle.std.proofs.Math.Nat.{max-le}
 use Rattle.std.proofs.lemmas.List.Elements.{filter_map-append}
 use Rattle.linear.specs.Linear.{Form}
 use Rattle.texts.specs.Lines.{is_empty, words}
-use Rattle.certificate_text.specs.Certificate.{Name, Congruence, Bound, Place, Quotient, Entry, BadLine}
+use Rattle.certificate_text.specs.Certificate.{Name, Congruence, Double, Bound, Place, Quotient, Entry, BadLine}
 use Rattle.certificate_text.specs.Text.{descent_text}
 use Rattle.certificate_text.specs.Forms.{form_of}
 use Rattle.certificate_text.specs.Lines.{Item, SameItem, FactItem, CongruenceItem, BoundItem, EntryItem, StepItem, item_of}
-use Rattle.certificate_text.specs.Drafts.{nothing_yet, add}
+use Rattle.certificate_text.specs.Drafts.{begun, add}
 use Rattle.certificate_text.specs.Rules.{all, is_form}
 use Rattle.certificate_text.specs.Items.{place_items, entry_items, form_in, sort_form, put_form}
 use Rattle.certificate_text.specs.FormTables.{FormTable, has_form, with_form, number_of, form_at}
@@ -27,31 +27,31 @@ use Rattle.certificate_text.proofs.Tables.{all_at, at_place}
 use Rattle.certificate_text.proofs.ItemsNumbered.{put_good}
 
 -- a line of the table is read
-pub table_row : (forms : FormTable) (n : ℕ) (ls : List (List ℕ)) (line : List ℕ) (others ws : List (List ℕ)) (more : FormTable) → ls ≡ line ∷ others → is_empty others ≡ false → table_words (words line) ≡ Some ws → add_form forms ws ≡ Some more → read_table forms n ls ≡ read_table more (n + 1) others
-table_row forms n ls line others ws more p e w a =
-    let body = read_numbered forms n (numbered_draft 0 nothing_yet) (line ∷ others) in
-    ap (read_table forms n) p
-    ∙ cond-false (is_empty others) (Err (BadLine n)) (by_table_words (table_words (words line)) body (λ v. go_to n (add_form forms v) (λ m. read_table m (suc n) others))) e
-    ∙ ap (λ o. by_table_words o body (λ v. go_to n (add_form forms v) (λ m. read_table m (suc n) others))) w
-    ∙ ap (λ o. go_to n o (λ m. read_table m (suc n) others)) a ∙ ap (λ k. read_table more k others) (omega arith)
+pub table_row : (is_wide : Bool) (forms : FormTable) (n : ℕ) (ls : List (List ℕ)) (line : List ℕ) (others ws : List (List ℕ)) (more : FormTable) → ls ≡ line ∷ others → is_empty others ≡ false → table_words (words line) ≡ Some ws → add_form forms ws ≡ Some more → read_table is_wide forms n ls ≡ read_table is_wide more (n + 1) others
+table_row is_wide forms n ls line others ws more p e w a =
+    let body = read_numbered forms n (numbered_draft 0 (begun is_wide)) (line ∷ others) in
+    ap (read_table is_wide forms n) p
+    ∙ cond-false (is_empty others) (Err (BadLine n)) (by_table_words (table_words (words line)) body (λ v. go_to n (add_form forms v) (λ m. read_table is_wide m (suc n) others))) e
+    ∙ ap (λ o. by_table_words o body (λ v. go_to n (add_form forms v) (λ m. read_table is_wide m (suc n) others))) w
+    ∙ ap (λ o. go_to n o (λ m. read_table is_wide m (suc n) others)) a ∙ ap (λ k. read_table is_wide more k others) (omega arith)
 
 -- a line of the table is at fault
-pub table_fault : (forms : FormTable) (n : ℕ) (ls : List (List ℕ)) (line : List ℕ) (others ws : List (List ℕ)) → ls ≡ line ∷ others → is_empty others ≡ false → table_words (words line) ≡ Some ws → add_form forms ws ≡ None → read_table forms n ls ≡ Err (BadLine n)
-table_fault forms n ls line others ws p e w a =
-    let body = read_numbered forms n (numbered_draft 0 nothing_yet) (line ∷ others) in
-    ap (read_table forms n) p
-    ∙ cond-false (is_empty others) (Err (BadLine n)) (by_table_words (table_words (words line)) body (λ v. go_to n (add_form forms v) (λ m. read_table m (suc n) others))) e
-    ∙ ap (λ o. by_table_words o body (λ v. go_to n (add_form forms v) (λ m. read_table m (suc n) others))) w
-    ∙ ap (λ o. go_to n o (λ m. read_table m (suc n) others)) a
+pub table_fault : (is_wide : Bool) (forms : FormTable) (n : ℕ) (ls : List (List ℕ)) (line : List ℕ) (others ws : List (List ℕ)) → ls ≡ line ∷ others → is_empty others ≡ false → table_words (words line) ≡ Some ws → add_form forms ws ≡ None → read_table is_wide forms n ls ≡ Err (BadLine n)
+table_fault is_wide forms n ls line others ws p e w a =
+    let body = read_numbered forms n (numbered_draft 0 (begun is_wide)) (line ∷ others) in
+    ap (read_table is_wide forms n) p
+    ∙ cond-false (is_empty others) (Err (BadLine n)) (by_table_words (table_words (words line)) body (λ v. go_to n (add_form forms v) (λ m. read_table is_wide m (suc n) others))) e
+    ∙ ap (λ o. by_table_words o body (λ v. go_to n (add_form forms v) (λ m. read_table is_wide m (suc n) others))) w
+    ∙ ap (λ o. go_to n o (λ m. read_table is_wide m (suc n) others)) a
 
 -- the table ends before a line that is none of it
-pub table_over : (forms : FormTable) (n : ℕ) (ls : List (List ℕ)) (line : List ℕ) (others : List (List ℕ)) → ls ≡ line ∷ others → is_empty others ≡ false → table_words (words line) ≡ None → read_table forms n ls ≡ read_numbered forms n (numbered_draft 0 nothing_yet) ls
-table_over forms n ls line others p e w =
-    let body = read_numbered forms n (numbered_draft 0 nothing_yet) (line ∷ others) in
-    ap (read_table forms n) p
-    ∙ cond-false (is_empty others) (Err (BadLine n)) (by_table_words (table_words (words line)) body (λ v. go_to n (add_form forms v) (λ m. read_table m (suc n) others))) e
-    ∙ ap (λ o. by_table_words o body (λ v. go_to n (add_form forms v) (λ m. read_table m (suc n) others))) w
-    ∙ ap (read_numbered forms n (numbered_draft 0 nothing_yet)) (sym p)
+pub table_over : (is_wide : Bool) (forms : FormTable) (n : ℕ) (ls : List (List ℕ)) (line : List ℕ) (others : List (List ℕ)) → ls ≡ line ∷ others → is_empty others ≡ false → table_words (words line) ≡ None → read_table is_wide forms n ls ≡ read_numbered forms n (numbered_draft 0 (begun is_wide)) ls
+table_over is_wide forms n ls line others p e w =
+    let body = read_numbered forms n (numbered_draft 0 (begun is_wide)) (line ∷ others) in
+    ap (read_table is_wide forms n) p
+    ∙ cond-false (is_empty others) (Err (BadLine n)) (by_table_words (table_words (words line)) body (λ v. go_to n (add_form forms v) (λ m. read_table is_wide m (suc n) others))) e
+    ∙ ap (λ o. by_table_words o body (λ v. go_to n (add_form forms v) (λ m. read_table is_wide m (suc n) others))) w
+    ∙ ap (read_numbered forms n (numbered_draft 0 (begun is_wide))) (sym p)
 
 -- a line behind the table is read
 pub numbered_row : (forms : FormTable) (n : ℕ) (d : NumberedDraft) (ls : List (List ℕ)) (line : List ℕ) (others : List (List ℕ)) (e : NumberedDraft) → ls ≡ line ∷ others → is_empty others ≡ false → add_numbered forms d line ≡ Some e → read_numbered forms n d ls ≡ read_numbered forms (n + 1) e others
@@ -129,6 +129,9 @@ congruence_numbered forms c = refl
 
 pub bound_numbered : (forms : FormTable) (b : Bound) → numbered_line forms (BoundItem b) ≡ codes "loop " ++ (decimal b.loop ++ (codes " " ++ (descent_text b.descent ++ (codes " " ++ (signed_decimal b.most ++ (codes " " ++ decimal (number_of forms b.form)))))))
 bound_numbered forms b = refl
+
+pub doubling_numbered : (forms : FormTable) (loop least : ℕ) (most : ℤ) (f : Form Name) → numbered_line forms (BoundItem (record { loop = loop; descent = Double least; most = most; form = f })) ≡ codes "loop " ++ (decimal loop ++ (codes " double " ++ (decimal least ++ (codes " " ++ (signed_decimal most ++ (codes " " ++ decimal (number_of forms f)))))))
+doubling_numbered forms loop least most f = refl
 
 pub quotient_numbered : (forms : FormTable) (n : ℕ) (f : Form Name) → numbered_line forms (EntryItem n (Quotient f)) ≡ codes "ob " ++ (decimal n ++ (codes " " ++ (codes "quot " ++ decimal (number_of forms f))))
 quotient_numbered forms n f = refl

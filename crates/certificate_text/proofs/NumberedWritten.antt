@@ -1,5 +1,5 @@
--- A certificate is read of its text of version 2.
-use Rattle.std.proofs.Common.{◌≡◌, ℕ, suc, ◌+◌, ◌≤◌, ◌^◌, true, false, not, ◌&&◌, List, [], ◌∷◌, ◌++◌, length, map, Option, None, Some, Ok, Err, refl, ap, sym, subst, ◌∙◌, append_assoc, arith, inl, inr}
+-- A certificate is read of its text of version 2, and a wide one of version 4.
+use Rattle.std.proofs.Common.{◌≡◌, ℕ, suc, ◌+◌, ◌≤◌, ◌^◌, Bool, true, false, not, ◌&&◌, List, [], ◌∷◌, ◌++◌, length, map, Option, None, Some, Ok, Err, refl, ap, sym, subst, ◌∙◌, append_assoc, arith, inl, inr}
 use Rattle.std.specs.Prelude.{pos, codes, bytes_eq, nat_eq, nat_le, nat_lt, max, fold}
 use Rattle.std.specs.List.{filter_map, cons_option}
 use Rattle.std.proofs.lemmas.Bool.{cond-true, cond-false, cond_both}
@@ -13,13 +13,13 @@ use Rattle.certificate_text.specs.Certificate.{Name, Certificate, BadLine}
 use Rattle.certificate_text.specs.Text.{form_text, body_lines}
 use Rattle.certificate_text.specs.Forms.{then, when, number}
 use Rattle.certificate_text.specs.Lines.{Item, EndItem, item_of}
-use Rattle.certificate_text.specs.Drafts.{Ended, Draft, draft, nothing_yet, add}
+use Rattle.certificate_text.specs.Drafts.{Ended, Draft, draft, begun, add}
 use Rattle.certificate_text.specs.Reading.{Read, is_ended, finish, go_on, add_line, read_lines, unless, certificate_limit}
-use Rattle.certificate_text.specs.Rules.{all, is_form, is_certificate}
+use Rattle.certificate_text.specs.Rules.{all, is_form, is_certificate, is_any_certificate, is_wide_certificate}
 use Rattle.certificate_text.specs.Items.{items_of, item_line, form_in, put_form}
 use Rattle.certificate_text.specs.FormTables.{FormTable, has_form, with_form, number_of, form_at}
-use Rattle.certificate_text.specs.NumberedText.{forms_in, forms_of, number_form, numbered_by, numbered, numbered_line, table_line, text_of_two}
-use Rattle.certificate_text.specs.NumberedReading.{allowed_form, filled_by, filled, NumberedDraft, numbered_draft, add_filled, add_numbered, all_used, finish_numbered, go_to, read_numbered, table_words, add_form, by_table_words, read_table, head_of_two, read_text_of_two, certificate_of_two}
+use Rattle.certificate_text.specs.NumberedText.{forms_in, forms_of, number_form, numbered_by, numbered, numbered_line, table_line, text_of_two, text_of_four}
+use Rattle.certificate_text.specs.NumberedReading.{allowed_form, filled_by, filled, NumberedDraft, numbered_draft, add_filled, add_numbered, all_used, finish_numbered, go_to, read_numbered, table_words, add_form, by_table_words, read_table, numbered_head, read_numbered_text, numbered_certificate, certificate_of_two, certificate_of_four}
 use Rattle.certificate_text.specs.Reading.{version_of}
 use Rattle.texts.proofs.Fits.{both}
 use Rattle.texts.proofs.Decimals.{below_test, integer_forth}
@@ -29,17 +29,18 @@ use Rattle.certificate_text.proofs.ItemsRead.{is_item, andt}
 use Rattle.certificate_text.proofs.ItemsWritten.{item_forth}
 use Rattle.certificate_text.proofs.Read.{went_on}
 use Rattle.certificate_text.proofs.Written.{form_line, item_free, some_more, leads_on, body_leads, end_leads, pieces_of_lines, short}
-use Rattle.certificate_text.proofs.Tables.{le_forth, told, is_fresh, known_form, new_form, numbers_forth, grows, fresh_fold}
+use Rattle.certificate_text.proofs.Tables.{le_forth, told, denied, is_fresh, known_form, new_form, numbers_forth, grows, fresh_fold}
+use Rattle.certificate_text.proofs.FirstLines.{first_line, numbered_text}
 use Rattle.certificate_text.proofs.ItemsNumbered.{lines_are, items_good, form_put, put_back, put_good, form_good, number_good}
 use Rattle.certificate_text.proofs.NumberedRead.{used_by, forms_push, numbered_lines}
 
 -- the lines of version 1 are read
-lines_read : (c : Certificate) → is_certificate c ≡ true → read_lines 2 nothing_yet (map item_line (items_of c ++ EndItem ∷ []) ++ [] ∷ []) ≡ Ok c
+lines_read : (c : Certificate) → is_any_certificate c ≡ true → read_lines 2 (begun c.is_wide) (map item_line (items_of c ++ EndItem ∷ []) ++ [] ∷ []) ≡ Ok c
 lines_read c h =
     let b = body_leads c h in
-    let all_lines = leads_on nothing_yet b.last (draft c Ended) (body_lines c) (codes "end" ∷ []) b.leads (end_leads b.last c b.settled) in
+    let all_lines = leads_on (begun c.is_wide) b.last (draft c Ended) (body_lines c) (codes "end" ∷ []) b.leads (end_leads b.last c b.settled) in
     let r = all_lines.reads 2 ([] ∷ []) refl in
-    ap (λ ls. read_lines 2 nothing_yet (ls ++ [] ∷ [])) (map_push item_line (items_of c) EndItem ∙ ap (λ ls. ls ++ codes "end" ∷ []) (lines_are c)) ∙ r.1
+    ap (λ ls. read_lines 2 (begun c.is_wide) (ls ++ [] ∷ [])) (map_push item_line (items_of c) EndItem ∙ ap (λ ls. ls ++ codes "end" ∷ []) (lines_are c)) ∙ r.1
 
 -- an item with its number is filled with its form
 record Fills (forms seen : FormTable) (i : Item) : Type 0 where
@@ -151,10 +152,10 @@ no_table_words (w ∷ ws) i e = elim (told (bytes_eq w (codes "form"))) [
 ]
 
 -- the table ends
-table_ends : (forms : FormTable) (n : ℕ) (i : Item) (others : List (List ℕ)) → is_item i ≡ true → is_empty others ≡ false → read_table forms n (item_line i ∷ others) ≡ read_numbered forms n (numbered_draft 0 nothing_yet) (item_line i ∷ others)
-table_ends forms n i others g e =
-    let read = read_numbered forms n (numbered_draft 0 nothing_yet) (item_line i ∷ others) in
-    let go : List (List ℕ) → Read = λ ws. go_to n (add_form forms ws) (λ more. read_table more (suc n) others) in
+table_ends : (is_wide : Bool) (forms : FormTable) (n : ℕ) (i : Item) (others : List (List ℕ)) → is_item i ≡ true → is_empty others ≡ false → read_table is_wide forms n (item_line i ∷ others) ≡ read_numbered forms n (numbered_draft 0 (begun is_wide)) (item_line i ∷ others)
+table_ends is_wide forms n i others g e =
+    let read = read_numbered forms n (numbered_draft 0 (begun is_wide)) (item_line i ∷ others) in
+    let go : List (List ℕ) → Read = λ ws. go_to n (add_form forms ws) (λ more. read_table is_wide more (suc n) others) in
     cond-false (is_empty others) (Err (BadLine n)) (by_table_words (table_words (words (item_line i))) read go) e
     ∙ ap (λ o. by_table_words o read go) (no_table_words (words (item_line i)) i (item_forth i g))
 
@@ -163,16 +164,16 @@ add_form_forth forms f h n =
     ap (λ o. then o (λ g. when (not (has_form forms g)) (forms ++ g ∷ []))) (form_forth f h) ∙ cond-true (not (has_form forms f)) (Some (forms ++ f ∷ [])) None n
 
 -- the lines of the table are read
-table_reads : (before forms : FormTable) (n : ℕ) (lines : List (List ℕ)) → is_fresh before forms ≡ true → all is_form forms ≡ true → is_empty lines ≡ false → (m : ℕ) × (read_table before n (map table_line forms ++ lines) ≡ read_table (before ++ forms) m lines)
-table_reads before [] n lines h g e = (n, ap (λ t. read_table t n lines) (sym (append-nil before)))
-table_reads before (f ∷ forms) n lines h g e =
+table_reads : (is_wide : Bool) (before forms : FormTable) (n : ℕ) (lines : List (List ℕ)) → is_fresh before forms ≡ true → all is_form forms ≡ true → is_empty lines ≡ false → (m : ℕ) × (read_table is_wide before n (map table_line forms ++ lines) ≡ read_table is_wide (before ++ forms) m lines)
+table_reads is_wide before [] n lines h g e = (n, ap (λ t. read_table is_wide t n lines) (sym (append-nil before)))
+table_reads is_wide before (f ∷ forms) n lines h g e =
     let p = both (not (has_form before f)) (is_fresh (before ++ f ∷ []) forms) h in
     let q = both (is_form f) (all is_form forms) g in
     let others : List (List ℕ) = map table_line forms ++ lines in
-    let r = table_reads (before ++ f ∷ []) forms (suc n) lines p.1 q.1 e in (
+    let r = table_reads is_wide (before ++ f ∷ []) forms (suc n) lines p.1 q.1 e in (
       r.0,
-      cond-false (is_empty others) (Err (BadLine n)) (go_to n (add_form before (pieces 32 (form_text f))) (λ more. read_table more (suc n) others)) (some_more (map table_line forms) lines e)
-          ∙ ap (λ o. go_to n o (λ more. read_table more (suc n) others)) (add_form_forth before f q.0 p.0) ∙ r.1 ∙ ap (λ t. read_table t r.0 lines) (sym (moved before f forms)),
+      cond-false (is_empty others) (Err (BadLine n)) (go_to n (add_form before (pieces 32 (form_text f))) (λ more. read_table is_wide more (suc n) others)) (some_more (map table_line forms) lines e)
+          ∙ ap (λ o. go_to n o (λ more. read_table is_wide more (suc n) others)) (add_form_forth before f q.0 p.0) ∙ r.1 ∙ ap (λ t. read_table is_wide t r.0 lines) (sym (moved before f forms)),
     )
 
 table_free : (forms : FormTable) → all is_form forms ≡ true → all (is_free 10) (map table_line forms) ≡ true
@@ -203,29 +204,34 @@ table_long : (forms : FormTable) (first : List ℕ) (rest : List (List ℕ)) →
 table_long forms first rest =
     omega (arith, lines_long (first ∷ (map table_line forms ++ rest)), length-append (map table_line forms) rest, length-map forms table_line)
 
-first_reads : head_of_two (version_of (words (codes "certificate 2"))) ≡ None
-first_reads = ap (λ r. head_of_two (number r)) (ap integer_of (sym (decimal_digit 2 (omega arith))) ∙ integer_forth (pos 2) refl)
+first_reads : (is_wide : Bool) → numbered_head is_wide (version_of (words (first_line is_wide))) ≡ None
+first_reads false = ap (λ r. numbered_head false (number r)) (ap integer_of (sym (decimal_digit 2 (omega arith))) ∙ integer_forth (pos 2) refl)
+first_reads true = ap (λ r. numbered_head true (number r)) (ap integer_of (sym (decimal_digit 4 (omega arith))) ∙ integer_forth (pos 4) refl)
+
+first_free : (is_wide : Bool) → is_free 10 (first_line is_wide) ≡ true
+first_free false = refl
+first_free true = refl
 
 begins_by : (items : List Item) (i : Item) → (j : Item) × (others : List Item) × (items ++ i ∷ [] ≡ j ∷ others)
 begins_by [] i = (i, [], refl)
 begins_by (j ∷ items) i = (j, items ++ i ∷ [], refl)
 
 -- all lines behind the table
-behind_table : (forms : FormTable) (n : ℕ) (i : Item) (items : List Item) → all is_form forms ≡ true → length forms ≤ certificate_limit → all is_item (i ∷ items) ≡ true → forms ≡ forms_in (i ∷ items) → read_table forms n (numbered_lines forms (i ∷ items) ++ [] ∷ []) ≡ read_numbered forms n (numbered_draft 0 nothing_yet) (numbered_lines forms (i ∷ items) ++ [] ∷ [])
-behind_table forms n i items fine small good t =
+behind_table : (is_wide : Bool) (forms : FormTable) (n : ℕ) (i : Item) (items : List Item) → all is_form forms ≡ true → length forms ≤ certificate_limit → all is_item (i ∷ items) ≡ true → forms ≡ forms_in (i ∷ items) → read_table is_wide forms n (numbered_lines forms (i ∷ items) ++ [] ∷ []) ≡ read_numbered forms n (numbered_draft 0 (begun is_wide)) (numbered_lines forms (i ∷ items) ++ [] ∷ [])
+behind_table is_wide forms n i items fine small good t =
     let p = both (is_item i) (all is_item items) good in
     let w = grows (used_by [] (form_in i)) (filter_map form_in items) in
     let x = fills forms [] w.0 i (form_in i) fine small p.0 refl (t ∙ uses_on [] i items ∙ w.1) (omega arith) in
-    table_ends forms n (numbered forms i) (numbered_lines forms items ++ [] ∷ []) x.good (some_more (numbered_lines forms items) ([] ∷ []) refl)
+    table_ends is_wide forms n (numbered forms i) (numbered_lines forms items ++ [] ∷ []) x.good (some_more (numbered_lines forms items) ([] ∷ []) refl)
 
-behind_table_of : (forms : FormTable) (n : ℕ) (items : List Item) (i : Item) → all is_form forms ≡ true → length forms ≤ certificate_limit → all is_item (items ++ i ∷ []) ≡ true → forms ≡ forms_in (items ++ i ∷ []) → read_table forms n (numbered_lines forms (items ++ i ∷ []) ++ [] ∷ []) ≡ read_numbered forms n (numbered_draft 0 nothing_yet) (numbered_lines forms (items ++ i ∷ []) ++ [] ∷ [])
-behind_table_of forms n items i fine small good t =
+behind_table_of : (is_wide : Bool) (forms : FormTable) (n : ℕ) (items : List Item) (i : Item) → all is_form forms ≡ true → length forms ≤ certificate_limit → all is_item (items ++ i ∷ []) ≡ true → forms ≡ forms_in (items ++ i ∷ []) → read_table is_wide forms n (numbered_lines forms (items ++ i ∷ []) ++ [] ∷ []) ≡ read_numbered forms n (numbered_draft 0 (begun is_wide)) (numbered_lines forms (items ++ i ∷ []) ++ [] ∷ [])
+behind_table_of is_wide forms n items i fine small good t =
     let b = begins_by items i in
-    let r = behind_table forms n b.0 b.1 fine small (ap (all is_item) (sym b.2) ∙ good) (t ∙ ap forms_in b.2) in
-    subst (λ (js : List Item). read_table forms n (numbered_lines forms js ++ [] ∷ []) ≡ read_numbered forms n (numbered_draft 0 nothing_yet) (numbered_lines forms js ++ [] ∷ [])) (sym b.2) r
+    let r = behind_table is_wide forms n b.0 b.1 fine small (ap (all is_item) (sym b.2) ∙ good) (t ∙ ap forms_in b.2) in
+    subst (λ (js : List Item). read_table is_wide forms n (numbered_lines forms js ++ [] ∷ []) ≡ read_numbered forms n (numbered_draft 0 (begun is_wide)) (numbered_lines forms js ++ [] ∷ [])) (sym b.2) r
 
-pub certificate_of_two_forth : (c : Certificate) → is_certificate c ≡ true → length (text_of_two c) ≤ certificate_limit → certificate_of_two (text_of_two c) ≡ Ok c
-certificate_of_two_forth c h l =
+numbered_forth : (is_wide : Bool) (c : Certificate) → is_any_certificate c ≡ true → c.is_wide ≡ is_wide → length (numbered_text is_wide c) ≤ certificate_limit → numbered_certificate is_wide (numbered_text is_wide c) ≡ Ok c
+numbered_forth is_wide c h kind l =
     let forms : FormTable = forms_of c in
     let items : List Item = items_of c ++ EndItem ∷ [] in
     let lines : List (List ℕ) = numbered_lines forms items in
@@ -233,17 +239,24 @@ certificate_of_two_forth c h l =
     let good : all is_item items ≡ true = all_push is_item (items_of c) EndItem (items_good c h) refl in
     let fine : all is_form forms ≡ true = forms_good [] (items_of c) refl (items_good c h) in
     let fresh : is_fresh [] forms ≡ true = fresh_fold [] (filter_map form_in (items_of c)) refl in
-    let first : List ℕ = codes "certificate 2" in
-    let same_text : text_of_two c ≡ text_of_lines (first ∷ (map table_line forms ++ lines)) = ap (λ ls. text_of_lines (first ∷ (map table_line forms ++ ls))) (sym (map_push (numbered_line forms) (items_of c) EndItem)) in
+    let first : List ℕ = first_line is_wide in
+    let same_text : numbered_text is_wide c ≡ text_of_lines (first ∷ (map table_line forms ++ lines)) = ap (λ ls. text_of_lines (first ∷ (map table_line forms ++ ls))) (sym (map_push (numbered_line forms) (items_of c) EndItem)) in
     let small : length forms ≤ certificate_limit = omega (arith, l, table_long forms first lines, ap length same_text) in
     let free : all (is_free 10) (map table_line forms ++ lines) ≡ true = all_append (is_free 10) (map table_line forms) lines (table_free forms fine) (numbered_good forms items [] fine small good t) in
-    let cut = pieces_of_lines (first ∷ (map table_line forms ++ lines)) (andt true (all (is_free 10) (map table_line forms ++ lines)) refl free) in
+    let cut = pieces_of_lines (first ∷ (map table_line forms ++ lines)) (andt (is_free 10 first) (all (is_free 10) (map table_line forms ++ lines)) (first_free is_wide) free) in
     let rest : List (List ℕ) = (map table_line forms ++ lines) ++ [] ∷ [] in
-    let r = table_reads [] forms 2 (lines ++ [] ∷ []) fresh fine (some_more lines ([] ∷ []) refl) in
-    cond-false (nat_lt certificate_limit (length (text_of_two c))) (Err (BadLine 1)) (read_text_of_two (pieces 10 (text_of_two c))) (short (text_of_two c) l)
-    ∙ ap (λ x. read_text_of_two (pieces 10 x)) same_text ∙ ap read_text_of_two cut
-    ∙ cond-false (is_empty rest) (Err (BadLine 1)) (unless (head_of_two (version_of (words first))) (read_table [] 2 rest)) (some_more (map table_line forms ++ lines) ([] ∷ []) refl)
-    ∙ ap (λ f. unless f (read_table [] 2 rest)) first_reads
-    ∙ ap (read_table [] 2) (append_assoc (map table_line forms) lines ([] ∷ [])) ∙ r.1
-    ∙ behind_table_of forms r.0 (items_of c) EndItem fine small good t
-    ∙ follows_lines forms 2 r.0 nothing_yet items [] c fine small good t (lines_read c h)
+    let r = table_reads is_wide [] forms 2 (lines ++ [] ∷ []) fresh fine (some_more lines ([] ∷ []) refl) in
+    let begins : read_lines 2 (begun is_wide) (map item_line items ++ [] ∷ []) ≡ Ok c = ap (λ w. read_lines 2 (begun w) (map item_line items ++ [] ∷ [])) (sym kind) ∙ lines_read c h in
+    cond-false (nat_lt certificate_limit (length (numbered_text is_wide c))) (Err (BadLine 1)) (read_numbered_text is_wide (pieces 10 (numbered_text is_wide c))) (short (numbered_text is_wide c) l)
+    ∙ ap (λ x. read_numbered_text is_wide (pieces 10 x)) same_text ∙ ap (read_numbered_text is_wide) cut
+    ∙ cond-false (is_empty rest) (Err (BadLine 1)) (unless (numbered_head is_wide (version_of (words first))) (read_table is_wide [] 2 rest)) (some_more (map table_line forms ++ lines) ([] ∷ []) refl)
+    ∙ ap (λ f. unless f (read_table is_wide [] 2 rest)) (first_reads is_wide)
+    ∙ ap (read_table is_wide [] 2) (append_assoc (map table_line forms) lines ([] ∷ [])) ∙ r.1
+    ∙ behind_table_of is_wide forms r.0 (items_of c) EndItem fine small good t
+    ∙ follows_lines forms 2 r.0 (begun is_wide) items [] c fine small good t begins
+
+pub certificate_of_two_forth : (c : Certificate) → is_certificate c ≡ true → length (text_of_two c) ≤ certificate_limit → certificate_of_two (text_of_two c) ≡ Ok c
+certificate_of_two_forth c h l = let p = both (not c.is_wide) (is_any_certificate c) h in numbered_forth false c p.1 (denied c.is_wide p.0) l
+
+pub certificate_of_four_forth : (c : Certificate) → is_wide_certificate c ≡ true → length (text_of_four c) ≤ certificate_limit → certificate_of_four (text_of_four c) ≡ Ok c
+certificate_of_four_forth c h l = let p = both c.is_wide (is_any_certificate c) h in numbered_forth true c p.1 p.0 l

@@ -1,5 +1,5 @@
 -- A text is that of the certificate that it says.
-use Rattle.std.proofs.Common.{◌≡◌, ℕ, suc, true, false, ◌&&◌, List, [], ◌∷◌, ◌++◌, length, Option, None, Some, Ok, Err, refl, ap, sym, ◌∙◌, append_assoc}
+use Rattle.std.proofs.Common.{◌≡◌, ℕ, suc, Bool, true, false, not, ◌&&◌, List, [], ◌∷◌, ◌++◌, length, Option, None, Some, Ok, Err, refl, ap, sym, ◌∙◌, append_assoc}
 use Rattle.std.specs.Prelude.{ℤ, pos, codes, bytes_eq, nat_lt}
 use Rattle.std.specs.Ordering.{int_eq}
 use Rattle.std.specs.List.{join_with_byte}
@@ -15,18 +15,18 @@ use Rattle.texts.specs.Lines.{is_empty, two, pieces, words, text_of_lines, integ
 use Rattle.certificate_text.specs.Certificate.{Certificate, CertificateFault, BadLine, OtherVersion}
 use Rattle.certificate_text.specs.Text.{body_lines, text_of}
 use Rattle.certificate_text.specs.Forms.{number}
-use Rattle.certificate_text.specs.Drafts.{Open, Nothing, InPlace, InEntry, Ended, Draft, nothing_yet}
+use Rattle.certificate_text.specs.Drafts.{Open, Nothing, InPlace, InEntry, Ended, Draft, begun, nothing_yet}
 use Rattle.certificate_text.specs.Reading.{Read, is_ended, finish, go_on, add_line, read_lines, head_of_version, version_of, head_fault, unless, read_text, certificate_limit, certificate_of}
-use Rattle.certificate_text.specs.Rules.{is_certificate}
+use Rattle.certificate_text.specs.Rules.{is_certificate, is_any_certificate}
 use Rattle.texts.proofs.Fits.{both}
 use Rattle.texts.proofs.Decimals.{integer_back}
 use Rattle.certificate_text.proofs.Cuts.{spaced, then_back, cond_back, number_back, two_back, pieces_back}
-use Rattle.certificate_text.proofs.ItemsRead.{none_left}
-use Rattle.certificate_text.proofs.DraftsRead.{IsDraft, draft_lines, open_lines, add_line_back}
+use Rattle.certificate_text.proofs.ItemsRead.{andt, none_left}
+use Rattle.certificate_text.proofs.DraftsRead.{IsDraft, draft_lines, open_lines, add_line_kind, add_line_back}
 
 -- what is left to read, where `so_far` was read
-abbrev pub Completes : (so_far rest : List ℕ) → Certificate → Type 0
-Completes so_far rest c = (so_far ++ rest ≡ text_of_lines (body_lines c ++ codes "end" ∷ [])) × (is_certificate c ≡ true)
+abbrev pub Completes : (is_wide : Bool) (so_far rest : List ℕ) → Certificate → Type 0
+Completes is_wide so_far rest c = (so_far ++ rest ≡ text_of_lines (body_lines c ++ codes "end" ∷ [])) × (is_any_certificate c ≡ true) × (c.is_wide ≡ is_wide)
 
 pub joined_more : (line : List ℕ) (others : List (List ℕ)) → is_empty others ≡ false → join_with_byte 10 (line ∷ others) ≡ line ++ (10 ∷ join_with_byte 10 others)
 joined_more line [] h = absurd cc
@@ -53,21 +53,22 @@ pub went_on : (n : ℕ) (o : Option Draft) (go : Draft → Read) (c : Certificat
 went_on n None go c q = absurd cc
 went_on n (Some d) go c q = (d, refl, q)
 
-read_back : (n : ℕ) (d : Draft) (ls : List (List ℕ)) (c : Certificate) → IsDraft d → read_lines n d ls ≡ Ok c → Completes (text_of_lines (draft_lines d)) (join_with_byte 10 ls) c
+read_back : (n : ℕ) (d : Draft) (ls : List (List ℕ)) (c : Certificate) → IsDraft d → read_lines n d ls ≡ Ok c → Completes d.settled.is_wide (text_of_lines (draft_lines d)) (join_with_byte 10 ls) c
 read_back n d [] c h = λ q. absurd cc
 read_back n d (line ∷ others) c h =
-    cond_both (is_empty others) (finish n d line) (go_on n (add_line d line) (λ e. read_lines (suc n) e others)) (λ r. r ≡ Ok c → Completes (text_of_lines (draft_lines d)) (join_with_byte 10 (line ∷ others)) c)
+    cond_both (is_empty others) (finish n d line) (go_on n (add_line d line) (λ e. read_lines (suc n) e others)) (λ r. r ≡ Ok c → Completes d.settled.is_wide (text_of_lines (draft_lines d)) (join_with_byte 10 (line ∷ others)) c)
     (λ e q.
     let f = finish_back n d line c h q in (
       ap (λ ls. text_of_lines (draft_lines d) ++ join_with_byte 10 (line ∷ ls)) (none_left others e) ∙ ap (λ t. text_of_lines (draft_lines d) ++ t) f.1 ∙ append-nil (text_of_lines (draft_lines d))
           ∙ ap (λ t. text_of_lines (body_lines d.settled ++ t)) (is_open_end d.opened f.0) ∙ ap (λ x. text_of_lines (body_lines x ++ codes "end" ∷ [])) f.2,
-      ap is_certificate (sym f.2) ∙ h.settled,
+      ap is_any_certificate (sym f.2) ∙ h.settled,
+      ap (λ (x : Certificate). x.is_wide) (sym f.2),
     ))
     (λ e q.
     let g = went_on n (add_line d line) (λ x. read_lines (suc n) x others) c q in
     let a = add_line_back d line g.0 h g.1 in
     let r = read_back (suc n) g.0 others c a.0 g.2 in
-    (ap (λ t. text_of_lines (draft_lines d) ++ t) (joined_more line others e) ∙ sym (lines_push (draft_lines d) line (join_with_byte 10 others)) ∙ ap (λ ls. text_of_lines ls ++ join_with_byte 10 others) (sym a.1) ∙ r.0, r.1))
+    (ap (λ t. text_of_lines (draft_lines d) ++ t) (joined_more line others e) ∙ sym (lines_push (draft_lines d) line (join_with_byte 10 others)) ∙ ap (λ ls. text_of_lines ls ++ join_with_byte 10 others) (sym a.1) ∙ r.0, r.1, r.2 ∙ add_line_kind d line g.0 g.1))
 
 version_back : (v : Option ℤ) → head_of_version v ≡ None → v ≡ Some (pos 1)
 version_back None = λ q. absurd cc
@@ -87,8 +88,11 @@ pub unless_back : (f : Option CertificateFault) (read : Read) (c : Certificate) 
 unless_back None read c q = (refl, q)
 unless_back (Some f) read c q = absurd cc
 
-pub nothing_read : IsDraft nothing_yet
-nothing_read = record { settled = refl; opened = tt }
+pub nothing_read : (is_wide : Bool) → IsDraft (begun is_wide)
+nothing_read is_wide = record { settled = refl; opened = tt }
+
+pub narrow : (c : Certificate) → is_any_certificate c ≡ true → c.is_wide ≡ false → is_certificate c ≡ true
+narrow c h w = andt (not c.is_wide) (is_any_certificate c) (ap not w) h
 
 text_back : (ls : List (List ℕ)) (c : Certificate) → read_text ls ≡ Ok c → (text_of c ≡ join_with_byte 10 ls) × (is_certificate c ≡ true)
 text_back [] c = λ q. absurd cc
@@ -97,8 +101,8 @@ text_back (line ∷ others) c =
     (λ e q. absurd cc)
     (λ e q.
     let u = unless_back (head_fault (words line)) (read_lines 2 nothing_yet others) c q in
-    let r = read_back 2 nothing_yet others c nothing_read u.1 in
-    (ap (λ t. (codes "certificate 1" ++ (10 ∷ [])) ++ t) (sym r.0) ∙ ap (λ t. t ++ (10 ∷ join_with_byte 10 others)) (sym (first_line line u.0)) ∙ sym (joined_more line others e), r.1))
+    let r = read_back 2 nothing_yet others c (nothing_read false) u.1 in
+    (ap (λ t. (codes "certificate 1" ++ (10 ∷ [])) ++ t) (sym r.0) ∙ ap (λ t. t ++ (10 ∷ join_with_byte 10 others)) (sym (first_line line u.0)) ∙ sym (joined_more line others e), narrow c r.1 r.2))
 
 pub certificate_back : (text : List ℕ) (c : Certificate) → certificate_of text ≡ Ok c → (text_of c ≡ text) × (is_certificate c ≡ true)
 certificate_back text c =

@@ -1,5 +1,5 @@
 -- A certificate is read of its text.
-use Rattle.std.proofs.Common.{◌≡◌, ℕ, suc, ◌≤◌, true, false, not, nat_eq, ◌&&◌, List, [], ◌∷◌, ◌++◌, length, map, Option, None, Some, Ok, refl, ap, sym, subst, ◌∙◌, append_assoc, arith}
+use Rattle.std.proofs.Common.{◌≡◌, ℕ, suc, ◌≤◌, Bool, true, false, not, nat_eq, ◌&&◌, List, [], ◌∷◌, ◌++◌, length, map, Option, None, Some, Ok, refl, ap, sym, subst, ◌∙◌, append_assoc, arith}
 use Rattle.std.specs.Prelude.{ℤ, pos, codes, nat_lt, nat_le}
 use Rattle.std.specs.List.{flat_map}
 use Rattle.std.specs.Fmt.{decimal, signed_decimal}
@@ -9,14 +9,14 @@ use Rattle.std.proofs.lemmas.Fmt.{decimal_digit}
 use Rattle.std.proofs.lemmas.List.{append-nil}
 use Rattle.linear.specs.Linear.{Weighted, Form}
 use Rattle.texts.specs.Lines.{integer_of, is_empty, follows, pieces, words, text_of_lines}
-use Rattle.certificate_text.specs.Certificate.{Name, Anchor, KernelEntry, Barrier, Spot, Congruence, Place, Descent, Down, Halve, Bound, EntrySort, Show, Positive, Negative, Quotient, Scaled, Step, Given, Sum, Divide, Entry, Certificate}
+use Rattle.certificate_text.specs.Certificate.{Name, Anchor, KernelEntry, Barrier, Spot, Congruence, Place, Descent, Down, Halve, Double, Bound, EntrySort, Show, Positive, Negative, Quotient, Scaled, Step, Given, Sum, Divide, Entry, Certificate}
 use Rattle.certificate_text.specs.Text.{name_text, term_text, form_text, anchor_text, head_text, place_line, same_line, fact_line, congruence_line, place_lines, descent_text, bound_line, sort_text, entry_line, scaled_text, step_line, entry_lines, body_lines, text_of}
 use Rattle.certificate_text.specs.Forms.{then, when, number}
 use Rattle.texts.specs.Identifiers.{is_identifier}
 use Rattle.certificate_text.specs.Lines.{Item, PlaceItem, SameItem, FactItem, CongruenceItem, BoundItem, EntryItem, StepItem, EndItem}
-use Rattle.certificate_text.specs.Drafts.{bound_is_behind, entry_is_behind, Nothing, InPlace, InEntry, Ended, Draft, draft, certificate, nothing_yet, has_line, settle, place_fits, place_at, entry_at, add}
+use Rattle.certificate_text.specs.Drafts.{bound_is_behind, entry_is_behind, Nothing, InPlace, InEntry, Ended, Draft, draft, certificate_with, begun, nothing_yet, has_line, settle, place_fits, descent_fits, place_at, entry_at, add}
 use Rattle.certificate_text.specs.Reading.{add_line, finish, go_on, read_lines, unless, head_of_version, head_fault, read_text, certificate_limit, certificate_of}
-use Rattle.certificate_text.specs.Rules.{all, rises, is_name, is_term, is_form, is_anchor, is_head, is_spot, is_congruence, is_open_place, is_place, is_descent, is_bound, is_sort, is_scaled, is_step, is_entry, place_is_before, bound_is_before, entry_is_before, is_certificate}
+use Rattle.certificate_text.specs.Rules.{all, rises, is_name, is_term, is_form, is_anchor, is_head, is_spot, is_congruence, is_open_place, is_place, is_descent, is_bound, is_bound_in, is_sort, is_scaled, is_step, is_entry, place_is_before, bound_is_before, entry_is_before, is_certificate, is_any_certificate}
 use Rattle.texts.specs.Lines.{is_natural, is_integer}
 use Rattle.texts.proofs.Fits.{both}
 use Rattle.texts.proofs.Decimals.{integer_forth}
@@ -24,6 +24,7 @@ use Rattle.certificate_text.proofs.FormsWritten.{is_free, cut_at, all_append, pl
 use Rattle.certificate_text.specs.Items.{item_line}
 use Rattle.certificate_text.proofs.ItemsRead.{is_item, andt}
 use Rattle.certificate_text.proofs.ItemsWritten.{item_forth}
+use Rattle.certificate_text.proofs.Tables.{denied}
 use Rattle.certificate_text.proofs.DraftsRead.{place_follows, bound_follows, entry_follows}
 
 -- no line feed stands in a line
@@ -70,6 +71,7 @@ head_line (Some n) h = natural_line n h
 descent_line : (d : Descent) → is_descent d ≡ true → is_free 10 (descent_text d) ≡ true
 descent_line (Down n) h = natural_line n (both (is_natural n) (nat_le 1 n) h).0
 descent_line Halve h = refl
+descent_line (Double n) h = natural_line n (both (is_natural n) (nat_le 1 n) h).0
 
 sort_line : (c : EntrySort) → is_sort c ≡ true → is_free 10 (sort_text c) ≡ true
 sort_line Show h = refl
@@ -147,13 +149,13 @@ add_place_on : (d : Draft) (c : Certificate) (spot : Spot) → settle d.settled 
 unfolding add
 add_place_on d c spot s f = ap (λ o. then o (λ x. when (place_fits x spot) (draft x (InPlace (place_at spot))))) s ∙ cond-true (place_fits c spot) (Some (draft c (InPlace (place_at spot)))) None f
 
-add_bound_on : (d : Draft) (places : List Place) (done : List Bound) (b : Bound) → settle d.settled d.opened ≡ Some (certificate places done []) → follows bound_is_behind done b.loop ≡ true → add d (BoundItem b) ≡ Some (draft (certificate places (done ++ b ∷ []) []) Nothing)
+add_bound_on : (d : Draft) (is_wide : Bool) (places : List Place) (done : List Bound) (b : Bound) → settle d.settled d.opened ≡ Some (certificate_with is_wide places done []) → descent_fits is_wide b.descent ≡ true → follows bound_is_behind done b.loop ≡ true → add d (BoundItem b) ≡ Some (draft (certificate_with is_wide places (done ++ b ∷ []) []) Nothing)
 unfolding add
-add_bound_on d places done b s f = rw (s, f) refl
+add_bound_on d is_wide places done b s own f = rw (s, own, f) refl
 
-add_entry_on : (d : Draft) (places : List Place) (bounds : List Bound) (done : List Entry) (n : ℕ) (sort : EntrySort) → settle d.settled d.opened ≡ Some (certificate places bounds done) → follows entry_is_behind done n ≡ true → add d (EntryItem n sort) ≡ Some (draft (certificate places bounds done) (InEntry (entry_at n sort)))
+add_entry_on : (d : Draft) (is_wide : Bool) (places : List Place) (bounds : List Bound) (done : List Entry) (n : ℕ) (sort : EntrySort) → settle d.settled d.opened ≡ Some (certificate_with is_wide places bounds done) → follows entry_is_behind done n ≡ true → add d (EntryItem n sort) ≡ Some (draft (certificate_with is_wide places bounds done) (InEntry (entry_at n sort)))
 unfolding add
-add_entry_on d places bounds done n sort s f = rw (s, f) refl
+add_entry_on d is_wide places bounds done n sort s f = rw (s, f) refl
 
 add_step_on : (c : Certificate) (n : ℕ) (sort : EntrySort) (done : List Step) (x : Step) → add (draft c (InEntry (record { obligation = n; sort = sort; steps = done }))) (StepItem x) ≡ Some (draft c (InEntry (record { obligation = n; sort = sort; steps = done ++ x ∷ [] })))
 unfolding add
@@ -211,31 +213,32 @@ pub record Settles (d : Draft) (lines : List (List ℕ)) (c : Certificate) : Typ
   pub leads : Leads d lines last
   pub settled : settle last.settled last.opened ≡ Some c
 
-places_lead : (d : Draft) (done places : List Place) → settle d.settled d.opened ≡ Some (certificate done [] []) → all is_place places ≡ true → rises place_is_before (done ++ places) ≡ true → Settles d (flat_map place_lines places) (certificate (done ++ places) [] [])
-places_lead d done [] s h up = record { last = d; leads = stays d; settled = s ∙ ap (λ ps. Some (certificate ps [] [])) (sym (append-nil done)) }
-places_lead d done (p ∷ places) s h up =
+places_lead : (d : Draft) (is_wide : Bool) (done places : List Place) → settle d.settled d.opened ≡ Some (certificate_with is_wide done [] []) → all is_place places ≡ true → rises place_is_before (done ++ places) ≡ true → Settles d (flat_map place_lines places) (certificate_with is_wide (done ++ places) [] [])
+places_lead d is_wide done [] s h up = record { last = d; leads = stays d; settled = s ∙ ap (λ ps. Some (certificate_with is_wide ps [] [])) (sym (append-nil done)) }
+places_lead d is_wide done (p ∷ places) s h up =
     let a = both (is_place p) (all is_place places) h in
     let b = both (is_open_place p) (has_line p) a.0 in
-    let c = certificate done [] [] in
+    let c = certificate_with is_wide done [] [] in
     let e = draft c (InPlace p) in
-    let now : settle c (InPlace p) ≡ Some (certificate (done ++ p ∷ []) [] []) = cond-true (has_line p) (Some (certificate (done ++ p ∷ []) [] [])) None b.1 in
-    let r = places_lead e (done ++ p ∷ []) places now a.1 (ap (rises place_is_before) (sym (moved done p places)) ∙ up) in
+    let now : settle c (InPlace p) ≡ Some (certificate_with is_wide (done ++ p ∷ []) [] []) = cond-true (has_line p) (Some (certificate_with is_wide (done ++ p ∷ []) [] [])) None b.1 in
+    let r = places_lead e is_wide (done ++ p ∷ []) places now a.1 (ap (rises place_is_before) (sym (moved done p places)) ∙ up) in
     record {
       last = r.last;
       leads = leads_on d e r.last (place_lines p) (flat_map place_lines places) (place_leads d c p s (place_follows done p ∙ rises_follow place_is_before done p places up) b.0) r.leads;
-      settled = r.settled ∙ ap (λ ps. Some (certificate ps [] [])) (sym (moved done p places));
+      settled = r.settled ∙ ap (λ ps. Some (certificate_with is_wide ps [] [])) (sym (moved done p places));
     }
 
-bounds_lead : (d : Draft) (places : List Place) (done bounds : List Bound) → settle d.settled d.opened ≡ Some (certificate places done []) → all is_bound bounds ≡ true → rises bound_is_before (done ++ bounds) ≡ true → Settles d (map bound_line bounds) (certificate places (done ++ bounds) [])
-bounds_lead d places done [] s h up = record { last = d; leads = stays d; settled = s ∙ ap (λ bs. Some (certificate places bs [])) (sym (append-nil done)) }
-bounds_lead d places done (b ∷ bounds) s h up =
-    let a = both (is_bound b) (all is_bound bounds) h in
-    let e = draft (certificate places (done ++ b ∷ []) []) Nothing in
-    let r = bounds_lead e places (done ++ b ∷ []) bounds refl a.1 (ap (rises bound_is_before) (sym (moved done b bounds)) ∙ up) in
+bounds_lead : (d : Draft) (is_wide : Bool) (places : List Place) (done bounds : List Bound) → settle d.settled d.opened ≡ Some (certificate_with is_wide places done []) → all (is_bound_in is_wide) bounds ≡ true → rises bound_is_before (done ++ bounds) ≡ true → Settles d (map bound_line bounds) (certificate_with is_wide places (done ++ bounds) [])
+bounds_lead d is_wide places done [] s h up = record { last = d; leads = stays d; settled = s ∙ ap (λ bs. Some (certificate_with is_wide places bs [])) (sym (append-nil done)) }
+bounds_lead d is_wide places done (b ∷ bounds) s h up =
+    let a = both (is_bound_in is_wide b) (all (is_bound_in is_wide) bounds) h in
+    let own = both (is_bound b) (descent_fits is_wide b.descent) a.0 in
+    let e = draft (certificate_with is_wide places (done ++ b ∷ []) []) Nothing in
+    let r = bounds_lead e is_wide places (done ++ b ∷ []) bounds refl a.1 (ap (rises bound_is_before) (sym (moved done b bounds)) ∙ up) in
     record {
       last = r.last;
-      leads = leads_on d e r.last (bound_line b ∷ []) (map bound_line bounds) (by_item d (BoundItem b) e a.0 (add_bound_on d places done b s (bound_follows done b ∙ rises_follow bound_is_before done b bounds up))) r.leads;
-      settled = r.settled ∙ ap (λ bs. Some (certificate places bs [])) (sym (moved done b bounds));
+      leads = leads_on d e r.last (bound_line b ∷ []) (map bound_line bounds) (by_item d (BoundItem b) e own.0 (add_bound_on d is_wide places done b s own.1 (bound_follows done b ∙ rises_follow bound_is_before done b bounds up))) r.leads;
+      settled = r.settled ∙ ap (λ bs. Some (certificate_with is_wide places bs [])) (sym (moved done b bounds));
     }
 
 abbrev in_entry : Certificate → ℕ → EntrySort → List Step → Draft
@@ -250,37 +253,37 @@ steps_lead c n sort done (x ∷ steps) h =
     (by_item (in_entry c n sort done) (StepItem x) (in_entry c n sort (done ++ x ∷ [])) p.0 (add_step_on c n sort done x))
     (steps_lead c n sort (done ++ x ∷ []) steps p.1))
 
-entries_lead : (d : Draft) (places : List Place) (bounds : List Bound) (done entries : List Entry) → settle d.settled d.opened ≡ Some (certificate places bounds done) → all is_entry entries ≡ true → rises entry_is_before (done ++ entries) ≡ true → Settles d (flat_map entry_lines entries) (certificate places bounds (done ++ entries))
-entries_lead d places bounds done [] s h up = record { last = d; leads = stays d; settled = s ∙ ap (λ es. Some (certificate places bounds es)) (sym (append-nil done)) }
-entries_lead d places bounds done (x ∷ entries) s h up =
+entries_lead : (d : Draft) (is_wide : Bool) (places : List Place) (bounds : List Bound) (done entries : List Entry) → settle d.settled d.opened ≡ Some (certificate_with is_wide places bounds done) → all is_entry entries ≡ true → rises entry_is_before (done ++ entries) ≡ true → Settles d (flat_map entry_lines entries) (certificate_with is_wide places bounds (done ++ entries))
+entries_lead d is_wide places bounds done [] s h up = record { last = d; leads = stays d; settled = s ∙ ap (λ es. Some (certificate_with is_wide places bounds es)) (sym (append-nil done)) }
+entries_lead d is_wide places bounds done (x ∷ entries) s h up =
     let a = both (is_entry x) (all is_entry entries) h in
     let b = both (is_natural x.obligation && nat_le 1 x.obligation) (is_sort x.sort && all is_step x.steps) a.0 in
     let g = both (is_sort x.sort) (all is_step x.steps) b.1 in
-    let c = certificate places bounds done in
+    let c = certificate_with is_wide places bounds done in
     let zero = in_entry c x.obligation x.sort [] in
     let e = in_entry c x.obligation x.sort x.steps in
-    let r = entries_lead e places bounds (done ++ x ∷ []) entries refl a.1 (ap (rises entry_is_before) (sym (moved done x entries)) ∙ up) in
-    let first = by_item d (EntryItem x.obligation x.sort) zero (andt (is_natural x.obligation && nat_le 1 x.obligation) (is_sort x.sort) b.0 g.0) (add_entry_on d places bounds done x.obligation x.sort s (entry_follows done x ∙ rises_follow entry_is_before done x entries up)) in
+    let r = entries_lead e is_wide places bounds (done ++ x ∷ []) entries refl a.1 (ap (rises entry_is_before) (sym (moved done x entries)) ∙ up) in
+    let first = by_item d (EntryItem x.obligation x.sort) zero (andt (is_natural x.obligation && nat_le 1 x.obligation) (is_sort x.sort) b.0 g.0) (add_entry_on d is_wide places bounds done x.obligation x.sort s (entry_follows done x ∙ rises_follow entry_is_before done x entries up)) in
     record {
       last = r.last;
       leads = leads_on d e r.last (entry_lines x) (flat_map entry_lines entries) (leads_on d zero e (entry_line x.obligation x.sort ∷ []) (map step_line x.steps) first (steps_lead c x.obligation x.sort [] x.steps g.1)) r.leads;
-      settled = r.settled ∙ ap (λ es. Some (certificate places bounds es)) (sym (moved done x entries));
+      settled = r.settled ∙ ap (λ es. Some (certificate_with is_wide places bounds es)) (sym (moved done x entries));
     }
 
 -- all of a certificate's lines
-pub body_leads : (c : Certificate) → is_certificate c ≡ true → Settles nothing_yet (body_lines c) c
+pub body_leads : (c : Certificate) → is_any_certificate c ≡ true → Settles (begun c.is_wide) (body_lines c) c
 body_leads c h =
     let a = both (all is_place c.places && rises place_is_before c.places) _ h in
     let p = both (all is_place c.places) (rises place_is_before c.places) a.0 in
-    let b = both (all is_bound c.bounds && rises bound_is_before c.bounds) (all is_entry c.entries && rises entry_is_before c.entries) a.1 in
-    let q = both (all is_bound c.bounds) (rises bound_is_before c.bounds) b.0 in
+    let b = both (all (is_bound_in c.is_wide) c.bounds && rises bound_is_before c.bounds) (all is_entry c.entries && rises entry_is_before c.entries) a.1 in
+    let q = both (all (is_bound_in c.is_wide) c.bounds) (rises bound_is_before c.bounds) b.0 in
     let r = both (all is_entry c.entries) (rises entry_is_before c.entries) b.1 in
-    let x = places_lead nothing_yet [] c.places refl p.0 p.1 in
-    let y = bounds_lead x.last c.places [] c.bounds x.settled q.0 q.1 in
-    let z = entries_lead y.last c.places c.bounds [] c.entries y.settled r.0 r.1 in
+    let x = places_lead (begun c.is_wide) c.is_wide [] c.places refl p.0 p.1 in
+    let y = bounds_lead x.last c.is_wide c.places [] c.bounds x.settled q.0 q.1 in
+    let z = entries_lead y.last c.is_wide c.places c.bounds [] c.entries y.settled r.0 r.1 in
     record {
       last = z.last;
-      leads = leads_on nothing_yet x.last z.last (flat_map place_lines c.places) (map bound_line c.bounds ++ flat_map entry_lines c.entries) x.leads (leads_on x.last y.last z.last (map bound_line c.bounds) (flat_map entry_lines c.entries) y.leads z.leads);
+      leads = leads_on (begun c.is_wide) x.last z.last (flat_map place_lines c.places) (map bound_line c.bounds ++ flat_map entry_lines c.entries) x.leads (leads_on x.last y.last z.last (map bound_line c.bounds) (flat_map entry_lines c.entries) y.leads z.leads);
       settled = z.settled;
     }
 
@@ -302,10 +305,12 @@ short text h = grind (arith, nat_tests)
 
 pub certificate_forth : (c : Certificate) → is_certificate c ≡ true → length (text_of c) ≤ certificate_limit → certificate_of (text_of c) ≡ Ok c
 certificate_forth c h l =
-    let b = body_leads c h in
-    let all_lines = leads_on nothing_yet b.last (draft c Ended) (body_lines c) (codes "end" ∷ []) b.leads (end_leads b.last c b.settled) in
+    let p = both (not c.is_wide) (is_any_certificate c) h in
+    let b = body_leads c p.1 in
+    let all_lines = leads_on (begun c.is_wide) b.last (draft c Ended) (body_lines c) (codes "end" ∷ []) b.leads (end_leads b.last c b.settled) in
     let rest : List (List ℕ) = body_lines c ++ codes "end" ∷ [] in
     let cut = pieces_of_lines (codes "certificate 1" ∷ rest) (andt true (all (is_free 10) rest) refl all_lines.free) in
     let r = all_lines.reads 2 ([] ∷ []) refl in
     cond-false (nat_lt certificate_limit (length (text_of c))) _ _ (short (text_of c) l) ∙ ap read_text cut
-    ∙ cond-false (is_empty (rest ++ [] ∷ [])) _ _ (some_more rest ([] ∷ []) refl) ∙ ap (λ f. unless f (read_lines 2 nothing_yet (rest ++ [] ∷ []))) first_reads ∙ r.1
+    ∙ cond-false (is_empty (rest ++ [] ∷ [])) _ _ (some_more rest ([] ∷ []) refl) ∙ ap (λ f. unless f (read_lines 2 nothing_yet (rest ++ [] ∷ []))) first_reads
+    ∙ ap (λ w. read_lines 2 (begun w) (rest ++ [] ∷ [])) (sym (denied c.is_wide p.0)) ∙ r.1

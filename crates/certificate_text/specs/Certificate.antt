@@ -1,5 +1,5 @@
 -- Certificates (ours): what is said of places, how often loops turn, and what shows each obligation.
-use Rattle.std.specs.Prelude.{ℕ, ℤ, List, Option, None, Some}
+use Rattle.std.specs.Prelude.{ℕ, ℤ, List, Bool, Option, None, Some}
 use Rattle.linear.specs.Linear.{Form}
 
 pub data Dimension : Type 0 where
@@ -39,12 +39,13 @@ pub record Place : Type 0 where
   pub facts : List (Form Name)
   pub congruences : List Congruence
 
--- each turn makes the form less by a step at least, or at most half
+-- each turn makes the form less by a step at least, or at most half, or twice as large at least, from `least` on up to `most`
 pub data Descent : Type 0 where
   Down : (step : ℕ) → Descent
   Halve : Descent
+  Double : (least : ℕ) → Descent
 
--- how a loop ends: its form is at most `most` where it opens
+-- how a loop ends: its form is at most `most` where it opens, or, where it doubles, where its test is true
 pub record Bound : Type 0 where
   pub loop : ℕ
   pub descent : Descent
@@ -72,7 +73,9 @@ pub record Entry : Type 0 where
   pub sort : EntrySort
   pub steps : List Step
 
+-- in a wide certificate loops may double
 pub record Certificate : Type 0 where
+  pub is_wide : Bool
   pub places : List Place
   pub bounds : List Bound
   pub entries : List Entry

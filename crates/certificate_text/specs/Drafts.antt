@@ -1,7 +1,7 @@
 -- A certificate of which some lines are read, and what may stand behind them.
 use Rattle.std.specs.Prelude.{ℕ, List, [], ◌∷◌, ◌++◌, Bool, true, false, not, nat_lt, ◌&&◌, ◌||◌, Option, None, Some}
 use Rattle.texts.specs.Lines.{is_empty, follows}
-use Rattle.certificate_text.specs.Certificate.{Anchor, KernelEntry, Barrier, Spot, Place, Bound, Entry, Step, EntrySort, Certificate}
+use Rattle.certificate_text.specs.Certificate.{Anchor, KernelEntry, Barrier, Spot, Place, Descent, Down, Halve, Double, Bound, Entry, Step, EntrySort, Certificate}
 use Rattle.certificate_text.specs.Lines.{Item, PlaceItem, SameItem, FactItem, CongruenceItem, BoundItem, EntryItem, StepItem, EndItem}
 use Rattle.certificate_text.specs.Forms.{then, when}
 
@@ -36,11 +36,21 @@ pub record Draft : Type 0 where
 abbrev pub draft : Certificate → Open → Draft
 draft c o = record { settled = c; opened = o }
 
+abbrev pub certificate_with : (is_wide : Bool) → List Place → List Bound → List Entry → Certificate
+certificate_with is_wide places bounds entries = record { is_wide = is_wide; places = places; bounds = bounds; entries = entries }
+
 abbrev pub certificate : List Place → List Bound → List Entry → Certificate
-certificate places bounds entries = record { places = places; bounds = bounds; entries = entries }
+certificate places bounds entries = certificate_with false places bounds entries
+
+abbrev pub wide_certificate : List Place → List Bound → List Entry → Certificate
+wide_certificate places bounds entries = certificate_with true places bounds entries
+
+-- of a certificate that is wide or not, before its first line
+abbrev pub begun : (is_wide : Bool) → Draft
+begun is_wide = draft (certificate_with is_wide [] [] []) Nothing
 
 abbrev pub nothing_yet : Draft
-nothing_yet = draft (certificate [] [] []) Nothing
+nothing_yet = begun false
 
 abbrev pub has_line : Place → Bool
 has_line p = not (is_empty p.same && (is_empty p.facts && is_empty p.congruences))
@@ -73,9 +83,15 @@ entry_is_behind e obligation = nat_lt e.obligation obligation
 abbrev pub place_fits : Certificate → Spot → Bool
 place_fits c spot = (is_empty c.bounds && is_empty c.entries) && follows place_is_behind c.places spot
 
+-- loops double in a wide certificate alone
+abbrev pub descent_fits : (is_wide : Bool) → Descent → Bool
+descent_fits is_wide (Down step) = true
+descent_fits is_wide Halve = true
+descent_fits is_wide (Double least) = is_wide
+
 -- bounds come before entries, and rise by their loops
 abbrev pub bound_fits : Certificate → Bound → Bool
-bound_fits c b = is_empty c.entries && follows bound_is_behind c.bounds b.loop
+bound_fits c b = descent_fits c.is_wide b.descent && (is_empty c.entries && follows bound_is_behind c.bounds b.loop)
 
 -- entries rise by their obligations
 abbrev pub entry_fits : Certificate → ℕ → Bool

@@ -4,7 +4,7 @@ use Rattle.std.specs.Option.{option_map}
 use Rattle.std.specs.Int.Signed.{lt_z}
 use Rattle.linear.specs.Linear.{Form}
 use Rattle.texts.specs.Lines.{NumberFault, pieces, is_empty, follows, sole, two, first, natural_of, integer_of}
-use Rattle.certificate_text.specs.Certificate.{Name, Anchor, KernelEntry, Barrier, Spot, Congruence, Descent, Down, Halve, Bound, EntrySort, Show, Positive, Negative, Quotient, Scaled, Step, Given, Sum, Divide}
+use Rattle.certificate_text.specs.Certificate.{Name, Anchor, KernelEntry, Barrier, Spot, Congruence, Descent, Down, Halve, Double, Bound, EntrySort, Show, Positive, Negative, Quotient, Scaled, Step, Given, Sum, Divide}
 use Rattle.certificate_text.specs.Forms.{then, when, number, begins, identifier_of, form_of}
 
 -- what a line between the first and the last says
@@ -39,11 +39,12 @@ congruence_of words =
     then (first words) (λ w. then (at_least 2 (natural_of w.0)) (λ modulus. then (form_of [] None w.1) (λ f.
     Some (record { modulus = modulus; form = f }))))
 
--- `down STEP` or `halve`, and the words after it
+-- `down STEP`, `halve` or `double LOW`, and the words after it
 abbrev pub descent_of : List ℕ → List (List ℕ) → Option (Descent × List (List ℕ))
 descent_of word words =
     cond (bytes_eq word (codes "down")) (then (first words) (λ w. then (at_least 1 (natural_of w.0)) (λ step. Some (Down step, w.1)))) (
-    cond (bytes_eq word (codes "halve")) (Some (Halve, words)) None)
+    cond (bytes_eq word (codes "halve")) (Some (Halve, words)) (
+    cond (bytes_eq word (codes "double")) (then (first words) (λ w. then (at_least 1 (natural_of w.0)) (λ least. Some (Double least, w.1)))) None))
 
 unfoldable pub bound_of : List (List ℕ) → Option Bound
 bound_of words =

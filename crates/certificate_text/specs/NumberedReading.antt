@@ -1,5 +1,5 @@
--- Reading a certificate of version 2: the table of its forms, then line by line, to its end or its first fault.
-use Rattle.std.specs.Prelude.{ℕ, suc, ◌+◌, max, ℤ, pos, negsuc, List, [], ◌∷◌, ◌++◌, length, cond, not, nat_eq, nat_le, nat_lt, ◌&&◌, Option, None, Some, Ok, Err, bytes_eq, codes}
+-- Reading a certificate of version 2, or a wide one of version 4: the table of its forms, then line by line, to its end or its first fault.
+use Rattle.std.specs.Prelude.{ℕ, suc, ◌+◌, max, ℤ, pos, negsuc, List, [], ◌∷◌, ◌++◌, length, Bool, true, false, cond, not, nat_eq, nat_le, nat_lt, ◌&&◌, Option, None, Some, Ok, Err, bytes_eq, codes}
 use Rattle.std.specs.Ordering.{int_eq}
 use Rattle.linear.specs.Linear.{Form}
 use Rattle.texts.specs.Lines.{is_empty, line_feed, pieces, words}
@@ -8,7 +8,7 @@ use Rattle.certificate_text.specs.Forms.{then, when, form_of}
 use Rattle.certificate_text.specs.Lines.{Item, item_of}
 use Rattle.certificate_text.specs.Items.{form_in, put_form}
 use Rattle.certificate_text.specs.FormTables.{FormTable, has_form, form_at}
-use Rattle.certificate_text.specs.Drafts.{Draft, nothing_yet, add}
+use Rattle.certificate_text.specs.Drafts.{Draft, begun, add}
 use Rattle.certificate_text.specs.Reading.{Read, is_ended, version_of, unless, certificate_limit}
 
 abbrev pub whole_number : ℤ → Option ℕ
@@ -77,23 +77,35 @@ by_table_words None read go = read
 by_table_words (Some words) read go = go words
 
 -- the lines of the table, and all others
-abbrev pub read_table : FormTable → ℕ → List (List ℕ) → Read
-read_table forms n [] = Err (BadLine n)
-read_table forms n (line ∷ others) =
+abbrev pub read_table : (is_wide : Bool) → FormTable → ℕ → List (List ℕ) → Read
+read_table is_wide forms n [] = Err (BadLine n)
+read_table is_wide forms n (line ∷ others) =
     cond (is_empty others) (Err (BadLine n)) (by_table_words (table_words (words line))
-    (read_numbered forms n (numbered_draft 0 nothing_yet) (line ∷ others))
-    (λ ws. go_to n (add_form forms ws) (λ more. read_table more (suc n) others)))
+    (read_numbered forms n (numbered_draft 0 (begun is_wide)) (line ∷ others))
+    (λ ws. go_to n (add_form forms ws) (λ more. read_table is_wide more (suc n) others)))
 
--- `certificate 2` begins a text: with another number that is of another version
-abbrev pub head_of_two : Option ℤ → Option CertificateFault
-head_of_two None = Some (BadLine 1)
-head_of_two (Some version) = cond (int_eq version (pos 2)) None (Some OtherVersion)
+abbrev pub is_version : (is_wide : Bool) → ℤ → Bool
+is_version false version = int_eq version (pos 2)
+is_version true version = int_eq version (pos 4)
 
-abbrev pub read_text_of_two : List (List ℕ) → Read
-read_text_of_two [] = Err (BadLine 1)
-read_text_of_two (line ∷ others) =
-    cond (is_empty others) (Err (BadLine 1)) (unless (head_of_two (version_of (words line))) (read_table [] 2 others))
+-- `certificate 2`, or `certificate 4` of a wide one, begins a text: with another number that is of another version
+abbrev pub numbered_head : (is_wide : Bool) → Option ℤ → Option CertificateFault
+numbered_head is_wide None = Some (BadLine 1)
+numbered_head is_wide (Some version) = cond (is_version is_wide version) None (Some OtherVersion)
+
+abbrev pub read_numbered_text : (is_wide : Bool) → List (List ℕ) → Read
+read_numbered_text is_wide [] = Err (BadLine 1)
+read_numbered_text is_wide (line ∷ others) =
+    cond (is_empty others) (Err (BadLine 1)) (unless (numbered_head is_wide (version_of (words line))) (read_table is_wide [] 2 others))
+
+abbrev pub numbered_certificate : (is_wide : Bool) → List ℕ → Read
+numbered_certificate is_wide text =
+    cond (nat_lt certificate_limit (length text)) (Err (BadLine 1)) (read_numbered_text is_wide (pieces line_feed text))
 
 -- what a text of version 2 says: its certificate, or its first fault
 abbrev pub certificate_of_two : List ℕ → Read
-certificate_of_two text = cond (nat_lt certificate_limit (length text)) (Err (BadLine 1)) (read_text_of_two (pieces line_feed text))
+certificate_of_two text = numbered_certificate false text
+
+-- what a text of version 4 says: its certificate, which is wide, or its first fault
+abbrev pub certificate_of_four : List ℕ → Read
+certificate_of_four text = numbered_certificate true text

@@ -1,4 +1,4 @@
--- The text of a certificate in version 2: its forms in a table, and in its lines their numbers.
+-- The text of a certificate in version 2, and of a wide one in version 4: its forms in a table, and in its lines their numbers.
 use Rattle.std.specs.Prelude.{ℕ, pos, List, [], ◌∷◌, ◌++◌, map, fold, Option, None, Some, codes}
 use Rattle.std.specs.List.{filter_map}
 use Rattle.linear.specs.Linear.{Form}
@@ -41,3 +41,6 @@ lines_of_two forms c = map table_line forms ++ (map (numbered_line forms) (items
 
 abbrev pub text_of_two : Certificate → List ℕ
 text_of_two c = text_of_lines (codes "certificate 2" ∷ lines_of_two (forms_of c) c)
+
+abbrev pub text_of_four : Certificate → List ℕ
+text_of_four c = text_of_lines (codes "certificate 4" ∷ lines_of_two (forms_of c) c)

@@ -3,12 +3,12 @@ use Rattle.std.specs.Prelude.{ℕ, pos, List, [], ◌∷◌, Bool, true, not, na
 use Rattle.std.specs.Ordering.{int_eq}
 use Rattle.linear.specs.Linear.{Weighted, Form}
 use Rattle.texts.specs.Lines.{is_empty, is_natural, is_integer}
-use Rattle.certificate_text.specs.Certificate.{Name, Variable, AtAnchor, Turns, Fresh, Argument, Length, Groups, Group, Local, Anchor, KernelEntry, Barrier, Spot, Congruence, Place, Descent, Down, Halve, Bound, EntrySort, Show, Positive, Negative, Quotient, Scaled, Step, Given, Sum, Divide, Entry, Certificate}
+use Rattle.certificate_text.specs.Certificate.{Name, Variable, AtAnchor, Turns, Fresh, Argument, Length, Groups, Group, Local, Anchor, KernelEntry, Barrier, Spot, Congruence, Place, Descent, Down, Halve, Double, Bound, EntrySort, Show, Positive, Negative, Quotient, Scaled, Step, Given, Sum, Divide, Entry, Certificate}
 use Rattle.certificate_text.specs.Text.{name_text}
 use Rattle.certificate_text.specs.Forms.{is_before}
 use Rattle.texts.specs.Identifiers.{is_identifier}
 use Rattle.certificate_text.specs.Lines.{line_is_before}
-use Rattle.certificate_text.specs.Drafts.{spot_is_before, has_line}
+use Rattle.certificate_text.specs.Drafts.{spot_is_before, has_line, descent_fits}
 
 abbrev pub all : {A : Type 0} → (A → Bool) → List A → Bool
 all test [] = true
@@ -65,9 +65,14 @@ is_place p = is_open_place p && has_line p
 abbrev pub is_descent : Descent → Bool
 is_descent (Down step) = is_natural step && nat_le 1 step
 is_descent Halve = true
+is_descent (Double least) = is_natural least && nat_le 1 least
 
 abbrev pub is_bound : Bound → Bool
 is_bound b = is_natural b.loop && (is_descent b.descent && (is_integer b.most && is_form b.form))
+
+-- a bound of a certificate that is wide or not
+abbrev pub is_bound_in : (is_wide : Bool) → Bound → Bool
+is_bound_in is_wide b = is_bound b && descent_fits is_wide b.descent
 
 abbrev pub is_sort : EntrySort → Bool
 is_sort Show = true
@@ -96,8 +101,16 @@ bound_is_before left right = nat_lt left.loop right.loop
 abbrev pub entry_is_before : (left right : Entry) → Bool
 entry_is_before left right = nat_lt left.obligation right.obligation
 
--- places rise by their spots, bounds by their loops, entries by their obligations
-abbrev pub is_certificate : Certificate → Bool
-is_certificate c =
+-- places rise by their spots, bounds by their loops, entries by their obligations; the certificate may be wide
+abbrev pub is_any_certificate : Certificate → Bool
+is_any_certificate c =
     (all is_place c.places && rises place_is_before c.places)
-    && ((all is_bound c.bounds && rises bound_is_before c.bounds) && (all is_entry c.entries && rises entry_is_before c.entries))
+    && ((all (is_bound_in c.is_wide) c.bounds && rises bound_is_before c.bounds) && (all is_entry c.entries && rises entry_is_before c.entries))
+
+-- one that versions 1 and 2 write
+abbrev pub is_certificate : Certificate → Bool
+is_certificate c = not c.is_wide && is_any_certificate c
+
+-- one that version 4 writes
+abbrev pub is_wide_certificate : Certificate → Bool
+is_wide_certificate c = c.is_wide && is_any_certificate c

@@ -4,7 +4,7 @@ use Rattle.std.specs.List.{flat_map}
 use Rattle.std.specs.Fmt.{decimal, signed_decimal}
 use Rattle.linear.specs.Linear.{Weighted, Form}
 use Rattle.texts.specs.Lines.{text_of_lines}
-use Rattle.certificate_text.specs.Certificate.{Dimension, First, Second, Third, Name, Variable, AtAnchor, Turns, Fresh, Argument, Length, Groups, Group, Local, Anchor, KernelEntry, Barrier, Spot, Congruence, Place, Descent, Down, Halve, Bound, EntrySort, Show, Positive, Negative, Quotient, Scaled, Step, Given, Sum, Divide, Entry, Certificate}
+use Rattle.certificate_text.specs.Certificate.{Dimension, First, Second, Third, Name, Variable, AtAnchor, Turns, Fresh, Argument, Length, Groups, Group, Local, Anchor, KernelEntry, Barrier, Spot, Congruence, Place, Descent, Down, Halve, Double, Bound, EntrySort, Show, Positive, Negative, Quotient, Scaled, Step, Given, Sum, Divide, Entry, Certificate}
 
 abbrev pub dimension_text : Dimension → List ℕ
 dimension_text First = codes "0"
@@ -56,6 +56,7 @@ place_lines p = place_line p.spot ∷ (map same_line p.same ++ (map fact_line p.
 abbrev pub descent_text : Descent → List ℕ
 descent_text (Down step) = codes "down " ++ decimal step
 descent_text Halve = codes "halve"
+descent_text (Double least) = codes "double " ++ decimal least
 
 abbrev pub bound_line : Bound → List ℕ
 bound_line b =

@@ -1,19 +1,22 @@
 //! Certificates: `text_of` and `certificate_of` are inverse to one another, so that a certificate has one text and a
-//! text says one certificate. In version 2 `text_of_two` and `certificate_of_two` are.
+//! text says one certificate. In version 2 `text_of_two` and `certificate_of_two` are, and in version 4, for wide certificates,
+//! `text_of_four` and `certificate_of_four`.
 
-ghost use Rattle.std.specs.Prelude.{◌≡◌, ◌≤◌, ◌++◌, ℕ, List, length, true, Ok, Err, codes};
+ghost use Rattle.std.specs.Prelude.{◌≡◌, ◌≤◌, ◌++◌, ℕ, ℤ, pos, negsuc, List, [], ◌∷◌, length, true, Ok, Err, codes};
 ghost use Rattle.std.specs.Fmt.{decimal, signed_decimal};
 ghost use Rattle.linear.specs.Linear.{Form};
-ghost use Rattle.certificate_text.specs.Certificate.{Name, Congruence, Bound, Quotient, Certificate, CertificateFault, BadLine, OtherVersion};
+ghost use Rattle.certificate_text.specs.Certificate.{Name, Variable, Congruence, Double, Bound, Quotient, Certificate, CertificateFault, BadLine, OtherVersion};
 ghost use Rattle.certificate_text.specs.Text.{text_of, descent_text};
+ghost use Rattle.certificate_text.specs.Forms.{weighted, form};
 ghost use Rattle.certificate_text.specs.Lines.{FactItem, CongruenceItem, BoundItem, EntryItem};
+ghost use Rattle.certificate_text.specs.Drafts.{wide_certificate};
 ghost use Rattle.certificate_text.specs.Reading.{certificate_limit, certificate_of};
-ghost use Rattle.certificate_text.specs.Rules.{is_certificate};
+ghost use Rattle.certificate_text.specs.Rules.{is_certificate, is_wide_certificate};
 ghost use Rattle.certificate_text.specs.FormTables.{FormTable, number_of};
-ghost use Rattle.certificate_text.specs.NumberedText.{numbered_line, text_of_two};
-ghost use Rattle.certificate_text.specs.NumberedReading.{certificate_of_two};
+ghost use Rattle.certificate_text.specs.NumberedText.{numbered_line, text_of_two, text_of_four};
+ghost use Rattle.certificate_text.specs.NumberedReading.{certificate_of_two, certificate_of_four};
 ghost use Rattle.certificate_text.specs.Migrated.{migrated};
-ghost use Rattle.certificate_text.specs.Versions.{certificate_in};
+ghost use Rattle.certificate_text.specs.Versions.{certificate_in, certificate_any};
 
 /// What is read is the certificate's text, and can be written.
 pub fn a_text_is_written_back()
@@ -35,12 +38,27 @@ pub fn a_certificate_is_read_back_of_two()
     ensures { (c : Certificate) → is_certificate c ≡ true → length (text_of_two c) ≤ certificate_limit → certificate_of_two (text_of_two c) ≡ Ok c }
 {}
 
+/// What is read of a text of version 4 is a wide certificate, and the text is its own of version 4.
+pub fn a_text_of_four_is_written_back()
+    ensures { (text : List ℕ) (c : Certificate) → certificate_of_four text ≡ Ok c → (text_of_four c ≡ text) × (is_wide_certificate c ≡ true) }
+{}
+
+/// Each wide certificate that can be written is read of its text of version 4, where that is not too long.
+pub fn a_certificate_is_read_back_of_four()
+    ensures { (c : Certificate) → is_wide_certificate c ≡ true → length (text_of_four c) ≤ certificate_limit → certificate_of_four (text_of_four c) ≡ Ok c }
+{}
+
 /// In version 2 the number of a form stands where version 1 has the form.
 pub fn forms_are_written_as_numbers()
     ensures fact { (forms : FormTable) (f : Form Name) → numbered_line forms (FactItem f) ≡ codes "fact " ++ decimal (number_of forms f) }
     ensures congruence { (forms : FormTable) (c : Congruence) → numbered_line forms (CongruenceItem c) ≡ codes "mod " ++ (decimal c.modulus ++ (codes " " ++ decimal (number_of forms c.form))) }
     ensures bound { (forms : FormTable) (b : Bound) → numbered_line forms (BoundItem b) ≡ codes "loop " ++ (decimal b.loop ++ (codes " " ++ (descent_text b.descent ++ (codes " " ++ (signed_decimal b.most ++ (codes " " ++ decimal (number_of forms b.form))))))) }
     ensures quotient { (forms : FormTable) (n : ℕ) (f : Form Name) → numbered_line forms (EntryItem n (Quotient f)) ≡ codes "ob " ++ (decimal n ++ (codes " " ++ (codes "quot " ++ decimal (number_of forms f)))) }
+{}
+
+/// In version 4 the line of a loop whose form doubles says from where on it does.
+pub fn a_doubling_line_is_written()
+    ensures { (forms : FormTable) (loop least : ℕ) (most : ℤ) (f : Form Name) → numbered_line forms (BoundItem (record { loop = loop; descent = Double least; most = most; form = f })) ≡ codes "loop " ++ (decimal loop ++ (codes " double " ++ (decimal least ++ (codes " " ++ (signed_decimal most ++ (codes " " ++ decimal (number_of forms f))))))) }
 {}
 
 /// A text of version 1 has a text of version 2 where it says a certificate, and where that is not too long it says the
@@ -58,6 +76,16 @@ pub fn either_version_is_read()
     ensures same { (text two : List ℕ) → migrated text ≡ Ok two → length two ≤ certificate_limit → certificate_in two ≡ certificate_in text }
 {}
 
+/// A text of version 1, 2 or 4 says what it says in its own, and one of version 1 or 2 says the same to both readers of more versions.
+pub fn any_version_is_read()
+    ensures one { (text : List ℕ) (c : Certificate) → certificate_of text ≡ Ok c → certificate_any text ≡ Ok c }
+    ensures two { (text : List ℕ) (c : Certificate) → certificate_of_two text ≡ Ok c → certificate_any text ≡ Ok c }
+    ensures four { (text : List ℕ) (c : Certificate) → certificate_of_four text ≡ Ok c → certificate_any text ≡ Ok c }
+    ensures narrow { (text : List ℕ) (c : Certificate) → certificate_in text ≡ Ok c → certificate_any text ≡ Ok c }
+    ensures fault { (text : List ℕ) (n : ℕ) → certificate_in text ≡ Err (BadLine n) → certificate_any text ≡ Err (BadLine n) }
+    ensures other { (text : List ℕ) → certificate_in text ≡ Err OtherVersion → certificate_any text ≡ certificate_of_four text }
+{}
+
 /// What texts of version 2 say, and the line at which they are at fault.
 pub fn texts_of_two_are_read()
     ensures says { certificate_of_two (codes "certificate 2\nform -1*lid + 1*local.0 + 0\nform 1*lid + -1*local.0 + 0\nplace b3\nfact 1\nfact 2\nend\n") ≡ certificate_of (codes "certificate 1\nplace b3\nfact -1*lid + 1*local.0 + 0\nfact 1*lid + -1*local.0 + 0\nend\n") }
@@ -72,4 +100,17 @@ pub fn texts_of_two_are_read()
     ensures of_one { certificate_of_two (codes "certificate 1\nplace b3\nsame x\nend\n") ≡ Err OtherVersion }
     ensures without { certificate_of_two (codes "certificate 2\nplace b3\nsame x\nend\n") ≡ certificate_of (codes "certificate 1\nplace b3\nsame x\nend\n") }
     ensures shared { certificate_of_two (codes "certificate 2\nform 1*n + -1\nplace b3\nfact 1\nloop 3 down 1 64 1\nob 2 quot 1\ng 0\nend\n") ≡ certificate_of (codes "certificate 1\nplace b3\nfact 1*n + -1\nloop 3 down 1 64 1*n + -1\nob 2 quot 1*n + -1\ng 0\nend\n") }
+{}
+
+/// What texts of version 4 say, and that their lines are none of other versions.
+pub fn texts_of_four_are_read()
+    ensures doubled { certificate_of_four (codes "certificate 4\nform 1*n + -1\nloop 3 double 2 64 1\nend\n") ≡ Ok (wide_certificate [] (record { loop = 3; descent = Double 2; most = pos 64; form = form (weighted (pos 1) (Variable (codes "n")) ∷ []) (negsuc 0) } ∷ []) []) }
+    ensures any { certificate_any (codes "certificate 4\nform 1*n + -1\nloop 3 double 2 64 1\nend\n") ≡ certificate_of_four (codes "certificate 4\nform 1*n + -1\nloop 3 double 2 64 1\nend\n") }
+    ensures from_nought { certificate_of_four (codes "certificate 4\nform 1*n + -1\nloop 3 double 0 64 1\nend\n") ≡ Err (BadLine 3) }
+    ensures in_two { certificate_of_two (codes "certificate 2\nform 1*n + -1\nloop 3 double 2 64 1\nend\n") ≡ Err (BadLine 3) }
+    ensures in_one { certificate_of (codes "certificate 1\nloop 3 double 2 64 1*n + -1\nend\n") ≡ Err (BadLine 2) }
+    ensures of_two { certificate_of_four (codes "certificate 2\nplace b3\nsame x\nend\n") ≡ Err OtherVersion }
+    ensures of_three { certificate_of_four (codes "certificate 3\nplace b3\nsame x\nend\n") ≡ Err OtherVersion }
+    ensures three { certificate_any (codes "certificate 3\nplace b3\nsame x\nend\n") ≡ Err OtherVersion }
+    ensures five { certificate_any (codes "certificate 5\nplace b3\nsame x\nend\n") ≡ Err OtherVersion }
 {}

@@ -17,11 +17,20 @@ texts ws = map string_bytes ws
 abbrev pub is_option : List ℕ → Bool
 is_option w = bytes_eq w (codes "--workers") || bytes_eq w (codes "--out")
 
--- the word behind an option is its value
+-- an option that has no value
+abbrev pub is_flag : List ℕ → Bool
+is_flag w = bytes_eq w (codes "--wide")
+
+-- the word behind another option is its value
 abbrev pub operands : (is_value : Bool) → List (List ℕ) → List (List ℕ)
 operands is_value [] = []
 operands true (w ∷ ws) = operands false ws
-operands false (w ∷ ws) = cond (is_option w) (operands true ws) (w ∷ operands false ws)
+operands false (w ∷ ws) = cond (is_option w) (operands true ws) (cond (is_flag w) (operands false ws) (w ∷ operands false ws))
+
+-- one of the words is `--wide`
+abbrev pub has_wide : List (List ℕ) → Bool
+has_wide [] = false
+has_wide (w ∷ ws) = is_flag w || has_wide ws
 
 -- the word behind the first `--out` is the name of a file to write
 abbrev pub saved_as : (is_name : Bool) → List (List ℕ) → Option (List ℕ)
@@ -47,24 +56,28 @@ AsksWorkers ws n = IsNumberOf (workers_as false ws) n
 abbrev pub HasWord : List (List ℕ) → ℕ → List ℕ → Type 0
 HasWord ws n w = slice_get (operands false ws) n ≡ Some w
 
--- the files of the kernel, its conditions and its certificate come first
+-- the files of the kernel, its conditions and its certificate come first; `--wide` asks for the wide check
 pub record HasNames (ws : List (List ℕ)) (names : Names) : Type 0 where
   pub kernel : HasWord ws 1 names.kernel.now
   pub conditions : HasWord ws 2 names.conditions.now
   pub certificate : HasWord ws 3 names.certificate.now
+  pub wide : names.is_wide ≡ has_wide ws
 
--- the kernel and the conditions come first, `--out` names the file to write, and `--workers` the number of workers
+-- the kernel and the conditions come first, `--out` names the file to write, `--workers` the number of workers, and `--wide` asks for the
+-- wide search
 pub record HasSearch (ws : List (List ℕ)) (search : Search) : Type 0 where
   pub kernel : HasWord ws 1 search.kernel.now
   pub conditions : HasWord ws 2 search.conditions.now
   pub out : option_map (λ w. w.now) search.out ≡ saved_as false ws
   pub workers : AsksWorkers ws search.workers
+  pub wide : search.is_wide ≡ has_wide ws
 
--- the kernel and the conditions come first, then the certificate, where there is one
+-- the kernel and the conditions come first, then the certificate, where there is one; `--wide` asks for the wide check
 pub record HasSubject (ws : List (List ℕ)) (subject : Subject) : Type 0 where
   pub kernel : HasWord ws 1 subject.kernel.now
   pub conditions : HasWord ws 2 subject.conditions.now
   pub certificate : option_map (λ w. w.now) subject.certificate ≡ slice_get (operands false ws) 3
+  pub wide : subject.is_wide ≡ has_wide ws
 
 abbrev pub Asks : List (List ℕ) → Line → Type 0
 Asks ws lines.First = ws ≡ []

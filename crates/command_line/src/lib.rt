@@ -6,7 +6,7 @@
 ghost use Rattle.std.specs.Prelude.{◌≡◌, ℕ, List, IfOk, IfSome, false, codes, slice_get};
 ghost use Rattle.std.specs.Fmt.{decimal};
 ghost use Rattle.std.specs.Option.{option_map};
-ghost use Rattle.command_line.specs.Words.{texts, operands, saved_as, workers_as, IsNumberOf, AsksWorkers, HasWord, HasNames, HasSubject, Asks};
+ghost use Rattle.command_line.specs.Words.{texts, operands, saved_as, workers_as, has_wide, IsNumberOf, AsksWorkers, HasWord, HasNames, HasSubject, Asks};
 
 use clap::error::{Error, ErrorKind};
 use clap::{Arg, ArgAction, Command};
@@ -36,29 +36,34 @@ pub enum Line<'a> {
     Usage,
 }
 
-/// The files of a kernel, its conditions and its certificate.
+/// The files of a kernel, its conditions and its certificate, and whether the wide check is asked for.
 #[derive(Clone, Copy)]
 pub struct Names<'a> {
     pub kernel: &'a str,
     pub conditions: &'a str,
     pub certificate: &'a str,
+    pub is_wide: bool,
 }
 
-/// The files that `prove` is asked of, a kernel's and its conditions', the file to write, where one is named, and how many workers.
+/// The files that `prove` is asked of, a kernel's and its conditions', the file to write, where one is named, how many workers, and whether
+/// the wide search is asked for.
 #[derive(Clone, Copy)]
 pub struct Search<'a> {
     pub kernel: &'a str,
     pub conditions: &'a str,
     pub out: Option<&'a str>,
     pub workers: u32,
+    pub is_wide: bool,
 }
 
-/// The files that `explain` is asked of: a kernel's, its conditions', and a certificate's, where one is named.
+/// The files that `explain` is asked of: a kernel's, its conditions', and a certificate's, where one is named; and whether it is of the
+/// wide check.
 #[derive(Clone, Copy)]
 pub struct Subject<'a> {
     pub kernel: &'a str,
     pub conditions: &'a str,
     pub certificate: Option<&'a str>,
+    pub is_wide: bool,
 }
 
 /// A decimal of at most 4294967295, with no sign and no zero before it.
@@ -72,29 +77,52 @@ fn decimal(alloc: Global, text: &str) -> Result<Option<u32>, AllocError>
     Ok((spelled.as_str() == text).then_some(number))
 }
 
-/// The words of a command: its name, its files, of which the first ones have to be there, and its options.
+/// The words of a command: its name, its files, of which the first ones have to be there, its options, and those that have no value.
 #[derive(Clone, Copy)]
 struct Form<'a> {
     name: &'a str,
     files: &'a [&'a str],
     needed: usize,
     options: &'a [&'a str],
+    flags: &'a [&'a str],
 }
+
+/// The option of a command that looks at a certificate or for one.
+const FLAGS: &[&str] = &["wide"];
 
 /// The form of a command.
 fn form_of(command: Option<&str>) -> Option<Form<'static>> {
-    let (name, files, needed, options): (_, &[&str], _, &[&str]) = match command? {
-        "check" => ("check", &["KERNEL", "CONDITIONS", "CERTIFICATE"], 3, &[]),
+    let (name, files, needed, options, flags): (_, &[&str], _, &[&str], &[&str]) = match command? {
+        "check" => (
+            "check",
+            &["KERNEL", "CONDITIONS", "CERTIFICATE"],
+            3,
+            &[],
+            FLAGS,
+        ),
         "run" => (
             "run",
             &["KERNEL", "CONDITIONS", "CERTIFICATE", "LAUNCH"],
             4,
             &["workers"],
+            FLAGS,
         ),
-        "prove" => ("prove", &["KERNEL", "CONDITIONS"], 2, &["workers", "out"]),
-        "explain" => ("explain", &["KERNEL", "CONDITIONS", "CERTIFICATE"], 2, &[]),
-        "print" => ("print", &["KERNEL"], 1, &[]),
-        "migrate" => ("migrate", &["OLD", "NEW"], 2, &[]),
+        "prove" => (
+            "prove",
+            &["KERNEL", "CONDITIONS"],
+            2,
+            &["workers", "out"],
+            FLAGS,
+        ),
+        "explain" => (
+            "explain",
+            &["KERNEL", "CONDITIONS", "CERTIFICATE"],
+            2,
+            &[],
+            FLAGS,
+        ),
+        "print" => ("print", &["KERNEL"], 1, &[], &[]),
+        "migrate" => ("migrate", &["OLD", "NEW"], 2, &[], &[]),
         _ => return None,
     };
     Some(Form {
@@ -102,20 +130,26 @@ fn form_of(command: Option<&str>) -> Option<Form<'static>> {
         files,
         needed,
         options,
+        flags,
     })
 }
 
-/// An option is written as two words, and there are just these.
-fn is_spelled(words: &[String], options: &[&str]) -> bool {
-    words.iter().all(|word| is_known(word.as_str(), options))
+/// An option with a value is written as two words, and there are just those of the form.
+fn is_spelled(words: &[String], form: Form<'_>) -> bool {
+    words.iter().all(|word| is_known(word.as_str(), form))
 }
 
-/// Whether a word is no option or one of these.
-fn is_known(word: &str, options: &[&str]) -> bool {
+/// Whether a word is no option or one of the form's.
+fn is_known(word: &str, form: Form<'_>) -> bool {
     match word.strip_prefix("--") {
-        Some(name) => options.iter().any(|option| *option == name),
+        Some(name) => has_name(form.options, name) || has_name(form.flags, name),
         None => true,
     }
+}
+
+/// Whether a name is one of these.
+fn has_name(names: &[&str], name: &str) -> bool {
+    names.iter().any(|other| *other == name)
 }
 
 /// The parser of a form of the command line: its files and its options.
@@ -129,10 +163,14 @@ fn command_of<'a>(alloc: Global, form: Form<'a>) -> Result<Command<'a>, AllocErr
         let option = Arg::new(alloc, name).long(name);
         command = command.arg(option.action(ArgAction::Set))?;
     }
+    for name in form.flags {
+        let flag = Arg::new(alloc, name).long(name);
+        command = command.arg(flag.action(ArgAction::SetTrue))?;
+    }
     Ok(command)
 }
 
-/// The n-th word that is neither an option nor the word behind one, from 0.
+/// The n-th word that is neither an option nor an option's value, from 0.
 fn operand(words: &[String], n: u32) -> Option<&str>
     ensures { option_map (λ w. w.now) result ≡ slice_get (operands false (texts words.now)) n }
 {
@@ -143,13 +181,26 @@ fn operand(words: &[String], n: u32) -> Option<&str>
             is_value = false;
         } else if word.as_str() == "--workers" || word.as_str() == "--out" {
             is_value = true;
-        } else if left == 0 {
-            return Some(word.as_str());
-        } else {
+        } else if word.as_str() != "--wide" {
+            if left == 0 {
+                return Some(word.as_str());
+            }
             left -= 1;
         }
     }
     None
+}
+
+/// Whether one of the words is `--wide`.
+fn is_wide(words: &[String]) -> bool
+    ensures { result ≡ has_wide (texts words.now) }
+{
+    for word in words {
+        if word.as_str() == "--wide" {
+            return true;
+        }
+    }
+    false
 }
 
 /// The word behind the first `--out`.
@@ -174,6 +225,7 @@ fn names_of<'a>(words: &'a [String]) -> Option<Names<'a>>
         kernel: operand(words, 1)?,
         conditions: operand(words, 2)?,
         certificate: operand(words, 3)?,
+        is_wide: is_wide(words),
     })
 }
 
@@ -211,7 +263,7 @@ fn number_of(alloc: Global, word: Option<&str>) -> Result<Option<u32>, AllocErro
 
 /// Whether the words are a command line of this form.
 fn is_of(alloc: Global, form: Form<'_>, words: &[String]) -> Result<bool, AllocError> {
-    if !is_spelled(words, form.options) {
+    if !is_spelled(words, form) {
         return Ok(false);
     }
     match command_of(alloc, form)?.try_get_matches_from(words) {
@@ -268,6 +320,7 @@ fn prove_of<'a>(words: &'a [String], workers: u32) -> Line<'a>
         conditions,
         out: out_of(words),
         workers,
+        is_wide: is_wide(words),
     })
 }
 
@@ -279,6 +332,7 @@ fn subject_of<'a>(words: &'a [String]) -> Option<Subject<'a>>
         kernel: operand(words, 1)?,
         conditions: operand(words, 2)?,
         certificate: operand(words, 3),
+        is_wide: is_wide(words),
     })
 }
 

@@ -67,7 +67,7 @@ pub fn push_steps(
 ) -> Result<(), AllocError> {
     let (Ok(places), Ok(certificate)) = (
         places(alloc, typed.core()),
-        certificate::read_any(alloc, certificate),
+        certificate::read_wide(alloc, certificate),
     ) else {
         return Ok(());
     };

@@ -17,12 +17,13 @@ use Rattle.facts.specs.Launching.{are_sizes}
 use Rattle.facts.proofs.Naming.{symbol_of-number}
 use Rattle.facts.proofs.Members.{Lawful, by_number}
 
--- a kernel that is walked under conditions, at a launch that meets them; its arrays are of these spaces
+-- a kernel that is walked under conditions, by the wide walk or not, at a launch that meets them; its arrays are of these spaces
 pub record Walked (E : Type 0) : Type 1 where
   pub domain : Ghosts E
   pub lawful : Lawful domain
   pub kernel : Kernel
   pub conditions : Conditions
+  pub is_wide : Bool
   pub has_entry : ℕ → Bool
   pub spaces : Space → Bool
   pub launch : Launch

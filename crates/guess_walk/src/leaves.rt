@@ -56,7 +56,13 @@ pub fn begun_of(
     sights: &[Sight],
 ) -> Result<Vec<Begun>, FindError> {
     let core = subject.typed.core();
-    let setting = setting_of::<Elements>(alloc, core, subject.conditions, Vec::new(alloc))?;
+    let setting = setting_of::<Elements>(
+        alloc,
+        notes.is_wide,
+        core,
+        subject.conditions,
+        Vec::new(alloc),
+    )?;
     let mut all = Vec::new(alloc);
     for sight in sights {
         let placing = Placing {

@@ -1,9 +1,9 @@
 //! Section: Search. Promises nothing: a kernel's places, walked with candidates in the place of what a certificate says; stands on
 //! `walk`, `certificate_notes` and `cut_search`.
 //!
-//! The walks are those of the check. A range of an unsigned value is taken as shown as long as the search shows it, or, of a hopeful walk,
-//! as long as its numbers are small. What a search found is written down here: symbols get the names that a certificate has for them, and
-//! derivations become steps.
+//! The walks are those of the check, narrow or wide. A range of an unsigned value, or that a dividend is not negative, is taken as shown as
+//! long as the search shows it, or, of a hopeful walk, as long as its numbers are small. What a search found is written down here: symbols
+//! get the names that a certificate has for them, and derivations become steps.
 #![tactic(auto)]
 
 mod kernel_names;
@@ -30,4 +30,4 @@ pub use said::may_be_said;
 pub use sights::{is_place, sights_of};
 pub use steps::steps_of;
 pub use subject::Subject;
-pub use walking::{Walked, certificate_of};
+pub use walking::{Limits, Walked, certificate_of};

@@ -1,4 +1,4 @@
-//! Which ranges of unsigned values are taken as shown.
+//! Which claims that need not be shown are taken as shown: ranges of unsigned values, and that a dividend is not negative.
 
 ghost use Rattle.std.specs.Prelude.{◌≤◌, ◌<◌, length};
 ghost use Rattle.two_thread.specs.Listed.{listed};
@@ -16,21 +16,21 @@ use two_thread::{Manner, Obligations, Part};
 use walk::FindError;
 use words::Kind;
 
-/// When a range is taken as shown: where its numbers are small, or where the search shows it.
+/// When such a claim is taken as shown: where its numbers are small, or where the search shows it.
 #[derive(Clone, Copy, PartialEq, Eq)]
 pub enum Trust {
     Hopeful,
     Searched,
 }
 
-/// A walk, and by the number of an obligation whether its range was taken as shown.
+/// A walk, and by the number of an obligation whether its claim was taken as shown.
 #[derive(Drop)]
 pub struct Resolved {
     pub walked: Walked,
     pub flags: Vec<bool>,
 }
 
-/// The largest numbers of a range that is hoped for.
+/// The largest numbers of a claim that is hoped for.
 const COEFFICIENT: u64 = 1 << 36;
 
 const CONSTANT: u64 = 1 << 40;
@@ -60,7 +60,7 @@ pub fn facts_of(
     Ok(found.facts(alloc, number, manner)?)
 }
 
-/// The range that an obligation asks for is taken as shown.
+/// What an obligation asks for is taken as shown.
 fn is_taken(
     alloc: Global,
     trust: Trust,
@@ -83,8 +83,8 @@ fn is_taken(
     }
 }
 
-/// The obligation is an end of an unsigned value's range that was taken as shown, and nothing but a search shows it. Such an obligation is
-/// needed where it is taken so.
+/// The obligation is an end of an unsigned value's range that was taken as shown, or that a dividend is not negative, which has the same
+/// sort; and nothing but a search shows it. Such an obligation is needed where it is taken so.
 fn is_open(alloc: Global, found: &Obligations<Elements>, number: usize) -> Result<bool, FindError>
     requires first { 0 < number }
     requires last { number ≤ length (listed domain found.now) }
@@ -100,7 +100,7 @@ fn is_open(alloc: Global, found: &Obligations<Elements>, number: usize) -> Resul
     }
 }
 
-/// The first range from a number on that is not to be taken as shown, though it was.
+/// The first such claim from a number on that is not to be taken as shown, though it was.
 fn first_untaken(
     alloc: Global,
     trust: Trust,
@@ -124,7 +124,7 @@ fn first_untaken(
     Ok(None)
 }
 
-/// Walks with a certificate until each range that is taken as shown is to be taken so; nothing where the kernel lacks what the certificate
+/// Walks with a certificate until each claim that is taken as shown is to be taken so; nothing where the kernel lacks what the certificate
 /// names, or where that takes over 4,000 walks.
 pub fn resolve(
     alloc: Global,

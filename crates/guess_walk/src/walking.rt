@@ -22,13 +22,20 @@ pub struct Walked {
     pub found: Obligations<Elements>,
 }
 
-/// How loops end, each with what its form is at most where it opens.
+/// The rankings of loops, and by their places among them what their forms are at most.
+#[derive(Clone, Copy)]
+pub struct Limits<'a> {
+    pub rankings: &'a [Ranking],
+    pub most: &'a [i64],
+}
+
+/// How loops end, each with what its form is at most.
 fn bounds_of(
     alloc: Global,
     names: &Names<'_>,
-    rankings: &[Ranking],
-    most: &[i64],
+    limits: Limits<'_>,
 ) -> Result<Vec<Bound>, AllocError> {
+    let Limits { rankings, most } = limits;
     let mut bounds = Vec::new(alloc);
     for i in 0..rankings.len() {
         let limit = most.get(i).copied().unwrap_or(0);
@@ -40,18 +47,22 @@ fn bounds_of(
     Ok(bounds)
 }
 
-/// Guesses as a certificate; nothing where the format has no text for them.
+/// Guesses as a certificate of the subject's walk; nothing where the format has no text for them.
 pub fn certificate_of(
     alloc: Global,
+    subject: &Subject<'_>,
     names: &Names<'_>,
     candidates: &[Candidate],
-    rankings: &[Ranking],
-    most: &[i64],
+    limits: Limits<'_>,
     entries: Vec<Entry>,
 ) -> Result<Option<Certificate>, AllocError> {
-    let bounds = bounds_of(alloc, names, rankings, most)?;
+    let bounds = bounds_of(alloc, names, limits)?;
     let places = places_of(alloc, names, candidates)?;
-    Certificate::new(alloc, places, bounds, entries)
+    if subject.is_wide {
+        Certificate::new_wide(alloc, places, bounds, entries)
+    } else {
+        Certificate::new(alloc, places, bounds, entries)
+    }
 }
 
 /// All that is to be shown with a certificate, where the obligations that are flagged have an entry; nothing where the kernel lacks what

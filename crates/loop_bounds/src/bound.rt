@@ -1,6 +1,6 @@
 //! How loops end.
 
-ghost use Rattle.std.specs.Prelude.{◌≡◌, ◌<◌, MatchOption};
+ghost use Rattle.std.specs.Prelude.{◌≡◌, ◌<◌, pos, ◌<ℤ◌, ◌≤ℤ◌, MatchOption};
 
 use linear::Form;
 
@@ -31,6 +31,33 @@ impl Step {
     }
 }
 
+/// What a form is at least where its loop opens, at least 1.
+#[derive(Clone, Copy, Drop)]
+pub struct Least {
+    number: i64,
+    ghost grows: { pos 0 <ℤ number },
+}
+
+impl Least {
+    /// That number, where it is 1 at least.
+    pub fn new(number: i64) -> Option<Least>
+        ensures { MatchOption result (number ≤ℤ pos 0) (λ l. l.number ≡ number) }
+    {
+        if number <= 0 {
+            return None;
+        }
+        Some(Least { number })
+    }
+
+    /// The number, which is above 0.
+    pub fn number(self) -> i64
+        ensures same { result ≡ self.number }
+        ensures grows { pos 0 <ℤ result }
+    {
+        self.number
+    }
+}
+
 /// How a loop ends.
 #[derive(Drop)]
 pub enum Bound {
@@ -38,6 +65,8 @@ pub enum Bound {
     Down { form: Form, step: Step, most: i64 },
     /// Each turn makes the form at most half, from at most `most` down to above 0.
     Halving { form: Form, most: i64 },
+    /// Each turn makes the form at least double, from at least `least` up to at most `most`.
+    Doubling { form: Form, least: Least, most: i64 },
 }
 
 /// The bound of a loop, with the loop's number.

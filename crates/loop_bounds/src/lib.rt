@@ -10,7 +10,7 @@ mod error;
 pub mod laws;
 mod turning;
 
-pub use bound::{Bound, LoopBound, Step};
+pub use bound::{Bound, Least, LoopBound, Step};
 pub use counting::cost;
 pub use error::BoundError;
 pub use turning::turns;

@@ -1,15 +1,23 @@
 //! How often the test of a loop is true.
 
-ghost use Rattle.std.specs.Prelude.{◌≡◌};
+ghost use Rattle.std.specs.Prelude.{◌≡◌, ◌<◌, ◌/◌, pos, ◌<ℤ◌};
 ghost use Rattle.loop_bounds.specs.Turns as specs;
 
-use crate::bound::{Bound, LoopBound};
+use crate::bound::{Bound, Least, LoopBound};
 
 /// A number from 0 on: 0 where the given one is below.
 fn above(most: i64) -> u64
     ensures { result ≡ specs.above most }
 {
     if most < 0 { 0 } else { most.unsigned_abs() }
+}
+
+/// The least number, from 1 on.
+fn divisor(least: Least) -> u64
+    ensures same { result ≡ specs.above least.number }
+    ensures some { 0 < result }
+{
+    above(least.number())
 }
 
 /// How many binary digits a number has.
@@ -19,6 +27,13 @@ fn digits(number: u64) -> u64
     u64::from(64 - number.leading_zeros())
 }
 
+/// How many times the least number goes into the most.
+fn times_least(least: Least, most: i64) -> u64
+    ensures { result ≡ specs.above most / specs.above least.number }
+{
+    above(most) / divisor(least)
+}
+
 /// How often the test of a loop is true at most.
 pub fn turns(bound: &Bound) -> u64
     ensures { result ≡ specs.turns bound.now }
@@ -26,6 +41,7 @@ pub fn turns(bound: &Bound) -> u64
     match bound {
         Bound::Down { step, most, .. } => above(*most).div_ceil(step.size()),
         Bound::Halving { most, .. } => digits(above(*most)),
+        Bound::Doubling { least, most, .. } => digits(times_least(*least, *most)),
     }
 }
 

@@ -23,7 +23,7 @@ use Rattle.semantics.specs.Item.{Status, Running, Stopped}
 use Rattle.semantics.specs.Word.{Fault}
 use Rattle.semantics.specs.Core.{Site}
 use Rattle.walk_trees.specs.Shown.{IsShown}
-use Rattle.walk_trees.proofs.Arithmetic.{DividesLawfully}
+use Rattle.walk_trees.proofs.QuotientSound.{DividesLawfully}
 use Rattle.walk_trees.proofs.Fronts.{IsFine}
 use Rattle.semantics.specs.Ask.{act}
 use Rattle.obligations.specs.Notes.{Notes, number_at}

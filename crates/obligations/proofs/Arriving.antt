@@ -17,7 +17,7 @@ use Rattle.arrivals.specs.Paths.{Held}
 use Rattle.arrivals.specs.Trees.{Stop, AtBarrier, AtHead, AtEnd, Turns}
 use Rattle.walk_trees.specs.Trees.{Access, Ended, Tree, Leaf}
 use Rattle.walk_trees.specs.Walks.{State, claimed_once, arrived}
-use Rattle.walk_trees.proofs.Arithmetic.{DividesLawfully}
+use Rattle.walk_trees.proofs.QuotientSound.{DividesLawfully}
 use Rattle.walk_trees.proofs.Each.{Has}
 use Rattle.walk_trees.proofs.Holding.{held_settles, fits_itself}
 use Rattle.walk_trees.proofs.Made.{IsFit}

@@ -18,7 +18,7 @@ use Rattle.walk_trees.specs.Walks.{State, claimed_once, stand, with_rank, rank_f
 use Rattle.walk_trees.specs.Terms.{walk, chosen}
 use Rattle.walk_trees.specs.Covered.{covers_term}
 use Rattle.walk_trees.specs.Statements.{spot_of, assigned}
-use Rattle.walk_trees.proofs.Arithmetic.{DividesLawfully}
+use Rattle.walk_trees.proofs.QuotientSound.{DividesLawfully}
 use Rattle.walk_trees.proofs.Standing.{walks, told, past_claim}
 use Rattle.walk_trees.proofs.Ranges.{IsForm, form_constant}
 use Rattle.walk_trees.proofs.Fronts.{Stood, stood_at, value_stood, set_stood, test_stood, store_stood}

@@ -21,7 +21,7 @@ use Rattle.walk_trees.specs.Terms.{walk, access}
 use Rattle.walk_trees.specs.Covered.{covers_term}
 use Rattle.walk_trees.specs.Statements.{spot_of}
 use Rattle.walk_trees.proofs.Each.{Has}
-use Rattle.walk_trees.proofs.Arithmetic.{DividesLawfully}
+use Rattle.walk_trees.proofs.QuotientSound.{DividesLawfully}
 use Rattle.walk_trees.proofs.Standing.{walks, seen_in, Stands, told}
 use Rattle.walk_trees.proofs.Ranges.{IsForm, form_kept, form_constant}
 use Rattle.walk_trees.proofs.Accesses.{within-at, inside}

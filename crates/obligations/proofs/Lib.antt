@@ -9,6 +9,7 @@ pub mod Fronting
 pub mod PlaceLines
 pub mod MeetingLists
 pub mod Meetings
+pub mod Narrow
 pub mod Nodes
 pub mod Opened
 pub mod Orders

@@ -17,7 +17,7 @@ use Rattle.arrivals.specs.Shown as arrivals
 use Rattle.arrivals.specs.Shown.{Came, Both, IsHead, Owed, Nothing, Agreement, Never, owed, same_turns, Shows, PairShown, alike_at}
 use Rattle.walk_trees.specs.Walks.{State}
 use Rattle.walk_trees.specs.Shown.{IsShown}
-use Rattle.walk_trees.proofs.Arithmetic.{DividesLawfully}
+use Rattle.walk_trees.proofs.QuotientSound.{DividesLawfully}
 use Rattle.obligations.specs.Notes.{Notes, number_at}
 use Rattle.obligations.specs.Telling.{TellsOfItems}
 use Rattle.obligations.specs.Roots.{kinds}

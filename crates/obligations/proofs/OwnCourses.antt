@@ -10,7 +10,8 @@ use Rattle.arrivals.specs.Symbolic.{Drawn, Courses, finish, inside, draw_loop, d
 use Rattle.walk_trees.specs.Trees.{Tree}
 use Rattle.walk_trees.specs.Walks.{State}
 use Rattle.walk_trees.specs.Statements.{assigned}
-use Rattle.walk_trees.proofs.OwnTrees.{HasOwn, IsOwnTree, own-set}
+use Rattle.walk_trees.proofs.OwnQuotients.{HasOwn, IsOwnTree}
+use Rattle.walk_trees.proofs.OwnTrees.{own-set}
 use Rattle.obligations.specs.Walking.{Placed, course}
 use Rattle.obligations.proofs.OwnSteps.{own-stops, own-arrive, own-enter, own-store, own-value, own-test}
 

@@ -5,6 +5,7 @@ use Rattle.semantics.specs.Launch.{Kernel}
 use Rattle.semantics.specs.Conditions.{Conditions}
 use Rattle.domain.specs.declared.Domain.{Ghosts}
 use Rattle.facts.specs.Symbols.{Fact}
+use Rattle.facts.specs.Launching.{known}
 use Rattle.arrivals.specs.Places.{Place, places}
 use Rattle.walk_trees.specs.Trees.{Tree, Leaf, Dead, Claim, Know, Touch, Fork, Access, Ended, after, accesses, ends}
 use Rattle.walk_trees.specs.Values.{Value}
@@ -12,7 +13,8 @@ use Rattle.walk_trees.specs.Seconds.{is_own, are_own, is_own_access}
 use Rattle.walk_trees.specs.Statements.{setting}
 use Rattle.walk_trees.proofs.Each.{Each}
 use Rattle.walk_trees.proofs.OwnForms.{IsOwn}
-use Rattle.walk_trees.proofs.OwnTrees.{AreOwnValues, IsOwnTree, IsOwnAccess, one_more, joined, own-accesses, own-terms-test, own-test}
+use Rattle.walk_trees.proofs.OwnQuotients.{AreOwnValues, IsOwnTree}
+use Rattle.walk_trees.proofs.OwnTrees.{IsOwnAccess, one_more, joined, own-accesses, own-terms-test, own-test}
 use Rattle.obligations.specs.Notes.{Notes, number_at}
 use Rattle.obligations.specs.Telling.{TellsOfItems}
 use Rattle.obligations.specs.Roots.{root_state}
@@ -69,10 +71,10 @@ ends_in-own (p ∷ ps) h = placed-ends-test p (ends p.facts p.claims p.tree) (en
 module _ {E : Type 0} (g : Ghosts E) (k : Kernel) (c : Conditions) (n : Notes) (tell : TellsOfItems n) where
   own-planted : (claims : ℕ) (p : Place) → IsOwnPlanted (planted g k c n claims p)
   own-planted claims p =
-      let s = setting g k c n.has_entry in
+      let s = setting g k c n.is_wide n.has_entry in
       let a = number_at p.anchor in
       let h = number_at p.head in
-      record { facts = own-root k n tell a h; tree = own-sketch (placed g k c n p) k.body p (root_state g k n claims a h) (own-values s k a h) }
+      record { facts = own-root k n tell a h; tree = own-sketch (placed g k c n p) k.body p (root_state g (known g k.sizes c) k n claims a h) (own-values s k a h) }
 
   own-from : (claims : ℕ) (ps : List Place) → Each IsOwnPlanted (planted_from g k c n claims ps)
   own-from claims [] = tt

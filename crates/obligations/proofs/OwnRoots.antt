@@ -13,7 +13,8 @@ use Rattle.walk_trees.specs.Walks.{Setting, least, greatest}
 use Rattle.walk_trees.specs.Statements.{zero_value}
 use Rattle.walk_trees.proofs.Each.{Each}
 use Rattle.walk_trees.proofs.OwnForms.{IsOwnSymbol, AreOwn, IsOwn, own-minus, own-multiple, own-given, own-new, own-items}
-use Rattle.walk_trees.proofs.OwnTrees.{AreOwnValues, own-arguments, own-zeros, joined}
+use Rattle.walk_trees.proofs.OwnQuotients.{AreOwnValues}
+use Rattle.walk_trees.proofs.OwnTrees.{own-arguments, own-zeros, joined}
 use Rattle.obligations.specs.Notes.{Congruence, Notes}
 use Rattle.obligations.specs.Listing.{is_some}
 use Rattle.obligations.specs.Telling.{may_tell, is_symbol, terms_tell, tells, all_tell, congruences_tell, TellsOfItems}

@@ -7,7 +7,8 @@ use Rattle.walk_trees.specs.Trees.{Tree, Leaf}
 use Rattle.walk_trees.specs.Values.{Value}
 use Rattle.walk_trees.specs.Walks.{State, Onward, claimed_once, stand, with_rank, arrived}
 use Rattle.walk_trees.specs.Statements.{spot_of}
-use Rattle.walk_trees.proofs.OwnTrees.{IsOwnValue, HasOwn, IsOwnTree, GoesOnBy, accesses_on, selects, own}
+use Rattle.walk_trees.proofs.OwnQuotients.{IsOwnValue, HasOwn, IsOwnTree, GoesOnBy}
+use Rattle.walk_trees.proofs.OwnTrees.{accesses_on, selects, own}
 use Rattle.obligations.specs.Notes.{Congruence}
 use Rattle.obligations.specs.Roots.{kinds, are_slots, facts_at, congruences_at}
 use Rattle.obligations.specs.Walking.{Placed, claim_facts, claim_congruences, is_lawful, refused, arrive_at, stops, rank_on, arrive, enter, store, course}
@@ -68,7 +69,7 @@ module _ {E : Type 0} (w : Placed E) where
   own-store (Break n k) x st go p h g = g st h
   own-store (Continue n k) x st go p h g = g st h
 
-  pub own-value : (n : ℕ) (e : Term) (st : State E) (go : Onward E) → HasOwn st → GoesOnBy w.setting go → IsOwnTree ((course w).value n e st go)
+  pub own-value : (n : ℕ) (e : Term) (st : State E) (go : Onward E) → HasOwn st → GoesOnBy go → IsOwnTree ((course w).value n e st go)
   own-value n e st go h g = either_tree (is_lawful e) _ _ ((own w.setting e).as_value (stand (spot_of n) st) go h g) (own-refused st)
 
   pub own-test : (n : ℕ) (e : Term) (st : State E) (taken skipped : State E → Tree E) → HasOwn st → GoesOwn taken → GoesOwn skipped → IsOwnTree ((course w).test n e st taken skipped)

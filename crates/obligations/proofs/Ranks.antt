@@ -1,5 +1,5 @@
--- Where all is shown, each loop's ranking is as it is said: it opens within its limit, falls with each turn, and is above 0 inside.
-use Rattle.std.proofs.Common.{◌≡◌, ℕ, ◌<◌, Bool, true, false, List, arith, refl, sym, subst}
+-- Where all is shown, each loop's ranking is as it is said: where it opens, with each turn, and inside.
+use Rattle.std.proofs.Common.{ℕ, ◌<◌, Bool, true, false, List, arith, refl}
 use Rattle.std.specs.Prelude.{ℤ, pos, ◌-ℤ◌, ◌*ℤ◌, ◌≤ℤ◌}
 use Rattle.std.specs.List.{All}
 use Rattle.std.proofs.lemmas.Int.{ints}
@@ -15,16 +15,15 @@ use Rattle.arrivals.specs.Paths.{Held}
 use Rattle.arrivals.specs.Shown as arrivals
 use Rattle.arrivals.specs.Shown.{Came}
 use Rattle.arrivals.specs.Symbolic.{AtArrival, AtEntering}
-use Rattle.rankings.specs.Limits as rankings
-use Rattle.rankings.specs.Limits.{Limit, Falls}
+use Rattle.rankings.specs.Limits.{Opens, Holds, Falls}
 use Rattle.rankings.specs.Ranked.{Owes, RanksShown}
 use Rattle.walk_trees.specs.Walks.{rank_form}
 use Rattle.walk_trees.specs.Shown.{IsShown}
-use Rattle.walk_trees.proofs.Arithmetic.{DividesLawfully}
+use Rattle.walk_trees.proofs.QuotientSound.{DividesLawfully}
 use Rattle.walk_trees.proofs.Holding.{held_settles}
 use Rattle.walk_trees.proofs.Standing.{told_replaced}
 use Rattle.walk_trees.proofs.Ranges.{IsForm, form_constant, form-minus, form-multiple}
-use Rattle.obligations.specs.Notes.{Bound, Down, Halving, Notes, most, fallen}
+use Rattle.obligations.specs.Notes.{Bound, Down, Halving, Doubling, Notes, opens, holds, fallen}
 use Rattle.obligations.specs.Telling.{TellsOfItems}
 use Rattle.obligations.specs.Limits.{limit, limit_at, AreLimits}
 use Rattle.obligations.specs.Listing.{all_trees, claims_of}
@@ -32,10 +31,6 @@ use Rattle.obligations.specs.Walking.{course, rank_on}
 use Rattle.obligations.proofs.PlaceLines.{notes_of}
 use Rattle.obligations.proofs.Faithfully.{rank-is}
 use Rattle.obligations.proofs.Stationed as stationed
-
-most-same : (b : Bound) → rankings.most (limit b) ≡ most b
-most-same (Down step n) = refl
-most-same (Halving n) = refl
 
 module _ {E : Type 0} (w : Walked E) (n : Notes) (tell : TellsOfItems n) (laws : DividesLawfully w.domain) (shown : All IsShown (claims_of w.conditions (all_trees w.domain w.kernel w.conditions n))) where
   abbrev s : Setup
@@ -52,24 +47,34 @@ module _ {E : Type 0} (w : Walked E) (n : Notes) (tell : TellsOfItems n) (laws :
     abbrev launch : List Fact
     launch = launch_facts w.conditions
 
-    -- a turn makes the ranking less
+    -- what is at least 0 where the loop opens, where its test is true, and after a turn
+    opened : (b : Bound) (news : List ℤ) (now : Fact) (y : ℤ) → IsForm c news now y → (z : ℤ) × (IsForm c news (opens b now) z × (pos 0 ≤ℤ z → Opens (limit b) y))
+    opened (Down step m) news now y g = (m -ℤ y, (form-minus c (constant m) now m y (m -ℤ y) (form_constant c news m) g (omega (arith, ints)), λ l. omega (arith, ints, l)))
+    opened (Halving m) news now y g = (m -ℤ y, (form-minus c (constant m) now m y (m -ℤ y) (form_constant c news m) g (omega (arith, ints)), λ l. omega (arith, ints, l)))
+    opened (Doubling least m) news now y g = (y -ℤ least, (form-minus c now (constant least) y least (y -ℤ least) g (form_constant c news least) (omega (arith, ints)), λ l. omega (arith, ints, l)))
+
+    held : (b : Bound) (news : List ℤ) (now : Fact) (y : ℤ) → IsForm c news now y → (z : ℤ) × (IsForm c news (holds b now) z × (pos 0 ≤ℤ z → Holds (limit b) y))
+    held (Down step m) news now y g = (y -ℤ pos 1, (form-minus c now (constant (pos 1)) y (pos 1) (y -ℤ pos 1) g (form_constant c news (pos 1)) (omega (arith, ints)), λ l. omega (arith, ints, l)))
+    held (Halving m) news now y g = (y -ℤ pos 1, (form-minus c now (constant (pos 1)) y (pos 1) (y -ℤ pos 1) g (form_constant c news (pos 1)) (omega (arith, ints)), λ l. omega (arith, ints, l)))
+    held (Doubling least m) news now y g = (m -ℤ y, (form-minus c (constant m) now m y (m -ℤ y) (form_constant c news m) g (omega (arith, ints)), λ l. omega (arith, ints, l)))
+
     fell : (b : Bound) (news : List ℤ) (before now : Fact) (x y : ℤ) → IsForm c news before x → IsForm c news now y → (z : ℤ) × (IsForm c news (fallen b before now) z × (pos 0 ≤ℤ z → Falls (limit b) x y))
     fell (Down step m) news before now x y f g =
         ((x -ℤ y) -ℤ pos step, (form-minus c (minus before now) (constant (pos step)) (x -ℤ y) (pos step) ((x -ℤ y) -ℤ pos step) (form-minus c before now x y (x -ℤ y) f g (omega (arith, ints))) (form_constant c news (pos step)) (omega (arith, ints)), λ l. omega (arith, ints, l)))
     fell (Halving m) news before now x y f g =
         (x -ℤ pos 2 *ℤ y, (form-minus c before (multiple (pos 2) now) x (pos 2 *ℤ y) (x -ℤ pos 2 *ℤ y) f (form-multiple c (pos 2) now y g) (omega (arith, ints)), λ l. omega (arith, ints, l)))
+    fell (Doubling least m) news before now x y f g =
+        (y -ℤ pos 2 *ℤ x, (form-minus c now (multiple (pos 2) before) y (pos 2 *ℤ x) (y -ℤ pos 2 *ℤ x) g (form-multiple c (pos 2) before x f) (omega (arith, ints)), λ l. omega (arith, ints, l)))
 
     arrived : (m : ℕ) (again : Bool) → AtArrival (course (stationed.pl w n tell laws shown p is i h path from here came)) (stationed.At w n tell laws shown p is i h path from here came) m again here → Owes k (limit_at n) m i again here
     arrived m false x =
         let st = x.0 in
         let y = x.1.1 in
         let r = rank-is c launch laws (stationed.all w n tell laws shown p is i h path from here came) (stationed.last w n tell laws shown p is i h path from here came) n (stationed.a w n tell laws shown p is i h path from here came) (stationed.b w n tell laws shown p is i h path from here came) (λ e q. q) tell.rankings m st here y in
-        let top = most (n.ranking m).bound in
-        let f = minus (constant top) (rank_on (stationed.pl w n tell laws shown p is i h path from here came) m st) in
-        let z = top -ℤ k.rank m i here in
-        let g = form-minus c (constant top) (rank_on (stationed.pl w n tell laws shown p is i h path from here came) m st) top (k.rank m i here) z (form_constant c y.news top) r (omega (arith, ints)) in
-        let l = told_replaced c launch f z y.stands g.means (held_settles c y.news st.held f z y.stands.fit g.means) in
-        subst (λ t. k.rank m i here ≤ℤ t) (sym (most-same (n.ranking m).bound)) (omega (arith, ints, l))
+        let now = rank_on (stationed.pl w n tell laws shown p is i h path from here came) m st in
+        let g = opened (n.ranking m).bound y.news now (k.rank m i here) r in
+        let f = opens (n.ranking m).bound now in
+        g.1.1 (told_replaced c launch f g.0 y.stands g.1.0.means (held_settles c y.news st.held f g.0 y.stands.fit g.1.0.means))
     arrived m true x =
         let st = x.0 in
         let y = x.1.1 in
@@ -79,17 +84,15 @@ module _ {E : Type 0} (w : Walked E) (n : Notes) (tell : TellsOfItems n) (laws :
         let f = fallen (n.ranking m).bound (rank_form st.ranks m) now in
         g.1.1 (told_replaced c launch f g.0 y.stands g.1.0.means (held_settles c y.news st.held f g.0 y.stands.fit g.1.0.means))
 
-    entered : (m : ℕ) → AtEntering (course (stationed.pl w n tell laws shown p is i h path from here came)) (stationed.At w n tell laws shown p is i h path from here came) m here → pos 1 ≤ℤ k.rank m i here
+    entered : (m : ℕ) → AtEntering (course (stationed.pl w n tell laws shown p is i h path from here came)) (stationed.At w n tell laws shown p is i h path from here came) m here → Holds (limit_at n m) (k.rank m i here)
     entered m x =
         let st = x.0 in
         let y = x.1.1 in
         let r = rank-is c launch laws (stationed.all w n tell laws shown p is i h path from here came) (stationed.last w n tell laws shown p is i h path from here came) n (stationed.a w n tell laws shown p is i h path from here came) (stationed.b w n tell laws shown p is i h path from here came) (λ e q. q) tell.rankings m st here y in
         let now = rank_on (stationed.pl w n tell laws shown p is i h path from here came) m st in
-        let f = minus now (constant (pos 1)) in
-        let z = k.rank m i here -ℤ pos 1 in
-        let g = form-minus c now (constant (pos 1)) (k.rank m i here) (pos 1) z r (form_constant c y.news (pos 1)) (omega (arith, ints)) in
-        let l = told_replaced c launch f z y.stands g.means (held_settles c y.news st.held f z y.stands.fit g.means) in
-        omega (arith, ints, l)
+        let g = held (n.ranking m).bound y.news now (k.rank m i here) r in
+        let f = holds (n.ranking m).bound now in
+        g.1.1 (told_replaced c launch f g.0 y.stands g.1.0.means (held_settles c y.news st.held f g.0 y.stands.fit g.1.0.means))
 
   pub ranks : AreLimits n → RanksShown s k (limit_at n)
   ranks are = record {

@@ -1,23 +1,26 @@
 -- An item of which a place's lines hold stands before the place's tree.
-use Rattle.std.proofs.Common.{◌≡◌, ℕ, ◌+◌, ◌<◌, true, List, [], ◌++◌, Option, Some, None, arith, refl, sym, subst}
+use Rattle.std.proofs.Common.{◌≡◌, ℕ, ◌+◌, ◌<◌, Bool, true, false, cond, List, [], ◌∷◌, ◌++◌, length, Option, Some, None, arith, refl, sym, ap, ◌∙◌, subst}
 use Rattle.std.specs.Prelude.{ℤ}
 use Rattle.std.specs.List.{All}
-use Rattle.std.proofs.lemmas.List.Elements.{All-append, All-nil}
+use Rattle.std.proofs.lemmas.List.Elements.{All-append, All-nil, All-head, All-tail}
 use Rattle.semantics.specs.Word.{in_kind}
 use Rattle.semantics.specs.Launch.{Kernel}
 use Rattle.semantics.specs.Setup.{item_count}
 use Rattle.semantics.specs.Solo.{opening}
 use Rattle.linear.specs.Linear.{IsMet}
-use Rattle.facts.specs.Symbols.{First, Variable, AtAnchor, Turns, number}
-use Rattle.facts.specs.Launching.{launch_facts, item_facts}
+use Rattle.linear.specs.Exact.{is_rising}
+use Rattle.linear.proofs.Merging.{rising_true}
+use Rattle.facts.specs.Symbols.{First, Variable, AtAnchor, Turns, number, Fact}
+use Rattle.facts.specs.Launching.{known, launch_facts, item_facts}
 use Rattle.facts.proofs.Members.{by_number}
 use Rattle.facts.proofs.Launched.{launch_known, item_known}
 use Rattle.facts.proofs.Worlds.{Walked, View, setup_of, Agrees, variable_at}
 use Rattle.arrivals.specs.Paths.{Held}
+use Rattle.walk_trees.specs.Held as held
 use Rattle.walk_trees.specs.Trees.{Tree, accesses, ends, claims}
 use Rattle.walk_trees.specs.Shown.{IsShown}
 use Rattle.walk_trees.proofs.SameWords.{same_words-is}
-use Rattle.walk_trees.proofs.Holding.{IsHeld}
+use Rattle.walk_trees.proofs.Holding.{known_of, IsHeld, held_narrow, news-narrow}
 use Rattle.walk_trees.proofs.Opening.{opening_forms}
 use Rattle.walk_trees.proofs.Ranges.{form_once}
 use Rattle.walk_trees.proofs.TermSound.{AreForms, forms_kept}
@@ -25,7 +28,7 @@ use Rattle.walk_trees.proofs.Fronts.{Stood}
 use Rattle.obligations.specs.Notes.{Notes}
 use Rattle.obligations.specs.Listing.{is_some}
 use Rattle.obligations.specs.Telling.{TellsOfItems, all_tell, congruences_tell}
-use Rattle.obligations.specs.Roots.{kinds, kind_of, tops, narrowed_from, facts_at, congruences_at, congruence_facts, range_facts, root_facts, root_held, root_values, root_state}
+use Rattle.obligations.specs.Roots.{kinds, kind_of, tops, narrowed_from, facts_at, congruences_at, congruence_facts, range_facts, root_facts, narrow_where, narrow_all, root_held, root_values, root_state}
 use Rattle.obligations.proofs.PlaceLines.{root_at, Holds}
 use Rattle.obligations.proofs.Rooted.{word-right, held_tops, held_from, all_ends-met, facts-met, fewer, quotients, quotients-length, congruences-met, root_forms}
 
@@ -36,6 +39,7 @@ over w n = record {
   lawful = w.lawful;
   kernel = w.kernel;
   conditions = w.conditions;
+  is_wide = n.is_wide;
   has_entry = n.has_entry;
   spaces = λ sp. true;
   launch = w.launch;
@@ -90,6 +94,33 @@ module _ {E : Type 0} (w : Walked E) (n : Notes) (tell : TellsOfItems n) (i : �
     root-fits None (Some l) news = both_held (congruences_at n None (Some l)) news
     root-fits (Some m) (Some l) news = both_held (congruences_at n (Some m) (Some l)) news
 
+  -- facts that hold at the place narrow
+  where_held : (b : Bool) (news : List ℤ) (f : Fact) (h : held.Held E) → is_rising 0 f.terms ≡ b → ((v : ℕ → ℤ) → Agrees c news v → IsMet v f) → IsHeld c news h → IsHeld c news (narrow_where w.domain (known_of c) b f h)
+  where_held true news f h r met e = held_narrow c news f h (rising_true 0 f.terms r) met e
+  where_held false news f h r met e = e
+
+  all_held : (news : List ℤ) (fs : List Fact) (h : held.Held E) → ((v : ℕ → ℤ) → Agrees c news v → All (IsMet v) fs) → IsHeld c news h → IsHeld c news (narrow_all w.domain (known_of c) fs h)
+  all_held news [] h met e = e
+  all_held news (f ∷ fs) h met e =
+      all_held news fs (narrow_where w.domain (known_of c) (is_rising 0 f.terms) f h) (λ v g. All-tail (IsMet v) f fs (met v g)) (where_held (is_rising 0 f.terms) news f h refl (λ v g. All-head (IsMet v) f fs (met v g)) e)
+
+  known_held : (b : Bool) (news : List ℤ) (fs : List Fact) (h : held.Held E) → ((v : ℕ → ℤ) → Agrees c news v → All (IsMet v) fs) → IsHeld c news h → IsHeld c news (cond b (narrow_all w.domain (known_of c) fs h) h)
+  known_held true news fs h met e = all_held news fs h met e
+  known_held false news fs h met e = e
+
+  -- narrowing keeps the new symbols
+  where_news : (b : Bool) (f : Fact) (h : held.Held E) → (narrow_where w.domain (known_of c) b f h).news ≡ h.news
+  where_news true f h = news-narrow w.domain (known_of c) f h
+  where_news false f h = refl
+
+  all_news : (fs : List Fact) (h : held.Held E) → (narrow_all w.domain (known_of c) fs h).news ≡ h.news
+  all_news [] h = refl
+  all_news (f ∷ fs) h = all_news fs (narrow_where w.domain (known_of c) (is_rising 0 f.terms) f h) ∙ where_news (is_rising 0 f.terms) f h
+
+  known_news : (b : Bool) (fs : List Fact) (h : held.Held E) → (cond b (narrow_all w.domain (known_of c) fs h) h).news ≡ h.news
+  known_news true fs h = all_news fs h
+  known_news false fs h = refl
+
   -- what variables are where the path begins
   pub forms : (a b : Option ℕ) → Holds (setup_of w) n a b i from here → (news : List ℤ) → AreForms c news here.variables (root_values k a b)
   forms None None o news = subst (λ ws. AreForms c news ws (root_values k None None)) (sym (same_words-is here.variables (opening (setup_of w) i).variables o.opens)) (forms_kept c (λ v g. fewer c news v g) (opening_forms c))
@@ -97,23 +128,24 @@ module _ {E : Type 0} (w : Walked E) (n : Notes) (tell : TellsOfItems n) (i : �
   forms (Some m) b o news = root_forms c news o.words
 
   pub started : (a b : Option ℕ) → Holds (setup_of w) n a b i from here → (count : ℕ) (tree : Tree E) → All IsShown (claims (launch_facts w.conditions) (root_facts k n a b) count tree) →
-      Stood c (launch_facts w.conditions) (accesses (root_facts k n a b) count tree) (ends (root_facts k n a b) count tree) tree (root_state w.domain k n count a b) here.variables here.ranks
+      Stood c (launch_facts w.conditions) (accesses (root_facts k n a b) count tree) (ends (root_facts k n a b) count tree) tree (root_state w.domain (known w.domain k.sizes w.conditions) k n count a b) here.variables here.ranks
   started a b o count tree shown =
       let cs = congruences_at n a b in
       let news = quotients c cs o.congruences in
       let words = word-right c here.variables o.words in
       let before = word-right c from.variables o.before in
+      let said : (v : ℕ → ℤ) → Agrees c news v → All (IsMet v) (facts_at n a b) = λ v g. facts-met c (is_some b) news v g (facts_at n a b) (told-facts a b) o.facts in
       record {
         facts = root_facts k n a b;
         count = count;
         news = news;
         stands = record {
-          fit = root-fits words before a b news;
-          counted = quotients-length c cs o.congruences;
+          fit = known_held n.is_wide news (facts_at n a b) (root_held w.domain k n a b) said (root-fits words before a b news);
+          counted = quotients-length c cs o.congruences ∙ ap length (sym (known_news n.is_wide (facts_at n a b) (root_held w.domain k n a b)));
           launched = launch_known c news;
           known = λ v g. All-append (IsMet v) (item_facts k.sizes First) _ (item_known c news v g)
               (All-append (IsMet v) (range_facts k n a b) _ (ranges-met words before a b news v g)
-              (All-append (IsMet v) (facts_at n a b) (congruence_facts 0 cs) (facts-met c (is_some b) news v g (facts_at n a b) (told-facts a b) o.facts)
+              (All-append (IsMet v) (facts_at n a b) (congruence_facts 0 cs) (said v g)
               (congruences-met c (is_some b) v cs (told-congruences a b) o.congruences g)));
           shown = shown;
         };

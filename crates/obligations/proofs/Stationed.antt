@@ -3,7 +3,7 @@ use Rattle.std.proofs.Common.{◌≡◌, ℕ, ◌<◌, Bool, List, [], Option, S
 use Rattle.std.specs.List.{All}
 use Rattle.semantics.specs.Setup.{Setup, item_count}
 use Rattle.facts.specs.Symbols.{Fact}
-use Rattle.facts.specs.Launching.{launch_facts}
+use Rattle.facts.specs.Launching.{known, launch_facts}
 use Rattle.facts.proofs.Worlds.{Walked, View, setup_of}
 use Rattle.arrivals.specs.Points as points
 use Rattle.arrivals.specs.Points.{Point}
@@ -20,7 +20,7 @@ use Rattle.walk_trees.specs.Trees.{Tree, Access, Ended, accesses, ends}
 use Rattle.walk_trees.specs.Values.{Value}
 use Rattle.walk_trees.specs.Walks.{State}
 use Rattle.walk_trees.specs.Shown.{IsShown}
-use Rattle.walk_trees.proofs.Arithmetic.{DividesLawfully}
+use Rattle.walk_trees.proofs.QuotientSound.{DividesLawfully}
 use Rattle.walk_trees.proofs.Each.{Has}
 use Rattle.obligations.specs.Notes.{Notes, number_at}
 use Rattle.obligations.specs.Telling.{TellsOfItems}
@@ -81,18 +81,18 @@ module _ {E : Type 0} (w : Walked E) (n : Notes) (tell : TellsOfItems n) (laws :
     abbrev pub At : Tree E → State E → Held → Type 0
     At = faithfully.At c launch laws all last n a b (λ e x. x) tell.rankings
 
-    at_root : At it.tree (root_state w.domain w.kernel n count.0 a b) came.root
+    at_root : At it.tree (root_state w.domain (known w.domain w.kernel.sizes w.conditions) w.kernel n count.0 a b) came.root
     at_root = started w n tell i h from came.root a b holds count.0 it.tree (claims-shown w.conditions (all_trees w.domain w.kernel w.conditions n) it shown it-has)
 
     pub at_leaf : (u : End) → u.path ≡ path → IsEnd u [] (placed.tree w.kernel.body p) → (st : State E) × At ((course pl).stops u.stop u.turns st) st here
     at_leaf u e end =
         stands_at_leaf s (notes_of s n).rank i (Tree E) (State E) Value (course pl) At (faithfully.faithful c launch laws all last n a b (λ e x. x) tell.rankings)
-        w.kernel.body p u (root_state w.domain w.kernel n count.0 a b) came.root here at_root end (subst (λ q. Follows s (notes_of s n).rank i q came.root here) (sym e) came.follows)
+        w.kernel.body p u (root_state w.domain (known w.domain w.kernel.sizes w.conditions) w.kernel n count.0 a b) came.root here at_root end (subst (λ q. Follows s (notes_of s n).rank i q came.root here) (sym e) came.follows)
 
     pub at_front : (f : Front) → f.path ≡ path → IsFront f [] (placed.tree w.kernel.body p) → AtFront (course pl) At f.statement.statement here
     at_front f e front =
         stands_in_front s (notes_of s n).rank i (Tree E) (State E) Value (course pl) At (faithfully.faithful c launch laws all last n a b (λ e x. x) tell.rankings)
-        w.kernel.body p f (root_state w.domain w.kernel n count.0 a b) came.root here at_root front (subst (λ q. Follows s (notes_of s n).rank i q came.root here) (sym e) came.follows)
+        w.kernel.body p f (root_state w.domain (known w.domain w.kernel.sizes w.conditions) w.kernel n count.0 a b) came.root here at_root front (subst (λ q. Follows s (notes_of s n).rank i q came.root here) (sym e) came.follows)
 
     law : Faithful s (notes_of s n).rank i (Tree E) (State E) Value (course pl) At
     law = faithfully.faithful c launch laws all last n a b (λ e x. x) tell.rankings
@@ -100,13 +100,13 @@ module _ {E : Type 0} (w : Walked E) (n : Notes) (tell : TellsOfItems n) (laws :
     -- where claims are made of rankings
     pub at_arrival : (f : Front) (m : ℕ) (again : Bool) → f.path ≡ path → IsFront f [] (placed.tree w.kernel.body p) → IsTest m again f.statement.statement f.statement.again → AtArrival (course pl) At m again here
     at_arrival f m again e front test =
-        stands_at_arrival s (notes_of s n).rank i (Tree E) (State E) Value (course pl) At law w.kernel.body p f m again (root_state w.domain w.kernel n count.0 a b) came.root here is at_root front test
+        stands_at_arrival s (notes_of s n).rank i (Tree E) (State E) Value (course pl) At law w.kernel.body p f m again (root_state w.domain (known w.domain w.kernel.sizes w.conditions) w.kernel n count.0 a b) came.root here is at_root front test
         (subst (λ q. Follows s (notes_of s n).rank i q came.root here) (sym e) came.follows)
 
     pub at_loop_head : (u : End) (m : ℕ) (again : Bool) → u.path ≡ path → IsEnd u [] (placed.tree w.kernel.body p) → u.stop ≡ arrivals.AtHead m again → AtArrival (course pl) At m again here
     at_loop_head u m again e end stop =
-        stands_at_head s (notes_of s n).rank i (Tree E) (State E) Value (course pl) At law w.kernel.body p u m again (root_state w.domain w.kernel n count.0 a b) came.root here at_root end stop
+        stands_at_head s (notes_of s n).rank i (Tree E) (State E) Value (course pl) At law w.kernel.body p u m again (root_state w.domain (known w.domain w.kernel.sizes w.conditions) w.kernel n count.0 a b) came.root here at_root end stop
         (subst (λ q. Follows s (notes_of s n).rank i q came.root here) (sym e) came.follows)
 
     pub at_entering : (m : ℕ) → IsEntering m path [] (placed.tree w.kernel.body p) → AtEntering (course pl) At m here
-    at_entering m e = stands_at_entering s (notes_of s n).rank i (Tree E) (State E) Value (course pl) At law w.kernel.body p m path (root_state w.domain w.kernel n count.0 a b) came.root here at_root e came.follows
+    at_entering m e = stands_at_entering s (notes_of s n).rank i (Tree E) (State E) Value (course pl) At law w.kernel.body p m path (root_state w.domain (known w.domain w.kernel.sizes w.conditions) w.kernel n count.0 a b) came.root here at_root e came.follows

@@ -20,7 +20,7 @@ use Rattle.arrivals.proofs.Apart.{no_clash}
 use Rattle.arrivals.proofs.Quiet.{quiet}
 use Rattle.walk_trees.specs.Trees.{Obligation}
 use Rattle.walk_trees.specs.Shown.{IsShown}
-use Rattle.walk_trees.proofs.Arithmetic.{DividesLawfully}
+use Rattle.walk_trees.proofs.QuotientSound.{DividesLawfully}
 use Rattle.walk_trees.proofs.SameWords.{same_words-refl}
 use Rattle.walk_trees.proofs.Standing.{all_left, all_right}
 use Rattle.obligations.specs.Notes.{Notes, number_at}

@@ -6,10 +6,11 @@ use Rattle.semantics.specs.Word.{Kind, Int, Uint}
 use Rattle.semantics.specs.Core.{Statement, Set, Store, If, Loop, Barrier, Return, Break, Continue, Statements, none, one}
 use Rattle.semantics.specs.Launch.{Kernel}
 use Rattle.domain.specs.declared.Domain.{Ghosts}
-use Rattle.linear.specs.Exact.{multiple}
+use Rattle.linear.specs.Exact.{is_rising, multiple}
 use Rattle.facts.specs.Symbols.{First, ArgumentOf, New, Variable, AtAnchor, Symbol, number, Fact, constant, once, minus, equals}
 use Rattle.facts.specs.Launching.{item_facts}
-use Rattle.walk_trees.specs.Held.{Held, Narrowed}
+use Rattle.facts.specs.Elements.{Known}
+use Rattle.walk_trees.specs.Held.{Held, Narrowed, narrow}
 use Rattle.walk_trees.specs.Values.{Value, value}
 use Rattle.walk_trees.specs.Terms.{no_value}
 use Rattle.walk_trees.specs.Walks.{State, any_of, least, greatest}
@@ -113,12 +114,25 @@ congruences_at n None None = []
 congruences_at n None (Some h) = n.congruences None (Some h)
 congruences_at n (Some b) h = n.congruences (Some b) h
 
+-- a fact whose terms are in the order of a form's narrows as that of a test
+abbrev pub narrow_where : {E : Type 0} → Ghosts E → Known E → Bool → Fact → Held E → Held E
+narrow_where g k true f h = narrow g k f h
+narrow_where g k false f h = h
+
+abbrev pub narrow_all : {E : Type 0} → Ghosts E → Known E → List Fact → Held E → Held E
+narrow_all g k [] h = h
+narrow_all g k (f ∷ fs) h = narrow_all g k fs (narrow_where g k (is_rising 0 f.terms) f h)
+
 abbrev pub root_held : {E : Type 0} → Ghosts E → Kernel → Notes → (anchor head : Option ℕ) → Held E
 root_held g k n a h = record { news = tops g (congruences_at n a h); narrowed = root_narrowed g k a h }
 
+-- in the wide walk what is said of the place narrows
+abbrev pub root_known : {E : Type 0} → Ghosts E → Known E → Kernel → Notes → (anchor head : Option ℕ) → Held E
+root_known g e k n a h = cond n.is_wide (narrow_all g e (facts_at n a h) (root_held g k n a h)) (root_held g k n a h)
+
 -- a state with so many claims before it
-abbrev pub root_state : {E : Type 0} → Ghosts E → Kernel → Notes → (claims : ℕ) → (anchor head : Option ℕ) → State E
-root_state g k n c a h = record { claims = c; variables = root_values k a h; ranks = []; held = root_held g k n a h; at = spot_of 0 }
+abbrev pub root_state : {E : Type 0} → Ghosts E → Known E → Kernel → Notes → (claims : ℕ) → (anchor head : Option ℕ) → State E
+root_state g e k n c a h = record { claims = c; variables = root_values k a h; ranks = []; held = root_known g e k n a h; at = spot_of 0 }
 
 -- the two ends of a variable's kind
 abbrev pub ends_of : Kernel → (ℕ → Symbol) → ℕ → List Fact

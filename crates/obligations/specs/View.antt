@@ -1,5 +1,5 @@
 -- What the code's notes say.
-use Rattle.std.specs.Prelude.{ℕ, ℤ, pos, Bool, true, false, ◌&&◌, nat_eq, cond, List, [], ◌∷◌, map, Option, Some, None, slice_index_or}
+use Rattle.std.specs.Prelude.{ℕ, pos, Bool, true, false, ◌&&◌, nat_eq, cond, List, [], ◌∷◌, map, Option, Some, None, slice_index_or}
 use Rattle.linear.specs.Forms.{form, forms}
 use Rattle.facts.specs.Symbols.{Fact, constant}
 use Rattle.loop_bounds.specs.declared.bound.Bound.{Bound}
@@ -40,6 +40,7 @@ same_of (l ∷ ls) b = cond (is_of (Some b) None l) l.same.items (same_of ls b)
 abbrev pub ranking : Bound → notes.Ranking
 ranking (bounds.Down f step n) = record { form = form f; bound = notes.Down step.size n }
 ranking (bounds.Halving f n) = record { form = form f; bound = notes.Halving n }
+ranking (bounds.Doubling f least n) = record { form = form f; bound = notes.Doubling least.number n }
 
 -- of a loop without one nothing is shown: it would have to open at most 0 and be above 0 inside
 abbrev pub no_ranking : notes.Ranking
@@ -67,4 +68,5 @@ seen n entries = record {
   visible = visible_of n.visible.items;
   quotient = quotient_of n.quotients.items;
   has_entry = λ m. slice_index_or entries m false;
+  is_wide = n.is_wide;
 }

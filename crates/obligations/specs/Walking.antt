@@ -8,6 +8,7 @@ use Rattle.linear.specs.Linear.{Weighted}
 use Rattle.domain.specs.declared.Domain.{Ghosts}
 use Rattle.linear.specs.Exact.{multiple}
 use Rattle.facts.specs.Symbols.{Fact, constant, minus}
+use Rattle.facts.specs.Launching.{known}
 use Rattle.arrivals.specs.Trees.{Stop, AtBarrier, AtHead, AtEnd, Turns}
 use Rattle.arrivals.specs.Places.{Place}
 use Rattle.arrivals.specs.Symbolic.{Terms, sketch}
@@ -17,7 +18,7 @@ use Rattle.walk_trees.specs.Values.{Value}
 use Rattle.walk_trees.specs.Walks.{Setting, State, settles, claim, stand, with_rank, rank_form, arrived}
 use Rattle.walk_trees.specs.Terms.{walk, access, chosen}
 use Rattle.walk_trees.specs.Statements.{spot_of, setting, assigned}
-use Rattle.obligations.specs.Notes.{Congruence, Notes, number_at, most, fallen, fallen_by}
+use Rattle.obligations.specs.Notes.{Congruence, Notes, number_at, opens, holds, fallen, fallen_by}
 use Rattle.obligations.specs.Replacing.{Replacement, replaced, made, replacement}
 use Rattle.obligations.specs.Roots.{kinds, are_slots, facts_at, congruences_at, anchor_forms, root_state}
 
@@ -88,14 +89,14 @@ rank_on w n st = replaced (on_path w st) (w.notes.ranking n).form
 abbrev pub claim_rank : {E : Type 0} → Placed E → ℕ → (extra : List Fact) → Fact → State E → (State E → Tree E) → Tree E
 claim_rank w n extra f st go = claim OfRanking true (settles w.setting st f) (Replaced (made (on_path w st) (w.notes.ranking n).form ++ extra) f) st go
 
--- where a loop opens its ranking is at most what is said; after a turn it has fallen
+-- where a loop opens its ranking is as its bound says; after a turn it has fallen, or grown
 abbrev pub arrive : {E : Type 0} → Placed E → ℕ → (again : Bool) → State E → (State E → Tree E) → Tree E
-arrive w n false st go = claim_rank w n [] (minus (constant (most (w.notes.ranking n).bound)) (rank_on w n st)) (stand (spot_of n) st) go
+arrive w n false st go = claim_rank w n [] (opens (w.notes.ranking n).bound (rank_on w n st)) (stand (spot_of n) st) go
 arrive w n true st go = claim_rank w n (fallen_by (w.notes.ranking n).bound (rank_form st.ranks n) (rank_on w n st) ∷ []) (fallen (w.notes.ranking n).bound (rank_form st.ranks n) (rank_on w n st)) (stand (spot_of n) st) go
 
--- where its test was true its ranking is above 0
+-- where its test was true its ranking is as its bound says
 abbrev pub enter : {E : Type 0} → Placed E → ℕ → State E → (State E → Tree E) → Tree E
-enter w n st go = claim_rank w n [] (minus (rank_on w n st) (constant (pos 1))) (stand (spot_of n) st) (λ st'. go (with_rank n (rank_on w n st) st'))
+enter w n st go = claim_rank w n [] (holds (w.notes.ranking n).bound (rank_on w n st)) (stand (spot_of n) st) (λ st'. go (with_rank n (rank_on w n st) st'))
 
 abbrev pub store : {E : Type 0} → Placed E → Statement → Value → State E → (State E → Tree E) → Tree E
 store w (Store n a site i e) x st go = access w.setting true a site x.form st go
@@ -119,8 +120,8 @@ course w = record {
 }
 
 abbrev pub placed : {E : Type 0} → Ghosts E → Kernel → Conditions → Notes → Place → Placed E
-placed g k c n p = record { setting = setting g k c n.has_entry; kernel = k; notes = n; anchor = number_at p.anchor; head = number_at p.head }
+placed g k c n p = record { setting = setting g k c n.is_wide n.has_entry; kernel = k; notes = n; anchor = number_at p.anchor; head = number_at p.head }
 
 -- the tree of a place, with so many claims before it
 abbrev pub tree_of : {E : Type 0} → Ghosts E → Kernel → Conditions → Notes → (claims : ℕ) → Place → Tree E
-tree_of g k c n claims p = sketch (course (placed g k c n p)) k.body p (root_state g k n claims (number_at p.anchor) (number_at p.head))
+tree_of g k c n claims p = sketch (course (placed g k c n p)) k.body p (root_state g (known g k.sizes c) k n claims (number_at p.anchor) (number_at p.head))

@@ -70,6 +70,6 @@ new_product s (t ∷ ts) (u ∷ us) f g m n x (Err e) p q d h = λ k go. subst (
 
 pub ranged_product : {E : Type 0} (s : Setting E) (k : Kind) (x y f : Fact) (l m n : Followed E) (view : Value → values.Value) (r : Result Value WalkError) → Leads l m (operators.product s x.terms y.terms x y) f →
     MatchResult r (λ v. Leads m n (walks.ranged s k f) (view v)) (λ e. Stops m e (walks.ranged s k f)) →
-    MatchResult r (λ v. Leads l n (operators.binary s Multiply k x y) (view v)) (λ e. Stops l e (operators.binary s Multiply k x y))
+    MatchResult r (λ v. Leads l n (operators.operate s Multiply k x y) (view v)) (λ e. Stops l e (operators.operate s Multiply k x y))
 ranged_product s k x y f l m n view (Ok v) a h = λ go. a (λ g st. walks.ranged s k g st go) ∙ h go
 ranged_product s k x y f l m n view (Err e) a h = λ go. refused_from e _ _ (a (λ g st. walks.ranged s k g st go)) (h go)

@@ -3,6 +3,7 @@ pub mod Endings
 pub mod Leading
 pub mod Refusing
 pub mod Testing
+pub mod Told
 pub mod PastEnds
 pub mod Exactly
 pub mod Quotients

@@ -1,16 +1,17 @@
 -- Facts of tests, and the ways of a comparison.
-use Rattle.std.proofs.Common.{◌≡◌, Bool, true, false, ◌&&◌, List, [], ◌∷◌, refl, sym, ap, subst, ◌∙◌}
+use Rattle.std.proofs.Common.{◌≡◌, Bool, true, false, ◌&&◌, ◌||◌, List, [], ◌∷◌, refl, sym, ap, subst, ◌∙◌}
 use Rattle.std.specs.Prelude.{pos, int_lt, Result, Ok, Err, IsErr, IsErrAnd, MatchResult}
 use Rattle.semantics.specs.Word.{Relation, Equal}
 use Rattle.linear.specs.Exact.{fits, fits_i64, fits_terms}
 use Rattle.facts.specs.Symbols.{Fact, minus}
+use Rattle.facts.specs.Elements.{is_below_zero}
 use Rattle.facts.specs.Refusals.{IsUnfit}
 use Rattle.facts.specs.declared.error.WalkError.{WalkError}
 use Rattle.facts.specs.declared.error.WalkError.TheVariants as errors
 use Rattle.walk_trees.specs.Held.{narrow}
 use Rattle.walk_trees.specs.Trees.{Tree}
 use Rattle.walk_trees.specs.Walks as walks
-use Rattle.walk_trees.specs.Walks.{Setting, State, is_none, is_dead, unless_dead, know_test, know_two, holding}
+use Rattle.walk_trees.specs.Walks.{Setting, State, bounds_of, is_none, is_refuted, is_dead, unless_dead, know_test, know_two, holding}
 use Rattle.walk_trees.specs.Tests.{Outcomes, below, split, split_below}
 use Rattle.walk_trees.specs.Terms.{chosen}
 use Rattle.path_steps.specs.Paths.{Found, Followed, collect, with_fact, with_held, choosing}
@@ -22,16 +23,16 @@ use Rattle.path_steps.specs.declared.halt.Halt.TheVariants as halts
 use Rattle.path_steps.specs.Sides.{side, split_sides, three_ways}
 use Rattle.path_steps.proofs.Refusing.{unfit_fact}
 
-pub know_steps : {E : Type 0} (s : Setting E) (b : Bool) (f : Fact) (l m n : Followed E) → b ≡ is_dead f → b ≡ false → m ≡ with_held l (narrow s.domain s.known f l.state.held) → n ≡ with_fact m f → Steps l n (know_test s f)
+pub know_steps : {E : Type 0} (s : Setting E) (w b : Bool) (f : Fact) (l m n : Followed E) → b ≡ ((w && is_refuted s f l.state) || is_dead f) → b ≡ false → m ≡ with_held l (narrow s.domain s.known f l.state.held) → n ≡ with_fact m f → Steps l n (know_test s w f)
 unfolding collect
-know_steps s b f l m n d p h e go =
+know_steps s w b f l m n d p h e go =
     ap (λ c. collect l.found (unless_dead c f (go (holding (narrow s.domain s.known f l.state.held) l.state)))) (sym d ∙ p)
     ∙ ap (λ (u : Followed _). collect (with_fact u f).found (go u.state)) (sym h)
     ∙ ap (λ (u : Followed _). collect u.found (go u.state)) (sym e)
 
-pub know_dead : {E : Type 0} (s : Setting E) (b : Bool) (f : Fact) (m : Followed E) → b ≡ is_dead f → b ≡ true → (go : State E → Tree E) → collect m.found (know_test s f m.state go) ≡ m.found
+pub know_dead : {E : Type 0} (s : Setting E) (w b : Bool) (f : Fact) (m : Followed E) → b ≡ ((w && is_refuted s f m.state) || is_dead f) → b ≡ true → (go : State E → Tree E) → collect m.found (know_test s w f m.state go) ≡ m.found
 unfolding collect
-know_dead s b f m d p go = ap (λ c. collect m.found (unless_dead c f (go (holding (narrow s.domain s.known f m.state.held) m.state)))) (sym d ∙ p)
+know_dead s w b f m d p go = ap (λ c. collect m.found (unless_dead c f (go (holding (narrow s.domain s.known f m.state.held) m.state)))) (sym d ∙ p)
 
 -- what does not fit is not dead
 alive : (a b c d : Bool) → a ≡ false → (b && (a && c)) ≡ false
@@ -50,23 +51,30 @@ unfit_alive f n d h = by f.terms refl
         one false k = refl
     by (t ∷ ts) e = ap (λ l. is_none l && (fits_i64 f.constant && int_lt f.constant (pos 0))) (sym e)
 
-pub unfit_test : {E : Type 0} (s : Setting E) (f : Fact) (m : Followed E) (e : WalkError) → IsUnfit e f → StopsAtStep m e (know_test s f)
-unfit_test s f m errors.TooMany h go = absurd h
-unfit_test s f m errors.TooLarge h go =
+-- and no elements refute it
+unrefuted : (w a c d : Bool) → a ≡ false → d ≡ false → ((w && (a && c)) || d) ≡ false
+unrefuted w true c d h k = absurd cc
+unrefuted true false c d h k = k
+unrefuted false false c d h k = k
+
+pub unfit_test : {E : Type 0} (s : Setting E) (w : Bool) (f : Fact) (m : Followed E) (e : WalkError) → IsUnfit e f → StopsAtStep m e (know_test s w f)
+unfit_test s w f m errors.TooMany h go = absurd h
+unfit_test s w f m errors.TooLarge h go =
     let rest = go (holding (narrow s.domain s.known f m.state.held) m.state) in
-    subst (λ c. Refused errors.TooLarge (collect m.found (unless_dead c f rest))) (sym (unfit_alive f (is_none f.terms) refl h)) (unfit_fact errors.TooLarge m.found f rest h)
-unfit_test s f m errors.Memory h go = tt
+    let goes_on = unrefuted w (fits f) (is_below_zero (bounds_of s m.state f).high) (is_dead f) h (unfit_alive f (is_none f.terms) refl h) in
+    subst (λ c. Refused errors.TooLarge (collect m.found (unless_dead c f rest))) (sym goes_on) (unfit_fact errors.TooLarge m.found f rest h)
+unfit_test s w f m errors.Memory h go = tt
 
 -- a step that went no further, behind another one
 pub ended_from : {E : Type 0} (n : Found E) (h : Halt) (x y : Found E) → x ≡ y → Ended n h y → Ended n h x
 ended_from n h x y d e = subst (Ended n h) (sym d) e
 
 -- the two ways of a fork, each with its fact
-pub chose_side : {E : Type 0} (s : Setting E) (p q b : Bool) (f g fact : Fact) (m n : Followed E) → Leads m n choosing b → fact ≡ chosen b f g → (go : Outcomes E) → collect m.found (split_below s p q f g m.state go) ≡ collect n.found (know_test s fact n.state (go (chosen b p q)))
-chose_side s p q b f g fact m n h d go =
-    h (λ c st. chosen c (know_test s f st (go p)) (know_test s g st (go q))) ∙ by b ∙ ap (λ x. collect n.found (know_test s x n.state (go (chosen b p q)))) (sym d)
+pub chose_side : {E : Type 0} (s : Setting E) (w p q b : Bool) (f g fact : Fact) (m n : Followed E) → Leads m n choosing b → fact ≡ chosen b f g → (go : Outcomes E) → collect m.found (split_below s w p q f g m.state go) ≡ collect n.found (know_test s w fact n.state (go (chosen b p q)))
+chose_side s w p q b f g fact m n h d go =
+    h (λ c st. chosen c (know_test s w f st (go p)) (know_test s w g st (go q))) ∙ by b ∙ ap (λ x. collect n.found (know_test s w x n.state (go (chosen b p q)))) (sym d)
   where
-    by : (c : Bool) → collect n.found (chosen c (know_test s f n.state (go p)) (know_test s g n.state (go q))) ≡ collect n.found (know_test s (chosen c f g) n.state (go (chosen c p q)))
+    by : (c : Bool) → collect n.found (chosen c (know_test s w f n.state (go p)) (know_test s w g n.state (go q))) ≡ collect n.found (know_test s w (chosen c f g) n.state (go (chosen c p q)))
     by true = refl
     by false = refl
 
@@ -78,32 +86,32 @@ pub chosen_side : (r : Relation) (b : Bool) (x y : Fact) → side r b x y ≡ ch
 chosen_side r true x y = refl
 chosen_side r false x y = refl
 
-pub sides_lead : {E : Type 0} (s : Setting E) (r : Relation) (b : Bool) (x y : Fact) (m n k : Followed E) → Leads m n choosing b → Steps n k (know_test s (side r b x y)) → Leads m k (split_sides s r x y) b
-sides_lead s r b x y m n k h a go =
-    chose_side s true false b (side r true x y) (side r false x y) (side r b x y) m n h (chosen_side r b x y) go ∙ a (go (chosen b true false)) ∙ ap (λ c. collect k.found (go c k.state)) (chosen_same b)
+pub sides_lead : {E : Type 0} (s : Setting E) (w : Bool) (r : Relation) (b : Bool) (x y : Fact) (m n k : Followed E) → Leads m n choosing b → Steps n k (know_test s w (side r b x y)) → Leads m k (split_sides s w r x y) b
+sides_lead s w r b x y m n k h a go =
+    chose_side s w true false b (side r true x y) (side r false x y) (side r b x y) m n h (chosen_side r b x y) go ∙ a (go (chosen b true false)) ∙ ap (λ c. collect k.found (go c k.state)) (chosen_same b)
 
-pub sides_halt : {E : Type 0} (s : Setting E) (r : Relation) (b : Bool) (x y : Fact) (m n k : Followed E) (e : Halt) → Leads m n choosing b → HaltsAtStep n k e (know_test s (side r b x y)) → Halts m k e (split_sides s r x y)
-sides_halt s r b x y m n k e h a go =
-    ended_from k.found e _ _ (chose_side s true false b (side r true x y) (side r false x y) (side r b x y) m n h (chosen_side r b x y) go) (a (go (chosen b true false)))
+pub sides_halt : {E : Type 0} (s : Setting E) (w : Bool) (r : Relation) (b : Bool) (x y : Fact) (m n k : Followed E) (e : Halt) → Leads m n choosing b → HaltsAtStep n k e (know_test s w (side r b x y)) → Halts m k e (split_sides s w r x y)
+sides_halt s w r b x y m n k e h a go =
+    ended_from k.found e _ _ (chose_side s w true false b (side r true x y) (side r false x y) (side r b x y) m n h (chosen_side r b x y) go) (a (go (chosen b true false)))
 
 -- a fact that is known, by a form that is it
-pub know_as : {E : Type 0} (s : Setting E) (f fact : Fact) (m n : Followed E) (r : Result (Unit {0}) Halt) → fact ≡ f →
-    MatchResult r (λ _. Steps m n (know_test s fact)) (λ h. HaltsAtStep m n h (know_test s fact)) →
-    MatchResult r (λ _. Steps m n (know_test s f)) (λ h. HaltsAtStep m n h (know_test s f))
-know_as s f fact m n r d h = subst (λ x. MatchResult r (λ _. Steps m n (know_test s x)) (λ e. HaltsAtStep m n e (know_test s x))) d h
+pub know_as : {E : Type 0} (s : Setting E) (w : Bool) (f fact : Fact) (m n : Followed E) (r : Result (Unit {0}) Halt) → fact ≡ f →
+    MatchResult r (λ _. Steps m n (know_test s w fact)) (λ h. HaltsAtStep m n h (know_test s w fact)) →
+    MatchResult r (λ _. Steps m n (know_test s w f)) (λ h. HaltsAtStep m n h (know_test s w f))
+know_as s w f fact m n r d h = subst (λ x. MatchResult r (λ _. Steps m n (know_test s w x)) (λ e. HaltsAtStep m n e (know_test s w x))) d h
 
-pub unfit_know : {E : Type 0} (s : Setting E) (f : Fact) (m n : Followed E) (e : WalkError) → IsUnfit e f → HaltsAtStep m n (halts.Refused e) (know_test s f)
-unfit_know s f m n e u go = unfit_test s f m e u go
+pub unfit_know : {E : Type 0} (s : Setting E) (w : Bool) (f : Fact) (m n : Followed E) (e : WalkError) → IsUnfit e f → HaltsAtStep m n (halts.Refused e) (know_test s w f)
+unfit_know s w f m n e u go = unfit_test s w f m e u go
 
 -- two facts
-pub two_know : {E : Type 0} (s : Setting E) (f g : Fact) (m n k : Followed E) (r : Result (Unit {0}) Halt) → Steps m n (know_test s f) →
-    MatchResult r (λ _. Steps n k (know_test s g)) (λ h. HaltsAtStep n k h (know_test s g)) →
-    MatchResult r (λ _. Steps m k (know_two s f g)) (λ h. HaltsAtStep m k h (know_two s f g))
-two_know s f g m n k (Ok u) a h = λ go. a (λ st. know_test s g st go) ∙ h go
-two_know s f g m n k (Err e) a h = λ go. ended_from k.found e _ _ (a (λ st. know_test s g st go)) (h go)
+pub two_know : {E : Type 0} (s : Setting E) (w : Bool) (f g : Fact) (m n k : Followed E) (r : Result (Unit {0}) Halt) → Steps m n (know_test s w f) →
+    MatchResult r (λ _. Steps n k (know_test s w g)) (λ h. HaltsAtStep n k h (know_test s w g)) →
+    MatchResult r (λ _. Steps m k (know_two s w f g)) (λ h. HaltsAtStep m k h (know_two s w f g))
+two_know s w f g m n k (Ok u) a h = λ go. a (λ st. know_test s w g st go) ∙ h go
+two_know s w f g m n k (Err e) a h = λ go. ended_from k.found e _ _ (a (λ st. know_test s w g st go)) (h go)
 
-pub two_halts : {E : Type 0} (s : Setting E) (f g : Fact) (m n : Followed E) (e : Halt) → HaltsAtStep m n e (know_test s f) → HaltsAtStep m n e (know_two s f g)
-two_halts s f g m n e h go = h (λ st. know_test s g st go)
+pub two_halts : {E : Type 0} (s : Setting E) (w : Bool) (f g : Fact) (m n : Followed E) (e : Halt) → HaltsAtStep m n e (know_test s w f) → HaltsAtStep m n e (know_two s w f g)
+two_halts s w f g m n e h go = h (λ st. know_test s w g st go)
 
 -- the ways of a fork, whatever stands on them
 pub first_way : {E : Type 0} (b : Bool) (m n : Followed E) (one two : State E → Tree E) → Leads m n choosing b → b ≡ true → collect m.found (walks.fork m.state one two) ≡ collect n.found (one n.state)
@@ -113,62 +121,62 @@ pub second_way : {E : Type 0} (b : Bool) (m n : Followed E) (one two : State E �
 second_way b m n one two h d = h (λ c st. chosen c (one st) (two st)) ∙ ap (λ c. collect n.found (chosen c (one n.state) (two n.state))) d
 
 module _ {E : Type 0} (s : Setting E) (x y : Fact) where
-  pub equal_first : (b : Bool) (m n k : Followed E) → Leads m n choosing b → b ≡ true → Steps n k (know_two s (minus x y) (minus y x)) → Leads m k (split s Equal x y) true
-  equal_first b m n k h d a go = first_way b m n (λ st. know_two s (minus x y) (minus y x) st (go true)) (λ st. split_below s false false (below x y) (below y x) st go) h d ∙ a (go true)
+  pub equal_first : (b : Bool) (m n k : Followed E) → Leads m n choosing b → b ≡ true → Steps n k (know_two s s.is_wide (minus x y) (minus y x)) → Leads m k (split s s.is_wide Equal x y) true
+  equal_first b m n k h d a go = first_way b m n (λ st. know_two s s.is_wide (minus x y) (minus y x) st (go true)) (λ st. split_below s s.is_wide false false (below x y) (below y x) st go) h d ∙ a (go true)
 
-  pub equal_first_halts : (b : Bool) (m n k : Followed E) (e : Halt) → Leads m n choosing b → b ≡ true → HaltsAtStep n k e (know_two s (minus x y) (minus y x)) → Halts m k e (split s Equal x y)
-  equal_first_halts b m n k e h d a go = ended_from k.found e _ _ (first_way b m n (λ st. know_two s (minus x y) (minus y x) st (go true)) (λ st. split_below s false false (below x y) (below y x) st go) h d) (a (go true))
+  pub equal_first_halts : (b : Bool) (m n k : Followed E) (e : Halt) → Leads m n choosing b → b ≡ true → HaltsAtStep n k e (know_two s s.is_wide (minus x y) (minus y x)) → Halts m k e (split s s.is_wide Equal x y)
+  equal_first_halts b m n k e h d a go = ended_from k.found e _ _ (first_way b m n (λ st. know_two s s.is_wide (minus x y) (minus y x) st (go true)) (λ st. split_below s s.is_wide false false (below x y) (below y x) st go) h d) (a (go true))
 
   chosen_one : (b : Bool) → chosen b false false ≡ false
   chosen_one true = refl
   chosen_one false = refl
 
-  equal_rest : (b c : Bool) (m n o : Followed E) (go : Outcomes E) → Leads m n choosing b → b ≡ false → Leads n o choosing c → collect m.found (split s Equal x y m.state go) ≡ collect o.found (know_test s (side Equal c x y) o.state (go (chosen c false false)))
+  equal_rest : (b c : Bool) (m n o : Followed E) (go : Outcomes E) → Leads m n choosing b → b ≡ false → Leads n o choosing c → collect m.found (split s s.is_wide Equal x y m.state go) ≡ collect o.found (know_test s s.is_wide (side Equal c x y) o.state (go (chosen c false false)))
   equal_rest b c m n o go h d k =
-      second_way b m n (λ st. know_two s (minus x y) (minus y x) st (go true)) (λ st. split_below s false false (below x y) (below y x) st go) h d
-      ∙ chose_side s false false c (below x y) (below y x) (side Equal c x y) n o k (chosen_side Equal c x y) go
+      second_way b m n (λ st. know_two s s.is_wide (minus x y) (minus y x) st (go true)) (λ st. split_below s s.is_wide false false (below x y) (below y x) st go) h d
+      ∙ chose_side s s.is_wide false false c (below x y) (below y x) (side Equal c x y) n o k (chosen_side Equal c x y) go
 
-  pub equal_second : (b c : Bool) (m n o k : Followed E) → Leads m n choosing b → b ≡ false → Leads n o choosing c → Steps o k (know_test s (side Equal c x y)) → Leads m k (split s Equal x y) false
+  pub equal_second : (b c : Bool) (m n o k : Followed E) → Leads m n choosing b → b ≡ false → Leads n o choosing c → Steps o k (know_test s s.is_wide (side Equal c x y)) → Leads m k (split s s.is_wide Equal x y) false
   equal_second b c m n o k h d l a go = equal_rest b c m n o go h d l ∙ a (go (chosen c false false)) ∙ ap (λ q. collect k.found (go q k.state)) (chosen_one c)
 
-  pub equal_second_halts : (b c : Bool) (m n o k : Followed E) (e : Halt) → Leads m n choosing b → b ≡ false → Leads n o choosing c → HaltsAtStep o k e (know_test s (side Equal c x y)) → Halts m k e (split s Equal x y)
+  pub equal_second_halts : (b c : Bool) (m n o k : Followed E) (e : Halt) → Leads m n choosing b → b ≡ false → Leads n o choosing c → HaltsAtStep o k e (know_test s s.is_wide (side Equal c x y)) → Halts m k e (split s s.is_wide Equal x y)
   equal_second_halts b c m n o k e h d l a go = ended_from k.found e _ _ (equal_rest b c m n o go h d l) (a (go (chosen c false false)))
 
 module _ {E : Type 0} (s : Setting E) (p q f g : Fact) where
   ways_rest : State E → Outcomes E → Tree E
-  ways_rest st go = walks.fork st (λ b. know_test s q b (go true)) (λ b. know_two s f g b (go false))
+  ways_rest st go = walks.fork st (λ b. know_test s s.is_wide q b (go true)) (λ b. know_two s s.is_wide f g b (go false))
 
-  pub ways_first : (b : Bool) (m n k : Followed E) → Leads m n choosing b → b ≡ true → Steps n k (know_test s p) → Leads m k (three_ways s p q f g) true
+  pub ways_first : (b : Bool) (m n k : Followed E) → Leads m n choosing b → b ≡ true → Steps n k (know_test s s.is_wide p) → Leads m k (three_ways s p q f g) true
   unfolding ways_rest
-  ways_first b m n k h d a go = first_way b m n (λ st. know_test s p st (go true)) (λ st. ways_rest st go) h d ∙ a (go true)
+  ways_first b m n k h d a go = first_way b m n (λ st. know_test s s.is_wide p st (go true)) (λ st. ways_rest st go) h d ∙ a (go true)
 
-  pub ways_first_halts : (b : Bool) (m n k : Followed E) (e : Halt) → Leads m n choosing b → b ≡ true → HaltsAtStep n k e (know_test s p) → Halts m k e (three_ways s p q f g)
+  pub ways_first_halts : (b : Bool) (m n k : Followed E) (e : Halt) → Leads m n choosing b → b ≡ true → HaltsAtStep n k e (know_test s s.is_wide p) → Halts m k e (three_ways s p q f g)
   unfolding ways_rest
-  ways_first_halts b m n k e h d a go = ended_from k.found e _ _ (first_way b m n (λ st. know_test s p st (go true)) (λ st. ways_rest st go) h d) (a (go true))
+  ways_first_halts b m n k e h d a go = ended_from k.found e _ _ (first_way b m n (λ st. know_test s s.is_wide p st (go true)) (λ st. ways_rest st go) h d) (a (go true))
 
-  pub ways_second : (b c : Bool) (m n o k : Followed E) → Leads m n choosing b → b ≡ false → Leads n o choosing c → c ≡ true → Steps o k (know_test s q) → Leads m k (three_ways s p q f g) true
+  pub ways_second : (b c : Bool) (m n o k : Followed E) → Leads m n choosing b → b ≡ false → Leads n o choosing c → c ≡ true → Steps o k (know_test s s.is_wide q) → Leads m k (three_ways s p q f g) true
   unfolding ways_rest
   ways_second b c m n o k h d l z a go =
-      second_way b m n (λ st. know_test s p st (go true)) (λ st. ways_rest st go) h d
-      ∙ first_way c n o (λ st. know_test s q st (go true)) (λ st. know_two s f g st (go false)) l z ∙ a (go true)
+      second_way b m n (λ st. know_test s s.is_wide p st (go true)) (λ st. ways_rest st go) h d
+      ∙ first_way c n o (λ st. know_test s s.is_wide q st (go true)) (λ st. know_two s s.is_wide f g st (go false)) l z ∙ a (go true)
 
-  pub ways_second_halts : (b c : Bool) (m n o k : Followed E) (e : Halt) → Leads m n choosing b → b ≡ false → Leads n o choosing c → c ≡ true → HaltsAtStep o k e (know_test s q) → Halts m k e (three_ways s p q f g)
+  pub ways_second_halts : (b c : Bool) (m n o k : Followed E) (e : Halt) → Leads m n choosing b → b ≡ false → Leads n o choosing c → c ≡ true → HaltsAtStep o k e (know_test s s.is_wide q) → Halts m k e (three_ways s p q f g)
   unfolding ways_rest
   ways_second_halts b c m n o k e h d l z a go = ended_from k.found e _ _
-      (second_way b m n (λ st. know_test s p st (go true)) (λ st. ways_rest st go) h d
-      ∙ first_way c n o (λ st. know_test s q st (go true)) (λ st. know_two s f g st (go false)) l z) (a (go true))
+      (second_way b m n (λ st. know_test s s.is_wide p st (go true)) (λ st. ways_rest st go) h d
+      ∙ first_way c n o (λ st. know_test s s.is_wide q st (go true)) (λ st. know_two s s.is_wide f g st (go false)) l z) (a (go true))
 
-  pub ways_third : (b c : Bool) (m n o k : Followed E) → Leads m n choosing b → b ≡ false → Leads n o choosing c → c ≡ false → Steps o k (know_two s f g) → Leads m k (three_ways s p q f g) false
+  pub ways_third : (b c : Bool) (m n o k : Followed E) → Leads m n choosing b → b ≡ false → Leads n o choosing c → c ≡ false → Steps o k (know_two s s.is_wide f g) → Leads m k (three_ways s p q f g) false
   unfolding ways_rest
   ways_third b c m n o k h d l z a go =
-      second_way b m n (λ st. know_test s p st (go true)) (λ st. ways_rest st go) h d
-      ∙ second_way c n o (λ st. know_test s q st (go true)) (λ st. know_two s f g st (go false)) l z ∙ a (go false)
+      second_way b m n (λ st. know_test s s.is_wide p st (go true)) (λ st. ways_rest st go) h d
+      ∙ second_way c n o (λ st. know_test s s.is_wide q st (go true)) (λ st. know_two s s.is_wide f g st (go false)) l z ∙ a (go false)
 
-  pub ways_third_halts : (b c : Bool) (m n o k : Followed E) (e : Halt) → Leads m n choosing b → b ≡ false → Leads n o choosing c → c ≡ false → HaltsAtStep o k e (know_two s f g) → Halts m k e (three_ways s p q f g)
+  pub ways_third_halts : (b c : Bool) (m n o k : Followed E) (e : Halt) → Leads m n choosing b → b ≡ false → Leads n o choosing c → c ≡ false → HaltsAtStep o k e (know_two s s.is_wide f g) → Halts m k e (three_ways s p q f g)
   unfolding ways_rest
   ways_third_halts b c m n o k e h d l z a go = ended_from k.found e _ _
-      (second_way b m n (λ st. know_test s p st (go true)) (λ st. ways_rest st go) h d
-      ∙ second_way c n o (λ st. know_test s q st (go true)) (λ st. know_two s f g st (go false)) l z) (a (go false))
+      (second_way b m n (λ st. know_test s s.is_wide p st (go true)) (λ st. ways_rest st go) h d
+      ∙ second_way c n o (λ st. know_test s s.is_wide q st (go true)) (λ st. know_two s s.is_wide f g st (go false)) l z) (a (go false))
 
 -- what is handed on as it is, and a refusal that becomes the end of a path
 pub halted : {T : Type 0} (r : Result T Halt) (h : Halt) (P : T → Type 0) (Q : Halt → Type 0) → IsErr r × IsErrAnd r (λ x. x ≡ h) → Q h → MatchResult r P Q

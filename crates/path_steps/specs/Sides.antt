@@ -21,9 +21,9 @@ side Equal false x y = below y x
 side Unequal true x y = below x y
 side Unequal false x y = below y x
 
-abbrev pub split_sides : {E : Type 0} → Setting E → Relation → Fact → Fact → State E → Outcomes E → Tree E
-split_sides s r x y st go = split_below s true false (side r true x y) (side r false x y) st go
+abbrev pub split_sides : {E : Type 0} → Setting E → (by_elements : Bool) → Relation → Fact → Fact → State E → Outcomes E → Tree E
+split_sides s w r x y st go = split_below s w true false (side r true x y) (side r false x y) st go
 
 -- one fact, another one, or two
 abbrev pub three_ways : {E : Type 0} → Setting E → (p q f g : Fact) → State E → Outcomes E → Tree E
-three_ways s p q f g st go = fork st (λ a. know_test s p a (go true)) (λ a. fork a (λ b. know_test s q b (go true)) (λ b. know_two s f g b (go false)))
+three_ways s p q f g st go = fork st (λ a. know_test s s.is_wide p a (go true)) (λ a. fork a (λ b. know_test s s.is_wide q b (go true)) (λ b. know_two s s.is_wide f g b (go false)))

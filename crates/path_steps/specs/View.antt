@@ -121,6 +121,7 @@ followed p = record {
 
 abbrev pub setting : {E : Type 0} → Ghosts E → Setting E → walks.Setting E
 setting g s = record {
+  is_wide = s.is_wide;
   domain = g;
   known = known_seen s.known;
   sizes = three s.sizes;

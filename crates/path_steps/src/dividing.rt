@@ -1,14 +1,15 @@
-//! Quotients and remainders.
+//! Quotients by numbers, and what they leave.
 
-ghost use Rattle.std.specs.Prelude.{◌≡◌, ◌<ℤ◌, ◌-ℤ◌, pos, IfOk, MatchResult};
+ghost use Rattle.std.specs.Prelude.{◌≡◌, ◌<ℤ◌, ◌-ℤ◌, pos, true, IfOk, MatchResult};
 ghost use Rattle.linear.specs.Exact.{multiple};
 ghost use Rattle.linear.specs.Forms.{form as form_seen};
 ghost use Rattle.linear.specs.Sizes.{size};
 ghost use Rattle.words.specs.View.{kind as kind_seen};
 ghost use Rattle.facts.specs.Symbols.{constant, minus};
+ghost use Rattle.facts.specs.Elements as elements;
 ghost use Rattle.facts.specs.Refusals.{IsMemory, IsUnfit};
 ghost use Rattle.walk_trees.specs.Walks as walks;
-ghost use Rattle.walk_trees.specs.Operators as operators;
+ghost use Rattle.walk_trees.specs.Quotients as quotients;
 ghost use Rattle.path_steps.specs.Paths.{with_fact};
 ghost use Rattle.path_steps.specs.Leads.{Leads, LeadsTwo};
 ghost use Rattle.path_steps.specs.Refusals.{Stops, StopsTwo};
@@ -19,13 +20,13 @@ use crate::ranges::{any_of, invent};
 use crate::setting::Setting;
 use crate::tests::{copied, difference};
 use domain::Domain;
-use facts::{WalkError, number_less};
+use facts::{WalkError, between, number_less};
 use linear::Form;
 use std::alloc::Global;
 use words::Kind;
 
 /// A number of times a small form: it is made, but for memory.
-fn times(alloc: Global, number: i64, of: &Form) -> Result<Form, WalkError>
+pub fn times(alloc: Global, number: i64, of: &Form) -> Result<Form, WalkError>
     requires above { pos 0 <ℤ number }
     requires small { size (form_seen of.now) ≡ 1 }
     ensures { MatchResult result (λ f. form_seen f ≡ multiple number (form_seen of.now)) IsMemory }
@@ -38,7 +39,7 @@ fn times(alloc: Global, number: i64, of: &Form) -> Result<Form, WalkError>
 fn left_over(alloc: Global, of: &Form, number: i64, quotient: &Form) -> Result<Form, WalkError>
     requires above { pos 0 <ℤ number }
     requires small { size (form_seen quotient.now) ≡ 1 }
-    ensures { MatchResult result (λ f. form_seen f ≡ operators.left_over (form_seen of.now) number (form_seen quotient.now)) (λ e. IsUnfit e (operators.left_over (form_seen of.now) number (form_seen quotient.now))) }
+    ensures { MatchResult result (λ f. form_seen f ≡ quotients.left_over (form_seen of.now) number (form_seen quotient.now)) (λ e. IsUnfit e (quotients.left_over (form_seen of.now) number (form_seen quotient.now))) }
 {
     let part = times(alloc, number, quotient)?;
     difference(alloc, of, &part)
@@ -54,8 +55,8 @@ fn know_left<D: Copy>(
 ) -> Result<Form, WalkError>
     requires above { pos 0 <ℤ number }
     requires small { size (form_seen quotient.now) ≡ 1 }
-    ensures left { IfOk result (λ f. form_seen f ≡ operators.left_over (form_seen of.now) number (form_seen quotient.now)) }
-    ensures known { MatchResult result (λ _. followed path.new ≡ with_fact (followed path.old) (operators.left_over (form_seen of.now) number (form_seen quotient.now))) (λ e. IsUnfit e (operators.left_over (form_seen of.now) number (form_seen quotient.now))) }
+    ensures left { IfOk result (λ f. form_seen f ≡ quotients.left_over (form_seen of.now) number (form_seen quotient.now)) }
+    ensures known { MatchResult result (λ _. followed path.new ≡ with_fact (followed path.old) (quotients.left_over (form_seen of.now) number (form_seen quotient.now))) (λ e. IsUnfit e (quotients.left_over (form_seen of.now) number (form_seen quotient.now))) }
 {
     let left = left_over(alloc, of, number, quotient)?;
     path.know(copied(alloc, &left)?)?;
@@ -78,6 +79,24 @@ fn know_under<D: Copy>(
 }
 
 /// A form that is at least 0 by a number above 0: the quotient, a new symbol, and what it leaves.
+pub fn sized_quotient<D: Domain>(
+    setting: &Setting<D>,
+    path: &mut Path<D>,
+    kind: Kind,
+    of: &Form,
+    number: i64,
+) -> Result<(Form, Form), WalkError>
+    requires { pos 0 <ℤ number }
+    ensures leads { MatchResult result (λ v. LeadsTwo (followed path.old) (followed path.new) (quotients.quotient (seen D.Domain setting.now) (kind_seen kind) (form_seen of.now) number) (form_seen v.0) (form_seen v.1)) (λ e. StopsTwo (followed path.old) e (quotients.quotient (seen D.Domain setting.now) (kind_seen kind) (form_seen of.now) number)) }
+    ensures small { IfOk result (λ v. size (form_seen v.0) ≡ 1) }
+{
+    let quotient = invent(setting, path, any_of(kind))?;
+    let left = know_left(setting.alloc, path, of, number, &quotient)?;
+    know_under(setting.alloc, path, number, &left)?;
+    Ok((quotient, left))
+}
+
+/// The same where nobody asks how large the quotient's form is.
 pub fn quotient<D: Domain>(
     setting: &Setting<D>,
     path: &mut Path<D>,
@@ -86,10 +105,83 @@ pub fn quotient<D: Domain>(
     number: i64,
 ) -> Result<(Form, Form), WalkError>
     requires { pos 0 <ℤ number }
-    ensures { MatchResult result (λ v. LeadsTwo (followed path.old) (followed path.new) (operators.quotient (seen D.Domain setting.now) (kind_seen kind) (form_seen of.now) number) (form_seen v.0) (form_seen v.1)) (λ e. StopsTwo (followed path.old) e (operators.quotient (seen D.Domain setting.now) (kind_seen kind) (form_seen of.now) number)) }
+    ensures { MatchResult result (λ v. LeadsTwo (followed path.old) (followed path.new) (quotients.quotient (seen D.Domain setting.now) (kind_seen kind) (form_seen of.now) number) (form_seen v.0) (form_seen v.1)) (λ e. StopsTwo (followed path.old) e (quotients.quotient (seen D.Domain setting.now) (kind_seen kind) (form_seen of.now) number)) }
 {
-    let quotient = invent(setting, path, any_of(kind))?;
-    let left = know_left(setting.alloc, path, of, number, &quotient)?;
-    know_under(setting.alloc, path, number, &left)?;
-    Ok((quotient, left))
+    sized_quotient(setting, path, kind, of, number)
+}
+
+/// Adds the fact that one form is at least another.
+fn know_order<D: Copy>(
+    alloc: Global,
+    path: &mut Path<D>,
+    greater: &Form,
+    lesser: &Form,
+) -> Result<(), WalkError>
+    ensures { MatchResult result (λ _. followed path.new ≡ with_fact (followed path.old) (minus (form_seen greater.now) (form_seen lesser.now))) (λ e. IsUnfit e (minus (form_seen greater.now) (form_seen lesser.now))) }
+{
+    let fact = difference(alloc, greater, lesser)?;
+    path.know(fact)?;
+    Ok(())
+}
+
+/// The numbers from 0 up to below a number.
+fn up_to<D: Domain>(number: i64) -> D
+    requires { pos 0 <ℤ number }
+    ensures { result ≡ elements.between D.Domain (pos 0) (number -ℤ pos 1) }
+{
+    between(0, number - 1)
+}
+
+/// What a quotient leaves, as a new symbol: from 0 up to below the number.
+fn named<D: Domain>(
+    setting: &Setting<D>,
+    path: &mut Path<D>,
+    number: i64,
+    left: &Form,
+) -> Result<Form, WalkError>
+    requires { pos 0 <ℤ number }
+    ensures leads { MatchResult result (λ f. Leads (followed path.old) (followed path.new) (quotients.named (seen D.Domain setting.now) number (form_seen left.now)) (form_seen f)) (λ e. Stops (followed path.old) e (quotients.named (seen D.Domain setting.now) number (form_seen left.now))) }
+    ensures small { IfOk result (λ f. size (form_seen f) ≡ 1) }
+    ensures bare { IfOk result (λ f. (form_seen f).constant ≡ pos 0) }
+{
+    let name = invent(setting, path, up_to(number))?;
+    know_order(setting.alloc, path, left, &name)?;
+    know_order(setting.alloc, path, &name, left)?;
+    Ok(name)
+}
+
+/// What a form that is at least 0 leaves by a number above 0, as a new symbol.
+pub fn name_left<D: Domain>(
+    setting: &Setting<D>,
+    path: &mut Path<D>,
+    kind: Kind,
+    of: &Form,
+    number: i64,
+) -> Result<Form, WalkError>
+    requires above { pos 0 <ℤ number }
+    requires wide { setting.now.is_wide ≡ true }
+    ensures leads { MatchResult result (λ f. Leads (followed path.old) (followed path.new) (quotients.left_by (seen D.Domain setting.now) (kind_seen kind) (form_seen of.now) number) (form_seen f)) (λ e. Stops (followed path.old) e (quotients.left_by (seen D.Domain setting.now) (kind_seen kind) (form_seen of.now) number)) }
+    ensures small { IfOk result (λ f. size (form_seen f) ≡ 1) }
+    ensures bare { IfOk result (λ f. (form_seen f).constant ≡ pos 0) }
+{
+    let parts = quotient(setting, path, kind, of, number)?;
+    named(setting, path, number, &parts.1)
+}
+
+/// What a form that is at least 0 leaves by a number above 0; the wide walk names it.
+pub fn left_by<D: Domain>(
+    setting: &Setting<D>,
+    path: &mut Path<D>,
+    kind: Kind,
+    of: &Form,
+    number: i64,
+) -> Result<Form, WalkError>
+    requires { pos 0 <ℤ number }
+    ensures { MatchResult result (λ f. Leads (followed path.old) (followed path.new) (quotients.left_by (seen D.Domain setting.now) (kind_seen kind) (form_seen of.now) number) (form_seen f)) (λ e. Stops (followed path.old) e (quotients.left_by (seen D.Domain setting.now) (kind_seen kind) (form_seen of.now) number)) }
+{
+    if setting.is_wide {
+        return name_left(setting, path, kind, of, number);
+    }
+    let parts = quotient(setting, path, kind, of, number)?;
+    Ok(parts.1)
 }

@@ -10,7 +10,7 @@ ghost use Rattle.path_steps.specs.Leads.{Steps};
 ghost use Rattle.path_steps.specs.Refusals.{IsGoalUnfit, StopsAtStep};
 ghost use Rattle.path_steps.specs.View.{followed, goal_seen, setting as seen};
 
-use crate::held::element_at;
+use crate::bounds::bounds_of;
 use crate::path::{Goal, Path, Sort};
 use crate::setting::Setting;
 use crate::tests::copied;
@@ -19,13 +19,6 @@ use facts::{WalkError, less_number, number_less};
 use linear::Form;
 use std::alloc::Global;
 use words::Kind;
-
-/// A form's ends on the path.
-fn bounds_of<D: Domain>(setting: &Setting<D>, path: &Path<D>, form: &Form) -> Bounds
-    ensures { result ≡ walks.bounds_of (seen D.Domain setting.now) (followed path.now).state (form_seen form.now) }
-{
-    element_at(setting, path, form).bounds()
-}
 
 /// The number 0 is below the low end or above the high one.
 fn lacks_zero(bounds: Bounds) -> bool

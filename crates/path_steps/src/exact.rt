@@ -125,7 +125,7 @@ pub fn ranged_product<D: Domain>(
     left: &Form,
     right: &Form,
 ) -> Result<Value, WalkError>
-    ensures { MatchResult result (λ v. Leads (followed path.old) (followed path.new) (operators.binary (seen D.Domain setting.now) Multiply (kind_seen kind) (form_seen left.now) (form_seen right.now)) (value_seen v)) (λ e. Stops (followed path.old) e (operators.binary (seen D.Domain setting.now) Multiply (kind_seen kind) (form_seen left.now) (form_seen right.now))) }
+    ensures { MatchResult result (λ v. Leads (followed path.old) (followed path.new) (operators.operate (seen D.Domain setting.now) Multiply (kind_seen kind) (form_seen left.now) (form_seen right.now)) (value_seen v)) (λ e. Stops (followed path.old) e (operators.operate (seen D.Domain setting.now) Multiply (kind_seen kind) (form_seen left.now) (form_seen right.now))) }
 {
     let form = product(setting, path, left, right)?;
     ranged(setting, path, kind, form)

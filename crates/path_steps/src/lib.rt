@@ -7,6 +7,8 @@
 #![tactic(auto)]
 
 mod accesses;
+mod bounds;
+mod dividends;
 mod dividing;
 mod divisors;
 mod ending;
@@ -20,10 +22,13 @@ mod path;
 mod ranges;
 mod setting;
 mod steps;
+mod telling;
 mod tests;
 
 pub use accesses::{access, load};
-pub use dividing::quotient;
+pub use bounds::{bounds_of, is_natural, is_refuted, known_form};
+pub use dividends::{asks_dividend, claim_dividend, is_exact, is_positive};
+pub use dividing::{left_by, name_left, quotient, sized_quotient, times};
 pub use divisors::claim_divisor;
 pub use exact::{
     ranged_complement, ranged_difference, ranged_negation, ranged_product, ranged_sum,
@@ -31,10 +36,12 @@ pub use exact::{
 pub use halt::Halt;
 pub use held::{element_at, element_from, settles};
 pub use ids::id_form;
+pub use narrowing::narrow;
 pub use path::{
     Access, Arrived, Choice, Claim, Goal, Invented, Narrowed, Path, Ranked, Sort, Spot, Stop,
     Target, Value,
 };
 pub use ranges::{any_of, both_brought, brought, invent, unknown};
 pub use setting::Setting;
-pub use tests::{is_number, split, split_number};
+pub use telling::{tell, tell_order_where};
+pub use tests::{copied, difference, is_number, split, split_number};

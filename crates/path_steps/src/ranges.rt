@@ -1,6 +1,6 @@
 //! Claims, new symbols, and the ranges of kinds.
 
-ghost use Rattle.std.specs.Prelude.{◌≡◌, ◌<◌, ◌^◌, ◌⊎◌, List, length, IfOk, IfErr, MatchResult};
+ghost use Rattle.std.specs.Prelude.{◌≡◌, ◌<◌, ◌^◌, ◌⊎◌, pos, List, length, IfOk, IfErr, MatchResult};
 ghost use Rattle.linear.specs.Forms.{form as form_seen};
 ghost use Rattle.linear.specs.Sizes.{size};
 ghost use Rattle.words.specs.View.{kind as kind_seen};
@@ -55,6 +55,7 @@ pub fn invent<D: Domain>(
 ) -> Result<Form, WalkError>
     ensures leads { MatchResult result (λ f. Leads (followed path.old) (followed path.new) (walks.invent (seen D.Domain setting.now) element) (form_seen f)) (λ e. Stops (followed path.old) e (walks.invent (seen D.Domain setting.now) element)) }
     ensures small { IfOk result (λ f. size (form_seen f) ≡ 1) }
+    ensures bare { IfOk result (λ f. (form_seen f).constant ≡ pos 0) }
 {
     let index = count_of_news(path);
     let newest = once_new(setting.alloc, Side::First, index)?;
@@ -124,7 +125,7 @@ fn know_high<D: Copy>(
 }
 
 /// The obligation of this number has an entry.
-fn has_entry<D: Domain>(setting: &Setting<D>, number: usize) -> bool
+pub fn has_entry<D: Domain>(setting: &Setting<D>, number: usize) -> bool
     ensures { result ≡ (seen D.Domain setting.now).has_entry number }
 {
     match setting.entries.get(number) {

@@ -5,11 +5,12 @@ use facts::Known;
 use std::alloc::Global;
 use words::Kind;
 
-/// The setting of a walk: where its memory comes from, what the domain knows, the local sizes, the kinds of the buffers, the local arrays,
-/// and, by its number, whether an obligation has an entry.
+/// The setting of a walk: where its memory comes from, whether it is the wide walk, what the domain knows, the local sizes, the kinds of the
+/// buffers, the local arrays, and, by its number, whether an obligation has an entry.
 #[derive(Drop)]
 pub struct Setting<D> {
     pub alloc: Global,
+    pub is_wide: bool,
     pub known: Known<D>,
     pub sizes: [u32; 3],
     pub buffers: Vec<Kind>,

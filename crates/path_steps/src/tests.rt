@@ -1,6 +1,6 @@
 //! Tests: each way begins with the facts of its outcome.
 
-ghost use Rattle.std.specs.Prelude.{◌≡◌, ◌&&◌, pos, negsuc, int_lt, MatchResult};
+ghost use Rattle.std.specs.Prelude.{◌≡◌, ◌&&◌, ◌||◌, pos, negsuc, int_lt, MatchResult};
 ghost use Rattle.linear.specs.Exact.{fits_i64, multiple};
 ghost use Rattle.linear.specs.Forms.{form as form_seen};
 ghost use Rattle.semantics.specs.Word.{Equal, Unequal};
@@ -14,6 +14,7 @@ ghost use Rattle.path_steps.specs.Halts.{HaltsAtStep, Halts};
 ghost use Rattle.path_steps.specs.Sides.{side, split_sides};
 ghost use Rattle.path_steps.specs.View.{followed, setting as seen};
 
+use crate::bounds::is_refuted;
 use crate::halt::Halt;
 use crate::narrowing::narrow;
 use crate::path::Path;
@@ -45,11 +46,28 @@ fn is_dead(form: &Form) -> bool
     is_number(form) && is_negative(form.constant_part())
 }
 
-/// A fact of a test, which narrows.
-fn know_test<D: Domain>(setting: &Setting<D>, path: &mut Path<D>, fact: Form) -> Result<(), Halt>
-    ensures { MatchResult result (λ _. Steps (followed path.old) (followed path.new) (walks.know_test (seen D.Domain setting.now) (form_seen fact))) (λ h. HaltsAtStep (followed path.old) (followed path.new) h (walks.know_test (seen D.Domain setting.now) (form_seen fact))) }
+/// No item goes on: the form would have to be at least 0, and it is a negative number or, where elements are asked, they refute it.
+fn is_left_out<D: Domain>(
+    setting: &Setting<D>,
+    path: &Path<D>,
+    by_elements: bool,
+    form: &Form,
+) -> bool
+    ensures { result ≡ ((by_elements && walks.is_refuted (seen D.Domain setting.now) (form_seen form.now) (followed path.now).state) || walks.is_dead (form_seen form.now)) }
 {
-    if is_dead(&fact) {
+    (by_elements && is_refuted(setting, path, form)) || is_dead(form)
+}
+
+/// A fact of a test, which narrows. Where elements are asked no item goes on if they refute it.
+fn know_test<D: Domain>(
+    setting: &Setting<D>,
+    path: &mut Path<D>,
+    by_elements: bool,
+    fact: Form,
+) -> Result<(), Halt>
+    ensures { MatchResult result (λ _. Steps (followed path.old) (followed path.new) (walks.know_test (seen D.Domain setting.now) by_elements (form_seen fact))) (λ h. HaltsAtStep (followed path.old) (followed path.new) h (walks.know_test (seen D.Domain setting.now) by_elements (form_seen fact))) }
+{
+    if is_left_out(setting, path, by_elements, &fact) {
         return Err(Halt::Dead);
     }
     narrow(setting, path, &fact)?;
@@ -97,8 +115,30 @@ fn side_fact(
     }
 }
 
+/// A way of a comparison, and whether elements are asked.
+#[derive(Clone, Copy)]
+struct Way {
+    relation: Relation,
+    first: bool,
+    by_elements: bool,
+}
+
 /// The fact of a way of a comparison.
 fn know_side<D: Domain>(
+    setting: &Setting<D>,
+    path: &mut Path<D>,
+    way: Way,
+    left: &Form,
+    right: &Form,
+) -> Result<(), Halt>
+    ensures { MatchResult result (λ _. Steps (followed path.old) (followed path.new) (walks.know_test (seen D.Domain setting.now) way.by_elements (side (relation_seen way.relation) way.first (form_seen left.now) (form_seen right.now)))) (λ h. HaltsAtStep (followed path.old) (followed path.new) h (walks.know_test (seen D.Domain setting.now) way.by_elements (side (relation_seen way.relation) way.first (form_seen left.now) (form_seen right.now)))) }
+{
+    let fact = side_fact(setting.alloc, way.relation, way.first, left, right)?;
+    know_test(setting, path, way.by_elements, fact)
+}
+
+/// The fact of a way of `==` or `!=`, or, by its relation, of another comparison, where the wide walk asks the elements.
+fn know_apart<D: Domain>(
     setting: &Setting<D>,
     path: &mut Path<D>,
     relation: Relation,
@@ -106,10 +146,14 @@ fn know_side<D: Domain>(
     left: &Form,
     right: &Form,
 ) -> Result<(), Halt>
-    ensures { MatchResult result (λ _. Steps (followed path.old) (followed path.new) (walks.know_test (seen D.Domain setting.now) (side (relation_seen relation) first (form_seen left.now) (form_seen right.now)))) (λ h. HaltsAtStep (followed path.old) (followed path.new) h (walks.know_test (seen D.Domain setting.now) (side (relation_seen relation) first (form_seen left.now) (form_seen right.now)))) }
+    ensures { MatchResult result (λ _. Steps (followed path.old) (followed path.new) (walks.know_test (seen D.Domain setting.now) setting.now.is_wide (side (relation_seen relation) first (form_seen left.now) (form_seen right.now)))) (λ h. HaltsAtStep (followed path.old) (followed path.new) h (walks.know_test (seen D.Domain setting.now) setting.now.is_wide (side (relation_seen relation) first (form_seen left.now) (form_seen right.now)))) }
 {
-    let fact = side_fact(setting.alloc, relation, first, left, right)?;
-    know_test(setting, path, fact)
+    let way = Way {
+        relation,
+        first,
+        by_elements: setting.is_wide,
+    };
+    know_side(setting, path, way, left, right)
 }
 
 /// Two facts of a test: the forms are equal.
@@ -119,24 +163,30 @@ fn know_equal<D: Domain>(
     left: &Form,
     right: &Form,
 ) -> Result<(), Halt>
-    ensures { MatchResult result (λ _. Steps (followed path.old) (followed path.new) (walks.know_two (seen D.Domain setting.now) (minus (form_seen left.now) (form_seen right.now)) (minus (form_seen right.now) (form_seen left.now)))) (λ h. HaltsAtStep (followed path.old) (followed path.new) h (walks.know_two (seen D.Domain setting.now) (minus (form_seen left.now) (form_seen right.now)) (minus (form_seen right.now) (form_seen left.now)))) }
+    ensures { MatchResult result (λ _. Steps (followed path.old) (followed path.new) (walks.know_two (seen D.Domain setting.now) setting.now.is_wide (minus (form_seen left.now) (form_seen right.now)) (minus (form_seen right.now) (form_seen left.now)))) (λ h. HaltsAtStep (followed path.old) (followed path.new) h (walks.know_two (seen D.Domain setting.now) setting.now.is_wide (minus (form_seen left.now) (form_seen right.now)) (minus (form_seen right.now) (form_seen left.now)))) }
 {
-    know_side(setting, path, Relation::AtLeast, true, left, right)?;
-    know_side(setting, path, Relation::AtLeast, true, right, left)
+    know_apart(setting, path, Relation::AtLeast, true, left, right)?;
+    know_apart(setting, path, Relation::AtLeast, true, right, left)
 }
 
 /// The two ways of a relation, one form below the other on one of them.
 fn split_sides<D: Domain>(
     setting: &Setting<D>,
     path: &mut Path<D>,
+    by_elements: bool,
     relation: Relation,
     left: &Form,
     right: &Form,
 ) -> Result<bool, Halt>
-    ensures { MatchResult result (λ b. Leads (followed path.old) (followed path.new) (split_sides (seen D.Domain setting.now) (relation_seen relation) (form_seen left.now) (form_seen right.now)) b) (λ h. Halts (followed path.old) (followed path.new) h (split_sides (seen D.Domain setting.now) (relation_seen relation) (form_seen left.now) (form_seen right.now))) }
+    ensures { MatchResult result (λ b. Leads (followed path.old) (followed path.new) (split_sides (seen D.Domain setting.now) by_elements (relation_seen relation) (form_seen left.now) (form_seen right.now)) b) (λ h. Halts (followed path.old) (followed path.new) h (split_sides (seen D.Domain setting.now) by_elements (relation_seen relation) (form_seen left.now) (form_seen right.now))) }
 {
     let first = path.choose()?;
-    know_side(setting, path, relation, first, left, right)?;
+    let way = Way {
+        relation,
+        first,
+        by_elements,
+    };
+    know_side(setting, path, way, left, right)?;
     Ok(first)
 }
 
@@ -147,14 +197,14 @@ fn split_equal<D: Domain>(
     left: &Form,
     right: &Form,
 ) -> Result<bool, Halt>
-    ensures { MatchResult result (λ b. Leads (followed path.old) (followed path.new) (tests.split (seen D.Domain setting.now) Equal (form_seen left.now) (form_seen right.now)) b) (λ h. Halts (followed path.old) (followed path.new) h (tests.split (seen D.Domain setting.now) Equal (form_seen left.now) (form_seen right.now))) }
+    ensures { MatchResult result (λ b. Leads (followed path.old) (followed path.new) (tests.split (seen D.Domain setting.now) setting.now.is_wide Equal (form_seen left.now) (form_seen right.now)) b) (λ h. Halts (followed path.old) (followed path.new) h (tests.split (seen D.Domain setting.now) setting.now.is_wide Equal (form_seen left.now) (form_seen right.now))) }
 {
     if path.choose()? {
         know_equal(setting, path, left, right)?;
         return Ok(true);
     }
     let first = path.choose()?;
-    know_side(setting, path, Relation::Equal, first, left, right)?;
+    know_apart(setting, path, Relation::Equal, first, left, right)?;
     Ok(false)
 }
 
@@ -165,35 +215,44 @@ fn split_unequal<D: Domain>(
     left: &Form,
     right: &Form,
 ) -> Result<bool, Halt>
-    ensures { MatchResult result (λ b. Leads (followed path.old) (followed path.new) (tests.split (seen D.Domain setting.now) Unequal (form_seen left.now) (form_seen right.now)) b) (λ h. Halts (followed path.old) (followed path.new) h (tests.split (seen D.Domain setting.now) Unequal (form_seen left.now) (form_seen right.now))) }
+    ensures { MatchResult result (λ b. Leads (followed path.old) (followed path.new) (tests.split (seen D.Domain setting.now) setting.now.is_wide Unequal (form_seen left.now) (form_seen right.now)) b) (λ h. Halts (followed path.old) (followed path.new) h (tests.split (seen D.Domain setting.now) setting.now.is_wide Unequal (form_seen left.now) (form_seen right.now))) }
 {
     if path.choose()? {
-        know_side(setting, path, Relation::Unequal, true, left, right)?;
+        know_apart(setting, path, Relation::Unequal, true, left, right)?;
         return Ok(true);
     }
     if path.choose()? {
-        know_side(setting, path, Relation::Unequal, false, left, right)?;
+        know_apart(setting, path, Relation::Unequal, false, left, right)?;
         return Ok(true);
     }
     know_equal(setting, path, left, right)?;
     Ok(false)
 }
 
-/// The ways of a comparison, in their order.
+/// The ways of a comparison, in their order. The wide walk leaves out ways of `==` and `!=` that the elements refute, and others where it is
+/// asked to.
 pub fn split<D: Domain>(
     setting: &Setting<D>,
     path: &mut Path<D>,
+    by_elements: bool,
     relation: Relation,
     left: &Form,
     right: &Form,
 ) -> Result<bool, Halt>
-    ensures { MatchResult result (λ b. Leads (followed path.old) (followed path.new) (tests.split (seen D.Domain setting.now) (relation_seen relation) (form_seen left.now) (form_seen right.now)) b) (λ h. Halts (followed path.old) (followed path.new) h (tests.split (seen D.Domain setting.now) (relation_seen relation) (form_seen left.now) (form_seen right.now))) }
+    ensures { MatchResult result (λ b. Leads (followed path.old) (followed path.new) (tests.split (seen D.Domain setting.now) by_elements (relation_seen relation) (form_seen left.now) (form_seen right.now)) b) (λ h. Halts (followed path.old) (followed path.new) h (tests.split (seen D.Domain setting.now) by_elements (relation_seen relation) (form_seen left.now) (form_seen right.now))) }
 {
     match relation {
-        Relation::Less => split_sides(setting, path, Relation::Less, left, right),
-        Relation::AtMost => split_sides(setting, path, Relation::AtMost, left, right),
-        Relation::More => split_sides(setting, path, Relation::More, left, right),
-        Relation::AtLeast => split_sides(setting, path, Relation::AtLeast, left, right),
+        Relation::Less => split_sides(setting, path, by_elements, Relation::Less, left, right),
+        Relation::AtMost => split_sides(setting, path, by_elements, Relation::AtMost, left, right),
+        Relation::More => split_sides(setting, path, by_elements, Relation::More, left, right),
+        Relation::AtLeast => split_sides(
+            setting,
+            path,
+            by_elements,
+            Relation::AtLeast,
+            left,
+            right,
+        ),
         Relation::Equal => split_equal(setting, path, left, right),
         Relation::Unequal => split_unequal(setting, path, left, right),
     }
@@ -217,26 +276,26 @@ pub fn negated(alloc: Global, form: &Form) -> Result<Form, WalkError>
 
 /// Goes on where a form is above 0: that is known, and the domain is narrowed by it.
 fn know_above<D: Domain>(setting: &Setting<D>, path: &mut Path<D>, form: &Form) -> Result<(), Halt>
-    ensures { MatchResult result (λ _. Steps (followed path.old) (followed path.new) (walks.know_test (seen D.Domain setting.now) (minus (form_seen form.now) (constant (pos 1))))) (λ h. HaltsAtStep (followed path.old) (followed path.new) h (walks.know_test (seen D.Domain setting.now) (minus (form_seen form.now) (constant (pos 1))))) }
+    ensures { MatchResult result (λ _. Steps (followed path.old) (followed path.new) (walks.know_test (seen D.Domain setting.now) setting.now.is_wide (minus (form_seen form.now) (constant (pos 1))))) (λ h. HaltsAtStep (followed path.old) (followed path.new) h (walks.know_test (seen D.Domain setting.now) setting.now.is_wide (minus (form_seen form.now) (constant (pos 1))))) }
 {
     let fact = less_number(setting.alloc, form, 1)?;
-    know_test(setting, path, fact)
+    know_test(setting, path, setting.is_wide, fact)
 }
 
 /// Goes on where a form is below 0: that is known, and the domain is narrowed by it.
 fn know_below<D: Domain>(setting: &Setting<D>, path: &mut Path<D>, form: &Form) -> Result<(), Halt>
-    ensures { MatchResult result (λ _. Steps (followed path.old) (followed path.new) (walks.know_test (seen D.Domain setting.now) (minus (constant (negsuc 0)) (form_seen form.now)))) (λ h. HaltsAtStep (followed path.old) (followed path.new) h (walks.know_test (seen D.Domain setting.now) (minus (constant (negsuc 0)) (form_seen form.now)))) }
+    ensures { MatchResult result (λ _. Steps (followed path.old) (followed path.new) (walks.know_test (seen D.Domain setting.now) setting.now.is_wide (minus (constant (negsuc 0)) (form_seen form.now)))) (λ h. HaltsAtStep (followed path.old) (followed path.new) h (walks.know_test (seen D.Domain setting.now) setting.now.is_wide (minus (constant (negsuc 0)) (form_seen form.now)))) }
 {
     let fact = number_less(setting.alloc, -1, form)?;
-    know_test(setting, path, fact)
+    know_test(setting, path, setting.is_wide, fact)
 }
 
 /// A form is at least 0.
 fn know_form<D: Domain>(setting: &Setting<D>, path: &mut Path<D>, form: &Form) -> Result<(), Halt>
-    ensures { MatchResult result (λ _. Steps (followed path.old) (followed path.new) (walks.know_test (seen D.Domain setting.now) (form_seen form.now))) (λ h. HaltsAtStep (followed path.old) (followed path.new) h (walks.know_test (seen D.Domain setting.now) (form_seen form.now))) }
+    ensures { MatchResult result (λ _. Steps (followed path.old) (followed path.new) (walks.know_test (seen D.Domain setting.now) setting.now.is_wide (form_seen form.now))) (λ h. HaltsAtStep (followed path.old) (followed path.new) h (walks.know_test (seen D.Domain setting.now) setting.now.is_wide (form_seen form.now))) }
 {
     let fact = copied(setting.alloc, form)?;
-    know_test(setting, path, fact)
+    know_test(setting, path, setting.is_wide, fact)
 }
 
 /// A form is at most 0.
@@ -245,21 +304,21 @@ fn know_negated<D: Domain>(
     path: &mut Path<D>,
     form: &Form,
 ) -> Result<(), Halt>
-    ensures { MatchResult result (λ _. Steps (followed path.old) (followed path.new) (walks.know_test (seen D.Domain setting.now) (multiple (negsuc 0) (form_seen form.now)))) (λ h. HaltsAtStep (followed path.old) (followed path.new) h (walks.know_test (seen D.Domain setting.now) (multiple (negsuc 0) (form_seen form.now)))) }
+    ensures { MatchResult result (λ _. Steps (followed path.old) (followed path.new) (walks.know_test (seen D.Domain setting.now) setting.now.is_wide (multiple (negsuc 0) (form_seen form.now)))) (λ h. HaltsAtStep (followed path.old) (followed path.new) h (walks.know_test (seen D.Domain setting.now) setting.now.is_wide (multiple (negsuc 0) (form_seen form.now)))) }
 {
     let fact = negated(setting.alloc, form)?;
-    know_test(setting, path, fact)
+    know_test(setting, path, setting.is_wide, fact)
 }
 
 /// Two facts of a test: a form is 0.
 fn know_zero<D: Domain>(setting: &Setting<D>, path: &mut Path<D>, form: &Form) -> Result<(), Halt>
-    ensures { MatchResult result (λ _. Steps (followed path.old) (followed path.new) (walks.know_two (seen D.Domain setting.now) (form_seen form.now) (multiple (negsuc 0) (form_seen form.now)))) (λ h. HaltsAtStep (followed path.old) (followed path.new) h (walks.know_two (seen D.Domain setting.now) (form_seen form.now) (multiple (negsuc 0) (form_seen form.now)))) }
+    ensures { MatchResult result (λ _. Steps (followed path.old) (followed path.new) (walks.know_two (seen D.Domain setting.now) setting.now.is_wide (form_seen form.now) (multiple (negsuc 0) (form_seen form.now)))) (λ h. HaltsAtStep (followed path.old) (followed path.new) h (walks.know_two (seen D.Domain setting.now) setting.now.is_wide (form_seen form.now) (multiple (negsuc 0) (form_seen form.now)))) }
 {
     know_form(setting, path, form)?;
     know_negated(setting, path, form)
 }
 
-/// A number as a test: above 0, below 0, or 0.
+/// A number as a test: above 0, below 0, or 0. The wide walk leaves out ways that the elements refute.
 pub fn split_number<D: Domain>(
     setting: &Setting<D>,
     path: &mut Path<D>,

@@ -49,8 +49,8 @@ both_stop {E} s op k site x y l m n view r e d i h =
 
 -- the smaller or the larger of two values
 module _ {E : Type 0} (s : Setting E) (x y second first : Value) (l m : Followed E) where
-  pub picks : (b c : Bool) → Leads l m (split s Less x.form y.form) b → b ≡ c → Leads l m (pick s x y second first) (chosen c second first)
+  pub picks : (b c : Bool) → Leads l m (split s s.is_wide Less x.form y.form) b → b ≡ c → Leads l m (pick s x y second first) (chosen c second first)
   picks b c a d go = a (λ h st. go (chosen h second first) st) ∙ ap (λ h. collect m.found (go (chosen h second first) m.state)) d
 
-  pub pick_halts : {T : Type 0} (view : T → Value) (r : Result T Halt) (h : Halt) → IsErr r × IsErrAnd r (λ e. e ≡ h) → Halts l m h (split s Less x.form y.form) → Says l m (pick s x y second first) view r
+  pub pick_halts : {T : Type 0} (view : T → Value) (r : Result T Halt) (h : Halt) → IsErr r × IsErrAnd r (λ e. e ≡ h) → Halts l m h (split s s.is_wide Less x.form y.form) → Says l m (pick s x y second first) view r
   pick_halts view r h i a = halted r h _ _ i (λ go. a (λ b st. go (chosen b second first) st))

@@ -1,5 +1,7 @@
 pub mod AtSites
 pub mod Beginning
+pub mod BitPlaces
+pub mod BitSteps
 pub mod Courses
 pub mod Flowing
 pub mod Leaving

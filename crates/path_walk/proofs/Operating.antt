@@ -1,13 +1,12 @@
 -- Steps of operators, composed.
-use Rattle.std.proofs.Common.{◌≡◌, Bool, true, ◌&&◌, ap, subst, ◌∙◌}
+use Rattle.std.proofs.Common.{◌≡◌, Bool, true, sym, ap, subst, ◌∙◌}
 use Rattle.std.specs.Prelude.{ℤ, pos, ◌<ℤ◌, int_lt, Result, Ok, Err, MatchResult}
 use Rattle.std.proofs.lemmas.Bool.{and_parts}
-use Rattle.semantics.specs.Word.{Kind, Multiply}
+use Rattle.semantics.specs.Word.{Kind, Operator, Multiply}
 use Rattle.linear.specs.Exact.{multiple}
 use Rattle.linear.specs.Forms.{form}
 use Rattle.linear.specs.declared.form.Form.{Form}
 use Rattle.facts.specs.Symbols.{Fact, constant}
-use Rattle.facts.specs.Elements.{is_from_zero}
 use Rattle.facts.specs.declared.error.WalkError.{WalkError}
 use Rattle.facts.proofs.Integers.{lt_test}
 use Rattle.walk_trees.specs.Trees.{Tree}
@@ -40,19 +39,13 @@ pub renumbered : {E : Type 0} (walk : ℤ → State E → (Fact → State E → 
     MatchResult r (λ f. Leads m n (walk z) (form f)) (λ e. Stops m e (walk z))
 renumbered walk y z m n r d h = subst (λ c. MatchResult r (λ f. Leads m n (walk c) (form f)) (λ e. Stops m e (walk c))) d h
 
--- of a quotient and what it leaves, the one or the other
+-- a quotient without what it leaves
 module _ {E : Type 0} (walk : State E → (Fact → Fact → State E → Tree E) → Tree E) where
   pub first_leads : (q r : Fact) (m n : Followed E) → LeadsTwo m n walk q r → Leads m n (λ st go. walk st (λ x y st'. go x st')) q
   first_leads q r m n h go = h (λ x y st'. go x st')
 
   pub first_stops : (m : Followed E) (e : WalkError) → StopsTwo m e walk → Stops m e (λ st go. walk st (λ x y st'. go x st'))
   first_stops m e h go = h (λ x y st'. go x st')
-
-  pub second_leads : (q r : Fact) (m n : Followed E) → LeadsTwo m n walk q r → Leads m n (λ st go. walk st (λ x y st'. go y st')) r
-  second_leads q r m n h go = h (λ x y st'. go y st')
-
-  pub second_stops : (m : Followed E) (e : WalkError) → StopsTwo m e walk → Stops m e (λ st go. walk st (λ x y st'. go y st'))
-  second_stops m e h go = h (λ x y st'. go y st')
 
 -- a form as a value
 pub as_value : {E : Type 0} (walk : State E → (Fact → State E → Tree E) → Tree E) (k : Kind) (f : Fact) (m n : Followed E) → Leads m n walk f → Leads m n (λ st go. walk st (λ g st'. go (values.value k g) st')) (values.value k f)
@@ -74,13 +67,32 @@ module _ {E : Type 0} (step : State E → (State E → Tree E) → Tree E) (walk
 
 -- a product by a number
 pub by_number : {E : Type 0} (s : Setting E) (k : Kind) (x y : Fact) (z : ℤ) (m n : Followed E) (view : Value → values.Value) (r : Result Value WalkError) → y ≡ constant z →
-    MatchResult r (λ v. Leads m n (operators.binary s Multiply k x y) (view v)) (λ e. Stops m e (operators.binary s Multiply k x y)) →
+    MatchResult r (λ v. Leads m n (operators.operate s Multiply k x y) (view v)) (λ e. Stops m e (operators.operate s Multiply k x y)) →
     MatchResult r (λ v. Leads m n (walks.ranged s k (multiple z x)) (view v)) (λ e. Stops m e (walks.ranged s k (multiple z x)))
-by_number s k x y z m n view r d h = subst (λ u. MatchResult r (λ v. Leads m n (operators.binary s Multiply k x u) (view v)) (λ e. Stops m e (operators.binary s Multiply k x u))) d h
+by_number s k x y z m n view r d h = subst (λ u. MatchResult r (λ v. Leads m n (operators.operate s Multiply k x u) (view v)) (λ e. Stops m e (operators.operate s Multiply k x u))) d h
 
--- where a quotient is exact, the divisor is above 0
-pub exact_above : {E : Type 0} (s : Setting E) (st : State E) (x y : Fact) → operators.is_exact s st x y ≡ true → pos 0 <ℤ y.constant
-exact_above s st x y e =
-    let p = and_parts (walks.is_number y) (int_lt (pos 0) y.constant && is_from_zero (walks.bounds_of s st x).low) e in
-    let q = and_parts (int_lt (pos 0) y.constant) (is_from_zero (walks.bounds_of s st x).low) p.1 in
-    lt_test (pos 0) y.constant q.0
+-- a number above 0
+pub positive_above : (y : Fact) → operators.is_positive y ≡ true → pos 0 <ℤ y.constant
+positive_above y e = lt_test (pos 0) y.constant (and_parts (walks.is_number y) (int_lt (pos 0) y.constant) e).1
+
+-- a step with an answer, and what follows of it
+module _ {E A B : Type 0} (one : State E → (A → State E → Tree E) → Tree E) (two : A → State E → (B → State E → Tree E) → Tree E) where
+  abbrev pub in_turn : State E → (B → State E → Tree E) → Tree E
+  in_turn st go = one st (λ x st'. two x st' go)
+
+  pub turn_leads : (a : A) (b : B) (l m n : Followed E) → Leads l m one a → Leads m n (two a) b → Leads l n in_turn b
+  turn_leads a b l m n p h go = p (λ x st'. two x st' go) ∙ h go
+
+  pub turn_stops : (l : Followed E) (e : WalkError) → Stops l e one → Stops l e in_turn
+  turn_stops l e h go = h (λ x st'. two x st' go)
+
+  pub turn_stops_behind : (a : A) (l m : Followed E) (e : WalkError) → Leads l m one a → Stops m e (two a) → Stops l e in_turn
+  turn_stops_behind a l m e p h go = refused_from e _ _ (p (λ x st'. two x st' go)) (h go)
+
+-- operands that were looked up
+pub looked_up : {E : Type 0} (s : Setting E) (op : Operator) (k : Kind) (x y x' y' : Fact) (m n : Followed E) (view : Value → values.Value) (r : Result Value WalkError) →
+    x' ≡ walks.known_form s m.state x → y' ≡ walks.known_form s m.state y →
+    MatchResult r (λ v. Leads m n (operators.operate s op k x' y') (view v)) (λ e. Stops m e (operators.operate s op k x' y')) →
+    MatchResult r (λ v. Leads m n (operators.known_operands s op k x y) (view v)) (λ e. Stops m e (operators.known_operands s op k x y))
+looked_up s op k x y x' y' m n view (Ok v) d e h = λ go. (λ i. collect m.found (operators.operate s op k (sym d i) (sym e i) m.state go)) ∙ h go
+looked_up s op k x y x' y' m n view (Err z) d e h = λ go. refused_from z _ _ (λ i. collect m.found (operators.operate s op k (sym d i) (sym e i) m.state go)) (h go)

@@ -1,6 +1,7 @@
 pub mod Flows
 pub mod Fronts
 pub mod Heads
+pub mod BitSteps
 pub mod OperatorSteps
 pub mod Parts
 pub mod Rests

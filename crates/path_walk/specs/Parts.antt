@@ -1,4 +1,5 @@
 -- What becomes of the values of operands, and two terms in turn.
+use Rattle.std.specs.Prelude.{false}
 use Rattle.semantics.specs.Word.{Kind, Operator, UnaryOperator, Relation}
 use Rattle.semantics.specs.Core.{Site, Term}
 use Rattle.walk_trees.specs.Trees.{Tree}
@@ -22,7 +23,7 @@ abbrev pub binary_at : {E : Type 0} → Setting E → Operator → Kind → Site
 binary_at s op k site x y st go = both_brought s k x y (at_site site st) (λ x' y' st'. binary s op k x'.form y'.form st' go)
 
 abbrev pub compare_values : {E : Type 0} → Setting E → Relation → Kind → (left right : Value) → State E → Outcomes E → Tree E
-compare_values s r k x y st go = both_brought s k x y st (λ x' y' st'. split s r x'.form y'.form st' go)
+compare_values s r k x y st go = both_brought s k x y st (λ x' y' st'. split s false r x'.form y'.form st' go)
 
 -- the left one first
 abbrev pub both_values : {E : Type 0} → Setting E → (left right : Term) → State E → (Value → Value → State E → Tree E) → Tree E

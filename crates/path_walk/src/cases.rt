@@ -1,6 +1,6 @@
 //! Which form a result has.
 
-ghost use Rattle.std.specs.Prelude.{◌≡◌, pos, int_lt};
+ghost use Rattle.std.specs.Prelude.{◌≡◌};
 ghost use Rattle.linear.specs.Forms.{form as form_seen};
 ghost use Rattle.words.specs.View.{kind as kind_seen};
 ghost use Rattle.walk_trees.specs.Operators as operators;
@@ -12,32 +12,13 @@ use linear::Form;
 use path_steps::{Path, Setting, is_number, settles};
 use words::Kind;
 
-/// A number is above 0.
-fn is_above(number: i64) -> bool
-    ensures { result ≡ int_lt (pos 0) number }
-{
-    0 < number
-}
-
-/// The divisor is a number above 0, and the dividend is known to be at least 0.
-pub fn is_exact<D: Domain>(
-    setting: &Setting<D>,
-    path: &Path<D>,
-    dividend: &Form,
-    divisor: &Form,
-) -> bool
-    ensures { result ≡ operators.is_exact (seen D.Domain setting.now) (followed path.now).state (form_seen dividend.now) (form_seen divisor.now) }
-{
-    is_number(divisor) && is_above(divisor.constant_part()) && settles(setting, path, dividend)
-}
-
-/// The lowest bits of a `uint`.
-pub fn is_mask(kind: Kind, form: &Form) -> bool
-    ensures { result ≡ operators.is_mask (kind_seen kind) (form_seen form.now) }
+/// The lowest bits of a `uint`; in the wide walk those of an `int`, too.
+pub fn is_mask(is_wide: bool, kind: Kind, form: &Form) -> bool
+    ensures { result ≡ operators.is_mask is_wide (kind_seen kind) (form_seen form.now) }
 {
     match kind {
-        Kind::Int => false,
-        Kind::Uint => is_number(form) && is_low_bits(form.constant_part()),
+        Kind::Int => is_wide && is_number(form) && is_low_bits(31, form.constant_part()),
+        Kind::Uint => is_number(form) && is_low_bits(32, form.constant_part()),
     }
 }
 

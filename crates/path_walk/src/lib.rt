@@ -10,6 +10,8 @@
 //! what is true of all that is found along the path. Statements tell how they are left (`specs/Flows.antt`).
 #![tactic(auto)]
 
+mod bit_places;
+mod bits;
 mod cases;
 mod course;
 mod dividing;
@@ -18,10 +20,13 @@ mod flow;
 mod fronts;
 mod heads;
 mod holding;
+mod joining;
 mod known;
 mod lawful;
 mod loops;
 mod masks;
+mod meeting;
+mod narrowing;
 mod operands;
 mod operators;
 mod powers;
@@ -36,6 +41,7 @@ mod statements;
 mod terms;
 mod variables;
 mod walking;
+mod widths;
 
 pub use root::root_of;
 pub use walking::walk_place;

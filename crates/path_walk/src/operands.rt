@@ -184,7 +184,7 @@ pub fn compare_values<D: Domain>(
     ensures { MatchResult result (λ b. Leads (followed path.old) (followed path.new) (compare_values (seen D.Domain setting.now) (relation_seen relation) (kind_seen kind) (value_seen left) (value_seen right)) b) (λ h. Halts (followed path.old) (followed path.new) h (compare_values (seen D.Domain setting.now) (relation_seen relation) (kind_seen kind) (value_seen left) (value_seen right))) }
 {
     let (first, second) = both_brought(setting, path, kind, left, right)?;
-    split(setting, path, relation, &first.form, &second.form)
+    split(setting, path, false, relation, &first.form, &second.form)
 }
 
 /// The smaller of two values (OpenCL 1.2, 6.12.3): the right one where it is less, else the left one.
@@ -196,7 +196,15 @@ pub fn smaller<D: Domain>(
 ) -> Result<Value, Halt>
     ensures { MatchResult result (λ v. Leads (followed path.old) (followed path.new) (terms.pick (seen D.Domain setting.now) (value_seen right) (value_seen left) (value_seen right) (value_seen left)) (value_seen v)) (λ h. Halts (followed path.old) (followed path.new) h (terms.pick (seen D.Domain setting.now) (value_seen right) (value_seen left) (value_seen right) (value_seen left))) }
 {
-    let is_less = split(setting, path, Relation::Less, &right.form, &left.form)?;
+    let is_wide = setting.is_wide;
+    let is_less = split(
+        setting,
+        path,
+        is_wide,
+        Relation::Less,
+        &right.form,
+        &left.form,
+    )?;
     if is_less { Ok(right) } else { Ok(left) }
 }
 
@@ -209,6 +217,14 @@ pub fn larger<D: Domain>(
 ) -> Result<Value, Halt>
     ensures { MatchResult result (λ v. Leads (followed path.old) (followed path.new) (terms.pick (seen D.Domain setting.now) (value_seen left) (value_seen right) (value_seen right) (value_seen left)) (value_seen v)) (λ h. Halts (followed path.old) (followed path.new) h (terms.pick (seen D.Domain setting.now) (value_seen left) (value_seen right) (value_seen right) (value_seen left))) }
 {
-    let is_less = split(setting, path, Relation::Less, &left.form, &right.form)?;
+    let is_wide = setting.is_wide;
+    let is_less = split(
+        setting,
+        path,
+        is_wide,
+        Relation::Less,
+        &left.form,
+        &right.form,
+    )?;
     if is_less { Ok(right) } else { Ok(left) }
 }

@@ -1,6 +1,6 @@
 //! Remainders.
 
-ghost use Rattle.std.specs.Prelude.{MatchResult};
+ghost use Rattle.std.specs.Prelude.{◌≡◌, true, MatchResult};
 ghost use Rattle.linear.specs.Forms.{form as form_seen};
 ghost use Rattle.words.specs.View.{kind as kind_seen};
 ghost use Rattle.semantics.specs.Word.{Remainder};
@@ -8,35 +8,36 @@ ghost use Rattle.walk_trees.specs.Operators as operators;
 ghost use Rattle.path_steps.specs.Leads.{Leads};
 ghost use Rattle.path_steps.specs.Refusals.{Stops};
 ghost use Rattle.path_steps.specs.View.{followed, setting as seen, value as value_seen};
-ghost use Rattle.path_walk.specs.OperatorSteps.{remaining_here};
 
-use crate::cases::is_exact;
-use crate::dividing::left_alone;
 use domain::Domain;
 use facts::WalkError;
 use linear::Form;
-use path_steps::{Path, Setting, Value, claim_divisor, element_at, invent};
+use path_steps::{
+    Path, Setting, Value, claim_dividend, claim_divisor, element_at, invent, left_by,
+};
 use words::Kind;
 
-/// A remainder: exact, or a new symbol with what the domain tells of it.
+/// A remainder: exact where it is to be, or a new symbol with what the domain tells of it.
 fn remaining<D: Domain>(
     setting: &Setting<D>,
     path: &mut Path<D>,
+    exactly: bool,
     kind: Kind,
     dividend: &Form,
     divisor: &Form,
 ) -> Result<Form, WalkError>
-    ensures { MatchResult result (λ f. Leads (followed path.old) (followed path.new) (remaining_here (seen D.Domain setting.now) (kind_seen kind) (form_seen dividend.now) (form_seen divisor.now)) (form_seen f)) (λ e. Stops (followed path.old) e (remaining_here (seen D.Domain setting.now) (kind_seen kind) (form_seen dividend.now) (form_seen divisor.now))) }
+    requires { exactly ≡ true → operators.is_positive (form_seen divisor.now) ≡ true }
+    ensures { MatchResult result (λ f. Leads (followed path.old) (followed path.new) (operators.remaining (seen D.Domain setting.now) exactly (kind_seen kind) (form_seen dividend.now) (form_seen divisor.now)) (form_seen f)) (λ e. Stops (followed path.old) e (operators.remaining (seen D.Domain setting.now) exactly (kind_seen kind) (form_seen dividend.now) (form_seen divisor.now))) }
 {
-    if is_exact(setting, path, dividend, divisor) {
+    if exactly {
         let number = divisor.constant_part();
-        return left_alone(setting, path, kind, dividend, number);
+        return left_by(setting, path, kind, dividend, number);
     }
     let element = element_at(setting, path, dividend).rem(element_at(setting, path, divisor));
     invent(setting, path, element)
 }
 
-/// A remainder, behind the claims of its divisor.
+/// A remainder, behind the claims of its divisor and of its dividend.
 pub fn remain<D: Domain>(
     setting: &Setting<D>,
     path: &mut Path<D>,
@@ -44,9 +45,10 @@ pub fn remain<D: Domain>(
     left: &Form,
     right: &Form,
 ) -> Result<Value, WalkError>
-    ensures { MatchResult result (λ v. Leads (followed path.old) (followed path.new) (operators.binary (seen D.Domain setting.now) Remainder (kind_seen kind) (form_seen left.now) (form_seen right.now)) (value_seen v)) (λ e. Stops (followed path.old) e (operators.binary (seen D.Domain setting.now) Remainder (kind_seen kind) (form_seen left.now) (form_seen right.now))) }
+    ensures { MatchResult result (λ v. Leads (followed path.old) (followed path.new) (operators.operate (seen D.Domain setting.now) Remainder (kind_seen kind) (form_seen left.now) (form_seen right.now)) (value_seen v)) (λ e. Stops (followed path.old) e (operators.operate (seen D.Domain setting.now) Remainder (kind_seen kind) (form_seen left.now) (form_seen right.now))) }
 {
     claim_divisor(setting, path, kind, left, right)?;
-    let form = remaining(setting, path, kind, left, right)?;
+    let exactly = claim_dividend(setting, path, kind, left, right)?;
+    let form = remaining(setting, path, exactly, kind, left, right)?;
     Ok(Value { kind, form })
 }

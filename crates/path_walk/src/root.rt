@@ -4,6 +4,7 @@ ghost use Rattle.std.specs.Prelude.{◌≡◌, List, Bool, [], map, true, MatchR
 ghost use Rattle.linear.specs.Forms.{forms};
 ghost use Rattle.core_code.specs.View.{kernel as core_seen};
 ghost use Rattle.facts.specs.Launching.{are_sizes};
+ghost use Rattle.facts.specs.View.{known_seen};
 ghost use Rattle.walk_trees.specs.Statements.{spot_of};
 ghost use Rattle.path_steps.specs.View.{followed, choice as choice_seen, held_seen, value as value_seen};
 ghost use Rattle.obligations.specs.View.{seen};
@@ -12,6 +13,7 @@ ghost use Rattle.path_walk.specs.Rooted.{rooted, IsUnrooted};
 
 use crate::holding::{root_narrowed, tops};
 use crate::known::root_facts;
+use crate::narrowing::narrow_by_notes;
 use crate::said::congruences_at;
 use crate::variables::root_values;
 use arrival_claims::Placing;
@@ -62,7 +64,7 @@ pub fn root_of<D: Domain>(
     given: Vec<Choice>,
 ) -> Result<Path<D>, WalkError>
     requires { are_sizes (core_seen placing.now.core.now).sizes ≡ true }
-    ensures { MatchResult result (λ p. (entries : List Bool) → followed p ≡ rooted D.Domain (core_seen placing.now.core.now) (seen placing.now.notes.now entries) claims placing.now.anchor placing.now.head (map choice_seen given.items)) (λ e. (entries : List Bool) → IsUnrooted (root_facts (core_seen placing.now.core.now) (seen placing.now.notes.now entries) placing.now.anchor placing.now.head) e) }
+    ensures { MatchResult result (λ p. (entries : List Bool) → followed p ≡ rooted D.Domain (known_seen placing.now.setting.now.known) (core_seen placing.now.core.now) (seen placing.now.notes.now entries) claims placing.now.anchor placing.now.head (map choice_seen given.items)) (λ e. (entries : List Bool) → IsUnrooted (root_facts (core_seen placing.now.core.now) (seen placing.now.notes.now entries) placing.now.anchor placing.now.head) e) }
 {
     let alloc = placing.setting.alloc;
     let core = placing.core;
@@ -78,5 +80,7 @@ pub fn root_of<D: Domain>(
         news,
         narrowed,
     };
-    Ok(planted(alloc, root, claims, given))
+    let mut path = planted(alloc, root, claims, given);
+    narrow_by_notes(placing, &mut path)?;
+    Ok(path)
 }

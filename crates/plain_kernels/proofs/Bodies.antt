@@ -7,9 +7,11 @@ use Rattle.semantics.specs.Launch.{Kernel}
 use Rattle.semantics.specs.Conditions.{Conditions}
 use Rattle.linear.specs.Sizes.{size}
 use Rattle.facts.specs.Symbols.{Length, constant, once, minus}
+use Rattle.facts.specs.Launching.{known}
 use Rattle.arrivals.specs.Points.{join}
 use Rattle.arrivals.specs.Places.{own_place}
 use Rattle.arrivals.specs.Symbolic.{courses}
+use Rattle.walk_trees.specs.Held.{no_held}
 use Rattle.walk_trees.specs.Trees.{Tree}
 use Rattle.walk_trees.specs.Walks.{Setting, State, claimed_once, stand, at_site}
 use Rattle.walk_trees.specs.Terms.{access}
@@ -41,12 +43,17 @@ last_below f z size' m n groups em en h =
     let r : (pos f *ℤ pos (m + suc m * n) +ℤ pos z) ≤ℤ pos 4294967295 = subst (λ x. x ≤ℤ pos 4294967295) e h in
     omega (arith, ints, r, mul-add f m (suc m * n), mul_assoc f (suc m) n)
 
+-- of the entry nothing is narrowed
+narrowed_none : (b : Bool) → (cond b (no_held {E = Both}) no_held).narrowed ≡ []
+narrowed_none true = refl
+narrowed_none false = refl
+
 module _ (k : Kernel) (c : Conditions) (notes : Notes) (m n : ℕ) (em : k.sizes.x ≡ suc m) (en : c.groups.x.high ≡ pos (suc n)) (lm : m ≤ 1023) (ln : n ≤ 65535) (signed : Type 0) where
   abbrev h : ℕ → Bool
   h = notes.has_entry
 
   abbrev s : Setting Both
-  s = setting domain k c h
+  s = setting domain k c notes.is_wide h
 
   abbrev here : Placed Both
   here = placed domain k c notes (own_place None)
@@ -64,19 +71,19 @@ module _ (k : Kernel) (c : Conditions) (notes : Notes) (m n : ℕ) (em : k.sizes
   body-tame (one i others) (Plain num buffer site e f z v pi last pv, q) g st o =
       let lf = factor-below e f z pi in
       let b = last_below f z k.sizes.x m n c.groups.x.high em en last in
-      let form = id_multiple (suc m) (pos f) (pos z) in
-      let l : size form ≤ 4402341478400 = small k c h m n em en lm ln signed f z lf b in
       let rs : List Bool = claims k.arguments others in
       let vs : List Bool = ranges k.arguments v (false ∷ false ∷ rs) in
       let array : Array = record { space = Global; number = buffer } in
-      let on : State Both → Tree Both = λ st2. access s true array site form st2 (λ st3. drawn others st3) in
       let before = minus (once (Length buffer)) (constant (pos 1)) in
-      let room : size (minus before form) ≤ most = less before form most (omega (arith, l, less (once (Length buffer)) (constant (pos 1)) 2 (omega arith))) in
       allowed (is_lawful e) (index-covered (λ sp. true) e f z pi) (ranges k.arguments e vs) st _
-      (index-tame k c h m n em en lm ln signed e f z pi b vs (stand (spot_of num) st) _ o (λ st1 o1.
+      (index-tame k c notes.is_wide h m n em en lm ln signed e f z pi b vs (stand (spot_of num) st) _ o (λ f' z' lf' u st1 o1.
+      let form = id_multiple (suc m) (pos f') (pos z') in
+      let l : size form ≤ 4402341478400 = small k c notes.is_wide h m n em en lm ln signed f' z' lf' (omega (arith, u, b)) in
+      let on : State Both → Tree Both = λ st2. access s true array site form st2 (λ st3. drawn others st3) in
+      let room : size (minus before form) ≤ most = less before form most (omega (arith, l, less (once (Length buffer)) (constant (pos 1)) 2 (omega arith))) in
       allowed (is_lawful v) (value-covered (λ sp. true) k.arguments v pv) vs st1 _
-      (value-tame k c h m n em en lm ln signed v pv (λ e. g (left (is_signed k.arguments v) (has_signed k.arguments others) e)) (false ∷ false ∷ rs) (stand (spot_of num) st1) (λ x st2. on st2) o1 (λ x st2 o2.
+      (value-tame k c notes.is_wide h m n em en lm ln signed v pv (λ e. g (left (is_signed k.arguments v) (has_signed k.arguments others) e)) (false ∷ false ∷ rs) (stand (spot_of num) st1) (λ x st2. on st2) o1 (λ x st2 o2.
       (omega (arith, l), tt, (room, tt, (omega (arith, l), body-tame others q (λ e. g (right (is_signed k.arguments v) (has_signed k.arguments others) e)) (claimed_once (claimed_once (at_site site st2))) o2)))))))
 
   pub tree-tame : ArePlain k.arguments k.sizes.x c.groups.x.high k.body → (has_signed k.arguments k.body ≡ true → signed) → IsTame h signed (claims k.arguments k.body) 0 (tree_of domain k c notes 0 (own_place None))
-  tree-tame p g = body-tame k.body p g (root_state domain k notes 0 None None) (refl, refl)
+  tree-tame p g = body-tame k.body p g (root_state domain (known domain k.sizes c) k notes 0 None None) (narrowed_none notes.is_wide, refl)

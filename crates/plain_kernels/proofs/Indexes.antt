@@ -1,5 +1,5 @@
 -- The forms of an index, and what the domain settles of them.
-use Rattle.std.proofs.Common.{mul-le-mul, ◌≡◌, ℕ, suc, ◌+◌, ◌*◌, ◌≤◌, true, Bool, [], ◌∷◌, arith, sym, ap, subst, ◌∙◌}
+use Rattle.std.proofs.Common.{mul-le-mul, ◌≡◌, ℕ, suc, ◌+◌, ◌*◌, ◌≤◌, true, Bool, [], ◌∷◌, arith, sym, ap, subst, ◌∙◌, inl, inr}
 use Rattle.std.specs.Prelude.{◌^◌, ℤ, pos, negsuc, ◌≤ℤ◌, ◌+ℤ◌, ◌-ℤ◌, ◌*ℤ◌, neg_ℤ}
 use Rattle.std.proofs.lemmas.Int.{ints}
 use Rattle.semantics.proofs.Integers.{mul_assoc}
@@ -13,13 +13,13 @@ use Rattle.facts.specs.Elements.{Known, Elements, element}
 use Rattle.facts.specs.Launching.{known, below}
 use Rattle.facts.proofs.Naming.{symbol_of-number}
 use Rattle.walk_trees.specs.Held.{Held, latest, element_held}
-use Rattle.walk_trees.specs.Walks.{Setting, State, element_of, settles, low_end}
+use Rattle.walk_trees.specs.Walks.{Setting, State, element_of, settles, low_end, known_form}
 use Rattle.walk_trees.specs.Terms.{id_form}
 use Rattle.walk_trees.specs.Statements.{setting, opening_values}
 use Rattle.domain.specs.Ends.{all, at_least, at_most}
 use Rattle.plain_kernels.specs.Domains.{domain}
-use Rattle.plain_kernels.proofs.Ends.{EndsIn, IsEnd, Scales, counts, one-number}
-use Rattle.plain_kernels.proofs.Terms.{Both, FirstIn, settled, scales_up, scales_down, one_more, merge-nil, multiples-put}
+use Rattle.plain_kernels.proofs.Ends.{EndsIn, IsEnd, Scales, wider, counts, one-number}
+use Rattle.plain_kernels.proofs.Terms.{Both, FirstIn, IsKnown, known-in, settled, scales_up, scales_down, one_more, merge-nil, multiples-put}
 
 below-in : (z : ℤ) (n : ℕ) → z ≡ pos (suc n) → n ≤ 65536 → FirstIn (pos 0) (pos n) (below domain z)
 below-in z n e h =
@@ -63,9 +63,9 @@ near_two x y h i = (omega (arith, ints, h, i), omega (arith, ints, h, i))
 near_three : (x y z : ℤ) → IsNear x → IsNear y → IsNear z → IsEnd (x +ℤ y +ℤ z)
 near_three x y z h i j = (omega (arith, ints, h, i, j), omega (arith, ints, h, i, j))
 
-module _ (k : Kernel) (c : Conditions) (h : ℕ → Bool) (m n : ℕ) (em : k.sizes.x ≡ suc m) (en : c.groups.x.high ≡ pos (suc n)) (lm : m ≤ 1023) (ln : n ≤ 65535) where
+module _ (k : Kernel) (c : Conditions) (w : Bool) (h : ℕ → Bool) (m n : ℕ) (em : k.sizes.x ≡ suc m) (en : c.groups.x.high ≡ pos (suc n)) (lm : m ≤ 1023) (ln : n ≤ 65535) where
   abbrev s : Setting Both
-  s = setting domain k c h
+  s = setting domain k c w h
 
   abbrev element_now : State Both → ℕ → Both
   element_now st i = element_held domain s.known st.held i
@@ -98,11 +98,13 @@ module _ (k : Kernel) (c : Conditions) (h : ℕ → Bool) (m n : ℕ) (em : k.si
     e2 = omega (arith, ints)
 
     -- from a number on, upwards and downwards
+    up-in : (st : State Both) → IsPlainState k st → FirstIn (pos z +ℤ pos 0 +ℤ pos 0) (pos z +ℤ pos (f * m) +ℤ pos (f * suc m * n)) (element_of s st (id_multiple (suc m) (pos f) (pos z)))
+    up-in st o =
+        multiple-in st o (pos f) (pos z) (pos 0) (pos (f * m)) (pos 0) (pos (f * suc m * n)) (scales_up _ f m e1) (scales_up _ (f * suc m) n e2)
+        (omega (arith, ints, b), omega (arith, ints, b)) (omega (arith, ints, lf), omega (arith, ints, lf)) (omega (arith, ints, few), omega (arith, ints, few)) (omega (arith, ints, b), omega (arith, ints, b)) (omega (arith, ints, b), omega (arith, ints, b)) (omega (arith, ints, b), omega (arith, ints, b)) (omega (arith, ints, b), omega (arith, ints, b))
+
     pub settles_up : (st : State Both) → IsPlainState k st → settles s st (id_multiple (suc m) (pos f) (pos z)) ≡ true
-    settles_up st o =
-        let r = multiple-in st o (pos f) (pos z) (pos 0) (pos (f * m)) (pos 0) (pos (f * suc m * n)) (scales_up _ f m e1) (scales_up _ (f * suc m) n e2)
-        (omega (arith, ints, b), omega (arith, ints, b)) (omega (arith, ints, lf), omega (arith, ints, lf)) (omega (arith, ints, few), omega (arith, ints, few)) (omega (arith, ints, b), omega (arith, ints, b)) (omega (arith, ints, b), omega (arith, ints, b)) (omega (arith, ints, b), omega (arith, ints, b)) (omega (arith, ints, b), omega (arith, ints, b)) in
-        settled _ _ (element_of s st (id_multiple (suc m) (pos f) (pos z))) (omega (arith, ints)) r
+    settles_up st o = settled _ _ (element_of s st (id_multiple (suc m) (pos f) (pos z))) (omega (arith, ints)) (up-in st o)
 
     pub settles_down : (st : State Both) → IsPlainState k st → settles s st (id_multiple (suc m) (negsuc 0 *ℤ pos f) (pos 4294967295 -ℤ pos z)) ≡ true
     settles_down st o =
@@ -111,6 +113,25 @@ module _ (k : Kernel) (c : Conditions) (h : ℕ → Bool) (m n : ℕ) (em : k.si
         let r = multiple-in st o (negsuc 0 *ℤ pos f) (pos 4294967295 -ℤ pos z) (neg_ℤ (pos (f * m))) (pos 0) (neg_ℤ (pos (f * suc m * n))) (pos 0) (scales_down _ f m d1) (scales_down _ (f * suc m) n d2)
         (omega (arith, ints, b), omega (arith, ints, b)) (omega (arith, ints, d1, lf), omega (arith, ints, d1, lf)) (omega (arith, ints, d2, few), omega (arith, ints, d2, few)) (omega (arith, ints, b), omega (arith, ints, b)) (omega (arith, ints), omega (arith, ints)) (omega (arith, ints, b), omega (arith, ints, b)) (omega (arith, ints), omega (arith, ints)) in
         settled _ _ (element_of s st (id_multiple (suc m) (negsuc 0 *ℤ pos f) (pos 4294967295 -ℤ pos z))) (omega (arith, ints, b)) r
+
+  -- a number is known to be itself, and the id to be itself or one of its numbers
+  pub number-known : (st : State Both) (z : ℕ) → z ≤ 4294967295 → known_form s st (constant (pos z)) ≡ constant (pos z)
+  number-known st z l =
+      let x = domain.number_of (pos z) in
+      by (known-in (pos z) (pos z) x (constant (pos z)) w (one-number (pos z) (near (pos z) (omega (arith, ints, l), omega (arith, ints, l)))))
+    where
+      by : {f : Fact} → IsKnown (pos z) (pos z) (constant (pos z)) f → f ≡ constant (pos z)
+      by (inl e) = e
+      by (inr p) = p.3 ∙ ap constant (omega (arith, ints, p.1, p.2))
+
+  pub id-known : (st : State Both) → IsPlainState k st → IsKnown (pos 0) (pos (m + suc m * n)) (id_multiple (suc m) (pos 1) (pos 0)) (known_form s st (id_multiple (suc m) (pos 1) (pos 0)))
+  id-known st o =
+      let r = up-in 1 0 (omega arith) (omega (arith, lm, ln, mul-le-mul ms ln)) st o in
+      let form = id_multiple (suc m) (pos 1) (pos 0) in
+      known-in (pos 0) (pos (m + suc m * n)) (element_of s st form) form w (wider _ _ (pos 0) (pos (m + suc m * n)) (element_of s st form).first.first r (omega (arith, ints)) (omega (arith, ints)))
+    where
+      ms : suc m ≤ 1024
+      ms = omega (arith, lm)
 
 -- the low end of a multiple's range is the multiple itself, and what is left to the high end the turned multiple
 pub low-multiple : (size : ℕ) (f z : ℤ) → low_end Uint (id_multiple size f z) ≡ id_multiple size f z

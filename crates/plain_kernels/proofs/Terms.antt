@@ -1,7 +1,9 @@
 -- What the interval of a form's element spans, where its symbols count from 0.
-use Rattle.std.proofs.Common.{◌≡◌, ℕ, zero, suc, ◌*◌, true, [], ◌∷◌, Option, Some, None, arith, refl, sym, ap, subst, ◌∙◌}
+use Rattle.std.proofs.Common.{◌≡◌, ◌⊎◌, inl, inr, ℕ, zero, suc, ◌*◌, Bool, true, false, cond, [], ◌∷◌, Option, Some, None, arith, refl, sym, ap, subst, ◌∙◌}
 use Rattle.std.specs.Prelude.{ℤ, pos, negsuc, ◌≤ℤ◌, ◌+ℤ◌, ◌*ℤ◌, neg_ℤ}
 use Rattle.std.specs.Int.{int_max}
+use Rattle.std.specs.Ordering.{int_eq}
+use Rattle.std.proofs.lemmas.Bool.Decides.{Decides-int_eq}
 use Rattle.std.proofs.lemmas.Int.{ints, clamps}
 use Rattle.semantics.proofs.Integers.{add-mul}
 use Rattle.linear.specs.Exact.{Terms, put, merge, multiples}
@@ -9,11 +11,13 @@ use Rattle.domain.specs.declared.Bounds.{Bounds}
 use Rattle.domain.specs.declared.Residue.{Residue}
 use Rattle.domain.specs.IntervalMembers.{yes-le}
 use Rattle.domain.specs.Products.{mul-le_pos}
-use Rattle.domain.specs.Both.{larger}
+use Rattle.domain.specs.Both.{larger, smaller}
 use Rattle.domain.specs.KnownBits.{Bits}
 use Rattle.domain.specs.declared.product.Product.{Product}
+use Rattle.facts.specs.Symbols.{Fact, constant}
 use Rattle.facts.specs.Elements.{is_from_zero}
 use Rattle.walk_trees.specs.Held.{terms_with}
+use Rattle.walk_trees.specs.Walks.{one_number}
 use Rattle.plain_kernels.specs.Domains.{domain}
 use Rattle.plain_kernels.proofs.Ends.{EndsIn, EndIn, IsEnd, Scales, wider, adds, multiplies, one-number}
 
@@ -31,6 +35,41 @@ from_zero low high (Some n) (Some m) h e = yes-le (pos 0) (int_max n m) (omega (
 -- what stands from 0 on is settled
 pub settled : (low high : ℤ) (x : Both) → pos 0 ≤ℤ low → FirstIn low high x → is_from_zero (domain.bounds_of x).low ≡ true
 settled low high x h e = from_zero low high x.first.first.low _ h e.0
+
+-- a form of which one number between two is known
+abbrev pub IsKnown : (low high : ℤ) → (form found : Fact) → Type 0
+IsKnown low high f g = (g ≡ f) ⊎ ((z : ℤ) × (low ≤ℤ z) × (z ≤ℤ high) × (g ≡ constant z))
+
+abbrev From : ℤ → Option ℤ → Type 0
+From low None = Unit {0}
+From low (Some n) = low ≤ℤ n
+
+abbrev UpTo : ℤ → Option ℤ → Type 0
+UpTo high None = Unit {0}
+UpTo high (Some n) = n ≤ℤ high
+
+larger-from : (low high : ℤ) (o p : Option ℤ) → EndIn low high o → From low (larger (larger o p) None)
+larger-from low high None p e = absurd e
+larger-from low high (Some n) None e = e.0
+larger-from low high (Some n) (Some m) e = omega (arith, ints, clamps, e)
+
+smaller-up_to : (low high : ℤ) (o p : Option ℤ) → EndIn low high o → UpTo high (smaller (smaller o p) None)
+smaller-up_to low high None p e = absurd e
+smaller-up_to low high (Some n) None e = e.1
+smaller-up_to low high (Some n) (Some m) e = omega (arith, ints, clamps, e)
+
+one-known : (low high : ℤ) (o p : Option ℤ) (f : Fact) → From low o → UpTo high p → IsKnown low high f (one_number o p f)
+one-known low high None p f a b = inl refl
+one-known low high (Some n) None f a b = inl refl
+one-known low high (Some n) (Some m) f a b = by (int_eq n m) refl
+  where
+    by : (q : Bool) → int_eq n m ≡ q → IsKnown low high f (cond q (constant n) f)
+    by true e = inr (n, a, omega (arith, ints, b, (Decides-int_eq n m).0 e), refl)
+    by false e = inl refl
+
+pub known-in : (low high : ℤ) (x : Both) (f : Fact) (w : Bool) → FirstIn low high x → IsKnown low high f (cond w (one_number (domain.bounds_of x).low (domain.bounds_of x).high f) f)
+known-in low high x f true e = one-known low high (domain.bounds_of x).low (domain.bounds_of x).high f (larger-from low high x.first.first.low _ e.0) (smaller-up_to low high x.first.first.high _ e.1)
+known-in low high x f false e = inl refl
 
 pub scales_up : (a : ℤ) (k n : ℕ) → a ≡ pos k → Scales a (pos 0) (pos n) (pos 0) (pos (k * n))
 scales_up a k n e z p q =

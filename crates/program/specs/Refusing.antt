@@ -1,5 +1,5 @@
 -- What a line that refuses tells of the texts that were asked about.
-use Rattle.std.specs.Prelude.{◌≡◌, ℕ, List, Option, None}
+use Rattle.std.specs.Prelude.{◌≡◌, ℕ, List, false, Option, None}
 use Rattle.telling.specs.Refusing.{IsRefusedText, IsRefusedKernel, IsUnanswered}
 use Rattle.telling.specs.Proving.{IsUnproved}
 use Rattle.telling.specs.ProvingVerdicts.{Begins}
@@ -9,12 +9,12 @@ use Rattle.program.specs.Running.{Read, Write, Request, CheckOwn, Check, Run, Pr
 
 -- what refuses a request; where no certificate is found or migrated none is written; where a refusal is explained, it begins the text
 abbrev pub Refuses : Request → Texts → Option Write → (line : List ℕ) → Type 0
-Refuses CheckOwn t saved line = IsRefusedText first_kernel first_conditions first_certificate line
-Refuses (Check k c p) t saved line = IsRefusedText t.kernel t.conditions t.certificate line
-Refuses (Run k c p l workers) t saved line = IsUnanswered workers t.kernel t.conditions t.certificate t.launch line
-Refuses (Prove k c workers out) t saved line = IsUnproved workers t.kernel t.conditions line × (saved ≡ None)
-Refuses (Explain k c) t saved line = Begins (IsUnproved 1 t.kernel t.conditions) line
-Refuses (ExplainCheck k c p) t saved line = Begins (IsRefusedText t.kernel t.conditions t.certificate) line
+Refuses CheckOwn t saved line = IsRefusedText false first_kernel first_conditions first_certificate line
+Refuses (Check k c p wide) t saved line = IsRefusedText wide t.kernel t.conditions t.certificate line
+Refuses (Run k c p l workers wide) t saved line = IsUnanswered wide workers t.kernel t.conditions t.certificate t.launch line
+Refuses (Prove k c workers out wide) t saved line = IsUnproved workers t.kernel t.conditions line × (saved ≡ None)
+Refuses (Explain k c wide) t saved line = Begins (IsUnproved 1 t.kernel t.conditions) line
+Refuses (ExplainCheck k c p wide) t saved line = Begins (IsRefusedText wide t.kernel t.conditions t.certificate) line
 Refuses (Print k) t saved line = IsRefusedKernel t.kernel line
 Refuses (Migrate o n) t saved line = IsUnmigrated t.certificate line × (saved ≡ None)
 

@@ -1,5 +1,5 @@
 -- What a verdict tells, and what is written of it.
-use Rattle.std.specs.Prelude.{◌≡◌, ◌⊎◌, ℕ, List, Option, None, take}
+use Rattle.std.specs.Prelude.{◌≡◌, ◌⊎◌, ℕ, List, Bool, false, Option, None, take}
 use Rattle.std.specs.String.{string_bytes}
 use Rattle.std.specs.Io.KnownBytes.{Appends, Keeps}
 use Rattle.telling.specs.Verdicts.{Checks, Runs, Prints}
@@ -12,22 +12,22 @@ use Rattle.program.specs.First.{first_kernel, first_conditions, first_certificat
 use Rattle.program.specs.Running.{Read, Write, Request, CheckOwn, Check, Run, Prove, Explain, ExplainCheck, Print, Migrate, Texts, Answered, Saves, saving, IsFound, IsSought, IsMoved}
 
 -- of a search: what was found is in the file that the words name, if they name one; a refusal writes none
-abbrev pub Finds : (out : Option (List ℕ)) → Verdict → (workers : ℕ) → (kernel conditions : List ℕ) → Option Write → Type 0
-Finds out (verdicts.Done text) workers kernel conditions saved = IsFound IsProvedText out kernel conditions text.items saved
-Finds out (verdicts.Refused line) workers kernel conditions saved = IsUnproved workers kernel conditions (string_bytes line) × (saved ≡ None)
-Finds out verdicts.OutOfMemory workers kernel conditions saved = Unit {0}
+abbrev pub Finds : (out : Option (List ℕ)) → Verdict → (is_wide : Bool) → (workers : ℕ) → (kernel conditions : List ℕ) → Option Write → Type 0
+Finds out (verdicts.Done text) is_wide workers kernel conditions saved = IsFound (IsProvedText is_wide) out kernel conditions text.items saved
+Finds out (verdicts.Refused line) is_wide workers kernel conditions saved = IsUnproved workers kernel conditions (string_bytes line) × (saved ≡ None)
+Finds out verdicts.OutOfMemory is_wide workers kernel conditions saved = Unit {0}
 
 -- of a search whose refusal is explained
-abbrev pub Explained : Verdict → (kernel conditions : List ℕ) → Type 0
-Explained (verdicts.Done text) kernel conditions = IsSought IsProvedText kernel conditions text.items
-Explained (verdicts.Refused text) kernel conditions = Begins (IsUnproved 1 kernel conditions) (string_bytes text)
-Explained verdicts.OutOfMemory kernel conditions = Unit {0}
+abbrev pub Explained : (is_wide : Bool) → Verdict → (kernel conditions : List ℕ) → Type 0
+Explained is_wide (verdicts.Done text) kernel conditions = IsSought (IsProvedText is_wide) kernel conditions text.items
+Explained is_wide (verdicts.Refused text) kernel conditions = Begins (IsUnproved 1 kernel conditions) (string_bytes text)
+Explained is_wide verdicts.OutOfMemory kernel conditions = Unit {0}
 
 -- of a search, where what is found is put into a file of this name
-abbrev pub Kept : {F : Type 0} → (contents : F → List ℕ → Option (List ℕ)) → (before after : F) → (out : Option (List ℕ)) → (workers : ℕ) → (kernel conditions : List ℕ) → Verdict → Type 0
-Kept contents before after out workers kernel conditions (verdicts.Done text) = (certificate : List ℕ) × IsProvedText kernel conditions certificate text.items × Saves contents before after (saving out certificate)
-Kept contents before after out workers kernel conditions (verdicts.Refused line) = IsUnproved workers kernel conditions (string_bytes line) × (after ≡ before)
-Kept contents before after out workers kernel conditions verdicts.OutOfMemory = after ≡ before
+abbrev pub Kept : {F : Type 0} → (contents : F → List ℕ → Option (List ℕ)) → (before after : F) → (out : Option (List ℕ)) → (is_wide : Bool) → (workers : ℕ) → (kernel conditions : List ℕ) → Verdict → Type 0
+Kept contents before after out is_wide workers kernel conditions (verdicts.Done text) = (certificate : List ℕ) × IsProvedText is_wide kernel conditions certificate text.items × Saves contents before after (saving out certificate)
+Kept contents before after out is_wide workers kernel conditions (verdicts.Refused line) = IsUnproved workers kernel conditions (string_bytes line) × (after ≡ before)
+Kept contents before after out is_wide workers kernel conditions verdicts.OutOfMemory = after ≡ before
 
 -- of a certificate of version 1: that of version 2 is in the file of this name; a refusal writes none
 abbrev pub Moves : (name : List ℕ) → Verdict → (old : List ℕ) → Option Write → Type 0
@@ -43,12 +43,12 @@ Moved contents before after out old verdicts.OutOfMemory = after ≡ before
 
 -- of a request and the texts that it is about
 abbrev pub IsAnsweredBy : Verdict → Request → Texts → Option Write → Type 0
-IsAnsweredBy v CheckOwn t saved = Checks v first_kernel first_conditions first_certificate
-IsAnsweredBy v (Check k c p) t saved = Checks v t.kernel t.conditions t.certificate
-IsAnsweredBy v (Run k c p l workers) t saved = Runs v workers t.kernel t.conditions t.certificate t.launch
-IsAnsweredBy v (Prove k c workers out) t saved = Finds out v workers t.kernel t.conditions saved
-IsAnsweredBy v (Explain k c) t saved = Explained v t.kernel t.conditions
-IsAnsweredBy v (ExplainCheck k c p) t saved = ExplainsCheck v t.kernel t.conditions t.certificate
+IsAnsweredBy v CheckOwn t saved = Checks false v first_kernel first_conditions first_certificate
+IsAnsweredBy v (Check k c p wide) t saved = Checks wide v t.kernel t.conditions t.certificate
+IsAnsweredBy v (Run k c p l workers wide) t saved = Runs wide v workers t.kernel t.conditions t.certificate t.launch
+IsAnsweredBy v (Prove k c workers out wide) t saved = Finds out v wide workers t.kernel t.conditions saved
+IsAnsweredBy v (Explain k c wide) t saved = Explained wide v t.kernel t.conditions
+IsAnsweredBy v (ExplainCheck k c p wide) t saved = ExplainsCheck wide v t.kernel t.conditions t.certificate
 IsAnsweredBy v (Print k) t saved = Prints v t.kernel
 IsAnsweredBy v (Migrate o n) t saved = Moves n v t.certificate saved
 

@@ -1,12 +1,12 @@
 //! One run of the program over files and writers.
 
-ghost use Rattle.std.specs.Prelude.{◌≡◌, ◌≢◌, ℕ, List, [], ◌∷◌, IfOk, OnOk, codes};
+ghost use Rattle.std.specs.Prelude.{◌≡◌, ◌≢◌, ℕ, List, [], ◌∷◌, Bool, false, IfOk, OnOk, codes};
 ghost use Rattle.std.specs.Option.{option_map};
 ghost use Rattle.telling.specs.Verdicts.{Checks};
 ghost use Rattle.telling.specs.Proving.{IsProvedText};
 ghost use Rattle.telling.specs.ProvingVerdicts.{Proves};
 ghost use Rattle.telling.specs.Migrating.{Migrates};
-ghost use Rattle.command_line.specs.Words.{texts, HasWord, HasNames, AsksWorkers, HasSearch, HasSubject};
+ghost use Rattle.command_line.specs.Words.{texts, has_wide, HasWord, HasNames, AsksWorkers, HasSearch, HasSubject};
 ghost use Rattle.program.specs.First.{first_kernel, first_conditions, first_certificate};
 ghost use Rattle.program.specs.Running.{IsOf, Reads, Does, IsPut, Saves, saving, kernel_read, conditions_read, certificate_read, HasNoWord, Success, IsOut, Output};
 ghost use Rattle.program.specs.Refusing.{Refusal};
@@ -89,9 +89,9 @@ fn texts_of<'a, F: Files>(files: &mut F, names: Names<'a>) -> Result<Found, Stop
 
 /// The check of the texts that stand in the program.
 fn first_verdict(alloc: Global) -> Verdict
-    ensures { Checks result first_kernel first_conditions first_certificate }
+    ensures { Checks false result first_kernel first_conditions first_certificate }
 {
-    check_texts(alloc, first_texts())
+    check_texts(alloc, first_texts(), false)
 }
 
 /// The verdict of `check` on files.
@@ -104,7 +104,7 @@ fn checked<'a, F: Files>(
     ensures same { (n : List ℕ) → F.contents files.new n ≡ F.contents files.old n }
 {
     let found = texts_of(files, names)?;
-    Ok(check_texts(alloc, found.texts()))
+    Ok(check_texts(alloc, found.texts(), names.is_wide))
 }
 
 /// The verdict of `run` on files.
@@ -121,7 +121,7 @@ fn ran<'a, R: Threads + Wait + Sync, F: Files>(
 {
     let found = texts_of(files, names)?;
     let launch = text_of(files, launch, 4_194_304)?;
-    Ok(run_texts(rt, alloc, found.texts(), &launch, workers))
+    Ok(run_texts(rt, alloc, found.texts(), &launch, workers, names.is_wide))
 }
 
 /// Puts a text into a file.
@@ -153,7 +153,7 @@ fn kept<'a, F: Files>(
     out: Option<&'a str>,
     sought: Sought,
 ) -> Result<Verdict, Stop<'a>>
-    ensures verdict { (workers : ℕ) (kernel conditions : List ℕ) → Proves sought workers kernel conditions → IfOk result (λ v. Kept F.contents files.old files.new (option_map (λ w. w.now) out.entry) workers kernel conditions v) }
+    ensures verdict { (is_wide : Bool) (workers : ℕ) (kernel conditions : List ℕ) → Proves is_wide sought workers kernel conditions → IfOk result (λ v. Kept F.contents files.old files.new (option_map (λ w. w.now) out.entry) is_wide workers kernel conditions v) }
     ensures moved { (old : List ℕ) → Migrates sought old → IfOk result (λ v. Moved F.contents files.old files.new (option_map (λ w. w.now) out.entry) old v) }
     ensures others { (n : List ℕ) → option_map (λ w. w.now) out.entry ≢ Some n → F.contents files.new n ≡ F.contents files.old n }
 {
@@ -177,12 +177,19 @@ fn searched<'a, R: Threads + Wait + Sync, F: Files>(
     search: Search<'a>,
     files: &mut F,
 ) -> Result<Sought, Stop<'a>>
-    ensures reads { IfOk result (λ f. (kernel : List ℕ) × (conditions : List ℕ) × Reads F.contents F.gives files.old files.new (kernel_read search.entry.kernel.now kernel ∷ conditions_read search.entry.conditions.now conditions ∷ []) × Proves f search.entry.workers kernel conditions) }
+    ensures reads { IfOk result (λ f. (kernel : List ℕ) × (conditions : List ℕ) × Reads F.contents F.gives files.old files.new (kernel_read search.entry.kernel.now kernel ∷ conditions_read search.entry.conditions.now conditions ∷ []) × Proves search.entry.is_wide f search.entry.workers kernel conditions) }
     ensures same { (n : List ℕ) → F.contents files.new n ≡ F.contents files.old n }
 {
     let kernel = text_of(files, search.kernel, 65_536)?;
     let conditions = text_of(files, search.conditions, 65_536)?;
-    Ok(prove_texts(rt, alloc, &kernel, &conditions, search.workers))
+    Ok(prove_texts(
+        rt,
+        alloc,
+        &kernel,
+        &conditions,
+        search.workers,
+        search.is_wide,
+    ))
 }
 
 /// The search for a certificate of files.
@@ -209,7 +216,7 @@ fn explained_check<'a, F: Files>(
     ensures same { (n : List ℕ) → F.contents files.new n ≡ F.contents files.old n }
 {
     let found = texts_of(files, names)?;
-    Ok(explain_check(alloc, found.texts()))
+    Ok(explain_check(alloc, found.texts(), names.is_wide))
 }
 
 /// The search for a certificate of files, its refusal explained.
@@ -219,12 +226,12 @@ fn explained_search<'a, R: Threads + Wait + Sync, F: Files>(
     subject: Subject<'a>,
     files: &mut F,
 ) -> Result<Verdict, Stop<'a>>
-    ensures verdict { (ws : List (List ℕ)) → HasWord ws 0 (codes "explain") → HasWord ws 1 subject.entry.kernel.now → HasWord ws 2 subject.entry.conditions.now → HasNoWord ws 3 → IfOk result (λ v. Tells (Does F.contents F.gives files.old files.new) ws v) }
+    ensures verdict { (ws : List (List ℕ)) → HasWord ws 0 (codes "explain") → HasWord ws 1 subject.entry.kernel.now → HasWord ws 2 subject.entry.conditions.now → HasNoWord ws 3 → subject.entry.is_wide ≡ has_wide ws → IfOk result (λ v. Tells (Does F.contents F.gives files.old files.new) ws v) }
     ensures same { (n : List ℕ) → F.contents files.new n ≡ F.contents files.old n }
 {
     let kernel = text_of(files, subject.kernel, 65_536)?;
     let conditions = text_of(files, subject.conditions, 65_536)?;
-    Ok(explain_texts(rt, alloc, &kernel, &conditions))
+    Ok(explain_texts(rt, alloc, &kernel, &conditions, subject.is_wide))
 }
 
 /// The verdict of `explain` on files, a refusal with its meaning: that of the check, where a certificate is named, else that of the search.
@@ -241,6 +248,7 @@ fn explained<'a, R: Threads + Wait + Sync, F: Files>(
         kernel,
         conditions,
         certificate,
+        is_wide,
     } = subject;
     match certificate {
         Some(certificate) => explained_check(
@@ -249,6 +257,7 @@ fn explained<'a, R: Threads + Wait + Sync, F: Files>(
                 kernel,
                 conditions,
                 certificate,
+                is_wide,
             },
             files,
         ),

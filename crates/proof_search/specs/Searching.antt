@@ -1,9 +1,11 @@
 -- What an error of a search tells.
-use Rattle.std.specs.Prelude.{◌<◌, ◌≤◌, ◌⊎◌, ◌≡◌, ℕ, List, []}
+use Rattle.std.specs.Prelude.{◌<◌, ◌≤◌, ◌⊎◌, ◌≡◌, ℕ, List, [], Bool, true, false, cond}
 use Rattle.texts.specs.ConditionsReading.{Lined}
 use Rattle.syntax.specs.declared.tree.Kernel as trees
 use Rattle.core_code.specs.declared.tree.Core.{Core}
 use Rattle.launch.specs.declared.conditions.Conditions as code
+use Rattle.certificate_text.specs.Certificate.{Certificate}
+use Rattle.certificate_text.specs.NumberedText.{text_of_two, text_of_four}
 use Rattle.cert_check.specs.Refusing.{AreRead, AreMet, Refuses}
 use Rattle.cert_check.specs.declared.error.CheckError.{CheckError}
 use Rattle.cert_check.specs.declared.error.CheckError.TheVariants as checks
@@ -52,3 +54,12 @@ Ends t c errors.Workers = ⊥
 Ends t c (errors.NotShown findings) = AreTrue t c findings.items
 Ends t c errors.TooLong = Unit {0}
 Ends t c errors.Memory = Unit {0}
+
+-- the text of a certificate that was found: of a wide one in version 4, else in version 2
+abbrev pub text_found : Certificate → List ℕ
+text_found c = cond c.is_wide (text_of_four c) (text_of_two c)
+
+-- where the wide walk may be tried, and where it may not
+abbrev pub text_by : (may_widen : Bool) → Certificate → List ℕ
+text_by true c = text_found c
+text_by false c = text_of_two c

@@ -1,6 +1,6 @@
 //! The certificate that is looked for, with its text.
 
-ghost use Rattle.std.specs.Prelude.{◌≡◌, ℕ, List, true, IfOk, IfErr, MatchResult};
+ghost use Rattle.std.specs.Prelude.{◌≡◌, ℕ, List, true, IfOk, IfErr, IfSome, MatchResult};
 ghost use Rattle.core_code.specs.View.{kernel as core_seen};
 ghost use Rattle.core_code.specs.declared.tree.Core.{Core};
 ghost use Rattle.syntax.specs.declared.tree.Kernel as trees;
@@ -14,13 +14,14 @@ ghost use Rattle.texts.specs.ConditionsReading.{Lined};
 ghost use Rattle.certificate_text.specs.NumberedText.{text_of_two};
 ghost use Rattle.certificate.specs.Certificates.{certificate as certificate_seen};
 ghost use Rattle.cert_check.specs.Refusing.{AreRead};
-ghost use Rattle.proof_search.specs.Searching.{IsCount, IsNoCount, Ends, TellsOf};
+ghost use Rattle.proof_search.specs.Searching.{IsCount, IsNoCount, Ends, TellsOf, text_found, text_by};
 ghost use Rattle.proof_search.specs.declared.error.VerifyError.TheVariants as errors;
 
 use crate::error::VerifyError;
 use crate::shortfall::findings_of;
+use crate::widening::{is_over, may_widen};
 use cert_check::error::{CheckError, ShowError};
-use certificate::{Certificate, LIMIT, write};
+use certificate::{Certificate, LIMIT, write, write_wide};
 use certificate_search::{Missing, SearchError, search};
 use facts::WalkError;
 use guess_walk::Subject;
@@ -31,7 +32,7 @@ use places::{Place, PlaceError, places};
 use reading::laws::{bytes_are_the_text_of_what_is_read, local_sizes_are_within_limits};
 use reading::read_kernel;
 use shown_kernels::proper::what_is_read_is_proper;
-use std::alloc::Global;
+use std::alloc::{AllocError, Global};
 use std::thread::Threads;
 use syntax::site_at;
 use types::typed::Typed;
@@ -125,6 +126,149 @@ fn with_text(alloc: Global, certificate: Certificate) -> Result<Found, VerifyErr
     Ok(Found { certificate, text })
 }
 
+/// The text of a certificate, of version 4 where its walk is the wide one.
+fn any_text(alloc: Global, certificate: &Certificate) -> Result<Vec<u8>, AllocError>
+    ensures { IfOk result (λ v. v.items ≡ text_found (certificate_seen certificate.now)) }
+{
+    if certificate.is_wide() {
+        write_wide(alloc, certificate)
+    } else {
+        write(alloc, certificate)
+    }
+}
+
+/// A certificate with its text, of version 4 where its walk is the wide one, of at most so many bytes as are read.
+fn with_any_text(alloc: Global, certificate: Certificate) -> Result<Found, VerifyError>
+    ensures written { IfOk result (λ f. f.text.items ≡ text_found (certificate_seen f.certificate)) }
+    ensures ends { IfErr result (λ e. (t : trees.Kernel × Core) (c : code.Conditions) → Ends t c e) }
+{
+    let Ok(text) = any_text(alloc, &certificate) else {
+        return Err(VerifyError::Memory);
+    };
+    if text.len() > LIMIT {
+        return Err(VerifyError::TooLong);
+    }
+    Ok(Found { certificate, text })
+}
+
+/// The certificate that one walk finds for a kernel under conditions.
+fn looked_for<R: Threads + Sync>(
+    rt: &R,
+    alloc: Global,
+    subject: Subject<'_>,
+    workers: u32,
+) -> Result<Certificate, VerifyError>
+    requires proper { is_proper (core_seen subject.typed.now.1) ≡ true }
+    requires of { IsOf (core_seen subject.typed.now.1) (lined subject.conditions.now) }
+    ensures { IfErr result (Ends subject.entry.typed.now subject.entry.conditions.now) }
+{
+    match search(rt, alloc, subject, workers) {
+        Ok(certificate) => Ok(certificate),
+        Err(error) => Err(unfound(alloc, subject.typed, subject.conditions, error)),
+    }
+}
+
+/// The certificate that the narrow walk finds, with its text of version 2.
+fn found_narrowly<R: Threads + Sync>(
+    rt: &R,
+    alloc: Global,
+    subject: Subject<'_>,
+    workers: u32,
+) -> Result<Found, VerifyError>
+    requires proper { is_proper (core_seen subject.typed.now.1) ≡ true }
+    requires of { IsOf (core_seen subject.typed.now.1) (lined subject.conditions.now) }
+    ensures written { IfOk result (λ f. f.text.items ≡ text_of_two (certificate_seen f.certificate)) }
+    ensures ends { IfErr result (Ends subject.entry.typed.now subject.entry.conditions.now) }
+{
+    match looked_for(rt, alloc, subject, workers) {
+        Ok(certificate) => with_text(alloc, certificate),
+        Err(error) => Err(error),
+    }
+}
+
+/// The certificate that a walk finds, with its text.
+fn found_by_walk<R: Threads + Sync>(
+    rt: &R,
+    alloc: Global,
+    subject: Subject<'_>,
+    workers: u32,
+) -> Result<Found, VerifyError>
+    requires proper { is_proper (core_seen subject.typed.now.1) ≡ true }
+    requires of { IsOf (core_seen subject.typed.now.1) (lined subject.conditions.now) }
+    ensures written { IfOk result (λ f. f.text.items ≡ text_found (certificate_seen f.certificate)) }
+    ensures ends { IfErr result (Ends subject.entry.typed.now subject.entry.conditions.now) }
+{
+    match looked_for(rt, alloc, subject, workers) {
+        Ok(certificate) => with_any_text(alloc, certificate),
+        Err(error) => Err(error),
+    }
+}
+
+/// The certificate that the wide walk finds, with its text, where it keeps within the budget.
+fn found_widely<R: Threads + Sync>(
+    rt: &R,
+    alloc: Global,
+    subject: Subject<'_>,
+    workers: u32,
+) -> Option<Found>
+    ensures { IfSome result (λ f. f.text.items ≡ text_found (certificate_seen f.certificate)) }
+{
+    let wide = Subject {
+        typed: subject.typed,
+        conditions: subject.conditions,
+        places: subject.places,
+        is_wide: true,
+    };
+    let Ok(certificate) = search(rt, alloc, wide, workers) else {
+        return None;
+    };
+    if is_over(alloc, &wide, &certificate) {
+        return None;
+    }
+    match with_any_text(alloc, certificate) {
+        Ok(found) => Some(found),
+        Err(_) => None,
+    }
+}
+
+/// The wide walk may show what was not shown, or keep within the budget that a certificate passes.
+fn is_open(alloc: Global, subject: &Subject<'_>, narrow: &Result<Found, VerifyError>) -> bool {
+    match narrow {
+        Ok(found) => is_over(alloc, subject, &found.certificate),
+        Err(error) => may_widen(error),
+    }
+}
+
+/// The certificate that the narrow walk finds, with its text; or, where that is not enough, the one that the wide walk finds. Where both
+/// fail, what the narrow walk comes to.
+fn found_by_either<R: Threads + Sync>(
+    rt: &R,
+    alloc: Global,
+    subject: Subject<'_>,
+    workers: u32,
+) -> Result<Found, VerifyError>
+    requires proper { is_proper (core_seen subject.typed.now.1) ≡ true }
+    requires of { IsOf (core_seen subject.typed.now.1) (lined subject.conditions.now) }
+    ensures written { IfOk result (λ f. f.text.items ≡ text_found (certificate_seen f.certificate)) }
+    ensures ends { IfErr result (Ends subject.entry.typed.now subject.entry.conditions.now) }
+{
+    let narrow = found_by_walk(rt, alloc, subject, workers);
+    if !is_open(alloc, &subject, &narrow) {
+        return narrow;
+    }
+    match found_widely(rt, alloc, subject, workers) {
+        Some(found) => Ok(found),
+        None => narrow,
+    }
+}
+
+/// How a search is made: by so many workers, and whether the wide walk may be tried.
+#[derive(Clone, Copy)]
+struct Effort {
+    workers: u32,
+    may_widen: bool,
+}
+
 /// The certificate that is found for a kernel under conditions, with its text.
 fn searched<R: Threads + Sync>(
     rt: &R,
@@ -132,37 +276,38 @@ fn searched<R: Threads + Sync>(
     typed: &Typed,
     conditions: &Conditions,
     places: &[Place<'_>],
-    workers: u32,
+    effort: Effort,
 ) -> Result<Found, VerifyError>
     requires sizes { are_sizes (core_seen typed.now.1).sizes ≡ true }
     requires proper { is_proper (core_seen typed.now.1) ≡ true }
     requires of { IsOf (core_seen typed.now.1) (lined conditions.now) }
-    ensures written { IfOk result (λ f. f.text.items ≡ text_of_two (certificate_seen f.certificate)) }
+    ensures written { IfOk result (λ f. f.text.items ≡ text_by effort.may_widen (certificate_seen f.certificate)) }
     ensures ends { IfErr result (Ends typed.now conditions.now) }
 {
     let subject = Subject {
         typed,
         conditions,
         places,
+        is_wide: false,
     };
-    match search(rt, alloc, subject, workers) {
-        Ok(certificate) => with_text(alloc, certificate),
-        Err(error) => Err(unfound(alloc, typed, conditions, error)),
+    if effort.may_widen {
+        found_by_either(rt, alloc, subject, effort.workers)
+    } else {
+        found_narrowly(rt, alloc, subject, effort.workers)
     }
 }
 
-/// A certificate with its text for a kernel and launch conditions, each by its text. What is refused first, in this order: the kernel, the
-/// conditions, a loop whose barrier an iteration can miss, the number of workers; and then what the search finds.
-pub fn find<R: Threads + Sync>(
+/// A certificate with its text for a kernel and launch conditions, each by its text, with so much effort.
+fn find_by<R: Threads + Sync>(
     rt: &R,
     alloc: Global,
     kernel: &[u8],
     conditions: &[u8],
-    workers: u32,
+    effort: Effort,
 ) -> Result<Found, VerifyError>
-    ensures written { IfOk result (λ f. f.text.items ≡ text_of_two (certificate_seen f.certificate)) }
-    ensures workers { IfOk result (λ _. IsCount workers) }
-    ensures told { IfErr result (λ e. TellsOf e workers kernel.now conditions.now) }
+    ensures written { IfOk result (λ f. f.text.items ≡ text_by effort.may_widen (certificate_seen f.certificate)) }
+    ensures workers { IfOk result (λ _. IsCount effort.workers) }
+    ensures told { IfErr result (λ e. TellsOf e effort.workers kernel.now conditions.now) }
 {
     bytes_are_the_text_of_what_is_read();
     what_is_read_of_conditions_is_their_text();
@@ -179,10 +324,50 @@ pub fn find<R: Threads + Sync>(
         Ok(all) => all,
         Err(error) => return Err(unplaced(&typed, error)),
     };
-    match counted(workers) {
+    match counted(effort.workers) {
         Ok(()) => {}
         Err(error) => return Err(error),
     }
     local_sizes_are_within_limits();
-    searched(rt, alloc, &typed, &conditions, all.as_slice(), workers)
+    searched(rt, alloc, &typed, &conditions, all.as_slice(), effort)
+}
+
+/// A certificate with its text for a kernel and launch conditions, each by its text. What is refused first, in this order: the kernel, the
+/// conditions, a loop whose barrier an iteration can miss, the number of workers; and then what the search finds.
+pub fn find<R: Threads + Sync>(
+    rt: &R,
+    alloc: Global,
+    kernel: &[u8],
+    conditions: &[u8],
+    workers: u32,
+) -> Result<Found, VerifyError>
+    ensures written { IfOk result (λ f. f.text.items ≡ text_of_two (certificate_seen f.certificate)) }
+    ensures workers { IfOk result (λ _. IsCount workers) }
+    ensures told { IfErr result (λ e. TellsOf e workers kernel.now conditions.now) }
+{
+    let effort = Effort {
+        workers,
+        may_widen: false,
+    };
+    find_by(rt, alloc, kernel, conditions, effort)
+}
+
+/// What `find` finds; or, where that is refused for want of what is shown, for its size or by the budget, a certificate of the wide walk,
+/// with its text, which is of version 4. Where both fail, the answer of `find`.
+pub fn find_wide<R: Threads + Sync>(
+    rt: &R,
+    alloc: Global,
+    kernel: &[u8],
+    conditions: &[u8],
+    workers: u32,
+) -> Result<Found, VerifyError>
+    ensures written { IfOk result (λ f. f.text.items ≡ text_found (certificate_seen f.certificate)) }
+    ensures workers { IfOk result (λ _. IsCount workers) }
+    ensures told { IfErr result (λ e. TellsOf e workers kernel.now conditions.now) }
+{
+    let effort = Effort {
+        workers,
+        may_widen: true,
+    };
+    find_by(rt, alloc, kernel, conditions, effort)
 }

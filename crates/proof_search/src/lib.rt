@@ -2,12 +2,13 @@
 //! `diagnostics`.
 //!
 //! The bytes of a kernel and of its conditions to a certificate with its text, which nothing believes until it is checked, or to what is
-//! not shown.
+//! not shown; by the narrow walk, or, where that shows too little, by the wide one.
 #![tactic(auto)]
 
 mod error;
 mod finding;
 mod shortfall;
+mod widening;
 
 pub use error::VerifyError;
-pub use finding::{Found, find};
+pub use finding::{Found, find, find_wide};

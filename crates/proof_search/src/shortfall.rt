@@ -28,7 +28,7 @@ use words::{Fault, Kind};
 const MOST: usize = 16;
 
 /// The kind of finding that an obligation of this sort leaves where it is not shown. None of those that a safe kernel may fail: that a
-/// value of `uint` was not wrapped round, and that a guess holds.
+/// value of `uint` was not wrapped round, that a dividend is not negative, and that a guess holds.
 fn kind_of(sort: Sort) -> Option<diagnostics::FindingKind> {
     match sort {
         Sort::OfRange(Kind::Int) | Sort::OfQuotient => {

@@ -1,7 +1,5 @@
 -- So no loop turns more often: its rank tells how many turns are left.
 use Rattle.std.proofs.Common.{◌≡◌, ℕ, zero, suc, ◌+◌, ◌<◌, ◌≤◌, ℤ, Bool, true, false, List, [], ◌∷◌, arith, refl, sym, inl, inr, subst}
-use Rattle.std.specs.Prelude.{pos, ◌≤ℤ◌}
-use Rattle.std.proofs.lemmas.Int.{ints}
 use Rattle.semantics.specs.Core.{Statements, none, one, number}
 use Rattle.semantics.specs.Setup.{Setup, item_count}
 use Rattle.semantics.specs.Item.{Entry, Status, Running, Waiting, Ended, Stopped, enter, status_of}
@@ -13,10 +11,10 @@ use Rattle.arrivals.proofs.Controlled.{has_turned, Separate}
 use Rattle.arrivals.proofs.Ranked.{AtTest, Entering, Ran, AreRan}
 use Rattle.arrivals.proofs.Placing.{Stands, Placed}
 use Rattle.arrivals.proofs.Runs.{is_placed}
-use Rattle.rankings.specs.Limits.{Limit, Falls, turns_within}
+use Rattle.rankings.specs.Limits.{Limit, Holds, Falls, turns_within}
 use Rattle.rankings.specs.Ranked.{Owes, RanksShown}
 use Rattle.rankings.specs.Within.{was_stopped, AreWithin}
-use Rattle.rankings.proofs.Falling.{left, IsRank, left_some, left_grows, left_falls, falls_below}
+use Rattle.rankings.proofs.Falling.{left, IsRank, left_some, left_grows, left_falls, stays}
 
 pub within-behind : (turns : ℕ → ℕ) (ss : Statements) (r : List Entry) → AreWithin turns (enter ss r) → AreWithin turns r
 within-behind turns none r h = h
@@ -32,8 +30,8 @@ module _ (s : Setup) (k : Notes) (limit : ℕ → Limit) (shown : RanksShown s k
   owed n again here (inl h) = shown.at_loops h.place h.front n again h.is_place h.is_front h.test i h.start here is_item h.came
   owed n again here (inr h) = shown.at_heads h.place h.leaf n again h.is_place h.is_leaf h.stops i h.start here is_item h.came
 
-  above_0 : (n : ℕ) (here : Held) → Entering s k i n here → pos 1 ≤ℤ k.rank n i here
-  above_0 n here h = shown.entering h.place n h.path h.is_place h.is_entering i h.start here is_item h.came
+  holds_inside : (n : ℕ) (here : Held) → Entering s k i n here → Holds (limit n) (k.rank n i here)
+  holds_inside n here h = shown.entering h.place n h.path h.is_place h.is_entering i h.start here is_item h.came
 
   -- a turn, and so many before it
   record Counted (n t : ℕ) (z : ℤ) : Type 0 where
@@ -42,15 +40,14 @@ module _ (s : Setup) (k : Notes) (limit : ℕ → Limit) (shown : RanksShown s k
 
   opened : (n : ℕ) (here : Held) → AtTest s k i n false here → Entering s k i n here → Counted n 0 (k.rank n i here)
   opened n here a x =
-      let r : IsRank (limit n) (k.rank n i here) = record { some = above_0 n here x; most_is = owed n false here a } in
+      let r : IsRank (limit n) (k.rank n i here) = record { opens = owed n false here a; holds = holds_inside n here x } in
       record { rank = r; turns = omega (arith, left_grows (limit n) (k.rank n i here) (shown.are_limits n) r) }
 
   turned : (n t : ℕ) (here : Held) → AtTest s k i n true here → Entering s k i n here → Counted n t (here.ranks n) → Counted n (suc t) (k.rank n i here)
   turned n t here a x h =
-      let p = above_0 n here x in
+      let p = holds_inside n here x in
       let f : Falls (limit n) (here.ranks n) (k.rank n i here) = owed n true here a in
-      let b = falls_below (limit n) (here.ranks n) (k.rank n i here) p f in
-      let r : IsRank (limit n) (k.rank n i here) = record { some = p; most_is = omega (arith, ints, b, h.rank.most_is) } in
+      let r : IsRank (limit n) (k.rank n i here) = stays (limit n) (here.ranks n) (k.rank n i here) (shown.are_limits n) h.rank p f in
       record { rank = r; turns = omega (arith, h.turns, left_falls (limit n) (here.ranks n) (k.rank n i here) (shown.are_limits n) h.rank p f) }
 
   has_turned-again : (t : ℕ) → has_turned (suc t) ≡ true

@@ -2,6 +2,7 @@
 use Rattle.std.proofs.Common.{◌≡◌, ℕ, ◌<◌, Bool, true, false, nat_eq, cond, List, [], ◌∷◌, arith, refl}
 use Rattle.std.specs.Prelude.{ℤ, pos, negsuc, ◌^◌}
 use Rattle.std.proofs.lemmas.Bool.Decides.{nat_tests}
+use Rattle.std.proofs.lemmas.Int.{ints}
 use Rattle.linear.specs.Exact.{fits_i64}
 use Rattle.loop_bounds.specs.Falling as falling
 use Rattle.loop_bounds.specs.Turns.{above, turns, turns_of}
@@ -13,6 +14,7 @@ use Rattle.rankings.specs.Limits.{IsLimit, turns_within, limit_of, limits, AreFi
 limit-turns : (b : Bound) → turns_within (limit_of b) ≡ turns b
 limit-turns (bounds.Down form step m) = refl
 limit-turns (bounds.Halving form m) = refl
+limit-turns (bounds.Doubling form least m) = refl
 
 pub limits-turns : (bs : List LoopBound) (n : ℕ) → turns_within (limits bs n) ≡ turns_of bs n
 limits-turns [] n = refl
@@ -29,6 +31,7 @@ above_small (negsuc n) h = omega arith
 is_limit : (b : Bound) → fits_i64 (falling.most b) ≡ true → IsLimit (limit_of b)
 is_limit (bounds.Down form step m) h = step.falls
 is_limit (bounds.Halving form m) h = above_small m h
+is_limit (bounds.Doubling form least m) h = (omega (arith, ints, least.grows), above_small m h)
 
 -- whose numbers are of 64 bits
 pub limits-are : (bs : List LoopBound) → AreFitting bs → (n : ℕ) → IsLimit (limits bs n)

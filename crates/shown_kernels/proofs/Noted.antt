@@ -13,6 +13,7 @@ use Rattle.obligations.specs.View.{ranking, ranking_of, seen}
 one_limit : (b : Bound) → limit (ranking b).bound ≡ limit_of b
 one_limit (bounds.Down f step m) = refl
 one_limit (bounds.Halving f m) = refl
+one_limit (bounds.Doubling f least m) = refl
 
 pub noted_limits : (bs : List LoopBound) (n : ℕ) → limit (ranking_of bs n).bound ≡ limits bs n
 noted_limits [] n = refl

@@ -23,7 +23,7 @@ fn reads_number(bound: &Bound)
     ensures { fits_i64 (most bound.now) ≡ true }
 {
     match bound {
-        Bound::Down { most, .. } | Bound::Halving { most, .. } => {
+        Bound::Down { most, .. } | Bound::Halving { most, .. } | Bound::Doubling { most, .. } => {
             let _most = *most;
         }
     }

@@ -137,7 +137,7 @@ fn is_false(line: &Line, values: &[(Symbol, i64)]) -> bool {
     }
 }
 
-/// A rank falls from one to the other.
+/// A rank falls from one to the other; one that doubles has at least doubled.
 fn falls(descent: Descent, before: i64, after: i64) -> bool {
     match descent {
         Descent::Down(step) => match before.checked_sub(after) {
@@ -145,6 +145,10 @@ fn falls(descent: Descent, before: i64, after: i64) -> bool {
             Some(fall) => fall >= 0 && fall.unsigned_abs() >= step,
         },
         Descent::Halve => after <= before.div_euclid(2),
+        Descent::Double(_) => match before.checked_mul(2) {
+            None => false,
+            Some(double) => after >= double,
+        },
     }
 }
 
@@ -334,7 +338,7 @@ impl Observed {
         value_at(form, globals.as_slice(), test.slots.as_slice())
     }
 
-    /// The runs refute a ranking: in one the form was not above 0 at a true test, or did not fall between two tests of one visit.
+    /// The runs refute a ranking: in one the form was not what it has to be at a test, or did not fall between two tests of one visit.
     pub fn refutes_ranking(&self, ranking: &Ranking) -> bool {
         let mut last: Option<i64> = None;
         for test in self.tests.iter() {
@@ -350,12 +354,20 @@ impl Observed {
     }
 }
 
-/// A rank that is not above 0 where the test holds, or that did not fall.
+/// A rank is too small at a test: not above 0 where the test holds; or, where it doubles, below what it is said to be at least.
+fn is_small(descent: Descent, holds: bool, rank: i64) -> bool {
+    match descent {
+        Descent::Down(_) | Descent::Halve => holds && rank < 1,
+        Descent::Double(least) => rank < 0 || rank.unsigned_abs() < least,
+    }
+}
+
+/// A rank that is too small, or that did not fall.
 fn is_broken(descent: Descent, holds: bool, before: Option<i64>, after: Option<i64>) -> bool {
     let Some(after) = after else {
         return false;
     };
-    if holds && after < 1 {
+    if is_small(descent, holds, after) {
         return true;
     }
     before.is_some_and(|before| !falls(descent, before, after))

@@ -1,16 +1,16 @@
 -- What the program promises of a kernel for which it found a certificate.
-use Rattle.std.specs.Prelude.{◌≡◌, ℕ, List, [], ◌++◌, map, codes, Option, Some, None, IfSome, Ok}
+use Rattle.std.specs.Prelude.{◌≡◌, ℕ, List, [], ◌++◌, map, codes, Bool, Option, Some, None, IfSome, Ok}
 use Rattle.std.specs.List.{flat_map}
 use Rattle.semantics.specs.Launch.{Launch, Fits}
 use Rattle.semantics.specs.Conditions as meaning
 use Rattle.semantics.specs.Conditions.{Meets}
 use Rattle.certificate_text.specs.Certificate.{Certificate}
-use Rattle.certificate_text.specs.Versions.{certificate_in}
 use Rattle.arrivals.specs.Loops.{unmet}
 use Rattle.launch.specs.Least.{probe}
 use Rattle.launch.specs.View.{conditions as conditions_seen}
 use Rattle.launch.specs.declared.conditions.Conditions.{Conditions}
 use Rattle.reading.specs.Kernels.{Kernel}
+use Rattle.cert_check.specs.Breadth.{text_says}
 use Rattle.cert_check.specs.Checked.{PassesWith}
 use Rattle.findings.specs.Findings.{Finding}
 use Rattle.findings.specs.Wording.{finding_text}
@@ -23,10 +23,10 @@ use Rattle.proof_search.specs.declared.error.VerifyError.TheVariants as errors
 use Rattle.telling.specs.Refusals.{refusal_line, place_seen}
 use Rattle.telling.specs.Telling.{AreSafeTexts, accepted_line}
 
--- the check accepts the kernel with the certificate of these bytes: no loop misses its barrier, the bytes say a certificate, and with it
--- nothing stops the check
-abbrev pub IsProof : Kernel → meaning.Conditions → (certificate : List ℕ) → Type 0
-IsProof k c certificate = (unmet k.core.body ≡ None) × (cert : Certificate) × (certificate_in certificate ≡ Ok cert) × PassesWith k.core k.tree c cert
+-- the check, which is the wide one or is not, accepts the kernel with the certificate of these bytes: no loop misses its barrier, the bytes
+-- say a certificate, and with it nothing stops the check
+abbrev pub IsProof : (is_wide : Bool) → Kernel → meaning.Conditions → (certificate : List ℕ) → Type 0
+IsProof is_wide k c certificate = (unmet k.core.body ≡ None) × (cert : Certificate) × (text_says is_wide certificate ≡ Ok cert) × PassesWith k.core k.tree c cert
 
 abbrev pub no_launch_line : List ℕ
 no_launch_line = codes "no launch found at least values\n"
@@ -38,14 +38,14 @@ proved_lines None = accepted_line ++ no_launch_line
 
 -- the headline holds at each launch that meets the conditions, and the check accepts this certificate; the launch at the least values is one
 -- of the kernel and meets them, where there is one
-pub record IsProved (kernel conditions certificate written : List ℕ) (k : Kernel) (c : Conditions) : Type 0 where
+pub record IsProved (is_wide : Bool) (kernel conditions certificate written : List ℕ) (k : Kernel) (c : Conditions) : Type 0 where
   pub safe : AreSafeTexts kernel conditions k (conditions_seen c)
-  pub proof : IsProof k (conditions_seen c) certificate
+  pub proof : IsProof is_wide k (conditions_seen c) certificate
   pub least : IfSome (probe c) (λ l. Fits k.core l × Meets (conditions_seen c) l)
   pub text : written ≡ proved_lines (probe c)
 
-abbrev pub IsProvedText : (kernel conditions certificate written : List ℕ) → Type 0
-IsProvedText kernel conditions certificate written = (k : Kernel) × (c : Conditions) × IsProved kernel conditions certificate written k c
+abbrev pub IsProvedText : (is_wide : Bool) → (kernel conditions certificate written : List ℕ) → Type 0
+IsProvedText is_wide kernel conditions certificate written = (k : Kernel) × (c : Conditions) × IsProved is_wide kernel conditions certificate written k c
 
 -- the findings that an error has
 abbrev pub found : VerifyError → List code.Finding

@@ -1,5 +1,5 @@
 -- What is told where a certificate is looked for.
-use Rattle.std.specs.Prelude.{◌≡◌, ◌++◌, ℕ, List}
+use Rattle.std.specs.Prelude.{◌≡◌, ◌++◌, ℕ, List, Bool}
 use Rattle.std.specs.String.{string_bytes}
 use Rattle.telling.specs.Refusing.{IsRefusedText}
 use Rattle.telling.specs.Telling.{IsAcceptedText}
@@ -9,10 +9,11 @@ use Rattle.telling.specs.Proving.{IsProvedText, IsUnproved}
 use Rattle.telling.specs.declared.proving.Sought.{Sought}
 use Rattle.telling.specs.declared.proving.Sought.TheVariants as answers
 
-abbrev pub Proves : Sought → (workers : ℕ) → (kernel conditions : List ℕ) → Type 0
-Proves (answers.Found text certificate) workers kernel conditions = IsProvedText kernel conditions certificate.items text.items
-Proves (answers.Refused text) workers kernel conditions = IsUnproved workers kernel conditions (string_bytes text)
-Proves answers.OutOfMemory workers kernel conditions = Unit {0}
+-- the search is the wide one, or it is not
+abbrev pub Proves : (is_wide : Bool) → Sought → (workers : ℕ) → (kernel conditions : List ℕ) → Type 0
+Proves is_wide (answers.Found text certificate) workers kernel conditions = IsProvedText is_wide kernel conditions certificate.items text.items
+Proves is_wide (answers.Refused text) workers kernel conditions = IsUnproved workers kernel conditions (string_bytes text)
+Proves is_wide answers.OutOfMemory workers kernel conditions = Unit {0}
 
 -- a text that begins with what is told
 abbrev pub Begins : (tells : List ℕ → Type 0) (text : List ℕ) → Type 0
@@ -25,13 +26,13 @@ GoesOn told (verdicts.Refused text) = (more : List ℕ) × (string_bytes text �
 GoesOn told verdicts.OutOfMemory = Unit {0}
 
 -- where a refusal of a search is explained: what `prove` tells, with one worker, comes first
-abbrev pub Explains : Verdict → (kernel conditions : List ℕ) → Type 0
-Explains (verdicts.Done text) kernel conditions = (certificate : List ℕ) × IsProvedText kernel conditions certificate text.items
-Explains (verdicts.Refused text) kernel conditions = Begins (IsUnproved 1 kernel conditions) (string_bytes text)
-Explains verdicts.OutOfMemory kernel conditions = Unit {0}
+abbrev pub Explains : (is_wide : Bool) → Verdict → (kernel conditions : List ℕ) → Type 0
+Explains is_wide (verdicts.Done text) kernel conditions = (certificate : List ℕ) × IsProvedText is_wide kernel conditions certificate text.items
+Explains is_wide (verdicts.Refused text) kernel conditions = Begins (IsUnproved 1 kernel conditions) (string_bytes text)
+Explains is_wide verdicts.OutOfMemory kernel conditions = Unit {0}
 
 -- where a refusal of a check is explained: what `check` tells comes first
-abbrev pub ExplainsCheck : Verdict → (kernel conditions certificate : List ℕ) → Type 0
-ExplainsCheck (verdicts.Done text) kernel conditions certificate = IsAcceptedText kernel conditions text.items
-ExplainsCheck (verdicts.Refused text) kernel conditions certificate = Begins (IsRefusedText kernel conditions certificate) (string_bytes text)
-ExplainsCheck verdicts.OutOfMemory kernel conditions certificate = Unit {0}
+abbrev pub ExplainsCheck : (is_wide : Bool) → Verdict → (kernel conditions certificate : List ℕ) → Type 0
+ExplainsCheck is_wide (verdicts.Done text) kernel conditions certificate = IsAcceptedText kernel conditions text.items
+ExplainsCheck is_wide (verdicts.Refused text) kernel conditions certificate = Begins (IsRefusedText is_wide kernel conditions certificate) (string_bytes text)
+ExplainsCheck is_wide verdicts.OutOfMemory kernel conditions certificate = Unit {0}

@@ -1,5 +1,5 @@
 -- What stands behind a line that refuses: its number and its place are those of an error that is true of the texts.
-use Rattle.std.specs.Prelude.{◌≡◌, ◌⊎◌, ℕ, List, Ok, Err, Option}
+use Rattle.std.specs.Prelude.{◌≡◌, ◌⊎◌, ℕ, List, Bool, Ok, Err, Option}
 use Rattle.semantics.specs.Conditions as meaning
 use Rattle.texts.specs.LaunchReading.{launch_of}
 use Rattle.reading.specs.Kernels.{Kernel, read}
@@ -13,7 +13,8 @@ use Rattle.launch_text.specs.Answers as launches
 use Rattle.launch_text.specs.declared.error.LaunchTextError.{LaunchTextError}
 use Rattle.cert_check.specs.Numbers as checks
 use Rattle.cert_check.specs.Numbers.{at_line}
-use Rattle.cert_check.specs.Refusing.{Refuses}
+use Rattle.cert_check.specs.Breadth.{text_says}
+use Rattle.cert_check.specs.Refusing.{RefusesBy}
 use Rattle.entry_check.specs.declared.error.Pointer as code
 use Rattle.cert_check.specs.declared.error.CheckError.{CheckError}
 use Rattle.executor.specs.Numbers as runs
@@ -30,9 +31,9 @@ IsLineOf number place line = line ≡ refusal_line number (place_seen place)
 abbrev pub IsRefusedKernel : (kernel line : List ℕ) → Type 0
 IsRefusedKernel kernel line = (e : KernelError) × kernels.Refuses e (read kernel) × IsLineOf (kernels.error_number e) (checks.at_place (kernels.error_place e)) line
 
--- the check refuses the texts
-abbrev pub IsRefusedText : (kernel conditions certificate line : List ℕ) → Type 0
-IsRefusedText kernel conditions certificate line = (e : CheckError) × Refuses e kernel conditions certificate × IsLineOf (checks.error_number e) (checks.error_place e) line
+-- the check, which is the wide one or is not, refuses the texts
+abbrev pub IsRefusedText : (is_wide : Bool) → (kernel conditions certificate line : List ℕ) → Type 0
+IsRefusedText is_wide kernel conditions certificate line = (e : CheckError) × RefusesBy (text_says is_wide) e kernel conditions certificate × IsLineOf (checks.error_number e) (checks.error_place e) line
 
 -- the kernel is accepted, and the launch's text is refused
 abbrev pub IsUnreadText : (kernel conditions launch line : List ℕ) → Type 0
@@ -47,5 +48,5 @@ IsUnrunText workers kernel conditions launch line =
     × Answers c (launch_seen l) workers (Err e) × IsLineOf (runs.error_number e) (at_line (runs.error_line e)) line
 
 -- one of these
-abbrev pub IsUnanswered : (workers : ℕ) → (kernel conditions certificate launch line : List ℕ) → Type 0
-IsUnanswered workers kernel conditions certificate launch line = IsRefusedText kernel conditions certificate line ⊎ (IsUnreadText kernel conditions launch line ⊎ IsUnrunText workers kernel conditions launch line)
+abbrev pub IsUnanswered : (is_wide : Bool) → (workers : ℕ) → (kernel conditions certificate launch line : List ℕ) → Type 0
+IsUnanswered is_wide workers kernel conditions certificate launch line = IsRefusedText is_wide kernel conditions certificate line ⊎ (IsUnreadText kernel conditions launch line ⊎ IsUnrunText workers kernel conditions launch line)

@@ -1,24 +1,25 @@
 //! Refusals, told and explained.
 
-ghost use Rattle.std.specs.Prelude.{◌≡◌, ℕ, List};
+ghost use Rattle.std.specs.Prelude.{◌≡◌, ℕ, List, Bool};
 ghost use Rattle.std.specs.String.{string_bytes};
-ghost use Rattle.cert_check.specs.Refusing.{Refuses};
+ghost use Rattle.cert_check.specs.Breadth.{text_says};
+ghost use Rattle.cert_check.specs.Refusing.{RefusesBy};
 ghost use Rattle.proof_search.specs.Searching.{TellsOf};
 ghost use Rattle.telling.specs.ProvingVerdicts.{Explains, ExplainsCheck, GoesOn};
 
 use crate::proving::{Proved, Sought, findings_of, found, unproved};
 use crate::refusal::Refusal;
 use crate::{Texts, Verdict};
-use cert_check::check;
+use cert_check::check_as;
 use cert_check::error::CheckError;
 use explaining::{Refused, explain};
 use launch_text::laws::what_is_read_of_conditions_is_their_text;
-use proof_search::{Found, find};
+use proof_search::Found;
 use reading::laws::bytes_are_the_text_of_what_is_read;
 use std::alloc::Global;
 use std::sync::Wait;
 use std::thread::Threads;
-use verify::VerifyError;
+use verify::{VerifyError, find_as};
 
 /// The number of steps that pass the budget.
 const OVER_BUDGET: u8 = 56;
@@ -48,7 +49,7 @@ fn unfound(
     error: &VerifyError,
     over_budget: Option<&[u8]>,
 ) -> Verdict
-    ensures { (k c : List ℕ) → TellsOf error.now 1 k c → Explains result k c }
+    ensures { (is_wide : Bool) (k c : List ℕ) → TellsOf error.now 1 k c → Explains is_wide result k c }
 {
     let refused = Refused {
         number: error.number(),
@@ -68,11 +69,12 @@ fn found_over_budget<R: Threads + Sync>(
     kernel: &[u8],
     conditions: &[u8],
     number: u8,
+    is_wide: bool,
 ) -> Option<Vec<u8>> {
     if number != OVER_BUDGET {
         return None;
     }
-    match find(rt, alloc, kernel, conditions, 1) {
+    match find_as(rt, alloc, kernel, conditions, 1, is_wide) {
         Ok(Found { text, .. }) => Some(text),
         Err(_) => None,
     }
@@ -84,13 +86,15 @@ pub fn explain_texts<R: Threads + Wait + Sync>(
     alloc: Global,
     kernel: &[u8],
     conditions: &[u8],
+    is_wide: bool,
 ) -> Verdict
-    ensures { Explains result kernel.now conditions.now }
+    ensures { Explains is_wide result kernel.now conditions.now }
 {
-    match found(rt, alloc, kernel, conditions, 1) {
+    match found(rt, alloc, kernel, conditions, 1, is_wide) {
         Ok(Proved { written, .. }) => Verdict::Done(written),
         Err(error) => {
-            let certificate = found_over_budget(rt, alloc, kernel, conditions, error.number());
+            let number = error.number();
+            let certificate = found_over_budget(rt, alloc, kernel, conditions, number, is_wide);
             unfound(alloc, kernel, conditions, &error, certificate.as_deref())
         }
     }
@@ -98,7 +102,7 @@ pub fn explain_texts<R: Threads + Wait + Sync>(
 
 /// Tells and explains why `check` refuses.
 fn unaccepted(alloc: Global, texts: Texts, error: &CheckError) -> Verdict
-    ensures { (k c p : List ℕ) → Refuses error.now k c p → ExplainsCheck result k c p }
+    ensures { (is_wide : Bool) (k c p : List ℕ) → RefusesBy (text_says is_wide) error.now k c p → ExplainsCheck is_wide result k c p }
 {
     let number = error.number();
     let refusal = Refusal {
@@ -116,11 +120,17 @@ fn unaccepted(alloc: Global, texts: Texts, error: &CheckError) -> Verdict
     }
 }
 
-/// Whether a kernel is accepted: `accepted`, or why not and what that means.
-pub fn explain_check(alloc: Global, texts: Texts) -> Verdict
-    ensures { ExplainsCheck result texts.entry.kernel.now texts.entry.conditions.now texts.entry.certificate.now }
+/// Whether a kernel is accepted, by the wide check or by the one that is not: `accepted`, or why not and what that means.
+pub fn explain_check(alloc: Global, texts: Texts, is_wide: bool) -> Verdict
+    ensures { ExplainsCheck is_wide result texts.entry.kernel.now texts.entry.conditions.now texts.entry.certificate.now }
 {
-    match check(alloc, texts.kernel, texts.conditions, texts.certificate) {
+    match check_as(
+        alloc,
+        texts.kernel,
+        texts.conditions,
+        texts.certificate,
+        is_wide,
+    ) {
         Ok(accepted) => {
             bytes_are_the_text_of_what_is_read();
             what_is_read_of_conditions_is_their_text();

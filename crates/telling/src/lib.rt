@@ -17,7 +17,7 @@ mod migrating;
 mod proving;
 mod refusal;
 
-use cert_check::check;
+use cert_check::check_as;
 use cert_check::error::{CheckError, Pointer};
 use executor::{RunError, run};
 pub use explained::{explain_check, explain_texts};
@@ -94,11 +94,17 @@ fn not_run(alloc: Global, error: &RunError) -> Verdict
     refused(alloc, error.number(), line_of(error.place()))
 }
 
-/// Whether a kernel is accepted: `accepted`, or why not.
-pub fn check_texts(alloc: Global, texts: Texts) -> Verdict
-    ensures { Checks result texts.entry.kernel.now texts.entry.conditions.now texts.entry.certificate.now }
+/// Whether a kernel is accepted, by the wide check or by the one that is not: `accepted`, or why not.
+pub fn check_texts(alloc: Global, texts: Texts, is_wide: bool) -> Verdict
+    ensures { Checks is_wide result texts.entry.kernel.now texts.entry.conditions.now texts.entry.certificate.now }
 {
-    match check(alloc, texts.kernel, texts.conditions, texts.certificate) {
+    match check_as(
+        alloc,
+        texts.kernel,
+        texts.conditions,
+        texts.certificate,
+        is_wide,
+    ) {
         Ok(accepted) => {
             bytes_are_the_text_of_what_is_read();
             what_is_read_of_conditions_is_their_text();
@@ -119,13 +125,20 @@ pub fn run_texts<R: Threads + Wait + Sync>(
     texts: Texts,
     launch: &[u8],
     workers: u32,
+    is_wide: bool,
 ) -> Verdict
-    ensures { Runs result workers texts.entry.kernel.now texts.entry.conditions.now texts.entry.certificate.now launch.now }
+    ensures { Runs is_wide result workers texts.entry.kernel.now texts.entry.conditions.now texts.entry.certificate.now launch.now }
 {
     bytes_are_the_text_of_what_is_read();
     what_is_read_of_conditions_is_their_text();
     what_is_read_of_a_launch_is_its_text();
-    let accepted = match check(alloc, texts.kernel, texts.conditions, texts.certificate) {
+    let accepted = match check_as(
+        alloc,
+        texts.kernel,
+        texts.conditions,
+        texts.certificate,
+        is_wide,
+    ) {
         Ok(accepted) => accepted,
         Err(error) => return unaccepted(alloc, &error),
     };

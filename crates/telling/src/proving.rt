@@ -1,18 +1,19 @@
 //! The answers of `prove`: that a kernel is proved, with its certificate, or a refusal with its findings.
 
-ghost use Rattle.std.specs.Prelude.{◌≡◌, ◌++◌, ℕ, List, map, IfOk, IfErr, OnOk, IfSome};
+ghost use Rattle.std.specs.Prelude.{◌≡◌, ◌++◌, ℕ, List, map, Bool, IfOk, IfErr, OnOk, IfSome};
 ghost use Rattle.std.specs.String.{string_bytes};
 ghost use Rattle.semantics.specs.Conditions.{Meets};
+ghost use Rattle.certificate.specs.Certificates.{certificate as certificate_seen};
 ghost use Rattle.launch.specs.Least as least;
 ghost use Rattle.launch.specs.View.{conditions as conditions_seen};
 ghost use Rattle.findings.specs.View.{finding as finding_seen};
 ghost use Rattle.findings.specs.Wording.{finding_text};
-ghost use Rattle.proof_search.specs.Searching.{TellsOf};
+ghost use Rattle.proof_search.specs.Searching.{TellsOf, text_by, text_found};
 ghost use Rattle.telling.specs.Proving.{IsProvedText, proved_lines, found as found_in, findings_text};
 ghost use Rattle.telling.specs.ProvingVerdicts.{Proves};
 
 use crate::refusal::Refusal;
-use certificate::write;
+use certificate::{Certificate, write, write_wide};
 use diagnostics::{Finding, line};
 use launch::conditions::Conditions;
 use launch::probe::probe;
@@ -21,7 +22,7 @@ use reading::laws::bytes_are_the_text_of_what_is_read;
 use std::alloc::{AllocError, Global};
 use std::sync::Wait;
 use std::thread::Threads;
-use verify::{Verified, VerifyError, verify};
+use verify::{Verified, VerifyError, verify_as};
 
 /// The program's answer where it searches a certificate, or writes one in version 2.
 #[derive(Drop)]
@@ -87,7 +88,7 @@ fn push_lines(alloc: Global, text: &mut String, findings: &[Finding]) -> Result<
 
 /// The refusal where no certificate is found: a line of its number and place, and one for each finding.
 pub fn unproved(alloc: Global, error: &VerifyError) -> Sought
-    ensures { (workers : ℕ) (kernel conditions : List ℕ) → TellsOf error.now workers kernel conditions → Proves result workers kernel conditions }
+    ensures { (is_wide : Bool) (workers : ℕ) (kernel conditions : List ℕ) → TellsOf error.now workers kernel conditions → Proves is_wide result workers kernel conditions }
 {
     let refusal = Refusal {
         number: error.number(),
@@ -102,6 +103,28 @@ pub fn unproved(alloc: Global, error: &VerifyError) -> Sought
     }
 }
 
+/// The text of a certificate: of a wide one in version 4, else in version 2.
+fn any_text(alloc: Global, certificate: &Certificate) -> Result<Vec<u8>, AllocError>
+    ensures { IfOk result (λ v. v.items ≡ text_found (certificate_seen certificate.now)) }
+{
+    if certificate.is_wide() {
+        write_wide(alloc, certificate)
+    } else {
+        write(alloc, certificate)
+    }
+}
+
+/// The text of a certificate that the wide search found, or the one that is not.
+fn text_as(alloc: Global, certificate: &Certificate, is_wide: bool) -> Result<Vec<u8>, AllocError>
+    ensures { IfOk result (λ v. v.items ≡ text_by is_wide (certificate_seen certificate.now)) }
+{
+    if is_wide {
+        any_text(alloc, certificate)
+    } else {
+        write(alloc, certificate)
+    }
+}
+
 /// A certificate that is found, with what is written of it, or why there is none.
 pub fn found<R: Threads + Wait + Sync>(
     rt: &R,
@@ -109,8 +132,9 @@ pub fn found<R: Threads + Wait + Sync>(
     kernel: &[u8],
     conditions: &[u8],
     workers: u32,
+    is_wide: bool,
 ) -> Result<Proved, VerifyError>
-    ensures proved { IfOk result (λ p. IsProvedText kernel.now conditions.now p.certificate.items p.written.items) }
+    ensures proved { IfOk result (λ p. IsProvedText is_wide kernel.now conditions.now p.certificate.items p.written.items) }
     ensures told { IfErr result (λ e. TellsOf e workers kernel.now conditions.now) }
 {
     bytes_are_the_text_of_what_is_read();
@@ -119,11 +143,11 @@ pub fn found<R: Threads + Wait + Sync>(
     let Verified {
         accepted,
         certificate,
-    } = match verify(rt, alloc, kernel, conditions, workers) {
+    } = match verify_as(rt, alloc, kernel, conditions, workers, is_wide) {
         Ok(verified) => verified,
         Err(error) => return Err(error),
     };
-    let certificate = match write(alloc, &certificate) {
+    let certificate = match text_as(alloc, &certificate, is_wide) {
         Ok(text) => text,
         Err(_) => return Err(VerifyError::Memory),
     };
@@ -136,17 +160,18 @@ pub fn found<R: Threads + Wait + Sync>(
     }
 }
 
-/// Looks for a certificate: `accepted` and the certificate, or why there is none.
+/// Looks for a certificate, widely or not: `accepted` and the certificate, or why there is none.
 pub fn prove_texts<R: Threads + Wait + Sync>(
     rt: &R,
     alloc: Global,
     kernel: &[u8],
     conditions: &[u8],
     workers: u32,
+    is_wide: bool,
 ) -> Sought
-    ensures { Proves result workers kernel.now conditions.now }
+    ensures { Proves is_wide result workers kernel.now conditions.now }
 {
-    match found(rt, alloc, kernel, conditions, workers) {
+    match found(rt, alloc, kernel, conditions, workers, is_wide) {
         Ok(
             Proved {
                 written,

@@ -10,6 +10,7 @@ mod limits;
 mod plain;
 mod scan;
 mod shelf;
+mod starts;
 mod test_forms;
 mod turning;
 mod walking;

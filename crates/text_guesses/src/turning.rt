@@ -4,6 +4,7 @@ use crate::affine::{affine, constant_of, number_of};
 use crate::frame::Frame;
 use core_code::tree::{Operator, Statement, Term, UnaryOperator};
 use guesses::{one_of, try_difference, variable};
+use linear::Form;
 use std::alloc::{AllocError, Global};
 
 /// The size of the step that a variable makes in a turn, in either direction.
@@ -13,11 +14,12 @@ pub struct Stride {
     pub size: u64,
 }
 
-/// Steps of variables, and whether something is halved.
+/// Steps of variables, whether something is halved, and the slots of variables that are at least doubled.
 #[derive(Drop)]
 pub struct Turning {
     pub strides: Vec<Stride>,
     pub halves: bool,
+    pub doubled: Vec<u32>,
 }
 
 impl Turning {
@@ -26,6 +28,7 @@ impl Turning {
         Turning {
             strides: Vec::new(alloc),
             halves: false,
+            doubled: Vec::new(alloc),
         }
     }
 
@@ -40,22 +43,32 @@ impl Turning {
         })?;
         Ok(())
     }
+
+    /// Takes up a variable that is at least doubled, once.
+    fn keep_doubled(&mut self, slot: u32) -> Result<(), AllocError> {
+        if !self.doubled.as_slice().contains(&slot) {
+            self.doubled.push(slot)?;
+        }
+        Ok(())
+    }
 }
 
 /// The number by which a value is more than the variable was; none where that is no number.
-fn step_of(
-    alloc: Global,
-    frame: &Frame,
-    slot: u32,
-    value: &Term,
-) -> Result<Option<i64>, AllocError> {
-    let Some(value) = affine(alloc, frame, value)? else {
-        return Ok(None);
-    };
+fn step_of(alloc: Global, slot: u32, value: &Form) -> Result<Option<i64>, AllocError> {
     let before = one_of(alloc, variable(slot))?;
-    match try_difference(alloc, &value, &before)? {
+    match try_difference(alloc, value, &before)? {
         Some(step) => Ok(number_of(&step)),
         None => Ok(None),
+    }
+}
+
+/// The value is the variable at least twice: as of `x * 2`, `x << 1`, `x + x` or `2 * x + 1`.
+fn is_doubled(slot: u32, value: &Form) -> bool {
+    match value.terms() {
+        [only] => {
+            only.symbol == variable(slot) && only.coefficient >= 2 && value.constant_part() >= 0
+        }
+        _ => false,
     }
 }
 
@@ -116,7 +129,13 @@ fn turn_set(
     if is_halved(alloc, frame, value)? {
         turning.halves = true;
     }
-    match step_of(alloc, frame, slot, value)? {
+    let Some(value) = affine(alloc, frame, value)? else {
+        return Ok(());
+    };
+    if is_doubled(slot, &value) {
+        turning.keep_doubled(slot)?;
+    }
+    match step_of(alloc, slot, &value)? {
         Some(step) => turning.keep(slot, step),
         None => Ok(()),
     }
@@ -148,7 +167,7 @@ fn turn(
     }
 }
 
-/// Notes the steps of variables in statements, and what is halved there.
+/// Notes the steps of variables in statements, and what is halved or doubled there.
 #[cycle(turns)]
 pub fn turn_all(
     alloc: Global,

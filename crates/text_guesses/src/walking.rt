@@ -2,18 +2,20 @@
 
 use crate::frame::Frame;
 use crate::scan::numbers_of;
+use crate::starts::Starts;
 use crate::test_forms::keep_test;
 use crate::turning::{Turning, turn_all};
 use crate::ways::{Options, are_seen};
 use core_code::tree::{Core, Statement, Term};
 use std::alloc::{AllocError, Global};
 
-/// The kernel's frame, the numbers of its text, and the numbers by which walks saw variables step.
+/// The kernel's frame, the numbers of its text, the numbers by which walks saw variables step, and whether loops may end by doubling.
 #[derive(Drop)]
 struct Given<'a> {
     frame: Frame,
     numbers: Vec<u64>,
     strides: &'a [(u32, i64)],
+    may_double: bool,
 }
 
 /// The number, the test and the statements of a loop, as they stand in the kernel.
@@ -25,10 +27,11 @@ struct LoopText<'a> {
     update: &'a [Statement],
 }
 
-/// The slots that were assigned so far, and what was found.
+/// The slots that were assigned so far, with what, and what was found.
 #[derive(Drop)]
 struct Walk {
     seen: Vec<u32>,
+    starts: Starts,
     found: Vec<Options>,
 }
 
@@ -43,16 +46,20 @@ fn turning_of(alloc: Global, given: &Given, text: LoopText) -> Result<Turning, A
     Ok(turning)
 }
 
-/// Keeps the rankings that the test at a loop's head gives.
+/// Keeps the rankings that the test at a loop's head gives: of variables that double first, where loops may end so.
 fn keep_head(
     alloc: Global,
     given: &Given,
+    starts: &Starts,
     text: LoopText,
     turning: &Turning,
     options: &mut Options,
 ) -> Result<(), AllocError> {
     let mut forms = Vec::new(alloc);
     keep_test(alloc, &given.frame, text.test, true, &mut forms)?;
+    if given.may_double {
+        options.keep_doubles(alloc, forms.as_slice(), turning, starts)?;
+    }
     options.keep_tests(alloc, forms.as_slice(), turning)
 }
 
@@ -89,7 +96,7 @@ struct Exit<'a> {
 fn keep_exit(
     alloc: Global,
     given: &Given,
-    seen: &[u32],
+    walk: &Walk,
     exit: Exit,
     turning: &Turning,
     options: &mut Options,
@@ -97,9 +104,12 @@ fn keep_exit(
     let mut forms = Vec::new(alloc);
     keep_test(alloc, &given.frame, exit.test, exit.truth, &mut forms)?;
     for form in forms.as_slice() {
-        if are_seen(&given.frame, seen, &form.form) {
+        if are_seen(&given.frame, walk.seen.as_slice(), &form.form) {
             options.keep_exit(alloc, form, turning)?;
         }
+    }
+    if given.may_double {
+        options.keep_doubles(alloc, forms.as_slice(), turning, &walk.starts)?;
     }
     Ok(())
 }
@@ -108,7 +118,7 @@ fn keep_exit(
 fn keep_exits(
     alloc: Global,
     given: &Given,
-    seen: &[u32],
+    walk: &Walk,
     text: LoopText,
     turning: &Turning,
     options: &mut Options,
@@ -123,11 +133,11 @@ fn keep_exits(
         {
             if leaves(text.number, taken.as_slice()) {
                 let exit = Exit { test, truth: false };
-                keep_exit(alloc, given, seen, exit, turning, options)?;
+                keep_exit(alloc, given, walk, exit, turning, options)?;
             }
             if leaves(text.number, skipped.as_slice()) {
                 let exit = Exit { test, truth: true };
-                keep_exit(alloc, given, seen, exit, turning, options)?;
+                keep_exit(alloc, given, walk, exit, turning, options)?;
             }
         }
     }
@@ -138,13 +148,13 @@ fn keep_exits(
 fn options_of(
     alloc: Global,
     given: &Given,
-    seen: &[u32],
+    walk: &Walk,
     text: LoopText,
 ) -> Result<Options, AllocError> {
     let turning = turning_of(alloc, given, text)?;
     let mut options = Options::new(alloc, text.number);
-    keep_head(alloc, given, text, &turning, &mut options)?;
-    keep_exits(alloc, given, seen, text, &turning, &mut options)?;
+    keep_head(alloc, given, &walk.starts, text, &turning, &mut options)?;
+    keep_exits(alloc, given, walk, text, &turning, &mut options)?;
     keep_ends(alloc, given, text, &turning, &mut options)?;
     Ok(options)
 }
@@ -155,7 +165,7 @@ fn enter_loop(
     text: LoopText,
     walk: &mut Walk,
 ) -> Result<(), AllocError> {
-    let options = options_of(alloc, given, walk.seen.as_slice(), text)?;
+    let options = options_of(alloc, given, walk, text)?;
     walk.found.push(options)?;
     Ok(())
 }
@@ -168,9 +178,9 @@ fn visit(
     walk: &mut Walk,
 ) -> Result<(), AllocError> {
     match statement {
-        Statement::Set { slot, .. } => {
+        Statement::Set { slot, value, .. } => {
             walk.seen.push(*slot)?;
-            Ok(())
+            walk.starts.set(alloc, &given.frame, *slot, value)
         }
         Statement::If { taken, skipped, .. } => {
             visit_all(alloc, given, taken.as_slice(), walk)?;
@@ -213,20 +223,23 @@ fn visit_all(
     Ok(())
 }
 
-/// The options of each loop of the kernel, in the order of their numbers, that its tests and its steps tell. `strides` has steps of slots
-/// that are known beside those of the text.
+/// The options of each loop of the kernel, in the order of their numbers, that its tests and its steps tell; by doubling, too, where loops
+/// may end so. `strides` has steps of slots that are known beside those of the text.
 pub fn guess_rankings(
     alloc: Global,
     core: &Core,
+    may_double: bool,
     strides: &[(u32, i64)],
 ) -> Result<Vec<Options>, AllocError> {
     let given = Given {
         frame: Frame::of(alloc, core)?,
         numbers: numbers_of(alloc, core)?,
         strides,
+        may_double,
     };
     let mut walk = Walk {
         seen: Vec::new(alloc),
+        starts: Starts::new(alloc),
         found: Vec::new(alloc),
     };
     visit_all(alloc, &given, core.body.as_slice(), &mut walk)?;

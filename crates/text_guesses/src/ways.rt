@@ -1,6 +1,7 @@
 //! The ways in which one loop may end.
 
 use crate::frame::Frame;
+use crate::starts::Starts;
 use crate::test_forms::TestForm;
 use crate::turning::Turning;
 use certificate::tree::Descent;
@@ -149,6 +150,37 @@ impl Options {
         }
     }
 
+    /// Keeps that a variable doubles: from the number on that it has where the loop opens, as far as the text tells, or from 1 on.
+    fn keep_double(
+        &mut self,
+        alloc: Global,
+        slot: u32,
+        start: Option<u64>,
+    ) -> Result<(), AllocError> {
+        if let Some(least) = start {
+            let form = one_of(alloc, variable(slot))?;
+            self.keep(Descent::Double(least), form)?;
+        }
+        let form = one_of(alloc, variable(slot))?;
+        self.keep(Descent::Double(1), form)
+    }
+
+    /// Keeps of the variables that are doubled in a turn those that some of these forms speak of.
+    pub fn keep_doubles(
+        &mut self,
+        alloc: Global,
+        forms: &[TestForm],
+        turning: &Turning,
+        starts: &Starts,
+    ) -> Result<(), AllocError> {
+        for slot in turning.doubled.as_slice() {
+            if forms.iter().any(|given| speaks_of(&given.form, *slot)) {
+                self.keep_double(alloc, *slot, starts.of(*slot))?;
+            }
+        }
+        Ok(())
+    }
+
     /// Keeps the rankings that a test in the middle of a turn gives which leaves the loop.
     pub fn keep_exit(
         &mut self,
@@ -165,6 +197,13 @@ impl Options {
         }
         self.keep_before(alloc, &given.form, 1)
     }
+}
+
+/// The form has a term of a variable.
+fn speaks_of(form: &Form, slot: u32) -> bool {
+    form.terms()
+        .iter()
+        .any(|term| term.symbol == variable(slot))
 }
 
 /// The symbol is of a variable that steps in the loop.

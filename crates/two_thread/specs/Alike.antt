@@ -20,4 +20,5 @@ notes_of as' = record {
   visible = λ s. [];
   quotient = λ n. constant (pos 0);
   has_entry = λ n. false;
+  is_wide = false;
 }

@@ -6,6 +6,7 @@ use Rattle.arrivals.specs.Places.{Place}
 use Rattle.arrivals.specs.Symbolic.{sketch}
 use Rattle.core_code.specs.View.{kernel}
 use Rattle.linear.specs.Forms.{forms}
+use Rattle.facts.specs.View.{known_seen}
 use Rattle.facts.specs.declared.error.WalkError.{WalkError}
 use Rattle.walk_trees.specs.Fitting.{all_fit}
 use Rattle.path_steps.specs.Paths.{Choice, Found, Followed, collect}
@@ -50,8 +51,8 @@ module _ {E : Type 0} (g : Ghosts E) (w : Placing E) (n : ℕ) (at : Place) wher
   unfolding placed
   unrooted_at cs e h = unrooted own cs e (h w.setting.now.entries.items)
 
-  module _ (path : Path E) (cs : List Choice) (h : (entries : List Bool) → followed path ≡ rooted g (kernel w.core.now) (seen w.notes.now entries) n w.anchor w.head cs) where
-    begins : followed path ≡ rooted g (placed g w).kernel (placed g w).notes n (placed g w).anchor (placed g w).head cs
+  module _ (path : Path E) (cs : List Choice) (h : (entries : List Bool) → followed path ≡ rooted g (known_seen w.setting.now.known) (kernel w.core.now) (seen w.notes.now entries) n w.anchor w.head cs) where
+    begins : followed path ≡ rooted g (placed g w).setting.known (placed g w).kernel (placed g w).notes n (placed g w).anchor (placed g w).head cs
     unfolding placed
     begins = h w.setting.now.entries.items
 

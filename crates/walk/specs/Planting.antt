@@ -18,7 +18,7 @@ planted_at g w claims p = record {
   head = w.head;
   facts = root_facts w.kernel w.notes w.anchor w.head;
   claims = claims;
-  tree = sketch (course w) w.kernel.body p (root_state g w.kernel w.notes claims w.anchor w.head);
+  tree = sketch (course w) w.kernel.body p (root_state g w.setting.known w.kernel w.notes claims w.anchor w.head);
 }
 
 abbrev pub planted_by : {E : Type 0} → Ghosts E → Setting E → Kernel → Notes → ℕ → Place → Planted E

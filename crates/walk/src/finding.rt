@@ -31,14 +31,16 @@ use places::Place;
 use std::alloc::Global;
 use two_thread::{Obligations, Premises};
 
-/// The setting in which a kernel's places are walked: what the domain knows under the conditions, the kernel's sizes and arrays, and the
-/// entries.
+/// The setting in which a kernel's places are walked: whether the walk is the wide one, what the domain knows under the conditions, the
+/// kernel's sizes and arrays, and the entries.
 pub fn setting_of<D: Domain>(
     alloc: Global,
+    is_wide: bool,
     core: &Core,
     conditions: &Conditions,
     entries: Vec<bool>,
 ) -> Result<Setting<D>, WalkError>
+    ensures wide { IfOk result (λ s. s.is_wide ≡ is_wide) }
     ensures known { IfOk result (λ s. known_seen s.known ≡ launching.known D.Domain (core_seen core.now).sizes (conditions_seen conditions.now)) }
     ensures sizes { IfOk result (λ s. s.sizes ≡ core.now.sizes) }
     ensures buffers { IfOk result (λ s. map kind s.buffers.items ≡ (core_seen core.now).buffers) }
@@ -51,6 +53,7 @@ pub fn setting_of<D: Domain>(
     let arrays = Vec::from_slice(alloc, core.arrays.as_slice())?;
     Ok(Setting {
         alloc,
+        is_wide,
         known,
         sizes: core.sizes,
         buffers,
@@ -78,7 +81,7 @@ pub fn find<D: Domain>(
     ensures unfound { IfErr result (IsUnfound D.Domain (core_seen core.now) (conditions_seen conditions.now) (seen notes.now entries.items)) }
 {
     trees_have_own_symbols::<D>();
-    let setting = setting_of::<D>(alloc, core, conditions, entries)?;
+    let setting = setting_of::<D>(alloc, notes.is_wide, core, conditions, entries)?;
     let walked = walk_all(&setting, core, notes, places)?;
     let launch = launch_facts(alloc, conditions)?;
     let premises = Premises {

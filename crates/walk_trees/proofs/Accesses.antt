@@ -1,5 +1,5 @@
 -- An access is inside its buffer, and the tree has it. A load is asked for, or gives any number of its buffer's kind.
-use Rattle.std.proofs.Common.{◌≡◌, ℕ, ◌<◌, Bool, true, false, cond, List, [], ◌∷◌, length, arith, refl, ap, ◌∙◌, inl, lt-ltb}
+use Rattle.std.proofs.Common.{◌≡◌, ℕ, ◌<◌, Bool, true, false, cond, List, [], ◌∷◌, arith, refl, ap, ◌∙◌, inl, lt-ltb}
 use Rattle.std.specs.Prelude.{ℤ, pos, negsuc, ◌-ℤ◌, ◌≤ℤ◌}
 use Rattle.std.proofs.lemmas.Int.{ints}
 use Rattle.semantics.specs.Word.{Word, word, as_kind}

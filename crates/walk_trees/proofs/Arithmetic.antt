@@ -1,38 +1,39 @@
 -- What the walk of an operator promises, once its operands are brought to one kind.
-use Rattle.std.proofs.Common.{◌≡◌, ℕ, ◌^◌, ◌&&◌, Bool, true, false, cond, nat_lt, List, [], ◌∷◌, Option, Some, None, arith, refl, sym, ap, ◌∙◌, subst, inl, inr}
+use Rattle.std.proofs.Common.{◌≡◌, ℕ, ◌+◌, ◌^◌, ◌&&◌, ◌||◌, not, Bool, true, false, cond, nat_lt, List, [], ◌∷◌, Option, Some, None, arith, refl, sym, ap, ◌∙◌, subst, inl, inr}
 use Rattle.std.specs.Prelude.{ℤ, pos, negsuc, neg_ℤ, ◌+ℤ◌, ◌-ℤ◌, ◌*ℤ◌, ◌≤ℤ◌, ◌<ℤ◌, int_lt, int_div, int_rem, bit_and, bit_or, bit_xor, Result, Ok, Err}
+use Rattle.std.specs.Ordering.{int_eq}
+use Rattle.std.specs.Int.{int_div_euclid, int_rem_euclid}
 use Rattle.std.proofs.lemmas.Int.{ints}
 use Rattle.std.proofs.lemmas.Nat.{pow_pos}
 use Rattle.std.proofs.lemmas.Bool.{and_parts, or_cases}
+use Rattle.std.proofs.lemmas.Bool.Decides.{Decides-int_eq}
 use Rattle.semantics.specs.Word.{Kind, Int, Uint, Word, word, Fault, DivisionByZero, Overflow, Operator, Add, Subtract, Multiply, Divide, Remainder, BitAnd, BitOr, BitXor, UnaryOperator, Negate, Complement, ShiftLeft, ShiftRight, in_kind, bits_of, read_bits, as_kind, settle, calculate, calculate_unary}
 use Rattle.semantics.proofs.Integers.{mul_comm}
 use Rattle.semantics.proofs.Words.{as_kind-in_kind}
 use Rattle.linear.specs.Exact.{Terms, sum, multiple}
 use Rattle.domain.specs.declared.Bounds.{Bounds}
-use Rattle.domain.specs.declared.Domain.{Ghosts}
 use Rattle.domain.specs.Members.{is_above, is_below, is_within}
 use Rattle.facts.specs.Symbols.{Fact, constant, minus}
 use Rattle.facts.specs.Elements.{is_from_zero}
 use Rattle.facts.proofs.Integers.{le_test, lt_test}
 use Rattle.facts.proofs.Members.{between-has}
 use Rattle.facts.proofs.Worlds.{View}
-use Rattle.walk_trees.specs.Trees.{Tree, Know}
+use Rattle.walk_trees.specs.Trees.{OfRange, Tree}
 use Rattle.walk_trees.specs.Values.{Value, value}
-use Rattle.walk_trees.specs.Walks.{State, Onward, claimed_once, element_of, bounds_of, least, greatest, any_of, unknown, is_number, ranged}
-use Rattle.walk_trees.specs.Operators.{product, is_over, is_under, lacks, claim_quotient, claim_divisor, left_over, quotient, is_exact, divided, remaining, is_power, is_mask, are_from_zero, masked_by, masked, binary, complement, shifted, unary}
-use Rattle.walk_trees.specs.Covered.{is_covered_unary}
+use Rattle.walk_trees.specs.Walks.{State, Onward, claimed_once, element_of, bounds_of, claim_form, least, greatest, any_of, unknown, is_number, ranged, one_number, known_form}
+use Rattle.walk_trees.specs.Operators.{product, is_over, is_under, lacks, claim_quotient, claim_divisor, is_positive, is_exact, asks_dividend, claim_dividend, divided, remaining, is_mask, are_from_zero, masked_by, masked, operate, known_operands, binary, complement, shifted, unary}
+use Rattle.walk_trees.specs.Quotients.{is_power}
+use Rattle.walk_trees.specs.Bits.{meet, join, differ}
+use Rattle.walk_trees.specs.Covered.{is_uint, is_covered_unary}
 use Rattle.walk_trees.proofs.KindEnds.{in_kind-ends}
-use Rattle.walk_trees.proofs.Holding.{form-has, held_settles}
-use Rattle.walk_trees.proofs.Standing.{walks, Stands, Comes, way_then, over_claim, over_fact, past_claim, past_fact, at_once, comes_from, onward, arriving, told_either, Owns, owns}
-use Rattle.walk_trees.proofs.Ranges.{IsForm, IsValue, form_kept, form-is, form_constant, form-sum, form-multiple, form-minus, invent_sound, unknown_sound, Settles, ranged_sound}
+use Rattle.walk_trees.proofs.Holding.{IsHeld, form-has, held_settles}
+use Rattle.walk_trees.proofs.Standing.{walks, Stands, Comes, over_claim, past_claim, at_once, comes_from, onward, arriving, restated, told_either, Owns, owns}
+use Rattle.walk_trees.proofs.Ranges.{IsForm, IsValue, form_kept, form-is, form_constant, form-sum, form-multiple, form-minus, told_by, invent_sound, unknown_sound, Settles, ranged_sound}
 use Rattle.walk_trees.proofs.Splits.{int_eq-not, value-known}
-use Rattle.walk_trees.proofs.Divisions.{settle_in, uint-quotient, DoesNotOverflow, quotient-in, remainder-in, left-is, left-low, left-high, bits-in, and-below, or-below, xor-below, power_of, mask-left, and-plain, complement-bits, complement_uint-bits}
-
--- what the walk of operators asks of a domain besides
-pub record DividesLawfully {E : Type 0} (g : Ghosts E) : Type 0 where
-  pub div : (a b : E) (x y : ℤ) → g.has a x ≡ true → g.has b y ≡ true → (y ≡ pos 0 → ⊥) → g.has (g.div_of a b) (int_div x y) ≡ true
-  pub rem : (a b : E) (x y : ℤ) → g.has a x ≡ true → g.has b y ≡ true → (y ≡ pos 0 → ⊥) → g.has (g.rem_of a b) (int_rem x y) ≡ true
-  pub mask : (a b : E) (m n : ℕ) → g.has a (pos m) ≡ true → g.has b (pos n) ≡ true → g.has (g.mask_of a b) (pos (bit_and m n)) ≡ true
+use Rattle.walk_trees.proofs.Divisions.{settle_in, uint-quotient, DoesNotOverflow, quotient-in, remainder-in, bits-in, and-below, or-below, xor-below, power_of, mask-left, mask-floor, and-plain, complement-bits, complement_uint-bits}
+use Rattle.walk_trees.proofs.BitNumbers.{floor-is, floor-low, floor-high, floor-in}
+use Rattle.walk_trees.proofs.QuotientSound.{DividesLawfully, quotient_sound, left_of, left_by_sound}
+use Rattle.walk_trees.proofs.BitSound.{meet_sound, join_sound, differ_sound}
 
 -- a result is a word of its kind, whose value arrives
 pub record Yields {E : Type 0} (c : View E) (launch facts : List Fact) (n : ℕ) (tree : Tree E) (go : Onward E) (news : List ℤ) (variables : Owns) (r : Result Word Fault) : Type 0 where
@@ -118,49 +119,63 @@ module _ {E : Type 0} (c : View E) (launch : List Fact) where
         comes = comes_from c launch (over_claim c launch) q.comes;
       }
 
-  -- a quotient and what it leaves
-  pub quotient_sound : (k : Kind) {facts : List Fact} {n : ℕ} {news : List ℤ} (f : Fact) (x d : ℤ) (st : State E) (go : Fact → Fact → State E → Tree E) → IsForm c news f x → pos 0 ≤ℤ x → pos 0 <ℤ d → in_kind k (int_div x d) ≡ true → Stands c launch facts n (quotient (walks c) k f d st go) news st.held →
-      Comes c launch facts n (quotient (walks c) k f d st go) (λ (p : Fact × Fact) st'. go p.0 p.1 st') news (owns st) (λ more p. IsForm c more p.0 (int_div x d) × IsForm c more p.1 (int_rem x d))
-  quotient_sound k f x d st go m hx hd h s =
-      let z = int_div x d in
-      let ends = in_kind-ends k z h in
-      let next : Fact → State E → Tree E = λ q st'. Know (left_over f d q) (Know (minus (constant (d -ℤ pos 1)) (left_over f d q)) (go q (left_over f d q) st')) in
-      let p = invent_sound c launch (any_of c.domain k) st next z (between-has c.domain c.lawful (least k) (greatest k) z ends.0 ends.1) s in
-      let left : IsForm c p.more (left_over f d p.arrived) (int_rem x d) = form-minus c f (multiple d p.arrived) x (d *ℤ z) (int_rem x d) (form_kept c p.way.kept m) (form-multiple c d p.arrived z p.right) (left-is x d) in
-      let high : IsForm c p.more (minus (constant (d -ℤ pos 1)) (left_over f d p.arrived)) ((d -ℤ pos 1) -ℤ int_rem x d) = form-minus c (constant (d -ℤ pos 1)) (left_over f d p.arrived) (d -ℤ pos 1) (int_rem x d) ((d -ℤ pos 1) -ℤ int_rem x d) (form_constant c p.more (d -ℤ pos 1)) left (omega (arith, ints)) in
-      let low = left-low x d hx in
-      let top = left-high x d hx hd in
-      onward c launch p (comes_from c launch (way_then c launch (over_fact c launch) (over_fact c launch))
-      (at_once c launch (λ (p : Fact × Fact) st'. go p.0 p.1 st') (λ more q. IsForm c more q.0 z × IsForm c more q.1 (int_rem x d)) (p.arrived, left_over f d p.arrived) p.state (p.right, left)
-      (past_fact c launch (λ v a. omega (arith, ints, high.means v a, top)) (past_fact c launch (λ v a. omega (arith, ints, left.means v a, low)) p.stands))))
-
   -- a dividend and a divisor of which the quotient is exact
   record Exactly (f g : Fact) (x y : ℤ) : Type 0 where
     constant : g.constant ≡ y
     low : pos 0 ≤ℤ x
     above : pos 0 <ℤ g.constant
 
-  exactly : {facts : List Fact} {n : ℕ} {tree : Tree E} {news : List ℤ} (f g : Fact) (x y : ℤ) (st : State E) → IsForm c news f x → IsForm c news g y → Stands c launch facts n tree news st.held → is_exact (walks c) st f g ≡ true → Exactly f g x y
-  exactly {news = news} f g x y st mf mg s e =
-      let p = and_parts (is_number g) (int_lt (pos 0) g.constant && is_from_zero (bounds_of (walks c) st f).low) e in
-      let q = and_parts (int_lt (pos 0) g.constant) (is_from_zero (bounds_of (walks c) st f).low) p.1 in
-      record { constant = value-known c launch g y mg p.0; low = held_settles c news st.held f x s.fit mf.means q.1; above = lt_test (pos 0) g.constant q.0 }
+  exactly_where : {news : List ℤ} (f g : Fact) (x y : ℤ) → IsForm c news g y → is_positive g ≡ true → pos 0 ≤ℤ x → Exactly f g x y
+  exactly_where f g x y mg e low =
+      let p = and_parts (is_number g) (int_lt (pos 0) g.constant) e in
+      record { constant = value-known c launch g y mg p.0; low = low; above = lt_test (pos 0) g.constant p.1 }
 
-  divided_sound : (b : Bool) (more : DividesLawfully c.domain) (k : Kind) {facts : List Fact} {n : ℕ} {news : List ℤ} (f g : Fact) (x y : ℤ) (st : State E) (go : Fact → State E → Tree E) → is_exact (walks c) st f g ≡ b → in_kind k (int_div x y) ≡ true → (y ≡ pos 0 → ⊥) → IsForm c news f x → IsForm c news g y → Stands c launch facts n (divided (walks c) b k f g st go) news st.held → Comes c launch facts n (divided (walks c) b k f g st go) go news (owns st) (λ more h. IsForm c more h (int_div x y))
+  uint-low : (k : Kind) (x : ℤ) → in_kind k x ≡ true → is_uint k ≡ true → pos 0 ≤ℤ x
+  uint-low Int x h e = cc
+  uint-low Uint x h e = (in_kind-ends Uint x h).0
+
+  exactly : {facts : List Fact} {n : ℕ} {tree : Tree E} {news : List ℤ} (k : Kind) (f g : Fact) (x y : ℤ) (st : State E) → in_kind k x ≡ true → IsForm c news f x → IsForm c news g y → Stands c launch facts n tree news st.held → is_exact (walks c) st k f g ≡ true → Exactly f g x y
+  exactly {news = news} k f g x y st hx mf mg s e =
+      let p = and_parts (is_positive g) ((c.is_wide && is_uint k) || is_from_zero (bounds_of (walks c) st f).low) e in
+      exactly_where f g x y mg p.0 (elim (or_cases (c.is_wide && is_uint k) (is_from_zero (bounds_of (walks c) st f).low) p.1) [
+        | inl o ↦ uint-low k x hx (and_parts c.is_wide (is_uint k) o).1
+        | inr o ↦ held_settles c news st.held f x s.fit mf.means o
+      ])
+
+  -- where the quotient is to be exact it is
+  dividend_claimed : (b : Bool) {facts : List Fact} {n : ℕ} {news : List ℤ} (f g : Fact) (x y : ℤ) (st : State E) (go : Bool → State E → Tree E) → is_positive g ≡ true → IsForm c news f x → IsForm c news g y → Stands c launch facts n (claim_form (walks c) (OfRange Uint) b f st (λ st'. go b st')) news st.held →
+      Comes c launch facts n (claim_form (walks c) (OfRange Uint) b f st (λ st'. go b st')) go news (owns st) (λ more b. b ≡ true → Exactly f g x y)
+  dividend_claimed true f g x y st go e mf mg s =
+      let low = told_by c launch (OfRange Uint) f x st (λ st'. go true st') s mf.means in
+      comes_from c launch (over_claim c launch) (at_once c launch go (λ more b. b ≡ true → Exactly f g x y) true (claimed_once st) (λ q. exactly_where f g x y mg e low) (past_claim c launch s))
+  dividend_claimed false f g x y st go e mf mg s = comes_from c launch (over_claim c launch) (at_once c launch go (λ more b. b ≡ true → Exactly f g x y) false (claimed_once st) (λ q. cc) (past_claim c launch s))
+
+  dividend_sound : (k : Kind) {facts : List Fact} {n : ℕ} {news : List ℤ} (f g : Fact) (x y : ℤ) (st : State E) (go : Bool → State E → Tree E) → in_kind k x ≡ true → IsForm c news f x → IsForm c news g y → Stands c launch facts n (claim_dividend (walks c) k f g st go) news st.held →
+      Comes c launch facts n (claim_dividend (walks c) k f g st go) go news (owns st) (λ more b. b ≡ true → Exactly f g x y)
+  dividend_sound k {facts = facts} {n = n} {news = news} f g x y st go hx mf mg s = by (asks_dividend (walks c) st k f g) refl s
+    where
+      by : (b : Bool) → asks_dividend (walks c) st k f g ≡ b → Stands c launch facts n (cond b (claim_form (walks c) (OfRange Uint) (c.has_entry (st.claims + 1)) f st (λ st'. go (c.has_entry (st.claims + 1)) st')) (go (is_exact (walks c) st k f g) st)) news st.held → Comes c launch facts n (cond b (claim_form (walks c) (OfRange Uint) (c.has_entry (st.claims + 1)) f st (λ st'. go (c.has_entry (st.claims + 1)) st')) (go (is_exact (walks c) st k f g) st)) go news (owns st) (λ more b. b ≡ true → Exactly f g x y)
+      by true e s =
+          let p = and_parts c.is_wide (is_positive g && not (is_uint k || is_from_zero (bounds_of (walks c) st f).low)) e in
+          let q = and_parts (is_positive g) (not (is_uint k || is_from_zero (bounds_of (walks c) st f).low)) p.1 in
+          dividend_claimed (c.has_entry (st.claims + 1)) f g x y st go q.0 mf mg s
+      by false e s = at_once c launch go (λ more b. b ≡ true → Exactly f g x y) (is_exact (walks c) st k f g) st (λ q. exactly k f g x y st hx mf mg s q) s
+
+  divided_sound : (b : Bool) (more : DividesLawfully c.domain) (k : Kind) {facts : List Fact} {n : ℕ} {news : List ℤ} (f g : Fact) (x y : ℤ) (st : State E) (go : Fact → State E → Tree E) → (b ≡ true → Exactly f g x y) → in_kind k (int_div x y) ≡ true → (y ≡ pos 0 → ⊥) → IsForm c news f x → IsForm c news g y → Stands c launch facts n (divided (walks c) b k f g st go) news st.held → Comes c launch facts n (divided (walks c) b k f g st go) go news (owns st) (λ more h. IsForm c more h (int_div x y))
   divided_sound true laws k f g x y st go e h z mf mg s =
-      let w = exactly f g x y st mf mg s e in
-      let p = quotient_sound k f x g.constant st (λ q r st'. go q st') mf w.low w.above (ap (λ d. in_kind k (int_div x d)) w.constant ∙ h) s in
+      let w = e refl in
+      let p = quotient_sound c launch k f x g.constant st (λ q r st'. go q st') mf w.low w.above (ap (λ d. in_kind k (int_div x d)) w.constant ∙ h) s in
       arriving c launch go (λ (p : Fact × Fact). p.0) (λ more q. IsForm c more q (int_div x y)) (λ more q kept m. form-is c (int_div x y) (ap (int_div x) w.constant) m.0) p
   divided_sound false laws k {news = news} f g x y st go e h z mf mg s =
       let ef = element_of (walks c) st f in
       let eg = element_of (walks c) st g in
       invent_sound c launch (c.domain.div_of ef eg) st go (int_div x y) (laws.div ef eg x y (form-has c news st.held f x s.fit mf.means) (form-has c news st.held g y s.fit mg.means) z) s
 
-  remaining_sound : (b : Bool) (more : DividesLawfully c.domain) (k : Kind) {facts : List Fact} {n : ℕ} {news : List ℤ} (f g : Fact) (x y : ℤ) (st : State E) (go : Fact → State E → Tree E) → is_exact (walks c) st f g ≡ b → in_kind k (int_div x y) ≡ true → (y ≡ pos 0 → ⊥) → IsForm c news f x → IsForm c news g y → Stands c launch facts n (remaining (walks c) b k f g st go) news st.held → Comes c launch facts n (remaining (walks c) b k f g st go) go news (owns st) (λ more h. IsForm c more h (int_rem x y))
+  remaining_sound : (b : Bool) (more : DividesLawfully c.domain) (k : Kind) {facts : List Fact} {n : ℕ} {news : List ℤ} (f g : Fact) (x y : ℤ) (st : State E) (go : Fact → State E → Tree E) → (b ≡ true → Exactly f g x y) → in_kind k (int_div x y) ≡ true → (y ≡ pos 0 → ⊥) → IsForm c news f x → IsForm c news g y → Stands c launch facts n (remaining (walks c) b k f g st go) news st.held → Comes c launch facts n (remaining (walks c) b k f g st go) go news (owns st) (λ more h. IsForm c more h (int_rem x y))
   remaining_sound true laws k f g x y st go e h z mf mg s =
-      let w = exactly f g x y st mf mg s e in
-      let p = quotient_sound k f x g.constant st (λ q r st'. go r st') mf w.low w.above (ap (λ d. in_kind k (int_div x d)) w.constant ∙ h) s in
-      arriving c launch go (λ (p : Fact × Fact). p.1) (λ more q. IsForm c more q (int_rem x y)) (λ more q kept m. form-is c (int_rem x y) (ap (int_rem x) w.constant) m.1) p
+      let w = e refl in
+      let p = left_by_sound c launch k f x g.constant st go mf w.low w.above (ap (λ d. in_kind k (int_div x d)) w.constant ∙ h) s in
+      restated c launch (λ more q kept m. form-is c (int_rem x y) (ap (int_rem x) w.constant) m) p
   remaining_sound false laws k {news = news} f g x y st go e h z mf mg s =
       let ef = element_of (walks c) st f in
       let eg = element_of (walks c) st g in
@@ -185,54 +200,119 @@ module _ {E : Type 0} (c : View E) (launch : List Fact) where
       let ends = in_kind-ends k z (bits-in k (bit_and (bits_of x) (bits_of y)) (and-below x y)) in
       invent_sound c launch (any_of c.domain k) st go z (between-has c.domain c.lawful (least k) (greatest k) z ends.0 ends.1) s
 
-  masked_sound : (b : Bool) (laws : DividesLawfully c.domain) (k : Kind) {facts : List Fact} {n : ℕ} {news : List ℤ} (f g : Fact) (x y : ℤ) (st : State E) (go : Fact → State E → Tree E) → is_mask k g ≡ b → in_kind k x ≡ true → in_kind k y ≡ true → IsForm c news f x → IsForm c news g y → Stands c launch facts n (masked (walks c) b k f g st go) news st.held →
+  met_sound : (b : Bool) (laws : DividesLawfully c.domain) (k : Kind) {facts : List Fact} {n : ℕ} {news : List ℤ} (f g : Fact) (x y : ℤ) (st : State E) (go : Fact → State E → Tree E) → in_kind k x ≡ true → in_kind k y ≡ true → IsForm c news f x → IsForm c news g y → Stands c launch facts n (cond b (meet (walks c) k f g st go) (masked_by (walks c) (are_from_zero (walks c) st f g) k f g st go)) news st.held →
+      Comes c launch facts n (cond b (meet (walks c) k f g st go) (masked_by (walks c) (are_from_zero (walks c) st f g) k f g st go)) go news (owns st) (λ more h. IsForm c more h (read_bits k (bit_and (bits_of x) (bits_of y))))
+  met_sound true laws k f g x y st go hx hy mf mg s = meet_sound c launch laws k f g x y st go hx hy mf mg s
+  met_sound false laws k f g x y st go hx hy mf mg s = masked_by_sound (are_from_zero (walks c) st f g) laws k f g x y st go refl hx hy mf mg s
+
+  -- the lowest bits of both are what a quotient by a power of 2 leaves
+  masked_sound : (b : Bool) (laws : DividesLawfully c.domain) (k : Kind) {facts : List Fact} {n : ℕ} {news : List ℤ} (f g : Fact) (x y : ℤ) (st : State E) (go : Fact → State E → Tree E) → is_mask c.is_wide k g ≡ b → in_kind k x ≡ true → in_kind k y ≡ true → IsForm c news f x → IsForm c news g y → Stands c launch facts n (masked (walks c) b k f g st go) news st.held →
       Comes c launch facts n (masked (walks c) b k f g st go) go news (owns st) (λ more h. IsForm c more h (read_bits k (bit_and (bits_of x) (bits_of y))))
-  masked_sound true laws Int f g x y st go e hx hy mf mg s = cc
+  masked_sound true laws Int f g x y st go e hx hy mf mg s =
+      let p = and_parts (is_number g) (is_power 31 (g.constant +ℤ pos 1)) (and_parts c.is_wide (is_number g && is_power 31 (g.constant +ℤ pos 1)) e).1 in
+      let q = power_of 31 (g.constant +ℤ pos 1) p.1 in
+      let d = pos (2 ^ q.0) in
+      let z = int_div_euclid x d in
+      let r = int_rem_euclid x d in
+      let next : y +ℤ pos 1 ≡ d = sym (ap (λ z. z +ℤ pos 1) (value-known c launch g y mg p.0)) ∙ q.2 in
+      restated c launch (λ more h kept m. form-is c (read_bits Int (bit_and (bits_of x) (bits_of y))) (sym (mask-floor x y q.0 q.1 hx hy next)) m)
+      (left_of c launch Int f x (g.constant +ℤ pos 1) z r st go mf (ap (λ d. r +ℤ d *ℤ z) q.2 ∙ floor-is x (2 ^ q.0) (pow_pos q.0)) (floor-low x (2 ^ q.0)) (subst (λ d. pos 0 ≤ℤ ((d -ℤ pos 1) -ℤ r)) (sym q.2) (floor-high x (2 ^ q.0) (pow_pos q.0))) (floor-in Int x (2 ^ q.0) hx) s)
   masked_sound true laws Uint f g x y st go e hx hy mf mg s =
       let p = and_parts (is_number g) (is_power 32 (g.constant +ℤ pos 1)) e in
       let q = power_of 32 (g.constant +ℤ pos 1) p.1 in
       let same : g.constant ≡ y = value-known c launch g y mg p.0 in
       let next : y +ℤ pos 1 ≡ pos (2 ^ q.0) = sym (ap (λ z. z +ℤ pos 1) same) ∙ q.2 in
       let above : pos 0 <ℤ (g.constant +ℤ pos 1) = let l = pow_pos q.0 in subst (λ d. pos 0 <ℤ d) (sym q.2) (omega (arith, ints, l)) in
-      let r = quotient_sound Uint f x (g.constant +ℤ pos 1) st (λ q r st'. go r st') mf (in_kind-ends Uint x hx).0 above (ap (λ d. in_kind Uint (int_div x d)) q.2 ∙ uint-quotient x (2 ^ q.0) hx) s in
       let z = read_bits Uint (bit_and (bits_of x) (bits_of y)) in
-      arriving c launch go (λ (p : Fact × Fact). p.1) (λ more h. IsForm c more h z) (λ more h kept m. form-is c z (ap (λ d. int_rem x (d +ℤ pos 1)) same ∙ sym (mask-left x y q.0 hx hy next)) m.1) r
-  masked_sound false laws k f g x y st go e hx hy mf mg s = masked_by_sound (are_from_zero (walks c) st f g) laws k f g x y st go refl hx hy mf mg s
+      restated c launch (λ more h kept m. form-is c z (ap (λ d. int_rem x (d +ℤ pos 1)) same ∙ sym (mask-left x y q.0 hx hy next)) m)
+      (left_by_sound c launch Uint f x (g.constant +ℤ pos 1) st go mf (in_kind-ends Uint x hx).0 above (ap (λ d. in_kind Uint (int_div x d)) q.2 ∙ uint-quotient x (2 ^ q.0) hx) s)
+  masked_sound false laws k f g x y st go e hx hy mf mg s = met_sound c.is_wide laws k f g x y st go hx hy mf mg s
 
   -- a value of which no more is known than its kind
   unknown_yields : (k : Kind) {facts : List Fact} {n : ℕ} {news : List ℤ} {r : Result Word Fault} (z : ℤ) (st : State E) (go : Onward E) → in_kind k z ≡ true → r ≡ Ok (word k z) → Stands c launch facts n (unknown (walks c) k st go) news st.held → Yields c launch facts n (unknown (walks c) k st go) go news (owns st) r
   unknown_yields k z st go h e s = record { result = word k z; is = e; right = h; comes = unknown_sound c launch k st go z h s }
 
+  joined_yields : (b : Bool) (k : Kind) {facts : List Fact} {n : ℕ} {news : List ℤ} (f g : Fact) (x y : ℤ) (st : State E) (go : Onward E) → in_kind k x ≡ true → in_kind k y ≡ true → IsForm c news f x → IsForm c news g y → Stands c launch facts n (cond b (join (walks c) k f g st (λ h st'. go (value k h) st')) (unknown (walks c) k st go)) news st.held →
+      Yields c launch facts n (cond b (join (walks c) k f g st (λ h st'. go (value k h) st')) (unknown (walks c) k st go)) go news (owns st) (calculate BitOr k x y)
+  joined_yields true k f g x y st go hx hy mf mg s = form_yields k (read_bits k (bit_or (bits_of x) (bits_of y))) go (bits-in k (bit_or (bits_of x) (bits_of y)) (or-below x y)) refl (join_sound c launch k f g x y st (λ h st'. go (value k h) st') hx hy mf mg s)
+  joined_yields false k f g x y st go hx hy mf mg s = unknown_yields k (read_bits k (bit_or (bits_of x) (bits_of y))) st go (bits-in k (bit_or (bits_of x) (bits_of y)) (or-below x y)) refl s
+
+  differing_yields : (b : Bool) (k : Kind) {facts : List Fact} {n : ℕ} {news : List ℤ} (f g : Fact) (x y : ℤ) (st : State E) (go : Onward E) → in_kind k x ≡ true → in_kind k y ≡ true → IsForm c news f x → IsForm c news g y → Stands c launch facts n (cond b (differ (walks c) k f g st (λ h st'. go (value k h) st')) (unknown (walks c) k st go)) news st.held →
+      Yields c launch facts n (cond b (differ (walks c) k f g st (λ h st'. go (value k h) st')) (unknown (walks c) k st go)) go news (owns st) (calculate BitXor k x y)
+  differing_yields true k f g x y st go hx hy mf mg s = form_yields k (read_bits k (bit_xor (bits_of x) (bits_of y))) go (bits-in k (bit_xor (bits_of x) (bits_of y)) (xor-below x y)) refl (differ_sound c launch k f g x y st (λ h st'. go (value k h) st') hx hy mf mg s)
+  differing_yields false k f g x y st go hx hy mf mg s = unknown_yields k (read_bits k (bit_xor (bits_of x) (bits_of y))) st go (bits-in k (bit_xor (bits_of x) (bits_of y)) (xor-below x y)) refl s
+
   -- an operator on two numbers of its kind
-  pub binary_sound : (op : Operator) (laws : DividesLawfully c.domain) (k : Kind) {facts : List Fact} {n : ℕ} {news : List ℤ} (f g : Fact) (x y : ℤ) (st : State E) (go : Onward E) → in_kind k x ≡ true → in_kind k y ≡ true → IsForm c news f x → IsForm c news g y → Stands c launch facts n (binary (walks c) op k f g st go) news st.held → Yields c launch facts n (binary (walks c) op k f g st go) go news (owns st) (calculate op k x y)
-  binary_sound Add laws k f g x y st go hx hy mf mg s = settled_yields k (x +ℤ y) go (ranged_sound c launch k (sum f g) st go (x +ℤ y) s (form-sum c f g x y mf mg))
-  binary_sound Subtract laws k f g x y st go hx hy mf mg s = settled_yields k (x -ℤ y) go (ranged_sound c launch k (minus f g) st go (x -ℤ y) s (form-minus c f g x y (x -ℤ y) mf mg (omega (arith, ints))))
-  binary_sound Multiply laws k f g x y st go hx hy mf mg s =
+  operate_sound : (op : Operator) (laws : DividesLawfully c.domain) (k : Kind) {facts : List Fact} {n : ℕ} {news : List ℤ} (f g : Fact) (x y : ℤ) (st : State E) (go : Onward E) → in_kind k x ≡ true → in_kind k y ≡ true → IsForm c news f x → IsForm c news g y → Stands c launch facts n (operate (walks c) op k f g st go) news st.held → Yields c launch facts n (operate (walks c) op k f g st go) go news (owns st) (calculate op k x y)
+  operate_sound Add laws k f g x y st go hx hy mf mg s = settled_yields k (x +ℤ y) go (ranged_sound c launch k (sum f g) st go (x +ℤ y) s (form-sum c f g x y mf mg))
+  operate_sound Subtract laws k f g x y st go hx hy mf mg s = settled_yields k (x -ℤ y) go (ranged_sound c launch k (minus f g) st go (x -ℤ y) s (form-minus c f g x y (x -ℤ y) mf mg (omega (arith, ints))))
+  operate_sound Multiply laws k f g x y st go hx hy mf mg s =
       let p = product_sound f.terms g.terms f g x y st (λ h st'. ranged (walks c) k h st' go) refl refl mf mg s in
       let t = ranged_sound c launch k p.arrived p.state go (x *ℤ y) p.stands p.right in
       settled_yields k (x *ℤ y) go (record { settles = t.settles; comes = onward c launch p t.comes })
-  binary_sound Divide laws k f g x y st go hx hy mf mg s =
+  operate_sound Divide laws k f g x y st go hx hy mf mg s =
       let last : Fact → State E → Tree E = λ h st'. go (value k h) st' in
-      let a = divides k f g x y st (λ st1. divided (walks c) (is_exact (walks c) st1 f g) k f g st1 last) mf mg s in
+      let next : Bool → State E → Tree E = λ b st'. divided (walks c) b k f g st' last in
+      let a = divides k f g x y st (λ st1. claim_dividend (walks c) k f g st1 next) mf mg s in
       let p = a.comes in
       let h = quotient-in k x y hx hy a.nonzero a.safe in
-      let d = divided_sound (is_exact (walks c) p.state f g) laws k f g x y p.state last refl h a.nonzero (form_kept c p.way.kept mf) (form_kept c p.way.kept mg) p.stands in
-      form_yields k (int_div x y) go h (ap (λ b. cond b (Err DivisionByZero) (settle k (int_div x y))) (int_eq-not y (pos 0) a.nonzero) ∙ settle_in k (int_div x y) h) (onward c launch p d)
-  binary_sound Remainder laws k f g x y st go hx hy mf mg s =
+      let pf = form_kept c p.way.kept mf in
+      let pg = form_kept c p.way.kept mg in
+      let b = dividend_sound k f g x y p.state next hx pf pg p.stands in
+      let d = divided_sound b.arrived laws k f g x y b.state last b.right h a.nonzero (form_kept c b.way.kept pf) (form_kept c b.way.kept pg) b.stands in
+      form_yields k (int_div x y) go h (ap (λ b. cond b (Err DivisionByZero) (settle k (int_div x y))) (int_eq-not y (pos 0) a.nonzero) ∙ settle_in k (int_div x y) h) (onward c launch p (onward c launch b d))
+  operate_sound Remainder laws k f g x y st go hx hy mf mg s =
       let last : Fact → State E → Tree E = λ h st'. go (value k h) st' in
-      let a = divides k f g x y st (λ st1. remaining (walks c) (is_exact (walks c) st1 f g) k f g st1 last) mf mg s in
+      let next : Bool → State E → Tree E = λ b st'. remaining (walks c) b k f g st' last in
+      let a = divides k f g x y st (λ st1. claim_dividend (walks c) k f g st1 next) mf mg s in
       let p = a.comes in
       let h = quotient-in k x y hx hy a.nonzero a.safe in
-      let d = remaining_sound (is_exact (walks c) p.state f g) laws k f g x y p.state last refl h a.nonzero (form_kept c p.way.kept mf) (form_kept c p.way.kept mg) p.stands in
+      let pf = form_kept c p.way.kept mf in
+      let pg = form_kept c p.way.kept mg in
+      let b = dividend_sound k f g x y p.state next hx pf pg p.stands in
+      let d = remaining_sound b.arrived laws k f g x y b.state last b.right h a.nonzero (form_kept c b.way.kept pf) (form_kept c b.way.kept pg) b.stands in
       let r = int_rem x y in
       form_yields k r go (remainder-in k x y hx)
       (ap (λ b. cond b (Err DivisionByZero) (cond (in_kind k (int_div x y)) (settle k r) (Err Overflow))) (int_eq-not y (pos 0) a.nonzero) ∙ ap (λ b. cond b (settle k r) (Err Overflow)) h ∙ settle_in k r (remainder-in k x y hx))
-      (onward c launch p d)
-  binary_sound BitAnd laws k f g x y st go hx hy mf mg s =
+      (onward c launch p (onward c launch b d))
+  operate_sound BitAnd laws k f g x y st go hx hy mf mg s =
       form_yields k (read_bits k (bit_and (bits_of x) (bits_of y))) go (bits-in k (bit_and (bits_of x) (bits_of y)) (and-below x y)) refl
-      (masked_sound (is_mask k g) laws k f g x y st (λ h st'. go (value k h) st') refl hx hy mf mg s)
-  binary_sound BitOr laws k f g x y st go hx hy mf mg s = unknown_yields k (read_bits k (bit_or (bits_of x) (bits_of y))) st go (bits-in k (bit_or (bits_of x) (bits_of y)) (or-below x y)) refl s
-  binary_sound BitXor laws k f g x y st go hx hy mf mg s = unknown_yields k (read_bits k (bit_xor (bits_of x) (bits_of y))) st go (bits-in k (bit_xor (bits_of x) (bits_of y)) (xor-below x y)) refl s
+      (masked_sound (is_mask c.is_wide k g) laws k f g x y st (λ h st'. go (value k h) st') refl hx hy mf mg s)
+  operate_sound BitOr laws k f g x y st go hx hy mf mg s = joined_yields c.is_wide k f g x y st go hx hy mf mg s
+  operate_sound BitXor laws k f g x y st go hx hy mf mg s = differing_yields c.is_wide k f g x y st go hx hy mf mg s
+
+  -- a form of which one number is left has that value
+  one_sound : {news : List ℤ} (low high : Option ℤ) (f : Fact) (z : ℤ) → is_above low z ≡ true → is_below high z ≡ true → IsForm c news f z → IsForm c news (one_number low high f) z
+  one_sound None high f z a b m = m
+  one_sound (Some low) None f z a b m = m
+  one_sound {news = news} (Some low) (Some high) f z a b m = by (int_eq low high) refl
+    where
+      by : (q : Bool) → int_eq low high ≡ q → IsForm c news (cond q (constant low) f) z
+      by true e = form-is c z (omega (arith, ints, le_test low z a, le_test z high b, (Decides-int_eq low high).0 e)) (form_constant c news low)
+      by false e = m
+
+  known_sound : {news : List ℤ} (f : Fact) (z : ℤ) (st : State E) → IsHeld c news st.held → IsForm c news f z → IsForm c news (known_form (walks c) st f) z
+  known_sound {news = news} f z st k m =
+      let b = bounds_of (walks c) st f in
+      let p = and_parts (is_above b.low z) (is_below b.high z) (c.lawful.bounds (element_of (walks c) st f) z (form-has c news st.held f z k m.means)) in
+      by c.is_wide (one_sound b.low b.high f z p.0 p.1 m)
+    where
+      by : (w : Bool) → IsForm c news (one_number (bounds_of (walks c) st f).low (bounds_of (walks c) st f).high f) z → IsForm c news (cond w (one_number (bounds_of (walks c) st f).low (bounds_of (walks c) st f).high f) f) z
+      by true q = q
+      by false q = m
+
+  knowing : (op : Operator) (laws : DividesLawfully c.domain) (k : Kind) {facts : List Fact} {n : ℕ} {news : List ℤ} (f g : Fact) (x y : ℤ) (st : State E) (go : Onward E) → in_kind k x ≡ true → in_kind k y ≡ true → IsForm c news f x → IsForm c news g y → Stands c launch facts n (known_operands (walks c) op k f g st go) news st.held → Yields c launch facts n (known_operands (walks c) op k f g st go) go news (owns st) (calculate op k x y)
+  knowing op laws k f g x y st go hx hy mf mg s = operate_sound op laws k (known_form (walks c) st f) (known_form (walks c) st g) x y st go hx hy (known_sound f x st s.fit mf) (known_sound g y st s.fit mg) s
+
+  pub binary_sound : (op : Operator) (laws : DividesLawfully c.domain) (k : Kind) {facts : List Fact} {n : ℕ} {news : List ℤ} (f g : Fact) (x y : ℤ) (st : State E) (go : Onward E) → in_kind k x ≡ true → in_kind k y ≡ true → IsForm c news f x → IsForm c news g y → Stands c launch facts n (binary (walks c) op k f g st go) news st.held → Yields c launch facts n (binary (walks c) op k f g st go) go news (owns st) (calculate op k x y)
+  binary_sound Add laws k f g x y st go hx hy mf mg s = operate_sound Add laws k f g x y st go hx hy mf mg s
+  binary_sound Subtract laws k f g x y st go hx hy mf mg s = operate_sound Subtract laws k f g x y st go hx hy mf mg s
+  binary_sound Multiply laws k f g x y st go hx hy mf mg s = knowing Multiply laws k f g x y st go hx hy mf mg s
+  binary_sound Divide laws k f g x y st go hx hy mf mg s = knowing Divide laws k f g x y st go hx hy mf mg s
+  binary_sound Remainder laws k f g x y st go hx hy mf mg s = knowing Remainder laws k f g x y st go hx hy mf mg s
+  binary_sound BitAnd laws k f g x y st go hx hy mf mg s = knowing BitAnd laws k f g x y st go hx hy mf mg s
+  binary_sound BitOr laws k f g x y st go hx hy mf mg s = knowing BitOr laws k f g x y st go hx hy mf mg s
+  binary_sound BitXor laws k f g x y st go hx hy mf mg s = knowing BitXor laws k f g x y st go hx hy mf mg s
 
   -- an operator on one value
   complement_sound : (k : Kind) {facts : List Fact} {n : ℕ} {news : List ℤ} (w : Word) (f : Fact) (st : State E) (go : Onward E) → in_kind w.kind w.value ≡ true → IsForm c news f w.value → Stands c launch facts n (ranged (walks c) k (complement k f) st go) news st.held → Yields c launch facts n (ranged (walks c) k (complement k f) st go) go news (owns st) (calculate_unary Complement k w.value)
@@ -250,7 +330,7 @@ module _ {E : Type 0} (c : View E) (launch : List Fact) where
   shifted_sound Uint f x by st go h m s =
       let d = pos (2 ^ by) in
       let i = uint-quotient x (2 ^ by) h in
-      let p = quotient_sound Uint f x d st (λ q r st'. go (value Uint q) st') m (in_kind-ends Uint x h).0 (let l = pow_pos by in omega (arith, ints, l)) i s in
+      let p = quotient_sound c launch Uint f x d st (λ q r st'. go (value Uint q) st') m (in_kind-ends Uint x h).0 (let l = pow_pos by in omega (arith, ints, l)) i s in
       form_yields Uint (int_div x d) go i (settle_in Uint (int_div x d) i) (arriving c launch (λ q st'. go (value Uint q) st') (λ (p : Fact × Fact). p.0) (λ more q. IsForm c more q (int_div x d)) (λ more q kept m. m.0) p)
 
   pub unary_sound : (op : UnaryOperator) (k : Kind) → is_covered_unary op k ≡ true → {facts : List Fact} {n : ℕ} {news : List ℤ} (w : Word) (x : Value) (st : State E) (go : Onward E) → in_kind w.kind w.value ≡ true → IsValue c news w x → Stands c launch facts n (unary (walks c) op k x st go) news st.held → Yields c launch facts n (unary (walks c) op k x st go) go news (owns st) (calculate_unary op k w.value)

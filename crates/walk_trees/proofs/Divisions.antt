@@ -4,14 +4,16 @@ use Rattle.std.specs.Prelude.{ℤ, pos, negsuc, neg_ℤ, ◌+ℤ◌, ◌-ℤ◌,
 use Rattle.std.specs.Ordering.{int_eq}
 use Rattle.std.specs.Int.RustNames.{unsigned_abs}
 use Rattle.std.proofs.lemmas.Int.{ints, quot-rem}
-use Rattle.std.proofs.lemmas.Nat.{div_below, and_mask, and_le_l, or_lt, xor_lt}
+use Rattle.std.specs.Int.{int_rem_euclid}
+use Rattle.std.proofs.lemmas.Nat.{div_below, and_mask, and_le_l, and_le_r, or_lt, xor_lt, pow_pos}
 use Rattle.std.proofs.lemmas.Bool.{or_cases}
 use Rattle.std.proofs.lemmas.Bool.Decides.{Decides-int_eq}
 use Rattle.std.proofs.Math.Nat.{div-le_self, mod-le}
 use Rattle.semantics.specs.Word.{Kind, Int, Uint, word, in_kind, bits_of, read_bits, settle}
 use Rattle.semantics.proofs.Words.{bits_of-below, read_bits-in_kind, as_kind-same}
-use Rattle.walk_trees.specs.Operators.{is_power}
+use Rattle.walk_trees.specs.Quotients.{is_power}
 use Rattle.walk_trees.proofs.KindEnds.{settle-same}
+use Rattle.walk_trees.proofs.BitNumbers.{floor-one, run-bits, read-low}
 
 pub settle_in : (k : Kind) (z : ℤ) → in_kind k z ≡ true → settle k z ≡ Ok (word k z)
 settle_in k z h = settle-same k z h ∙ ap (λ y. Ok (word k y)) (as_kind-same k z h)
@@ -105,6 +107,18 @@ mask-left (pos m) (pos n) j h i e =
     ap (λ z. pos (bit_and z (n % 2 ^ 32))) a ∙ ap (λ z. pos (bit_and m z)) (b ∙ p) ∙ ap pos (and_mask m j) ∙ ap (int_rem (pos m)) (sym e)
 mask-left (pos m) (negsuc n) j h i e = cc
 mask-left (negsuc m) y j h i e = cc
+
+-- those of an `int` are what it leaves by a power of 2, rounded down
+pub mask-floor : (x y : ℤ) (j : ℕ) → j ≤ 31 → in_kind Int x ≡ true → in_kind Int y ≡ true → y +ℤ pos 1 ≡ pos (2 ^ j) → read_bits Int (bit_and (bits_of x) (bits_of y)) ≡ int_rem_euclid x (pos (2 ^ j))
+mask-floor x (negsuc n) j l h i e = absurd (let p = pow_pos j in omega (arith, ints, e, p))
+mask-floor x (pos n) j l h i e =
+    let t : n < 2 ^ 31 = ltb-true n (2 ^ 31) i in
+    let b : n % 2 ^ 32 ≡ n = mod-eq_of_lt (omega (arith, t)) in
+    let o : j + 0 ≡ j = omega arith in
+    let p : n ≡ 2 ^ (j + 0) - 2 ^ 0 = let q = ap (λ (i : ℕ). 2 ^ i) o in omega (arith, ints, e, q) in
+    let m = and_le_r (bits_of x) n in
+    ap (λ z. read_bits Int (bit_and (bits_of x) z)) b ∙ read-low Int (bit_and (bits_of x) n) (omega (arith, m, t)) ∙ ap (λ z. pos (bit_and (bits_of x) z)) p
+    ∙ run-bits Int x (32 - j) j 0 h (omega (arith, l)) ∙ ap (λ z. pos (2 ^ 0) *ℤ int_rem_euclid z (pos (2 ^ j))) (floor-one x) ∙ omega (arith, ints)
 
 -- both of at least 0
 pub and-plain : (k : Kind) (m n : ℕ) → in_kind k (pos m) ≡ true → in_kind k (pos n) ≡ true → read_bits k (bit_and (bits_of (pos m)) (bits_of (pos n))) ≡ pos (bit_and m n)

@@ -1,5 +1,5 @@
 -- The walk of a term as an item begins: what it evaluates to is found in the tree.
-use Rattle.std.proofs.Common.{◌≡◌, ℕ, suc, ◌<◌, true, List, [], ◌∷◌, Some, length, arith, refl, sym, subst, inl, inr}
+use Rattle.std.proofs.Common.{◌≡◌, suc, true, List, [], ◌∷◌, Some, arith, refl, sym, subst, inl, inr}
 use Rattle.std.specs.List.{All, Contains}
 use Rattle.semantics.specs.Word.{Word}
 use Rattle.semantics.specs.Core.{Term}
@@ -12,14 +12,13 @@ use Rattle.facts.proofs.Launched.{launch_known, item_known}
 use Rattle.facts.proofs.Members.{by_number}
 use Rattle.facts.proofs.Worlds.{View, setup, own, agrees_itself}
 use Rattle.walk_trees.specs.Trees.{Ended, claims, accesses, ends}
-use Rattle.walk_trees.specs.Terms.{walk}
 use Rattle.walk_trees.specs.Covered.{covers_term}
 use Rattle.walk_trees.specs.Shown.{IsShown}
 use Rattle.walk_trees.specs.Sound.{beginning, with_value, tree_of, IsFound, IsFoundIn}
 use Rattle.walk_trees.proofs.Each.{Has}
 use Rattle.walk_trees.proofs.Holding.{held_opening}
 use Rattle.walk_trees.proofs.Standing.{walks, Goes, gives, asks, Owns}
-use Rattle.walk_trees.proofs.Arithmetic.{DividesLawfully}
+use Rattle.walk_trees.proofs.QuotientSound.{DividesLawfully}
 use Rattle.walk_trees.proofs.TermSound.{term_sound, ArrivesAsValue}
 use Rattle.walk_trees.proofs.Opening.{opening_forms}
 

@@ -23,7 +23,7 @@ use Rattle.walk_trees.specs.Covered.{covers_term}
 use Rattle.walk_trees.proofs.Each.{Has}
 use Rattle.walk_trees.proofs.Standing.{walks, Noted, noted, Seen, seen_in, Stands, Comes, Goes, gives, asks, past_claim, past_access, Owns, owns}
 use Rattle.walk_trees.proofs.Ranges.{IsForm, IsValue, form_kept}
-use Rattle.walk_trees.proofs.Arithmetic.{DividesLawfully}
+use Rattle.walk_trees.proofs.QuotientSound.{DividesLawfully}
 use Rattle.walk_trees.proofs.TermSound.{AreForms, forms_kept, forms_same, term_sound}
 
 -- an item stands before a tree, with these variables, and all accesses of the tree are among these

@@ -4,7 +4,12 @@ pub mod Holding
 pub mod Standing
 pub mod Ranges
 pub mod Splits
+pub mod Narrow
 pub mod Divisions
+pub mod QuotientSound
+pub mod BitNumbers
+pub mod BitTests
+pub mod BitSound
 pub mod Arithmetic
 pub mod Identities
 pub mod Accesses
@@ -18,4 +23,6 @@ pub mod Distinct
 pub mod TwoElements
 pub mod SameWords
 pub mod OwnForms
+pub mod OwnQuotients
+pub mod OwnBits
 pub mod OwnTrees

@@ -1,71 +1,31 @@
 -- The trees of what an item does have its own symbols, and the launch's, alone.
-use Rattle.std.proofs.Common.{◌≡◌, ℕ, zero, suc, ◌^◌, ◌%◌, Bool, true, false, not, cond, nat_lt, List, [], ◌∷◌, ◌++◌, map, length, slice_index_or, Option, Some, None, refl, lt-ltb}
+use Rattle.std.proofs.Common.{◌≡◌, ℕ, zero, suc, ◌+◌, ◌^◌, ◌%◌, ◌&&◌, ◌||◌, Bool, true, false, not, cond, nat_lt, List, [], ◌∷◌, ◌++◌, map, slice_index_or, Option, Some, None, refl, lt-ltb}
 use Rattle.std.proofs.lemmas.Bool.{and_from}
-use Rattle.std.specs.Prelude.{ℤ, pos, negsuc, ◌+ℤ◌, ◌-ℤ◌, slice_set}
+use Rattle.std.specs.Prelude.{ℤ, pos, negsuc, ◌+ℤ◌, slice_set}
+use Rattle.std.specs.Ordering.{int_eq}
 use Rattle.semantics.specs.Word.{Kind, Int, Uint, Operator, Add, Subtract, Multiply, Divide, Remainder, BitAnd, BitOr, BitXor, UnaryOperator, Negate, Complement, ShiftLeft, ShiftRight, Relation, Less, AtMost, More, AtLeast, Equal, Unequal}
 use Rattle.semantics.specs.Core.{Array, Site, Function, GlobalId, LocalId, GroupId, GlobalSize, LocalSize, NumGroups, Term, Literal, Variable, Id, Load, Unary, Binary, Convert, Compare, Not, And, Or, Select, Minimum, Maximum}
 use Rattle.semantics.specs.Setup.{along}
 use Rattle.linear.specs.Exact.{Terms, sum, multiple}
 use Rattle.facts.specs.Symbols as symbols
 use Rattle.facts.specs.Symbols.{First, Local, Group, Fact, constant, once, minus}
-use Rattle.walk_trees.specs.Trees.{Tree, Leaf, Dead, Claim, Know, Touch, Fork, Access, after, accesses}
+use Rattle.walk_trees.specs.Trees.{OfRange, Tree, Leaf, Dead, Claim, Know, Touch, Fork, Access, after, accesses}
 use Rattle.walk_trees.specs.Values.{Value, value}
-use Rattle.walk_trees.specs.Walks.{Setting, State, Onward, claimed_once, counted, lower_fact, upper_fact, know_all, newest, invent, unknown, any_of, is_kept, kept_or_new, ranged, brought_from, both_brought, at_site, fork, is_dead, unless_dead, know_test, know_two}
-use Rattle.walk_trees.specs.Operators.{product, claim_divisor, claim_quotient, left_over, quotient, is_exact, divided, remaining, is_mask, are_from_zero, masked_by, masked, binary, complement, shifted, unary}
+use Rattle.walk_trees.specs.Walks.{Setting, State, Onward, claimed_once, counted, bounds_of, claim_form, unknown, any_of, is_kept, kept_or_new, ranged, brought_from, both_brought, at_site, fork, is_dead, unless_dead, is_refuted, know_test, know_two, one_number, known_form}
+use Rattle.walk_trees.specs.Operators.{product, claim_divisor, claim_quotient, is_exact, asks_dividend, claim_dividend, divided, remaining, is_mask, are_from_zero, masked_by, masked, operate, known_operands, binary, complement, shifted, unary}
+use Rattle.walk_trees.specs.Bits.{meet, join, differ}
 use Rattle.walk_trees.specs.Tests.{Outcomes, below, split_below, split, split_number}
 use Rattle.walk_trees.specs.Terms.{Walks, walk, no_value, truth_value, id_inside, id_outside, id_form, access, array_kind, chosen, pick}
 use Rattle.walk_trees.specs.Statements.{argument_values, zero_value}
 use Rattle.walk_trees.specs.Seconds.{is_own_symbol, are_own_terms, is_own, are_own}
 use Rattle.walk_trees.proofs.Each.{Each}
-use Rattle.walk_trees.proofs.OwnForms.{IsOwn, AreOwn, own-sum, own-multiple, own-minus, own-groups, own-given, own-local, own-group, own-new}
-
-abbrev pub IsOwnValue : Value → Type 0
-IsOwnValue v = IsOwn v.form
-
-abbrev pub AreOwnValues : List Value → Type 0
-AreOwnValues [] = Unit {0}
-AreOwnValues (v ∷ vs) = IsOwnValue v × AreOwnValues vs
-
-abbrev pub HasOwn : {E : Type 0} → State E → Type 0
-HasOwn st = AreOwnValues st.variables
-
-unfoldable pub IsOwnTree : {E : Type 0} → Tree E → Type 0
-IsOwnTree (Leaf e) = AreOwnValues e.variables
-IsOwnTree Dead = Unit {0}
-IsOwnTree (Claim o needed settled g rest) = IsOwnTree rest
-IsOwnTree (Know f rest) = IsOwn f × IsOwnTree rest
-IsOwnTree (Touch t i h rest) = IsOwn i × IsOwnTree rest
-IsOwnTree (Fork first second) = IsOwnTree first × ((n : ℕ) → IsOwnTree (second n))
+use Rattle.walk_trees.proofs.OwnForms.{IsOwn, AreOwn, own-sum, own-multiple, own-minus, own-groups, own-given, own-local, own-group}
+use Rattle.walk_trees.proofs.OwnQuotients.{IsOwnValue, AreOwnValues, HasOwn, IsOwnTree, GoesOn, GoesOnBy, GoesEither, invents, quotients, leaves_by}
+use Rattle.walk_trees.proofs.OwnBits.{own_meet, own_join, own_differ}
 
 module _ {E : Type 0} (s : Setting E) where
-  -- what goes on from an own form, from an own value, from an outcome
-  abbrev pub GoesOn : (Fact → State E → Tree E) → Type 0
-  GoesOn go = (f : Fact) (st : State E) → IsOwn f → HasOwn st → IsOwnTree (go f st)
-
-  abbrev pub GoesOnBy : Onward E → Type 0
-  GoesOnBy go = (v : Value) (st : State E) → IsOwnValue v → HasOwn st → IsOwnTree (go v st)
-
-  abbrev pub GoesEither : Outcomes E → Type 0
-  GoesEither go = (b : Bool) (st : State E) → HasOwn st → IsOwnTree (go b st)
-
-  lower : (f : Fact) (o : Option ℤ) (rest : List Fact) (t : Tree E) → IsOwn f → IsOwnTree (know_all rest t) → IsOwnTree (know_all (lower_fact f o rest) t)
-  unfolding IsOwnTree
-  lower f None rest t h k = k
-  lower f (Some z) rest t h k = (own-minus f (constant z) h tt, k)
-
-  upper : (f : Fact) (o : Option ℤ) (t : Tree E) → IsOwn f → IsOwnTree t → IsOwnTree (know_all (upper_fact f o) t)
-  unfolding IsOwnTree
-  upper f None t h k = k
-  upper f (Some z) t h k = (own-minus (constant z) f tt h, k)
-
-  invents : (e : E) (st : State E) (go : Fact → State E → Tree E) → HasOwn st → GoesOn go → IsOwnTree (invent s e st go)
-  invents e st go h g =
-      let b = s.domain.bounds_of e in
-      let n = own-new (length st.held.news) in
-      lower (newest st) b.low (upper_fact (newest st) b.high) _ n (upper (newest st) b.high _ n (g (newest st) _ n h))
-
   unknowns : (k : Kind) (st : State E) (go : Onward E) → HasOwn st → GoesOnBy go → IsOwnTree (unknown s k st go)
-  unknowns k st go h g = invents (any_of s.domain k) st (λ f st'. go (value k f) st') h (λ f st' i j. g (value k f) st' i j)
+  unknowns k st go h g = invents s (any_of s.domain k) st (λ f st'. go (value k f) st') h (λ f st' i j. g (value k f) st' i j)
 
   kept : (b : Bool) (f : Fact) (st : State E) (go : Onward E) → IsOwn f → HasOwn st → GoesOnBy go → IsOwnTree (kept_or_new s b f st go)
   kept true f st go i h g = g (value Uint f) st i h
@@ -94,64 +54,60 @@ module _ {E : Type 0} (s : Setting E) where
   lives true f t i h = tt
   lives false f t i h = (i, h)
 
-  tests : (f : Fact) (st : State E) (go : State E → Tree E) → IsOwn f → HasOwn st → ((a : State E) → HasOwn a → IsOwnTree (go a)) → IsOwnTree (know_test s f st go)
-  tests f st go i h g = lives (is_dead f) f _ i (g _ h)
+  tests : (w : Bool) (f : Fact) (st : State E) (go : State E → Tree E) → IsOwn f → HasOwn st → ((a : State E) → HasOwn a → IsOwnTree (go a)) → IsOwnTree (know_test s w f st go)
+  tests w f st go i h g = lives ((w && is_refuted s f st) || is_dead f) f _ i (g _ h)
 
-  tests_two : (f k : Fact) (st : State E) (go : State E → Tree E) → IsOwn f → IsOwn k → HasOwn st → ((a : State E) → HasOwn a → IsOwnTree (go a)) → IsOwnTree (know_two s f k st go)
-  tests_two f k st go i j h g = tests f st _ i h (λ a ha. tests k a go j ha g)
+  tests_two : (w : Bool) (f k : Fact) (st : State E) (go : State E → Tree E) → IsOwn f → IsOwn k → HasOwn st → ((a : State E) → HasOwn a → IsOwnTree (go a)) → IsOwnTree (know_two s w f k st go)
+  tests_two w f k st go i j h g = tests w f st _ i h (λ a ha. tests w k a go j ha g)
 
   own-below : (x y : Fact) → IsOwn x → IsOwn y → IsOwn (below x y)
   own-below x y i j = own-minus (minus y x) (constant (pos 1)) (own-minus y x j i) tt
 
-  splits_below : (a b : Bool) (f g : Fact) (st : State E) (go : Outcomes E) → IsOwn f → IsOwn g → HasOwn st → GoesEither go → IsOwnTree (split_below s a b f g st go)
-  splits_below a b f g st go i j h k = forks st _ _ h (λ c hc. tests f c (go a) i hc (k a)) (λ c hc. tests g c (go b) j hc (k b))
+  splits_below : (w a b : Bool) (f g : Fact) (st : State E) (go : Outcomes E) → IsOwn f → IsOwn g → HasOwn st → GoesEither go → IsOwnTree (split_below s w a b f g st go)
+  splits_below w a b f g st go i j h k = forks st _ _ h (λ c hc. tests w f c (go a) i hc (k a)) (λ c hc. tests w g c (go b) j hc (k b))
 
-  splits : (r : Relation) (x y : Fact) (st : State E) (go : Outcomes E) → IsOwn x → IsOwn y → HasOwn st → GoesEither go → IsOwnTree (split s r x y st go)
-  splits Less x y st go i j h g = splits_below true false (below x y) (minus x y) st go (own-below x y i j) (own-minus x y i j) h g
-  splits AtMost x y st go i j h g = splits_below true false (minus y x) (below y x) st go (own-minus y x j i) (own-below y x j i) h g
-  splits More x y st go i j h g = splits_below true false (below y x) (minus y x) st go (own-below y x j i) (own-minus y x j i) h g
-  splits AtLeast x y st go i j h g = splits_below true false (minus x y) (below x y) st go (own-minus x y i j) (own-below x y i j) h g
-  splits Equal x y st go i j h g =
-      forks st _ _ h (λ a ha. tests_two (minus x y) (minus y x) a (go true) (own-minus x y i j) (own-minus y x j i) ha (g true))
-      (λ a ha. splits_below false false (below x y) (below y x) a go (own-below x y i j) (own-below y x j i) ha g)
-  splits Unequal x y st go i j h g =
-      forks st _ _ h (λ a ha. tests (below x y) a (go true) (own-below x y i j) ha (g true))
-      (λ a ha. forks a _ _ ha (λ b hb. tests (below y x) b (go true) (own-below y x j i) hb (g true)) (λ b hb. tests_two (minus x y) (minus y x) b (go false) (own-minus x y i j) (own-minus y x j i) hb (g false)))
+  splits : (w : Bool) (r : Relation) (x y : Fact) (st : State E) (go : Outcomes E) → IsOwn x → IsOwn y → HasOwn st → GoesEither go → IsOwnTree (split s w r x y st go)
+  splits w Less x y st go i j h g = splits_below w true false (below x y) (minus x y) st go (own-below x y i j) (own-minus x y i j) h g
+  splits w AtMost x y st go i j h g = splits_below w true false (minus y x) (below y x) st go (own-minus y x j i) (own-below y x j i) h g
+  splits w More x y st go i j h g = splits_below w true false (below y x) (minus y x) st go (own-below y x j i) (own-minus y x j i) h g
+  splits w AtLeast x y st go i j h g = splits_below w true false (minus x y) (below x y) st go (own-minus x y i j) (own-below x y i j) h g
+  splits w Equal x y st go i j h g =
+      forks st _ _ h (λ a ha. tests_two s.is_wide (minus x y) (minus y x) a (go true) (own-minus x y i j) (own-minus y x j i) ha (g true))
+      (λ a ha. splits_below s.is_wide false false (below x y) (below y x) a go (own-below x y i j) (own-below y x j i) ha g)
+  splits w Unequal x y st go i j h g =
+      forks st _ _ h (λ a ha. tests s.is_wide (below x y) a (go true) (own-below x y i j) ha (g true))
+      (λ a ha. forks a _ _ ha (λ b hb. tests s.is_wide (below y x) b (go true) (own-below y x j i) hb (g true)) (λ b hb. tests_two s.is_wide (minus x y) (minus y x) b (go false) (own-minus x y i j) (own-minus y x j i) hb (g false)))
 
   splits_number : (f : Fact) (st : State E) (go : Outcomes E) → IsOwn f → HasOwn st → GoesEither go → IsOwnTree (split_number s f st go)
   splits_number f st go i h g =
-      forks st _ _ h (λ a ha. tests (minus f (constant (pos 1))) a (go true) (own-minus f (constant (pos 1)) i tt) ha (g true))
-      (λ a ha. forks a _ _ ha (λ b hb. tests (minus (constant (negsuc 0)) f) b (go true) (own-minus (constant (negsuc 0)) f tt i) hb (g true))
-      (λ b hb. tests_two f (multiple (negsuc 0) f) b (go false) i (own-multiple (negsuc 0) f i) hb (g false)))
+      forks st _ _ h (λ a ha. tests s.is_wide (minus f (constant (pos 1))) a (go true) (own-minus f (constant (pos 1)) i tt) ha (g true))
+      (λ a ha. forks a _ _ ha (λ b hb. tests s.is_wide (minus (constant (negsuc 0)) f) b (go true) (own-minus (constant (negsuc 0)) f tt i) hb (g true))
+      (λ b hb. tests_two s.is_wide f (multiple (negsuc 0) f) b (go false) i (own-multiple (negsuc 0) f i) hb (g false)))
 
   products : (ts us : Terms) (f k : Fact) (st : State E) (go : Fact → State E → Tree E) → IsOwn f → IsOwn k → HasOwn st → GoesOn go → IsOwnTree (product s ts us f k st go)
   products ts [] f k st go i j h g = g (multiple k.constant f) st (own-multiple k.constant f i) h
   products [] (u ∷ us) f k st go i j h g = g (multiple f.constant k) st (own-multiple f.constant k j) h
-  products (t ∷ ts) (u ∷ us) f k st go i j h g = invents _ st go h g
-
-  quotients : (k : Kind) (x : Fact) (c : ℤ) (st : State E) (go : (q r : Fact) → State E → Tree E) → IsOwn x → HasOwn st → ((q r : Fact) (st' : State E) → IsOwn q → IsOwn r → HasOwn st' → IsOwnTree (go q r st')) → IsOwnTree (quotient s k x c st go)
-  unfolding IsOwnTree
-  quotients k x c st go i h g =
-      let on : Fact → State E → Tree E = λ q st'. Know (left_over x c q) (Know (minus (constant (c -ℤ pos 1)) (left_over x c q)) (go q (left_over x c q) st')) in
-      invents (any_of s.domain k) st on h (λ q st' j h'.
-      let r = own-minus x (multiple c q) i (own-multiple c q j) in
-      (r, (own-minus (constant (c -ℤ pos 1)) (left_over x c q) tt r, g q (left_over x c q) st' j r h')))
+  products (t ∷ ts) (u ∷ us) f k st go i j h g = invents s _ st go h g
 
   divides : (b : Bool) (k : Kind) (x y : Fact) (st : State E) (go : Fact → State E → Tree E) → IsOwn x → HasOwn st → GoesOn go → IsOwnTree (divided s b k x y st go)
-  divides true k x y st go i h g = quotients k x y.constant st _ i h (λ q r st' j l h'. g q st' j h')
-  divides false k x y st go i h g = invents _ st go h g
+  divides true k x y st go i h g = quotients s k x y.constant st _ i h (λ q r st' j l h'. g q st' j h')
+  divides false k x y st go i h g = invents s _ st go h g
 
   remains : (b : Bool) (k : Kind) (x y : Fact) (st : State E) (go : Fact → State E → Tree E) → IsOwn x → HasOwn st → GoesOn go → IsOwnTree (remaining s b k x y st go)
-  remains true k x y st go i h g = quotients k x y.constant st _ i h (λ q r st' j l h'. g r st' l h')
-  remains false k x y st go i h g = invents _ st go h g
+  remains true k x y st go i h g = leaves_by s k x y.constant st go i h g
+  remains false k x y st go i h g = invents s _ st go h g
 
   masks_by : (b : Bool) (k : Kind) (x y : Fact) (st : State E) (go : Fact → State E → Tree E) → HasOwn st → GoesOn go → IsOwnTree (masked_by s b k x y st go)
-  masks_by true k x y st go h g = invents _ st go h g
-  masks_by false k x y st go h g = invents _ st go h g
+  masks_by true k x y st go h g = invents s _ st go h g
+  masks_by false k x y st go h g = invents s _ st go h g
 
-  masks : (b : Bool) (k : Kind) (x y : Fact) (st : State E) (go : Fact → State E → Tree E) → IsOwn x → HasOwn st → GoesOn go → IsOwnTree (masked s b k x y st go)
-  masks true k x y st go i h g = quotients k x (y.constant +ℤ pos 1) st _ i h (λ q r st' j l h'. g r st' l h')
-  masks false k x y st go i h g = masks_by (are_from_zero s st x y) k x y st go h g
+  meets : (b : Bool) (k : Kind) (x y : Fact) (st : State E) (go : Fact → State E → Tree E) → IsOwn x → IsOwn y → HasOwn st → GoesOn go → IsOwnTree (cond b (meet s k x y st go) (masked_by s (are_from_zero s st x y) k x y st go))
+  meets true k x y st go i j h g = own_meet s k x y st go i j h g
+  meets false k x y st go i j h g = masks_by (are_from_zero s st x y) k x y st go h g
+
+  masks : (b : Bool) (k : Kind) (x y : Fact) (st : State E) (go : Fact → State E → Tree E) → IsOwn x → IsOwn y → HasOwn st → GoesOn go → IsOwnTree (masked s b k x y st go)
+  masks true k x y st go i j h g = leaves_by s k x (y.constant +ℤ pos 1) st go i h g
+  masks false k x y st go i j h g = meets s.is_wide k x y st go i j h g
 
   claims_quotient : (k : Kind) (x y : Fact) (st : State E) (go : State E → Tree E) → HasOwn st → ((a : State E) → HasOwn a → IsOwnTree (go a)) → IsOwnTree (claim_quotient s k x y st go)
   unfolding IsOwnTree
@@ -162,22 +118,66 @@ module _ {E : Type 0} (s : Setting E) where
   unfolding IsOwnTree
   claims_divisor k x y st go h g = claims_quotient k x y (claimed_once st) go h g
 
+  asks : (b : Bool) (k : Kind) (x y : Fact) (st : State E) (go : Bool → State E → Tree E) → HasOwn st → GoesEither go →
+      IsOwnTree (cond b (claim_form s (OfRange Uint) (s.has_entry (st.claims + 1)) x st (λ st'. go (s.has_entry (st.claims + 1)) st')) (go (is_exact s st k x y) st))
+  unfolding IsOwnTree
+  asks true k x y st go h g = g (s.has_entry (st.claims + 1)) (claimed_once st) h
+  asks false k x y st go h g = g (is_exact s st k x y) st h
+
+  claims_dividend : (k : Kind) (x y : Fact) (st : State E) (go : Bool → State E → Tree E) → HasOwn st → GoesEither go → IsOwnTree (claim_dividend s k x y st go)
+  claims_dividend k x y st go h g = asks (asks_dividend s st k x y) k x y st go h g
+
+  -- one of two trees
+  one_of : (b : Bool) (t u : Tree E) → IsOwnTree t → IsOwnTree u → IsOwnTree (cond b t u)
+  one_of true t u i j = i
+  one_of false t u i j = j
+
+  operates : (op : Operator) (k : Kind) (x y : Fact) (st : State E) (go : Onward E) → IsOwn x → IsOwn y → HasOwn st → GoesOnBy go → IsOwnTree (operate s op k x y st go)
+  operates Add k x y st go i j h g = ranges k (sum x y) st go (own-sum x y i j) h g
+  operates Subtract k x y st go i j h g = ranges k (minus x y) st go (own-minus x y i j) h g
+  operates Multiply k x y st go i j h g = products x.terms y.terms x y st _ i j h (λ f st' l h'. ranges k f st' go l h' g)
+  operates Divide k x y st go i j h g = claims_divisor k x y st _ h (λ a ha. claims_dividend k x y a _ ha (λ b st' h'. divides b k x y st' _ i h' (λ f st'' l h''. g (value k f) st'' l h'')))
+  operates Remainder k x y st go i j h g = claims_divisor k x y st _ h (λ a ha. claims_dividend k x y a _ ha (λ b st' h'. remains b k x y st' _ i h' (λ f st'' l h''. g (value k f) st'' l h'')))
+  operates BitAnd k x y st go i j h g = masks (is_mask s.is_wide k y) k x y st _ i j h (λ f st' l h'. g (value k f) st' l h')
+  operates BitOr k x y st go i j h g =
+      let on : Fact → State E → Tree E = λ f st'. go (value k f) st' in
+      one_of s.is_wide (join s k x y st on) (unknown s k st go) (own_join s k x y st on i j h (λ f st' l h'. g (value k f) st' l h')) (unknowns k st go h g)
+  operates BitXor k x y st go i j h g =
+      let on : Fact → State E → Tree E = λ f st'. go (value k f) st' in
+      one_of s.is_wide (differ s k x y st on) (unknown s k st go) (own_differ s k x y st on i j h (λ f st' l h'. g (value k f) st' l h')) (unknowns k st go h g)
+
+  either : (b : Bool) (f k : Fact) → IsOwn f → IsOwn k → IsOwn (cond b f k)
+  either true f k i j = i
+  either false f k i j = j
+
+  -- an operand that is a number
+  own-one : (low high : Option ℤ) (f : Fact) → IsOwn f → IsOwn (one_number low high f)
+  own-one None high f i = i
+  own-one (Some low) None f i = i
+  own-one (Some low) (Some high) f i = either (int_eq low high) (constant low) f tt i
+
+  own-known : (st : State E) (f : Fact) → IsOwn f → IsOwn (known_form s st f)
+  own-known st f i = either s.is_wide (one_number (bounds_of s st f).low (bounds_of s st f).high f) f (own-one (bounds_of s st f).low (bounds_of s st f).high f i) i
+
+  of_known : (op : Operator) (k : Kind) (x y : Fact) (st : State E) (go : Onward E) → IsOwn x → IsOwn y → HasOwn st → GoesOnBy go → IsOwnTree (known_operands s op k x y st go)
+  of_known op k x y st go i j h g = operates op k (known_form s st x) (known_form s st y) st go (own-known st x i) (own-known st y j) h g
+
   binaries : (op : Operator) (k : Kind) (x y : Fact) (st : State E) (go : Onward E) → IsOwn x → IsOwn y → HasOwn st → GoesOnBy go → IsOwnTree (binary s op k x y st go)
-  binaries Add k x y st go i j h g = ranges k (sum x y) st go (own-sum x y i j) h g
-  binaries Subtract k x y st go i j h g = ranges k (minus x y) st go (own-minus x y i j) h g
-  binaries Multiply k x y st go i j h g = products x.terms y.terms x y st _ i j h (λ f st' l h'. ranges k f st' go l h' g)
-  binaries Divide k x y st go i j h g = claims_divisor k x y st _ h (λ a ha. divides (is_exact s a x y) k x y a _ i ha (λ f st' l h'. g (value k f) st' l h'))
-  binaries Remainder k x y st go i j h g = claims_divisor k x y st _ h (λ a ha. remains (is_exact s a x y) k x y a _ i ha (λ f st' l h'. g (value k f) st' l h'))
-  binaries BitAnd k x y st go i j h g = masks (is_mask k y) k x y st _ i h (λ f st' l h'. g (value k f) st' l h')
-  binaries BitOr k x y st go i j h g = unknowns k st go h g
-  binaries BitXor k x y st go i j h g = unknowns k st go h g
+  binaries Add k x y st go i j h g = operates Add k x y st go i j h g
+  binaries Subtract k x y st go i j h g = operates Subtract k x y st go i j h g
+  binaries Multiply k x y st go i j h g = of_known Multiply k x y st go i j h g
+  binaries Divide k x y st go i j h g = of_known Divide k x y st go i j h g
+  binaries Remainder k x y st go i j h g = of_known Remainder k x y st go i j h g
+  binaries BitAnd k x y st go i j h g = of_known BitAnd k x y st go i j h g
+  binaries BitOr k x y st go i j h g = of_known BitOr k x y st go i j h g
+  binaries BitXor k x y st go i j h g = of_known BitXor k x y st go i j h g
 
   own-complement : (k : Kind) (f : Fact) → IsOwn f → IsOwn (complement k f)
   own-complement Int f i = own-minus (constant (negsuc 0)) f tt i
   own-complement Uint f i = own-minus (constant (pos 4294967295)) f tt i
 
   shifts : (from to : Kind) (f : Fact) (by : ℕ) (st : State E) (go : Onward E) → IsOwn f → HasOwn st → GoesOnBy go → IsOwnTree (shifted s from to f by st go)
-  shifts Uint k f by st go i h g = quotients k f (pos (2 ^ by)) st _ i h (λ q r st' j l h'. g (value k q) st' j h')
+  shifts Uint k f by st go i h g = quotients s k f (pos (2 ^ by)) st _ i h (λ q r st' j l h'. g (value k q) st' j h')
   shifts Int k f by st go i h g = unknowns k st go h g
 
   unaries : (op : UnaryOperator) (k : Kind) (x : Value) (st : State E) (go : Onward E) → IsOwnValue x → HasOwn st → GoesOnBy go → IsOwnTree (unary s op k x st go)
@@ -185,10 +185,6 @@ module _ {E : Type 0} (s : Setting E) where
   unaries Complement k x st go i h g = ranges k (complement k x.form) st go (own-complement k x.form i) h g
   unaries (ShiftLeft by) k x st go i h g = ranges k (multiple (pos (2 ^ by)) x.form) st go (own-multiple (pos (2 ^ by)) x.form i) h g
   unaries (ShiftRight by) k x st go i h g = shifts x.kind k x.form by st go i h g
-
-  either : (b : Bool) (f k : Fact) → IsOwn f → IsOwn k → IsOwn (cond b f k)
-  either true f k i j = i
-  either false f k i j = j
 
   own-outside : (f : Function) → IsOwn (id_outside f)
   own-outside GlobalId = tt
@@ -216,7 +212,7 @@ module _ {E : Type 0} (s : Setting E) where
   accesses_on b a site i st go j h g = (j, g (claimed_once (claimed_once (at_site site st))) h)
 
   picks : (x y second first : Value) (st : State E) (go : Onward E) → IsOwnValue x → IsOwnValue y → IsOwnValue second → IsOwnValue first → HasOwn st → GoesOnBy go → IsOwnTree (pick s x y second first st go)
-  picks x y second first st go i j k l h g = splits Less x.form y.form st _ i j h (λ b a ha. g (chosen b second first) a (of b) ha)
+  picks x y second first st go i j k l h g = splits s.is_wide Less x.form y.form st _ i j h (λ b a ha. g (chosen b second first) a (of b) ha)
     where
       of : (b : Bool) → IsOwnValue (chosen b second first)
       of true = k
@@ -249,7 +245,7 @@ module _ {E : Type 0} (s : Setting E) where
       brings_both k x y (at_site site st2) _ i j h2 (λ v w st3 p q h3. binaries op k v.form w.form st3 go p q h3 g))))
   own (Convert k site e) = of_value _ (λ st go h g. (own e).as_value st _ h (λ x st1 i h1. brings_from k x.kind x.form (at_site site st1) go i h1 g))
   own (Compare r k a b) = of_test _ (λ st go h g. (own a).as_value st _ h (λ x st1 i h1. (own b).as_value st1 _ h1 (λ y st2 j h2.
-      brings_both k x y st2 _ i j h2 (λ v w st3 p q h3. splits r v.form w.form st3 go p q h3 g))))
+      brings_both k x y st2 _ i j h2 (λ v w st3 p q h3. splits false r v.form w.form st3 go p q h3 g))))
   own (Not e) = of_test _ (λ st go h g. (own e).as_test st _ h (λ b st1 h1. g (not b) st1 h1))
   own (And a b) = of_test _ (λ st go h g. (own a).as_test st _ h (λ t st1 h1. selects t _ _ ((own b).as_test st1 go h1 g) (g false st1 h1)))
   own (Or a b) = of_test _ (λ st go h g. (own a).as_test st _ h (λ t st1 h1. selects t _ _ (g true st1 h1) ((own b).as_test st1 go h1 g)))

@@ -1,22 +1,24 @@
 -- Tests: the way of the outcome is gone along, its facts hold, and it is no dead one.
-use Rattle.std.proofs.Common.{◌≡◌, ℕ, Bool, true, false, not, ◌&&◌, List, [], ◌∷◌, arith, refl, sym, ap, ◌∙◌}
+use Rattle.std.proofs.Common.{◌≡◌, ℕ, Bool, true, false, not, ◌&&◌, ◌||◌, Option, Some, None, inl, inr, List, [], ◌∷◌, arith, refl, sym, ap, ◌∙◌}
 use Rattle.std.specs.Prelude.{ℤ, pos, negsuc, ◌-ℤ◌, ◌*ℤ◌, ◌≤ℤ◌, ◌<ℤ◌, int_lt, int_le}
 use Rattle.std.specs.Ordering.{int_eq}
 use Rattle.std.proofs.lemmas.Int.{ints, by_lt_z}
-use Rattle.std.proofs.lemmas.Bool.{and_parts}
+use Rattle.std.proofs.lemmas.Bool.{and_parts, or_cases}
 use Rattle.std.proofs.lemmas.Bool.Decides.{Decides-int_eq}
 use Rattle.semantics.specs.Word.{Relation, Less, AtMost, More, AtLeast, Equal, Unequal, holds, is_zero}
 use Rattle.linear.specs.Linear.{Weighted, terms_value, value_of}
-use Rattle.linear.specs.Exact.{multiple, fits_i64}
+use Rattle.linear.specs.Exact.{multiple, fits, fits_i64}
+use Rattle.domain.specs.Members.{is_above, is_below}
 use Rattle.facts.specs.Symbols.{Fact, constant, minus}
-use Rattle.facts.proofs.Integers.{le_true, lt_true, lt_test}
+use Rattle.facts.specs.Elements.{is_below_zero}
+use Rattle.facts.proofs.Integers.{le_true, lt_true, le_test, lt_test}
 use Rattle.facts.proofs.Members.{by_number}
 use Rattle.facts.proofs.Worlds.{View, Agrees, own, agrees_itself}
 use Rattle.walk_trees.specs.Held.{narrow}
 use Rattle.walk_trees.specs.Trees.{Tree}
-use Rattle.walk_trees.specs.Walks.{State, counted, holding, fork, is_none, is_number, is_dead, unless_dead, know_test, know_two}
+use Rattle.walk_trees.specs.Walks.{State, element_of, bounds_of, counted, holding, fork, is_none, is_number, is_dead, unless_dead, is_refuted, know_test, know_two}
 use Rattle.walk_trees.specs.Tests.{Outcomes, below, split_below, split, split_number}
-use Rattle.walk_trees.proofs.Holding.{known_of}
+use Rattle.walk_trees.proofs.Holding.{known_of, IsHeld, form-has}
 use Rattle.walk_trees.proofs.Standing.{walks, Stands, Comes, over_fact, over_first, over_second, past_fact, narrowed, past_first, past_second, at_once, comes_from, onward, restated, owns}
 use Rattle.walk_trees.proofs.Ranges.{IsForm, form_kept, form_constant, form-multiple, form-minus}
 
@@ -63,23 +65,40 @@ module _ {E : Type 0} (c : View E) (launch : List Fact) where
       let l = lt_test f.constant (pos 0) q.1 in
       omega (arith, ints, k, l, h)
 
+  -- elements refute no form that is at least 0
+  at_most_below : (o : Option ℤ) (z : ℤ) → is_below_zero o ≡ true → is_below o z ≡ true → pos 0 ≤ℤ z → ⊥
+  at_most_below None z e b h = cc
+  at_most_below (Some high) z e b h = omega (arith, ints, lt_test high (pos 0) e, le_test z high b, h)
+
+  is_possible : {news : List ℤ} (f : Fact) (z : ℤ) (st : State E) → IsForm c news f z → pos 0 ≤ℤ z → IsHeld c news st.held → is_refuted (walks c) f st ≡ true → ⊥
+  is_possible {news = news} f z st m h k e =
+      let b = bounds_of (walks c) st f in
+      let p = and_parts (fits f) (is_below_zero b.high) e in
+      at_most_below b.high z p.1 (and_parts (is_above b.low z) (is_below b.high z) (c.lawful.bounds (element_of (walks c) st f) z (form-has c news st.held f z k m.means))).1 h
+
+  goes_on_here : {news : List ℤ} (w : Bool) (f : Fact) (z : ℤ) (st : State E) → IsForm c news f z → pos 0 ≤ℤ z → IsHeld c news st.held → ((w && is_refuted (walks c) f st) || is_dead f) ≡ true → ⊥
+  goes_on_here w f z st m h k e = elim (or_cases (w && is_refuted (walks c) f st) (is_dead f) e) [
+    | inl o ↦ is_possible f z st m h k (and_parts w (is_refuted (walks c) f st) o).1
+    | inr o ↦ is_alive f z m h o
+  ]
+
   -- a fact of a test that holds
-  pub know_sound : {A : Type 0} {facts : List Fact} {n : ℕ} {news : List ℤ} (f : Fact) (z : ℤ) (st : State E) (x : A) (go : A → State E → Tree E) → IsForm c news f z → pos 0 ≤ℤ z → Stands c launch facts n (know_test (walks c) f st (go x)) news st.held → Comes c launch facts n (know_test (walks c) f st (go x)) go news (owns st) (λ more y. y ≡ x)
-  know_sound {facts = facts} {n = n} {news = news} f z st x go m h s = by (is_dead f) refl s
+  pub know_sound : {A : Type 0} (w : Bool) {facts : List Fact} {n : ℕ} {news : List ℤ} (f : Fact) (z : ℤ) (st : State E) (x : A) (go : A → State E → Tree E) → IsForm c news f z → pos 0 ≤ℤ z → Stands c launch facts n (know_test (walks c) w f st (go x)) news st.held → Comes c launch facts n (know_test (walks c) w f st (go x)) go news (owns st) (λ more y. y ≡ x)
+  know_sound w {facts = facts} {n = n} {news = news} f z st x go m h s = by ((w && is_refuted (walks c) f st) || is_dead f) refl s
     where
       next : State E
       next = holding (narrow c.domain (known_of c) f st.held) st
 
-      by : (b : Bool) → is_dead f ≡ b → Stands c launch facts n (unless_dead b f (go x (holding (narrow c.domain (known_of c) f st.held) st))) news st.held → Comes c launch facts n (unless_dead b f (go x (holding (narrow c.domain (known_of c) f st.held) st))) go news (owns st) (λ more y. y ≡ x)
-      by true e s = absurd (is_alive f z m h e)
+      by : (b : Bool) → ((w && is_refuted (walks c) f st) || is_dead f) ≡ b → Stands c launch facts n (unless_dead b f (go x (holding (narrow c.domain (known_of c) f st.held) st))) news st.held → Comes c launch facts n (unless_dead b f (go x (holding (narrow c.domain (known_of c) f st.held) st))) go news (owns st) (λ more y. y ≡ x)
+      by true e s = absurd (goes_on_here w f z st m h s.fit e)
       by false e s =
           let met : (v : ℕ → ℤ) → Agrees c news v → pos 0 ≤ℤ value_of v f = λ v a. omega (arith, ints, m.means v a, h) in
           comes_from c launch (over_fact c launch) (at_once c launch go (λ more y. y ≡ x) x (holding (narrow c.domain (known_of c) f st.held) st) refl (past_fact c launch met (narrowed c launch f m.rising met s)))
 
-  know_two_sound : {A : Type 0} {facts : List Fact} {n : ℕ} {news : List ℤ} (f g : Fact) (y z : ℤ) (st : State E) (x : A) (go : A → State E → Tree E) → IsForm c news f y → pos 0 ≤ℤ y → IsForm c news g z → pos 0 ≤ℤ z → Stands c launch facts n (know_two (walks c) f g st (go x)) news st.held → Comes c launch facts n (know_two (walks c) f g st (go x)) go news (owns st) (λ more t. t ≡ x)
-  know_two_sound f g y z st x go mf hf mg hg s =
-      let p = know_sound f y st x (λ t st'. know_test (walks c) g st' (go t)) mf hf s in
-      let q = know_sound g z p.state p.arrived go (form_kept c p.way.kept mg) hg p.stands in
+  know_two_sound : {A : Type 0} (w : Bool) {facts : List Fact} {n : ℕ} {news : List ℤ} (f g : Fact) (y z : ℤ) (st : State E) (x : A) (go : A → State E → Tree E) → IsForm c news f y → pos 0 ≤ℤ y → IsForm c news g z → pos 0 ≤ℤ z → Stands c launch facts n (know_two (walks c) w f g st (go x)) news st.held → Comes c launch facts n (know_two (walks c) w f g st (go x)) go news (owns st) (λ more t. t ≡ x)
+  know_two_sound w f g y z st x go mf hf mg hg s =
+      let p = know_sound w f y st x (λ t st'. know_test (walks c) w g st' (go t)) mf hf s in
+      let q = know_sound w g z p.state p.arrived go (form_kept c p.way.kept mg) hg p.stands in
       onward c launch p (restated c launch (λ more t kept e. e ∙ p.right) q)
 
   -- the first way of a fork, or the second one
@@ -90,13 +109,13 @@ module _ {E : Type 0} (c : View E) (launch : List Fact) where
   fork_second st first second go P s later = comes_from c launch (over_second c launch) (later _ (past_second c launch s))
 
   -- one is below the other, or not
-  split_below_first : {facts : List Fact} {n : ℕ} {news : List ℤ} (first otherwise : Bool) (f g : Fact) (z : ℤ) (st : State E) (go : Outcomes E) → IsForm c news f z → pos 0 ≤ℤ z → Stands c launch facts n (split_below (walks c) first otherwise f g st go) news st.held → Comes c launch facts n (split_below (walks c) first otherwise f g st go) go news (owns st) (λ more t. t ≡ first)
-  split_below_first first otherwise f g z st go m h s =
-      fork_first st (λ a. know_test (walks c) f a (go first)) (λ a. know_test (walks c) g a (go otherwise)) go (λ more t. t ≡ first) s (know_sound f z st first go m h)
+  split_below_first : (w : Bool) {facts : List Fact} {n : ℕ} {news : List ℤ} (first otherwise : Bool) (f g : Fact) (z : ℤ) (st : State E) (go : Outcomes E) → IsForm c news f z → pos 0 ≤ℤ z → Stands c launch facts n (split_below (walks c) w first otherwise f g st go) news st.held → Comes c launch facts n (split_below (walks c) w first otherwise f g st go) go news (owns st) (λ more t. t ≡ first)
+  split_below_first w first otherwise f g z st go m h s =
+      fork_first st (λ a. know_test (walks c) w f a (go first)) (λ a. know_test (walks c) w g a (go otherwise)) go (λ more t. t ≡ first) s (know_sound w f z st first go m h)
 
-  split_below_other : {facts : List Fact} {n : ℕ} {news : List ℤ} (first otherwise : Bool) (f g : Fact) (z : ℤ) (st : State E) (go : Outcomes E) → IsForm c news g z → pos 0 ≤ℤ z → Stands c launch facts n (split_below (walks c) first otherwise f g st go) news st.held → Comes c launch facts n (split_below (walks c) first otherwise f g st go) go news (owns st) (λ more t. t ≡ otherwise)
-  split_below_other first otherwise f g z st go m h s =
-      fork_second st (λ a. know_test (walks c) f a (go first)) (λ a. know_test (walks c) g a (go otherwise)) go (λ more t. t ≡ otherwise) s (λ k. know_sound g z (counted k st) otherwise go m h)
+  split_below_other : (w : Bool) {facts : List Fact} {n : ℕ} {news : List ℤ} (first otherwise : Bool) (f g : Fact) (z : ℤ) (st : State E) (go : Outcomes E) → IsForm c news g z → pos 0 ≤ℤ z → Stands c launch facts n (split_below (walks c) w first otherwise f g st go) news st.held → Comes c launch facts n (split_below (walks c) w first otherwise f g st go) go news (owns st) (λ more t. t ≡ otherwise)
+  split_below_other w first otherwise f g z st go m h s =
+      fork_second st (λ a. know_test (walks c) w f a (go first)) (λ a. know_test (walks c) w g a (go otherwise)) go (λ more t. t ≡ otherwise) s (λ k. know_sound w g z (counted k st) otherwise go m h)
 
   form_below : {news : List ℤ} (f g : Fact) (x y : ℤ) → IsForm c news f x → IsForm c news g y → IsForm c news (below f g) ((y -ℤ x) -ℤ pos 1)
   form_below {news = news} f g x y mf mg = form-minus c (minus g f) (constant (pos 1)) (y -ℤ x) (pos 1) _ (form-minus c g f y x (y -ℤ x) mg mf (omega (arith, ints))) (form_constant c news (pos 1)) (omega (arith, ints))
@@ -105,49 +124,49 @@ module _ {E : Type 0} (c : View E) (launch : List Fact) where
   form_from f g x y mf mg = form-minus c f g x y (x -ℤ y) mf mg (omega (arith, ints))
 
   -- a comparison
-  pub split_sound : (r : Relation) {facts : List Fact} {n : ℕ} {news : List ℤ} (f g : Fact) (x y : ℤ) (st : State E) (go : Outcomes E) → IsForm c news f x → IsForm c news g y → Stands c launch facts n (split (walks c) r f g st go) news st.held → Comes c launch facts n (split (walks c) r f g st go) go news (owns st) (λ more t. t ≡ holds r x y)
-  split_sound Less f g x y st go mf mg s = by_lt_z x y
-      (λ l. restated c launch (λ more t kept e. e ∙ sym (lt_true x y l)) (split_below_first true false (below f g) (minus f g) ((y -ℤ x) -ℤ pos 1) st go (form_below f g x y mf mg) (omega (arith, ints, l)) s))
-      (λ l. restated c launch (λ more t kept e. e ∙ sym (int_lt-not x y l)) (split_below_other true false (below f g) (minus f g) (x -ℤ y) st go (form_from f g x y mf mg) (omega (arith, ints, l)) s))
-  split_sound AtMost f g x y st go mf mg s = by_lt_z y x
-      (λ l. restated c launch (λ more t kept e. e ∙ sym (int_le-not x y l)) (split_below_other true false (minus g f) (below g f) ((x -ℤ y) -ℤ pos 1) st go (form_below g f y x mg mf) (omega (arith, ints, l)) s))
-      (λ l. restated c launch (λ more t kept e. e ∙ sym (le_true x y l)) (split_below_first true false (minus g f) (below g f) (y -ℤ x) st go (form_from g f y x mg mf) (omega (arith, ints, l)) s))
-  split_sound More f g x y st go mf mg s = by_lt_z y x
-      (λ l. restated c launch (λ more t kept e. e ∙ sym (lt_true y x l)) (split_below_first true false (below g f) (minus g f) ((x -ℤ y) -ℤ pos 1) st go (form_below g f y x mg mf) (omega (arith, ints, l)) s))
-      (λ l. restated c launch (λ more t kept e. e ∙ sym (int_lt-not y x l)) (split_below_other true false (below g f) (minus g f) (y -ℤ x) st go (form_from g f y x mg mf) (omega (arith, ints, l)) s))
-  split_sound AtLeast f g x y st go mf mg s = by_lt_z x y
-      (λ l. restated c launch (λ more t kept e. e ∙ sym (int_le-not y x l)) (split_below_other true false (minus f g) (below f g) ((y -ℤ x) -ℤ pos 1) st go (form_below f g x y mf mg) (omega (arith, ints, l)) s))
-      (λ l. restated c launch (λ more t kept e. e ∙ sym (le_true y x l)) (split_below_first true false (minus f g) (below f g) (x -ℤ y) st go (form_from f g x y mf mg) (omega (arith, ints, l)) s))
-  split_sound Equal f g x y st go mf mg s =
-      let first : State E → Tree E = λ a. know_two (walks c) (minus f g) (minus g f) a (go true) in
-      let second : State E → Tree E = λ a. split_below (walks c) false false (below f g) (below g f) a go in
+  pub split_sound : (w : Bool) (r : Relation) {facts : List Fact} {n : ℕ} {news : List ℤ} (f g : Fact) (x y : ℤ) (st : State E) (go : Outcomes E) → IsForm c news f x → IsForm c news g y → Stands c launch facts n (split (walks c) w r f g st go) news st.held → Comes c launch facts n (split (walks c) w r f g st go) go news (owns st) (λ more t. t ≡ holds r x y)
+  split_sound w Less f g x y st go mf mg s = by_lt_z x y
+      (λ l. restated c launch (λ more t kept e. e ∙ sym (lt_true x y l)) (split_below_first w true false (below f g) (minus f g) ((y -ℤ x) -ℤ pos 1) st go (form_below f g x y mf mg) (omega (arith, ints, l)) s))
+      (λ l. restated c launch (λ more t kept e. e ∙ sym (int_lt-not x y l)) (split_below_other w true false (below f g) (minus f g) (x -ℤ y) st go (form_from f g x y mf mg) (omega (arith, ints, l)) s))
+  split_sound w AtMost f g x y st go mf mg s = by_lt_z y x
+      (λ l. restated c launch (λ more t kept e. e ∙ sym (int_le-not x y l)) (split_below_other w true false (minus g f) (below g f) ((x -ℤ y) -ℤ pos 1) st go (form_below g f y x mg mf) (omega (arith, ints, l)) s))
+      (λ l. restated c launch (λ more t kept e. e ∙ sym (le_true x y l)) (split_below_first w true false (minus g f) (below g f) (y -ℤ x) st go (form_from g f y x mg mf) (omega (arith, ints, l)) s))
+  split_sound w More f g x y st go mf mg s = by_lt_z y x
+      (λ l. restated c launch (λ more t kept e. e ∙ sym (lt_true y x l)) (split_below_first w true false (below g f) (minus g f) ((x -ℤ y) -ℤ pos 1) st go (form_below g f y x mg mf) (omega (arith, ints, l)) s))
+      (λ l. restated c launch (λ more t kept e. e ∙ sym (int_lt-not y x l)) (split_below_other w true false (below g f) (minus g f) (y -ℤ x) st go (form_from g f y x mg mf) (omega (arith, ints, l)) s))
+  split_sound w AtLeast f g x y st go mf mg s = by_lt_z x y
+      (λ l. restated c launch (λ more t kept e. e ∙ sym (int_le-not y x l)) (split_below_other w true false (minus f g) (below f g) ((y -ℤ x) -ℤ pos 1) st go (form_below f g x y mf mg) (omega (arith, ints, l)) s))
+      (λ l. restated c launch (λ more t kept e. e ∙ sym (le_true y x l)) (split_below_first w true false (minus f g) (below f g) (x -ℤ y) st go (form_from f g x y mf mg) (omega (arith, ints, l)) s))
+  split_sound w Equal f g x y st go mf mg s =
+      let first : State E → Tree E = λ a. know_two (walks c) c.is_wide (minus f g) (minus g f) a (go true) in
+      let second : State E → Tree E = λ a. split_below (walks c) c.is_wide false false (below f g) (below g f) a go in
       elim (order x y) [
-        | IsBelow l ↦ fork_second st first second go (λ more t. t ≡ int_eq x y) s (λ k u. restated c launch (λ more t kept e. e ∙ sym (int_eq-not x y (λ q. omega (arith, ints, q, l)))) (split_below_first false false (below f g) (below g f) ((y -ℤ x) -ℤ pos 1) (counted k st) go (form_below f g x y mf mg) (omega (arith, ints, l)) u))
-        | IsSame q ↦ fork_first st first second go (λ more t. t ≡ int_eq x y) s (λ u. restated c launch (λ more t kept e. e ∙ sym (int_eq-same x y q)) (know_two_sound (minus f g) (minus g f) (x -ℤ y) (y -ℤ x) st true go (form_from f g x y mf mg) (omega (arith, ints, q)) (form_from g f y x mg mf) (omega (arith, ints, q)) u))
-        | IsAbove l ↦ fork_second st first second go (λ more t. t ≡ int_eq x y) s (λ k u. restated c launch (λ more t kept e. e ∙ sym (int_eq-not x y (λ q. omega (arith, ints, q, l)))) (split_below_other false false (below f g) (below g f) ((x -ℤ y) -ℤ pos 1) (counted k st) go (form_below g f y x mg mf) (omega (arith, ints, l)) u))
+        | IsBelow l ↦ fork_second st first second go (λ more t. t ≡ int_eq x y) s (λ k u. restated c launch (λ more t kept e. e ∙ sym (int_eq-not x y (λ q. omega (arith, ints, q, l)))) (split_below_first c.is_wide false false (below f g) (below g f) ((y -ℤ x) -ℤ pos 1) (counted k st) go (form_below f g x y mf mg) (omega (arith, ints, l)) u))
+        | IsSame q ↦ fork_first st first second go (λ more t. t ≡ int_eq x y) s (λ u. restated c launch (λ more t kept e. e ∙ sym (int_eq-same x y q)) (know_two_sound c.is_wide (minus f g) (minus g f) (x -ℤ y) (y -ℤ x) st true go (form_from f g x y mf mg) (omega (arith, ints, q)) (form_from g f y x mg mf) (omega (arith, ints, q)) u))
+        | IsAbove l ↦ fork_second st first second go (λ more t. t ≡ int_eq x y) s (λ k u. restated c launch (λ more t kept e. e ∙ sym (int_eq-not x y (λ q. omega (arith, ints, q, l)))) (split_below_other c.is_wide false false (below f g) (below g f) ((x -ℤ y) -ℤ pos 1) (counted k st) go (form_below g f y x mg mf) (omega (arith, ints, l)) u))
       ]
-  split_sound Unequal f g x y st go mf mg s =
-      let late : State E → Tree E = λ b. know_two (walks c) (minus f g) (minus g f) b (go false) in
-      let above : State E → Tree E = λ b. know_test (walks c) (below g f) b (go true) in
-      let first : State E → Tree E = λ a. know_test (walks c) (below f g) a (go true) in
+  split_sound w Unequal f g x y st go mf mg s =
+      let late : State E → Tree E = λ b. know_two (walks c) c.is_wide (minus f g) (minus g f) b (go false) in
+      let above : State E → Tree E = λ b. know_test (walks c) c.is_wide (below g f) b (go true) in
+      let first : State E → Tree E = λ a. know_test (walks c) c.is_wide (below f g) a (go true) in
       let second : State E → Tree E = λ a. fork a above late in
       let P : List ℤ → Bool → Type 0 = λ more t. t ≡ not (int_eq x y) in
       elim (order x y) [
-        | IsBelow l ↦ fork_first st first second go P s (λ u. restated c launch (λ more t kept e. e ∙ ap not (sym (int_eq-not x y (λ q. omega (arith, ints, q, l))))) (know_sound (below f g) ((y -ℤ x) -ℤ pos 1) st true go (form_below f g x y mf mg) (omega (arith, ints, l)) u))
-        | IsSame q ↦ fork_second st first second go P s (λ k u. fork_second (counted k st) above late go P u (λ j w. restated c launch (λ more t kept e. e ∙ ap not (sym (int_eq-same x y q))) (know_two_sound (minus f g) (minus g f) (x -ℤ y) (y -ℤ x) (counted j (counted k st)) false go (form_from f g x y mf mg) (omega (arith, ints, q)) (form_from g f y x mg mf) (omega (arith, ints, q)) w)))
-        | IsAbove l ↦ fork_second st first second go P s (λ k u. fork_first (counted k st) above late go P u (λ w. restated c launch (λ more t kept e. e ∙ ap not (sym (int_eq-not x y (λ q. omega (arith, ints, q, l))))) (know_sound (below g f) ((x -ℤ y) -ℤ pos 1) (counted k st) true go (form_below g f y x mg mf) (omega (arith, ints, l)) w)))
+        | IsBelow l ↦ fork_first st first second go P s (λ u. restated c launch (λ more t kept e. e ∙ ap not (sym (int_eq-not x y (λ q. omega (arith, ints, q, l))))) (know_sound c.is_wide (below f g) ((y -ℤ x) -ℤ pos 1) st true go (form_below f g x y mf mg) (omega (arith, ints, l)) u))
+        | IsSame q ↦ fork_second st first second go P s (λ k u. fork_second (counted k st) above late go P u (λ j w. restated c launch (λ more t kept e. e ∙ ap not (sym (int_eq-same x y q))) (know_two_sound c.is_wide (minus f g) (minus g f) (x -ℤ y) (y -ℤ x) (counted j (counted k st)) false go (form_from f g x y mf mg) (omega (arith, ints, q)) (form_from g f y x mg mf) (omega (arith, ints, q)) w)))
+        | IsAbove l ↦ fork_second st first second go P s (λ k u. fork_first (counted k st) above late go P u (λ w. restated c launch (λ more t kept e. e ∙ ap not (sym (int_eq-not x y (λ q. omega (arith, ints, q, l))))) (know_sound c.is_wide (below g f) ((x -ℤ y) -ℤ pos 1) (counted k st) true go (form_below g f y x mg mf) (omega (arith, ints, l)) w)))
       ]
 
   -- a number as a test
   pub split_number_sound : {facts : List Fact} {n : ℕ} {news : List ℤ} (f : Fact) (z : ℤ) (st : State E) (go : Outcomes E) → IsForm c news f z → Stands c launch facts n (split_number (walks c) f st go) news st.held → Comes c launch facts n (split_number (walks c) f st go) go news (owns st) (λ more t. t ≡ not (is_zero z))
   split_number_sound {news = news} f z st go m s =
-      let late : State E → Tree E = λ b. know_two (walks c) f (multiple (negsuc 0) f) b (go false) in
-      let under : State E → Tree E = λ b. know_test (walks c) (minus (constant (negsuc 0)) f) b (go true) in
-      let first : State E → Tree E = λ a. know_test (walks c) (minus f (constant (pos 1))) a (go true) in
+      let late : State E → Tree E = λ b. know_two (walks c) c.is_wide f (multiple (negsuc 0) f) b (go false) in
+      let under : State E → Tree E = λ b. know_test (walks c) c.is_wide (minus (constant (negsuc 0)) f) b (go true) in
+      let first : State E → Tree E = λ a. know_test (walks c) c.is_wide (minus f (constant (pos 1))) a (go true) in
       let second : State E → Tree E = λ a. fork a under late in
       let P : List ℤ → Bool → Type 0 = λ more t. t ≡ not (is_zero z) in
       elim (order z (pos 0)) [
-        | IsBelow l ↦ fork_second st first second go P s (λ k u. fork_first (counted k st) under late go P u (λ w. restated c launch (λ more t kept e. e ∙ ap not (sym (int_eq-not z (pos 0) (λ q. omega (arith, ints, q, l))))) (know_sound (minus (constant (negsuc 0)) f) (negsuc 0 -ℤ z) (counted k st) true go (form_from (constant (negsuc 0)) f (negsuc 0) z (form_constant c news (negsuc 0)) m) (omega (arith, ints, l)) w)))
-        | IsSame q ↦ fork_second st first second go P s (λ k u. fork_second (counted k st) under late go P u (λ j w. restated c launch (λ more t kept e. e ∙ ap not (sym (int_eq-same z (pos 0) q))) (know_two_sound f (multiple (negsuc 0) f) z (negsuc 0 *ℤ z) (counted j (counted k st)) false go m (omega (arith, ints, q)) (form-multiple c (negsuc 0) f z m) (omega (arith, ints, q)) w)))
-        | IsAbove l ↦ fork_first st first second go P s (λ u. restated c launch (λ more t kept e. e ∙ ap not (sym (int_eq-not z (pos 0) (λ q. omega (arith, ints, q, l))))) (know_sound (minus f (constant (pos 1))) (z -ℤ pos 1) st true go (form_from f (constant (pos 1)) z (pos 1) m (form_constant c news (pos 1))) (omega (arith, ints, l)) u))
+        | IsBelow l ↦ fork_second st first second go P s (λ k u. fork_first (counted k st) under late go P u (λ w. restated c launch (λ more t kept e. e ∙ ap not (sym (int_eq-not z (pos 0) (λ q. omega (arith, ints, q, l))))) (know_sound c.is_wide (minus (constant (negsuc 0)) f) (negsuc 0 -ℤ z) (counted k st) true go (form_from (constant (negsuc 0)) f (negsuc 0) z (form_constant c news (negsuc 0)) m) (omega (arith, ints, l)) w)))
+        | IsSame q ↦ fork_second st first second go P s (λ k u. fork_second (counted k st) under late go P u (λ j w. restated c launch (λ more t kept e. e ∙ ap not (sym (int_eq-same z (pos 0) q))) (know_two_sound c.is_wide f (multiple (negsuc 0) f) z (negsuc 0 *ℤ z) (counted j (counted k st)) false go m (omega (arith, ints, q)) (form-multiple c (negsuc 0) f z m) (omega (arith, ints, q)) w)))
+        | IsAbove l ↦ fork_first st first second go P s (λ u. restated c launch (λ more t kept e. e ∙ ap not (sym (int_eq-not z (pos 0) (λ q. omega (arith, ints, q, l))))) (know_sound c.is_wide (minus f (constant (pos 1))) (z -ℤ pos 1) st true go (form_from f (constant (pos 1)) z (pos 1) m (form_constant c news (pos 1))) (omega (arith, ints, l)) u))
       ]

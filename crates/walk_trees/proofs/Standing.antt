@@ -25,7 +25,7 @@ use Rattle.walk_trees.proofs.Holding.{known_of, IsHeld, Fits, held_anew, held_na
 
 -- the walk of a kernel under conditions
 abbrev pub walks : {E : Type 0} → View E → Setting E
-walks c = setting c.domain c.kernel c.conditions c.has_entry
+walks c = setting c.domain c.kernel c.conditions c.is_wide c.has_entry
 
 pub has_left : {A : Type 0} (x : A) (a b : List A) → Has x a → Has x (a ++ b)
 has_left x [] b h = absurd h

@@ -19,7 +19,8 @@ use Rattle.walk_trees.specs.Covered.{is_covered_unary, covers_term}
 use Rattle.walk_trees.proofs.Standing.{walks, Stands, Comes, Goes, gives, at_once, onward, arriving, restated, goes_then, goes_further, goes_as, Owns, owns}
 use Rattle.walk_trees.proofs.Ranges.{IsForm, IsValue, value_kept, form_constant, brought_sound, both_sound}
 use Rattle.walk_trees.proofs.Splits.{split_sound, split_number_sound}
-use Rattle.walk_trees.proofs.Arithmetic.{DividesLawfully, Yields, settled_yields, binary_sound, unary_sound}
+use Rattle.walk_trees.proofs.QuotientSound.{DividesLawfully}
+use Rattle.walk_trees.proofs.Arithmetic.{Yields, settled_yields, binary_sound, unary_sound}
 use Rattle.walk_trees.proofs.Identities.{id-below, form_id}
 use Rattle.walk_trees.proofs.Accesses.{load_sound}
 
@@ -144,11 +145,11 @@ module _ {E : Type 0} (c : View E) (launch : List Fact) (laws : DividesLawfully 
 
   -- the second where one is less than another
   picked : {facts : List Fact} {n : ℕ} {news : List ℤ} (x y : Fact) (u v : Word) (p q : Value) (a b : ℤ) (st : State E) (go : Onward E) (rest : List Word) → IsForm c news x a → IsForm c news y b → in_kind u.kind u.value ≡ true → in_kind v.kind v.value ≡ true → IsValue c news u p → IsValue c news v q →
-      Stands c launch facts n (split (walks c) Less x y st (λ t st'. go (chosen t q p) st')) news st.held → Goes c launch facts n (split (walks c) Less x y st (λ t st'. go (chosen t q p) st')) go news (owns st) (ArrivesAsValue c) (Gives (cond (int_lt a b) v u) rest)
+      Stands c launch facts n (split (walks c) c.is_wide Less x y st (λ t st'. go (chosen t q p) st')) news st.held → Goes c launch facts n (split (walks c) c.is_wide Less x y st (λ t st'. go (chosen t q p) st')) go news (owns st) (ArrivesAsValue c) (Gives (cond (int_lt a b) v u) rest)
   picked x y u v p q a b st go rest mx my iu iv mp mq s =
       gives (cond (int_lt a b) v u) rest refl (pick-in (int_lt a b) u v iu iv)
       (arriving c launch go (λ t. chosen t q p) (ArrivesAsValue c (cond (int_lt a b) v u)) (λ more t kept e. pick-is t (int_lt a b) more u v p q e (value_kept c kept mp) (value_kept c kept mq))
-      (split_sound c launch Less x y a b st (λ t st'. go (chosen t q p) st') mx my s))
+      (split_sound c launch c.is_wide Less x y a b st (λ t st'. go (chosen t q p) st') mx my s))
 
   pub term_sound : (e : Term) → covers_term c.spaces e ≡ true → IsSound (walk (walks c) e) (evaluate (setup c) c.item e)
   unfolding evaluate
@@ -192,10 +193,10 @@ module _ {E : Type 0} (c : View E) (launch : List Fact) (laws : DividesLawfully 
       let ta = term_sound a p.0 in
       let tb = term_sound b p.1 in
       truth_sound _ (evaluate (setup c) c.item (Compare r k a b)) (λ facts n news st go vars answers m s.
-      pair_sound (walk (walks c) a) (walk (walks c) b) (evaluate (setup c) c.item a) (evaluate (setup c) c.item b) ta tb facts n news st (λ x y st2. both_brought (walks c) k x y st2 (λ x' y' st3. split (walks c) r x'.form y'.form st3 go)) go ArrivesAsTruth (λ u v rest. Gives (truth (compare r k u v)) rest) vars answers m
+      pair_sound (walk (walks c) a) (walk (walks c) b) (evaluate (setup c) c.item a) (evaluate (setup c) c.item b) ta tb facts n news st (λ x y st2. both_brought (walks c) k x y st2 (λ x' y' st3. split (walks c) false r x'.form y'.form st3 go)) go ArrivesAsTruth (λ u v rest. Gives (truth (compare r k u v)) rest) vars answers m
       (λ path j more st2 x y u v rest iu iv mx my s'.
-      let q = both_sound c launch k u v x y st2 (λ x' y' st3. split (walks c) r x'.form y'.form st3 go) iu iv mx my s' in
-      let t = split_sound c launch r q.arrived.0.form q.arrived.1.form (as_kind k u.value) (as_kind k v.value) q.state go q.right.0.form q.right.1.form q.stands in
+      let q = both_sound c launch k u v x y st2 (λ x' y' st3. split (walks c) false r x'.form y'.form st3 go) iu iv mx my s' in
+      let t = split_sound c launch false r q.arrived.0.form q.arrived.1.form (as_kind k u.value) (as_kind k v.value) q.state go q.right.0.form q.right.1.form q.stands in
       gives (truth (compare r k u v)) rest refl (truth-in (compare r k u v)) (onward c launch q (restated c launch (λ more b kept e. ap truth (sym e)) t))) s)
   term_sound (Not e) h =
       let t = term_sound e h in

@@ -2,6 +2,8 @@ pub mod Held
 pub mod Values
 pub mod Trees
 pub mod Walks
+pub mod Quotients
+pub mod Bits
 pub mod Operators
 pub mod Tests
 pub mod Terms

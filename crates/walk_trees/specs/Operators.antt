@@ -1,14 +1,16 @@
 -- The forms of operators, of operands that have been brought to one kind.
-use Rattle.std.specs.Prelude.{ℕ, zero, suc, ◌^◌, ℤ, pos, negsuc, ◌+ℤ◌, ◌-ℤ◌, [], ◌∷◌, Bool, true, false, ◌&&◌, ◌||◌, int_lt, Option, Some, None}
-use Rattle.std.specs.Ordering.{int_eq}
+use Rattle.std.specs.Prelude.{ℕ, ◌+◌, ◌^◌, ℤ, pos, negsuc, ◌+ℤ◌, [], ◌∷◌, Bool, true, false, not, ◌&&◌, ◌||◌, cond, int_lt, Option, Some, None}
 use Rattle.semantics.specs.Word.{Kind, Int, Uint, Operator, Add, Subtract, Multiply, Divide, Remainder, BitAnd, BitOr, BitXor, UnaryOperator, Negate, Complement, ShiftLeft, ShiftRight}
 use Rattle.linear.specs.Exact.{Terms, sum, multiple}
 use Rattle.domain.specs.declared.Bounds.{Bounds}
 use Rattle.facts.specs.Symbols.{Fact, constant, minus}
 use Rattle.facts.specs.Elements.{is_from_zero}
-use Rattle.walk_trees.specs.Trees.{OfDivisor, OfQuotient, Goal, Either, Tree, Know}
+use Rattle.walk_trees.specs.Trees.{OfRange, OfDivisor, OfQuotient, Goal, Either, Tree}
 use Rattle.walk_trees.specs.Values.{Value, value}
-use Rattle.walk_trees.specs.Walks.{Setting, State, Onward, element_of, bounds_of, claim, invent, any_of, unknown, ranged, is_number}
+use Rattle.walk_trees.specs.Walks.{Setting, State, Onward, element_of, bounds_of, claim, claim_form, invent, any_of, unknown, ranged, is_number, known_form}
+use Rattle.walk_trees.specs.Covered.{is_uint}
+use Rattle.walk_trees.specs.Quotients.{quotient, left_by, is_power}
+use Rattle.walk_trees.specs.Bits.{meet, join, differ}
 
 -- by a constant form exactly, else a new symbol
 abbrev pub product : {E : Type 0} → Setting E → (left right : Terms) → Fact → Fact → State E → (Fact → State E → Tree E) → Tree E
@@ -43,35 +45,35 @@ claim_quotient s Int x y st go = claim OfQuotient true (lacks (bounds_of s st y)
 abbrev pub claim_divisor : {E : Type 0} → Setting E → Kind → (dividend divisor : Fact) → State E → (State E → Tree E) → Tree E
 claim_divisor s k x y st go = claim OfDivisor true (lacks (bounds_of s st y) (pos 0)) (divisor_goal y) st (λ st'. claim_quotient s k x y st' go)
 
--- a dividend of at least 0 by a number above 0: the quotient, and what it leaves, which is from 0 up to below the number
-abbrev pub left_over : Fact → ℤ → (quotient : Fact) → Fact
-left_over x c q = minus x (multiple c q)
+-- a number above 0
+abbrev pub is_positive : Fact → Bool
+is_positive y = is_number y && int_lt (pos 0) y.constant
 
-abbrev pub quotient : {E : Type 0} → Setting E → Kind → Fact → (divisor : ℤ) → State E → ((quotient left : Fact) → State E → Tree E) → Tree E
-quotient s k x c st go =
-    invent s (any_of s.domain k) st (λ q st'. Know (left_over x c q) (Know (minus (constant (c -ℤ pos 1)) (left_over x c q)) (go q (left_over x c q) st')))
+-- the divisor is a number above 0, and the dividend is known to be at least 0; in the wide walk a `uint` is
+abbrev pub is_exact : {E : Type 0} → Setting E → State E → Kind → (dividend divisor : Fact) → Bool
+is_exact s st k x y = is_positive y && ((s.is_wide && is_uint k) || is_from_zero (bounds_of s st x).low)
 
--- the divisor is a number above 0, and the dividend is known to be at least 0
-abbrev pub is_exact : {E : Type 0} → Setting E → State E → (dividend divisor : Fact) → Bool
-is_exact s st x y = is_number y && (int_lt (pos 0) y.constant && is_from_zero (bounds_of s st x).low)
+-- the wide walk asks of an `int` that is divided by a number above 0, and may be negative, whether its entry shows that it is not
+abbrev pub asks_dividend : {E : Type 0} → Setting E → State E → Kind → (dividend divisor : Fact) → Bool
+asks_dividend s st k x y = s.is_wide && (is_positive y && not (is_uint k || is_from_zero (bounds_of s st x).low))
+
+-- whether the quotient is exact
+abbrev pub claim_dividend : {E : Type 0} → Setting E → Kind → (dividend divisor : Fact) → State E → (Bool → State E → Tree E) → Tree E
+claim_dividend s k x y st go =
+    cond (asks_dividend s st k x y) (claim_form s (OfRange Uint) (s.has_entry (st.claims + 1)) x st (λ st'. go (s.has_entry (st.claims + 1)) st')) (go (is_exact s st k x y) st)
 
 abbrev pub divided : {E : Type 0} → Setting E → Bool → Kind → (dividend divisor : Fact) → State E → (Fact → State E → Tree E) → Tree E
 divided s true k x y st go = quotient s k x y.constant st (λ q r st'. go q st')
 divided s false k x y st go = invent s (s.domain.div_of (element_of s st x) (element_of s st y)) st go
 
 abbrev pub remaining : {E : Type 0} → Setting E → Bool → Kind → (dividend divisor : Fact) → State E → (Fact → State E → Tree E) → Tree E
-remaining s true k x y st go = quotient s k x y.constant st (λ q r st'. go r st')
+remaining s true k x y st go = left_by s k x y.constant st go
 remaining s false k x y st go = invent s (s.domain.rem_of (element_of s st x) (element_of s st y)) st go
 
--- one of 2^0 to 2^n
-unfoldable pub is_power : (n : ℕ) → ℤ → Bool
-is_power zero c = int_eq c (pos 1)
-is_power (suc n) c = int_eq c (pos (2 ^ suc n)) || is_power n c
-
--- the lowest bits of a `uint`
-abbrev pub is_mask : Kind → Fact → Bool
-is_mask Int y = false
-is_mask Uint y = is_number y && is_power 32 (y.constant +ℤ pos 1)
+-- the lowest bits of a `uint`; in the wide walk those of an `int`, too
+abbrev pub is_mask : (is_wide : Bool) → Kind → Fact → Bool
+is_mask w Int y = w && (is_number y && is_power 31 (y.constant +ℤ pos 1))
+is_mask w Uint y = is_number y && is_power 32 (y.constant +ℤ pos 1)
 
 abbrev pub are_from_zero : {E : Type 0} → Setting E → State E → Fact → Fact → Bool
 are_from_zero s st x y = is_from_zero (bounds_of s st x).low && is_from_zero (bounds_of s st y).low
@@ -81,19 +83,34 @@ masked_by s true k x y st go = invent s (s.domain.mask_of (element_of s st x) (e
 masked_by s false k x y st go = invent s (any_of s.domain k) st go
 
 abbrev pub masked : {E : Type 0} → Setting E → Bool → Kind → Fact → Fact → State E → (Fact → State E → Tree E) → Tree E
-masked s true k x y st go = quotient s k x (y.constant +ℤ pos 1) st (λ q r st'. go r st')
-masked s false k x y st go = masked_by s (are_from_zero s st x y) k x y st go
+masked s true k x y st go = left_by s k x (y.constant +ℤ pos 1) st go
+masked s false k x y st go = cond s.is_wide (meet s k x y st go) (masked_by s (are_from_zero s st x y) k x y st go)
 
 -- sums, differences and products are exact, and then in the range of their kind; quotients, remainders and bits are in it by themselves
+abbrev pub operate : {E : Type 0} → Setting E → Operator → Kind → Fact → Fact → State E → Onward E → Tree E
+operate s Add k x y st go = ranged s k (sum x y) st go
+operate s Subtract k x y st go = ranged s k (minus x y) st go
+operate s Multiply k x y st go = product s x.terms y.terms x y st (λ f st'. ranged s k f st' go)
+operate s Divide k x y st go = claim_divisor s k x y st (λ st1. claim_dividend s k x y st1 (λ b st2. divided s b k x y st2 (λ f st'. go (value k f) st')))
+operate s Remainder k x y st go = claim_divisor s k x y st (λ st1. claim_dividend s k x y st1 (λ b st2. remaining s b k x y st2 (λ f st'. go (value k f) st')))
+operate s BitAnd k x y st go = masked s (is_mask s.is_wide k y) k x y st (λ f st'. go (value k f) st')
+operate s BitOr k x y st go = cond s.is_wide (join s k x y st (λ f st'. go (value k f) st')) (unknown s k st go)
+operate s BitXor k x y st go = cond s.is_wide (differ s k x y st (λ f st'. go (value k f) st')) (unknown s k st go)
+
+-- of operands of which one number is left
+abbrev pub known_operands : {E : Type 0} → Setting E → Operator → Kind → Fact → Fact → State E → Onward E → Tree E
+known_operands s op k x y st go = operate s op k (known_form s st x) (known_form s st y) st go
+
+-- but for sums and differences operands of which one number is left are that number
 abbrev pub binary : {E : Type 0} → Setting E → Operator → Kind → Fact → Fact → State E → Onward E → Tree E
-binary s Add k x y st go = ranged s k (sum x y) st go
-binary s Subtract k x y st go = ranged s k (minus x y) st go
-binary s Multiply k x y st go = product s x.terms y.terms x y st (λ f st'. ranged s k f st' go)
-binary s Divide k x y st go = claim_divisor s k x y st (λ st1. divided s (is_exact s st1 x y) k x y st1 (λ f st'. go (value k f) st'))
-binary s Remainder k x y st go = claim_divisor s k x y st (λ st1. remaining s (is_exact s st1 x y) k x y st1 (λ f st'. go (value k f) st'))
-binary s BitAnd k x y st go = masked s (is_mask k y) k x y st (λ f st'. go (value k f) st')
-binary s BitOr k x y st go = unknown s k st go
-binary s BitXor k x y st go = unknown s k st go
+binary s Add k x y st go = operate s Add k x y st go
+binary s Subtract k x y st go = operate s Subtract k x y st go
+binary s Multiply k x y st go = known_operands s Multiply k x y st go
+binary s Divide k x y st go = known_operands s Divide k x y st go
+binary s Remainder k x y st go = known_operands s Remainder k x y st go
+binary s BitAnd k x y st go = known_operands s BitAnd k x y st go
+binary s BitOr k x y st go = known_operands s BitOr k x y st go
+binary s BitXor k x y st go = known_operands s BitXor k x y st go
 
 abbrev pub complement : Kind → Fact → Fact
 complement Int f = minus (constant (negsuc 0)) f

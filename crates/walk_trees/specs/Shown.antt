@@ -2,7 +2,7 @@
 use Rattle.std.specs.Prelude.{◌≡◌, ◌⊎◌, List, true, Option, Some, None}
 use Rattle.linear.specs.Linear.{IsImpossible}
 use Rattle.facts.specs.Symbols.{Fact}
-use Rattle.walk_trees.specs.Trees.{Obligation, Manner, facts_by, claims}
+use Rattle.walk_trees.specs.Trees.{Obligation, Manner, facts_by}
 
 abbrev pub IsRefuted : Option (List Fact) → Type 0
 IsRefuted None = ⊥

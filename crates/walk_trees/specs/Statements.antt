@@ -10,7 +10,6 @@ use Rattle.facts.specs.Launching.{known}
 use Rattle.walk_trees.specs.Trees.{Spot}
 use Rattle.walk_trees.specs.Values.{Value, value}
 use Rattle.walk_trees.specs.Walks.{Setting, State, with_variables}
-use Rattle.walk_trees.specs.Terms.{walk}
 
 abbrev pub nowhere : Site
 nowhere = record { line = 0; column = 0 }
@@ -35,5 +34,5 @@ abbrev pub opening_values : Kernel → List Value
 opening_values k = argument_values 0 k.arguments ++ map zero_value k.variables
 
 -- of this kernel under these conditions
-abbrev pub setting : {E : Type 0} → Ghosts E → Kernel → Conditions → (has_entry : ℕ → Bool) → Setting E
-setting g k c has_entry = record { domain = g; known = known g k.sizes c; sizes = k.sizes; buffers = k.buffers; arrays = k.arrays; has_entry = has_entry }
+abbrev pub setting : {E : Type 0} → Ghosts E → Kernel → Conditions → (is_wide : Bool) → (has_entry : ℕ → Bool) → Setting E
+setting g k c is_wide has_entry = record { is_wide = is_wide; domain = g; known = known g k.sizes c; sizes = k.sizes; buffers = k.buffers; arrays = k.arrays; has_entry = has_entry }

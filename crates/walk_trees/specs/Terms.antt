@@ -90,9 +90,10 @@ abbrev pub chosen : {A : Type 0} → Bool → A → A → A
 chosen true a b = a
 chosen false a b = b
 
--- `min` and `max`: where one operand is less than another (OpenCL 1.2, 6.12.3) the second one, else the first
+-- `min` and `max`: where one operand is less than another (OpenCL 1.2, 6.12.3) the second one, else the first; the wide walk leaves out a
+-- way that the elements refute
 abbrev pub pick : {E : Type 0} → Setting E → (left right second first : Value) → State E → Onward E → Tree E
-pick s x y second first st go = split s Less x.form y.form st (λ b st'. go (chosen b second first) st')
+pick s x y second first st go = split s s.is_wide Less x.form y.form st (λ b st'. go (chosen b second first) st')
 
 -- operands from left to right, then the operator at its own site; a choice walks what it evaluates
 abbrev pub walk : {E : Type 0} → Setting E → Term → Walks E
@@ -107,7 +108,7 @@ walk s (Binary op k site a b) = by_value s (λ st go.
 walk s (Convert k site e) = by_value s (λ st go. (walk s e).value st (λ x st1. brought s k x (at_site site st1) go))
 walk s (Compare r k a b) = by_test (λ st go.
     (walk s a).value st (λ x st1. (walk s b).value st1 (λ y st2.
-    both_brought s k x y st2 (λ x' y' st3. split s r x'.form y'.form st3 go))))
+    both_brought s k x y st2 (λ x' y' st3. split s false r x'.form y'.form st3 go))))
 walk s (Not e) = by_test (λ st go. (walk s e).test st (λ b st1. go (not b) st1))
 walk s (And a b) = by_test (λ st go. (walk s a).test st (λ t st1. chosen t ((walk s b).test st1 go) (go false st1)))
 walk s (Or a b) = by_test (λ st go. (walk s a).test st (λ t st1. chosen t (go true st1) ((walk s b).test st1 go)))

@@ -1,22 +1,24 @@
 -- The steps of a walk: claims, facts, new symbols, and the ranges of kinds. A walk is written with what goes on from its form.
 use Rattle.std.specs.Prelude.{ℕ, suc, ◌+◌, ℤ, pos, negsuc, List, [], ◌∷◌, length, Bool, true, false, ◌&&◌, ◌||◌, Option, Some, None, int_lt, cond, nat_eq}
+use Rattle.std.specs.Ordering.{int_eq}
 use Rattle.semantics.specs.Word.{Kind, Int, Uint}
 use Rattle.semantics.specs.Core.{Site}
 use Rattle.semantics.specs.Launch.{Three, LocalArray}
-use Rattle.linear.specs.Exact.{fits_i64}
+use Rattle.linear.specs.Exact.{fits, fits_i64}
 use Rattle.domain.specs.declared.Domain.{Ghosts}
 use Rattle.domain.specs.declared.Bounds.{Bounds}
 use Rattle.facts.specs.Symbols.{First, New, Fact, constant, once, minus, Turns}
-use Rattle.facts.specs.Elements.{Known, between}
+use Rattle.facts.specs.Elements.{Known, between, is_below_zero}
 use Rattle.walk_trees.specs.Values.{Value, value, Arrived}
 use Rattle.arrivals.specs.Trees as arrivals
 use Rattle.arrivals.specs.Trees.{Stop}
 use Rattle.walk_trees.specs.Held.{Held, with_new, element_at, is_settled_at, narrow}
 use Rattle.walk_trees.specs.Trees.{Sort, OfRange, Spot, Demand, Goal, AtLeastZero, Tree, Dead, Claim, Know, Fork}
 
--- what a walk is of: a domain with what it knows, the local sizes, the kinds of the buffers, the local arrays, and the numbers of the
--- obligations that have an entry
+-- what a walk is of: whether it is the wide one, a domain with what it knows, the local sizes, the kinds of the buffers, the local arrays,
+-- and the numbers of the obligations that have an entry
 pub record Setting (E : Type 0) : Type 1 where
+  pub is_wide : Bool
   pub domain : Ghosts E
   pub known : Known E
   pub sizes : Three ℕ
@@ -193,9 +195,22 @@ abbrev pub unless_dead : {E : Type 0} → Bool → Fact → Tree E → Tree E
 unless_dead true f rest = Dead
 unless_dead false f rest = Know f rest
 
--- a fact of a test, which narrows
-abbrev pub know_test : {E : Type 0} → Setting E → Fact → State E → (State E → Tree E) → Tree E
-know_test s f st go = unless_dead (is_dead f) f (go (holding (narrow s.domain s.known f st.held) st))
+-- no numbers of the elements make the form at least 0
+abbrev pub is_refuted : {E : Type 0} → Setting E → Fact → State E → Bool
+is_refuted s f st = fits f && is_below_zero (bounds_of s st f).high
 
-abbrev pub know_two : {E : Type 0} → Setting E → (first second : Fact) → State E → (State E → Tree E) → Tree E
-know_two s f g st go = know_test s f st (λ st'. know_test s g st' go)
+-- a fact of a test, which narrows; where elements are asked no item goes on if they refute it
+abbrev pub know_test : {E : Type 0} → Setting E → (by_elements : Bool) → Fact → State E → (State E → Tree E) → Tree E
+know_test s w f st go = unless_dead ((w && is_refuted s f st) || is_dead f) f (go (holding (narrow s.domain s.known f st.held) st))
+
+abbrev pub know_two : {E : Type 0} → Setting E → (by_elements : Bool) → (first second : Fact) → State E → (State E → Tree E) → Tree E
+know_two s w f g st go = know_test s w f st (λ st'. know_test s w g st' go)
+
+-- a form of which the elements leave one number is that number, in the wide walk
+abbrev pub one_number : (low high : Option ℤ) → Fact → Fact
+one_number None high f = f
+one_number (Some low) None f = f
+one_number (Some low) (Some high) f = cond (int_eq low high) (constant low) f
+
+abbrev pub known_form : {E : Type 0} → Setting E → State E → Fact → Fact
+known_form s st f = cond s.is_wide (one_number (bounds_of s st f).low (bounds_of s st f).high f) f

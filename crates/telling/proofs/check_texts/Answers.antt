@@ -20,4 +20,4 @@ returns-in-Ok-from_slice c =
 pub returns-in-Err : goal.returns-in-Err
 returns-in-Err c =
     let t = c.args.texts in
-    of_check t.kernel.now t.conditions.now t.certificate.now t.certificate.now c.unaccepted.result c.in-Err.error c.in-Err.ensures.refused c.unaccepted.ensures
+    of_check c.args.is_wide t.kernel.now t.conditions.now t.certificate.now t.certificate.now c.unaccepted.result c.in-Err.error c.in-Err.ensures.refused c.unaccepted.ensures

@@ -1,4 +1,4 @@
-use Rattle.std.proofs.Common.{[], ◌∷◌, ◌++◌, sym, subst, ◌∙◌}
+use Rattle.std.proofs.Common.{[], ◌∷◌, ◌++◌, subst, ◌∙◌}
 use Rattle.linear.specs.Forms.{form, forms}
 use Rattle.facts.specs.Refusals.{IsUnfit}
 use Rattle.facts.proofs.Unmade.{handed}
@@ -7,8 +7,7 @@ use Rattle.obligations.specs.Notes.{fallen, fallen_by}
 use Rattle.obligations.specs.Walking.{rank_on}
 use Rattle.path_steps.specs.View.{followed}
 use Rattle.arrival_claims.specs.View.{placed}
-use Rattle.arrival_claims.specs.Claims.{left_by, way_by}
-use Rattle.arrival_claims.proofs.Rankings.{rank_does, rank_unmade, rank_unfit, way_unfit, left_is, way_is}
+use Rattle.arrival_claims.proofs.Rankings.{rank_does, rank_unmade, rank_unfit, way_unfit}
 use Rattle.arrival_claims.proofs.ranking.claim_fallen.Goals as goal
 
 pub returns : goal.returns
@@ -20,8 +19,8 @@ returns g c =
     let b = (w.notes.ranking n).bound in
     let x = rank_form l.state.ranks n in
     let y = rank_on w n l.state in
-    let d = c.in_ok-way.ensures ∙ (λ i. way_by (c.step_of-step.ensures i) (c.in_ok-before.ensures i) (c.in_ok-told.ensures.1 i)) ∙ sym (way_is b x y) in
-    let e = c.in_ok-form.ensures ∙ (λ i. left_by (c.step_of-step.ensures i) (c.in_ok-before.ensures i) (c.in_ok-told.ensures.1 i)) ∙ sym (left_is b x y) in
+    let d = c.in_ok-way.ensures ∙ (λ i. fallen_by (c.progress_of-progress.ensures i) (c.in_ok-before.ensures i) (c.in_ok-told.ensures.1 i)) in
+    let e = c.in_ok-form.ensures ∙ (λ i. fallen (c.progress_of-progress.ensures i) (c.in_ok-before.ensures i) (c.in_ok-told.ensures.1 i)) in
     rank_does w n (fallen_by b x y ∷ []) (fallen b x y) l (followed c.claim_told.new.path) (forms c.in_ok-made.made.items) (form c.in_ok-form.form) c.claim_told.result (c.in_ok-made.ensures ∙ (λ i. c.in_ok-told.ensures.0 i ++ d i ∷ [])) e c.claim_told.ensures
 
 pub returns-in_err-told : goal.returns-in_err-told
@@ -43,8 +42,7 @@ returns-in_err-way g c =
     let b = (w.notes.ranking n).bound in
     let x = rank_form l.state.ranks n in
     let y = rank_on w n l.state in
-    let d = (λ i. way_by (c.step_of-step.ensures i) (c.in_ok-before.ensures i) (c.in_ok-told.ensures.1 i)) ∙ sym (way_is b x y) in
-    let k = way_unfit w n (fallen_by b x y) (fallen b x y) l c.in_err-way.field-0.0 (subst (IsUnfit c.in_err-way.field-0.0) d c.in_err-way.ensures) in
+    let k = way_unfit w n (fallen_by b x y) (fallen b x y) l c.in_err-way.field-0.0 (subst (IsUnfit c.in_err-way.field-0.0) (λ i. fallen_by (c.progress_of-progress.ensures i) (c.in_ok-before.ensures i) (c.in_ok-told.ensures.1 i)) c.in_err-way.ensures) in
     handed c.from_residual-in_err-way.result c.in_err-way.field-0.0 _ _ c.from_residual-in_err-way.ensures k
 
 pub returns-in_err-form : goal.returns-in_err-form
@@ -55,6 +53,5 @@ returns-in_err-form g c =
     let b = (w.notes.ranking n).bound in
     let x = rank_form l.state.ranks n in
     let y = rank_on w n l.state in
-    let d = (λ i. left_by (c.step_of-step.ensures i) (c.in_ok-before.ensures i) (c.in_ok-told.ensures.1 i)) ∙ sym (left_is b x y) in
-    let k = rank_unfit w n (fallen_by b x y ∷ []) (fallen b x y) l c.in_err-form.field-0.0 (subst (IsUnfit c.in_err-form.field-0.0) d c.in_err-form.ensures) in
+    let k = rank_unfit w n (fallen_by b x y ∷ []) (fallen b x y) l c.in_err-form.field-0.0 (subst (IsUnfit c.in_err-form.field-0.0) (λ i. fallen (c.progress_of-progress.ensures i) (c.in_ok-before.ensures i) (c.in_ok-told.ensures.1 i)) c.in_err-form.ensures) in
     handed c.from_residual-in_err-form.result c.in_err-form.field-0.0 _ _ c.from_residual-in_err-form.ensures k

@@ -1,10 +1,9 @@
 use Rattle.std.proofs.Common.{[], sym, subst, ◌∙◌}
 use Rattle.std.proofs.lemmas.List.{append-nil}
 use Rattle.linear.specs.Forms.{form, forms}
-use Rattle.facts.specs.Symbols.{minus, constant}
 use Rattle.facts.specs.Refusals.{IsUnfit}
 use Rattle.facts.proofs.Unmade.{handed}
-use Rattle.obligations.specs.Notes.{most}
+use Rattle.obligations.specs.Notes.{opens}
 use Rattle.obligations.specs.Walking.{rank_on}
 use Rattle.path_steps.specs.View.{followed}
 use Rattle.arrival_claims.specs.View.{placed}
@@ -17,14 +16,14 @@ returns g c =
     let w = placed g.D.Domain c.args.placing.now in
     let n = c.args.number in
     let l = followed c.args.path.now in
-    rank_does w n [] (minus (constant (most (w.notes.ranking n).bound)) (rank_on w n l.state)) l (followed c.claim_told.new.path) (forms c.in_ok-told.told.made.items) (form c.in_ok-form.form) c.claim_told.result (c.in_ok-told.ensures.0 ∙ sym (append-nil _)) (c.in_ok-form.ensures ∙ (λ i. minus (c.most_of-most.ensures i) (c.in_ok-told.ensures.1 i))) c.claim_told.ensures
+    rank_does w n [] (opens (w.notes.ranking n).bound (rank_on w n l.state)) l (followed c.claim_told.new.path) (forms c.in_ok-told.told.made.items) (form c.in_ok-form.form) c.claim_told.result (c.in_ok-told.ensures.0 ∙ sym (append-nil _)) (c.in_ok-form.ensures ∙ (λ i. opens (c.progress_of-progress.ensures i) (c.in_ok-told.ensures.1 i))) c.claim_told.ensures
 
 pub returns-in_err-told : goal.returns-in_err-told
 returns-in_err-told g c =
     let w = placed g.D.Domain c.args.placing.now in
     let n = c.args.number in
     let l = followed c.args.path.now in
-    let k = rank_unmade w n [] (minus (constant (most (w.notes.ranking n).bound)) (rank_on w n l.state)) l c.in_err-told.field-0.0 c.in_err-told.ensures in
+    let k = rank_unmade w n [] (opens (w.notes.ranking n).bound (rank_on w n l.state)) l c.in_err-told.field-0.0 c.in_err-told.ensures in
     handed c.from_residual.result c.in_err-told.field-0.0 _ _ c.from_residual.ensures k
 
 pub returns-in_err-form : goal.returns-in_err-form
@@ -32,5 +31,5 @@ returns-in_err-form g c =
     let w = placed g.D.Domain c.args.placing.now in
     let n = c.args.number in
     let l = followed c.args.path.now in
-    let k = rank_unfit w n [] (minus (constant (most (w.notes.ranking n).bound)) (rank_on w n l.state)) l c.in_err-form.field-0.0 (subst (IsUnfit c.in_err-form.field-0.0) (λ i. minus (c.most_of-most.ensures i) (c.in_ok-told.ensures.1 i)) c.in_err-form.ensures) in
+    let k = rank_unfit w n [] (opens (w.notes.ranking n).bound (rank_on w n l.state)) l c.in_err-form.field-0.0 (subst (IsUnfit c.in_err-form.field-0.0) (λ i. opens (c.progress_of-progress.ensures i) (c.in_ok-told.ensures.1 i)) c.in_err-form.ensures) in
     handed c.from_residual-in_err-form.result c.in_err-form.field-0.0 _ _ c.from_residual-in_err-form.ensures k

@@ -7,6 +7,7 @@ use Rattle.arrivals.specs.Loops.{unmet}
 use Rattle.places.specs.View.{place}
 use Rattle.places.specs.Answers.{IsRefused}
 use Rattle.certificate.specs.Certificates.{certificate}
+use Rattle.cert_check.specs.Breadth.{text_says}
 use Rattle.cert_check.specs.Checked.{IsTold}
 use Rattle.cert_check.proofs.Stopped.{stopped}
 use Rattle.cert_check.proofs.checking.accept.Goals as goal
@@ -15,10 +16,10 @@ pub unplaced-requires : goal.unplaced-requires
 unplaced-requires c = subst (λ x. IsRefused (kernel x).body c.in-Err.error) c.core.ensures.value c.in-Err.ensures
 
 pub returns-in-Err-clause-stopped : goal.returns-in-Err-clause-stopped
-returns-in-Err-clause-stopped c = c.unplaced.ensures (conditions c.args.conditions.now) c.args.certificate.now
+returns-in-Err-clause-stopped c = c.unplaced.ensures (text_says c.args.is_wide) (conditions c.args.conditions.now) c.args.certificate.now
 
-pub returns-in-Err-read_any-clause-stopped : goal.returns-in-Err-read_any-clause-stopped
-returns-in-Err-read_any-clause-stopped c = (subst (λ x. unmet (kernel x).body ≡ None) c.core.ensures.value c.in-Ok.ensures.1, c.in-Err-read_any.ensures)
+pub returns-in-Err-read_as-clause-stopped : goal.returns-in-Err-read_as-clause-stopped
+returns-in-Err-read_as-clause-stopped c = (subst (λ x. unmet (kernel x).body ≡ None) c.core.ensures.value c.in-Ok.ensures.1, c.in-Err-read_as.ensures)
 
 pub show-requires-clause-places : goal.show-requires-clause-places
 show-requires-clause-places c =
@@ -28,10 +29,10 @@ show-requires-clause-places c =
 pub returns-clause-passed : goal.returns-clause-passed
 returns-clause-passed c =
     let p = c.in-Ok-show.ensures.passed in
-    (subst (λ x. unmet (kernel x).body ≡ None) c.core.ensures.value c.in-Ok.ensures.1, certificate c.in-Ok-read_any.certificate, p.0, c.in-Ok-read_any.ensures, p.1, p.2)
+    (subst (λ x. unmet (kernel x).body ≡ None) c.core.ensures.value c.in-Ok.ensures.1, certificate c.in-Ok-read_as.certificate, p.0, c.in-Ok-read_as.ensures, p.1, p.2)
 
 pub returns-in-Err-show-clause-stopped : goal.returns-in-Err-show-clause-stopped
 returns-in-Err-show-clause-stopped c =
     let met = subst (λ x. unmet (kernel x).body ≡ None) c.core.ensures.value c.in-Ok.ensures.1 in
     let told = subst (λ x. IsTold (tree x) c.in-Err-show.error c.unshown.result) c.kernel.ensures.value c.unshown.ensures in
-    stopped c.args.typed.now (conditions c.args.conditions.now) c.args.certificate.now (certificate c.in-Ok-read_any.certificate) met c.in-Ok-read_any.ensures c.in-Err-show.error c.unshown.result told c.in-Err-show.ensures.lacks
+    stopped (text_says c.args.is_wide) c.args.typed.now (conditions c.args.conditions.now) c.args.certificate.now (certificate c.in-Ok-read_as.certificate) met c.in-Ok-read_as.ensures c.in-Err-show.error c.unshown.result told c.in-Err-show.ensures.lacks

@@ -13,7 +13,7 @@ invariant-loop-line l = record {
   room : l.number + length (left l.rest) ≤ 2 ^ 32 + 2;
   proper : IsDraft (drafts.draft l.draft.read);
   used : l.draft.used ≤ length (table l.table);
-  same : reading.read_numbered (table l.table) l.start (reading.numbered_draft 0 drafting.nothing_yet) (left l.lines) ≡ reading.read_numbered (table l.table) l.number (numbered_draft l.draft) (left l.rest);
+  same : reading.read_numbered (table l.table) l.start (reading.numbered_draft 0 (drafting.begun l.is_wide)) (left l.lines) ≡ reading.read_numbered (table l.table) l.number (numbered_draft l.draft) (left l.rest);
 }
 
 abbrev pub decreases-loop-line : goal.decreases-loop-line

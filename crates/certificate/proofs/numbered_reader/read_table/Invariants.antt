@@ -9,7 +9,7 @@ abbrev pub invariant-loop-line : goal.invariant-loop-line
 invariant-loop-line l = record {
   room : l.number + length (left l.rest) ≤ 2 ^ 32 + 2;
   good : all is_form (table l.table) ≡ true;
-  same : reading.read_table [] 2 (left l.lines) ≡ reading.read_table (table l.table) l.number (left l.rest);
+  same : reading.read_table l.is_wide [] 2 (left l.lines) ≡ reading.read_table l.is_wide (table l.table) l.number (left l.rest);
 }
 
 abbrev pub decreases-loop-line : goal.decreases-loop-line

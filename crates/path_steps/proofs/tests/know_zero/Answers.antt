@@ -6,9 +6,9 @@ use Rattle.path_steps.proofs.Testing.{two_know, two_halts, halted}
 use Rattle.path_steps.proofs.tests.know_zero.Goals as goal
 
 pub returns : goal.returns
-returns g c = two_know (seen g.D.Domain c.args.setting.now) (form c.args.form.now) (multiple (negsuc 0) (form c.args.form.now)) (followed c.args.path.now) (followed c.know_form.new.path) (followed c.know_negated.new.path) c.know_negated.result c.in_ok-know_form.ensures c.know_negated.ensures
+returns g c = two_know (seen g.D.Domain c.args.setting.now) c.args.setting.now.is_wide (form c.args.form.now) (multiple (negsuc 0) (form c.args.form.now)) (followed c.args.path.now) (followed c.know_form.new.path) (followed c.know_negated.new.path) c.know_negated.result c.in_ok-know_form.ensures c.know_negated.ensures
 
 pub returns-in_err-know_form : goal.returns-in_err-know_form
 returns-in_err-know_form g c =
-    let k = two_halts (seen g.D.Domain c.args.setting.now) (form c.args.form.now) (multiple (negsuc 0) (form c.args.form.now)) (followed c.args.path.now) (followed c.know_form.new.path) c.in_err-know_form.field-0.0 c.in_err-know_form.ensures in
+    let k = two_halts (seen g.D.Domain c.args.setting.now) c.args.setting.now.is_wide (form c.args.form.now) (multiple (negsuc 0) (form c.args.form.now)) (followed c.args.path.now) (followed c.know_form.new.path) c.in_err-know_form.field-0.0 c.in_err-know_form.ensures in
     halted c.from_residual.result c.in_err-know_form.field-0.0 _ _ c.from_residual.ensures k

@@ -3,26 +3,25 @@ use Rattle.std.specs.Prelude.{pos, ◌<ℤ◌}
 use Rattle.std.proofs.lemmas.Int.{to_z-of_z}
 use Rattle.linear.specs.Forms.{form}
 use Rattle.words.specs.View.{kind}
-use Rattle.walk_trees.specs.Operators.{is_exact, divided}
+use Rattle.walk_trees.specs.Operators.{divided}
 use Rattle.path_steps.specs.View.{followed, setting as seen}
 use Rattle.path_walk.specs.OperatorSteps.{quotient_alone}
-use Rattle.path_walk.proofs.Operating.{chosen, anew, renumbered, exact_above}
+use Rattle.path_walk.proofs.Operating.{chosen, anew, renumbered, positive_above}
 use Rattle.path_walk.proofs.dividing.divided.Goals as goal
 
 pub quotient_alone-requires : goal.quotient_alone-requires
 quotient_alone-requires g c =
     let z : SFits w64 c.constant_part-number.result = search rules in
-    let h = exact_above (seen g.D.Domain c.args.setting.now) (followed c.args.path.now).state (form c.args.dividend.now) (form c.args.divisor.now) (sym c.is_exact.ensures ∙ c.if-is_exact.true) in
-    subst (λ n. pos 0 <ℤ n) (sym (to_z-of_z w64 c.constant_part-number.result z ∙ c.constant_part-number.ensures)) h
+    subst (λ n. pos 0 <ℤ n) (sym (to_z-of_z w64 c.constant_part-number.result z ∙ c.constant_part-number.ensures)) (positive_above (form c.args.divisor.now) (c.requires c.if-exactly.true))
 
-pub returns-then-is_exact : goal.returns-then-is_exact
-returns-then-is_exact g c =
+pub returns-then-exactly : goal.returns-then-exactly
+returns-then-exactly g c =
     let s = seen g.D.Domain c.args.setting.now in
     let x = form c.args.dividend.now in
     let y = form c.args.divisor.now in
     let z : SFits w64 c.constant_part-number.result = search rules in
     let h = renumbered (quotient_alone s (kind c.args.kind) x) _ y.constant (followed c.args.path.now) (followed c.quotient_alone.new.path) c.quotient_alone.result (to_z-of_z w64 c.constant_part-number.result z ∙ c.constant_part-number.ensures) c.quotient_alone.ensures in
-    chosen (λ b. divided s b (kind c.args.kind) x y) (λ st. is_exact s st x y) true (followed c.args.path.now) (followed c.quotient_alone.new.path) form c.quotient_alone.result (sym c.is_exact.ensures ∙ c.if-is_exact.true) h
+    chosen (λ b. divided s b (kind c.args.kind) x y) (λ st. c.args.exactly) true (followed c.args.path.now) (followed c.quotient_alone.new.path) form c.quotient_alone.result c.if-exactly.true h
 
 pub returns : goal.returns
 returns g c =
@@ -31,4 +30,4 @@ returns g c =
     let y = form c.args.divisor.now in
     let d = c.div-element.ensures ∙ (λ i. g.D.Domain.div_of (c.element_at.ensures i) (c.element_at-2.ensures i)) in
     let h = anew s c.div-element.result _ (followed c.args.path.now) (followed c.invent.new.path) c.invent.result d c.invent.ensures.leads in
-    chosen (λ b. divided s b (kind c.args.kind) x y) (λ st. is_exact s st x y) false (followed c.args.path.now) (followed c.invent.new.path) form c.invent.result (sym c.is_exact.ensures ∙ c.if-is_exact.false) h
+    chosen (λ b. divided s b (kind c.args.kind) x y) (λ st. c.args.exactly) false (followed c.args.path.now) (followed c.invent.new.path) form c.invent.result c.if-exactly.false h

@@ -3,7 +3,7 @@ use Rattle.std.proofs.lemmas.Int.{to_z-of_z}
 use Rattle.linear.specs.Forms.{form}
 use Rattle.words.specs.View.{kind}
 use Rattle.facts.proofs.Unmade.{handed}
-use Rattle.walk_trees.specs.Operators.{quotient}
+use Rattle.walk_trees.specs.Quotients.{quotient}
 use Rattle.path_steps.specs.View.{followed, setting as seen}
 use Rattle.path_walk.proofs.Operating.{first_leads, first_stops}
 use Rattle.path_walk.proofs.dividing.quotient_alone.Goals as goal

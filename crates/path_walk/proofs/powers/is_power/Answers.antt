@@ -1,4 +1,4 @@
-use Rattle.walk_trees.specs.Operators.{is_power}
+use Rattle.walk_trees.specs.Quotients.{is_power}
 use Rattle.path_walk.proofs.PowerSizes.{one_more}
 use Rattle.path_walk.proofs.powers.is_power.Goals as goal
 

@@ -8,13 +8,13 @@ pub returns-clause-verdict : goal.returns-clause-verdict
 returns-clause-verdict g c = λ ws command names.
     let found = c.in_ok-found.found in
     record {
-      request = running.Check c.args.names.kernel.now c.args.names.conditions.now c.args.names.certificate.now;
+      request = running.Check c.args.names.kernel.now c.args.names.conditions.now c.args.names.certificate.now c.args.names.is_wide;
       texts = record { kernel = found.kernel.items; conditions = found.conditions.items; certificate = found.certificate.items; launch = [] };
       saved = None;
-      asked = (command, names.kernel, names.conditions, names.certificate);
+      asked = (command, names.kernel, names.conditions, names.certificate, names.wide);
       done = c.in_ok-found.ensures.reads;
       may_write = refl;
-      is_told = (subst (λ t. Checks c.check_texts.result found.kernel.items found.conditions.items t) c.texts.ensures.certificate
-          (subst (λ t. Checks c.check_texts.result found.kernel.items t c.texts.result.certificate.now) c.texts.ensures.conditions
-          (subst (λ t. Checks c.check_texts.result t c.texts.result.conditions.now c.texts.result.certificate.now) c.texts.ensures.kernel c.check_texts.ensures)));
+      is_told = (subst (λ t. Checks c.args.names.is_wide c.check_texts.result found.kernel.items found.conditions.items t) c.texts.ensures.certificate
+          (subst (λ t. Checks c.args.names.is_wide c.check_texts.result found.kernel.items t c.texts.result.certificate.now) c.texts.ensures.conditions
+          (subst (λ t. Checks c.args.names.is_wide c.check_texts.result t c.texts.result.conditions.now c.texts.result.certificate.now) c.texts.ensures.kernel c.check_texts.ensures)));
     }

@@ -15,14 +15,14 @@ returns-clause-verdict g c = λ ws command names last count.
     let p = c.args.names.certificate.now in
     let three = kernel_read k found.kernel.items ∷ conditions_read o found.conditions.items ∷ certificate_read p found.certificate.items ∷ [] in
     record {
-      request = running.Run k o p c.args.launch.now c.args.workers;
+      request = running.Run k o p c.args.launch.now c.args.workers c.args.names.is_wide;
       texts = record { kernel = found.kernel.items; conditions = found.conditions.items; certificate = found.certificate.items; launch = launch };
       saved = None;
-      asked = (command, names.kernel, names.conditions, names.certificate, last, count);
+      asked = (command, names.kernel, names.conditions, names.certificate, last, count, names.wide);
       done = (reads-more g.F.Files.contents g.F.Files.gives c.args.files.now c.texts_of.new.files c.text_of.new.files three (launch_read c.args.launch.now launch) c.in_ok-found.ensures.reads c.in_ok-launch.ensures.given c.in_ok-launch.ensures.text);
       may_write = refl;
-      is_told = (subst (λ t. Runs c.run_texts.result c.args.workers found.kernel.items found.conditions.items found.certificate.items t) c.deref.ensures.value
-          (subst (λ t. Runs c.run_texts.result c.args.workers found.kernel.items found.conditions.items t c.deref.result.now) c.texts.ensures.certificate
-          (subst (λ t. Runs c.run_texts.result c.args.workers found.kernel.items t c.texts.result.certificate.now c.deref.result.now) c.texts.ensures.conditions
-          (subst (λ t. Runs c.run_texts.result c.args.workers t c.texts.result.conditions.now c.texts.result.certificate.now c.deref.result.now) c.texts.ensures.kernel c.run_texts.ensures))));
+      is_told = (subst (λ t. Runs c.args.names.is_wide c.run_texts.result c.args.workers found.kernel.items found.conditions.items found.certificate.items t) c.deref.ensures.value
+          (subst (λ t. Runs c.args.names.is_wide c.run_texts.result c.args.workers found.kernel.items found.conditions.items t c.deref.result.now) c.texts.ensures.certificate
+          (subst (λ t. Runs c.args.names.is_wide c.run_texts.result c.args.workers found.kernel.items t c.texts.result.certificate.now c.deref.result.now) c.texts.ensures.conditions
+          (subst (λ t. Runs c.args.names.is_wide c.run_texts.result c.args.workers t c.texts.result.conditions.now c.texts.result.certificate.now c.deref.result.now) c.texts.ensures.kernel c.run_texts.ensures))));
     }

@@ -9,5 +9,5 @@ returns-clause-reads g c =
       k,
       o,
       (c.text_of.new.files, c.in_ok-kernel.ensures.given, c.in_ok-kernel.ensures.text, (c.text_of-2.new.files, c.in_ok-conditions.ensures.given, c.in_ok-conditions.ensures.text, refl)),
-      subst (λ t. Proves c.prove_texts.result c.args.search.workers k t) c.deref-2.ensures.value (subst (λ t. Proves c.prove_texts.result c.args.search.workers t c.deref-2.result.now) c.deref.ensures.value c.prove_texts.ensures),
+      subst (λ t. Proves c.args.search.is_wide c.prove_texts.result c.args.search.workers k t) c.deref-2.ensures.value (subst (λ t. Proves c.args.search.is_wide c.prove_texts.result c.args.search.workers t c.deref-2.result.now) c.deref.ensures.value c.prove_texts.ensures),
     )

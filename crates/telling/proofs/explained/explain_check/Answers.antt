@@ -19,4 +19,4 @@ returns-in-Ok-from_slice c =
 pub returns-in-Err : goal.returns-in-Err
 returns-in-Err c =
     let t = c.args.texts in
-    c.unaccepted.ensures t.kernel.now t.conditions.now t.certificate.now c.in-Err.ensures.refused
+    c.unaccepted.ensures c.args.is_wide t.kernel.now t.conditions.now t.certificate.now c.in-Err.ensures.refused

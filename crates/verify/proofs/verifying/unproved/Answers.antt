@@ -1,8 +1,8 @@
 use Rattle.std.proofs.Common.{subst}
-use Rattle.cert_check.specs.Refusing.{Refuses}
+use Rattle.cert_check.specs.Refusing.{RefusesBy}
 use Rattle.verify.proofs.Unproved.{searched}
 use Rattle.verify.proofs.verifying.unproved.Goals as goal
 
 pub returns-in-Show : goal.returns-in-Show
-returns-in-Show c = λ workers kernel conditions certificate count refused.
-    c.unshown.ensures workers kernel conditions count (searched c.in-Show.error kernel conditions certificate (subst (λ e. Refuses e kernel conditions certificate) c.in-Show.is refused))
+returns-in-Show c = λ says workers kernel conditions certificate count refused.
+    c.unshown.ensures workers kernel conditions count (searched says c.in-Show.error kernel conditions certificate (subst (λ e. RefusesBy says e kernel conditions certificate) c.in-Show.is refused))

@@ -4,7 +4,7 @@ use Rattle.facts.proofs.Worlds.{opening_root}
 use Rattle.walk_trees.proofs.laws.walk_of_a_term_is_sound.Goals as goal
 
 pub returns : goal.returns
-returns g c = λ k conditions has_entry e l i answers sized covered fits meets place shown.
+returns g c = λ k conditions is_wide has_entry e l i answers sized covered fits meets place shown.
     let d = g.met.D.Domain in
     founded (record {
       walked = record {
@@ -12,6 +12,7 @@ returns g c = λ k conditions has_entry e l i answers sized covered fits meets p
         lawful = record { top = d.top_holds; number = d.number_holds; add = d.add_holds; mul = d.mul_holds; at_least = d.at_least_holds; at_most = d.at_most_holds; bounds = d.bounds_hold; residue = d.residue_holds };
         kernel = k;
         conditions = conditions;
+        is_wide = is_wide;
         has_entry = has_entry;
         spaces = any_space;
         launch = l;

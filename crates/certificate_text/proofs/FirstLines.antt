@@ -1,0 +1,17 @@
+-- What versions 2 and 4 begin with.
+use Rattle.std.proofs.Common.{ℕ, Bool, true, false, List, ◌∷◌}
+use Rattle.std.specs.Prelude.{ℤ, pos, codes}
+use Rattle.texts.specs.Lines.{text_of_lines}
+use Rattle.certificate_text.specs.Certificate.{Certificate}
+use Rattle.certificate_text.specs.NumberedText.{forms_of, lines_of_two}
+
+abbrev pub number_of_version : (is_wide : Bool) → ℤ
+number_of_version false = pos 2
+number_of_version true = pos 4
+
+abbrev pub first_line : (is_wide : Bool) → List ℕ
+first_line false = codes "certificate 2"
+first_line true = codes "certificate 4"
+
+abbrev pub numbered_text : (is_wide : Bool) → Certificate → List ℕ
+numbered_text is_wide c = text_of_lines (first_line is_wide ∷ lines_of_two (forms_of c) c)

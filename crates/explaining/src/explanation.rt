@@ -7,10 +7,14 @@ ghost use Rattle.work_item.specs.Proper.{is_proper};
 ghost use Rattle.launch_text.specs.Fits.{IsOf};
 ghost use Rattle.launch_text.specs.View.{lined};
 
-use crate::hints::push_hints;
+use crate::causes::{Causes, site_of};
+use crate::groups::push_group;
+use crate::hints::{Known, push_hints};
 use crate::meaning::{POSSIBLE, meaning};
+use crate::names::names_of;
 use crate::paragraph::push_paragraph;
-use crate::scene::{push_scene, site_of};
+use crate::paths::push_paths;
+use crate::scene::push_scene;
 use crate::source::{push_label, push_site};
 use crate::steps::push_steps;
 use crate::titles::{confirmed, label, meant, possible};
@@ -25,6 +29,9 @@ use shown_kernels::kernel::read_proper_kernel;
 use std::alloc::{AllocError, Global};
 use types::typed::Typed;
 
+/// The number of the refusal where there are too many paths from one place.
+const MANY_PATHS: u8 = 53;
+
 /// The texts of a kernel and its conditions.
 #[derive(Clone, Copy)]
 struct Subject<'a> {
@@ -32,10 +39,12 @@ struct Subject<'a> {
     conditions: &'a [u8],
 }
 
-/// The number of a refusal, what was found, and the certificate of which the steps pass the budget, where they do.
+/// The number of a refusal, where it points in the kernel's text, what was found, and the certificate of which the steps pass the budget,
+/// where they do.
 #[derive(Clone, Copy)]
 pub struct Refused<'a> {
     pub number: u8,
+    pub place: Option<Site>,
     pub findings: &'a [Finding],
     pub over_budget: Option<&'a [u8]>,
 }
@@ -173,19 +182,137 @@ fn is_possible(finding: &Finding) -> bool {
     matches!(finding.grade, Grade::Possible)
 }
 
-/// Writes the values on which the possible findings depend, and what to do about such findings.
-fn push_advice(
+/// The names of a kernel's arguments and variables, by their slots.
+fn slot_names<'a>(alloc: Global, typed: &'a Typed) -> Result<Vec<&'a str>, AllocError> {
+    let names = names_of(alloc, typed.kernel())?;
+    let mut all = Vec::new(alloc);
+    for named in names.variables.iter() {
+        all.push(named.name)?;
+    }
+    Ok(all)
+}
+
+/// The findings of a cause.
+fn members<'f>(
+    alloc: Global,
+    findings: &'f [Finding],
+    causes: &Causes,
+    label: usize,
+) -> Result<Vec<&'f Finding>, AllocError> {
+    let mut members = Vec::new(alloc);
+    for (place, finding) in findings.iter().enumerate() {
+        if causes.label(place) == label {
+            members.push(finding)?;
+        }
+    }
+    Ok(members)
+}
+
+/// What is told of findings: the texts, the names of the kernel's arguments and variables, and the causes.
+#[derive(Drop)]
+struct Telling<'a> {
+    subject: Subject<'a>,
+    names: Vec<&'a str>,
+    causes: Causes,
+}
+
+/// What is written of findings: how many paragraphs, and whether values were told on which some depend.
+#[derive(Clone, Copy)]
+struct Told {
+    count: usize,
+    has_hints: bool,
+}
+
+impl Told {
+    /// Writes the values on which the findings of a cause depend.
+    fn push_hints(
+        self,
+        alloc: Global,
+        telling: &Telling<'_>,
+        label: usize,
+        out: &mut String,
+    ) -> Result<Told, AllocError> {
+        let hints = telling.causes.hints(alloc, label)?;
+        if hints.is_empty() {
+            return Ok(self);
+        }
+        push_hints(
+            alloc,
+            telling.subject.kernel,
+            telling.names.as_slice(),
+            hints.as_slice(),
+            !self.has_hints,
+            out,
+        )?;
+        Ok(Told {
+            has_hints: true,
+            ..self
+        })
+    }
+
+    /// Writes the findings of a cause, one as any other, and several as one.
+    fn push_members(
+        self,
+        alloc: Global,
+        subject: Subject,
+        members: &[&Finding],
+        out: &mut String,
+    ) -> Result<Told, AllocError> {
+        let number = self.count.saturating_add(1);
+        match members {
+            [finding] => push_finding(alloc, subject, number, finding, out)?,
+            _ => push_group(alloc, subject.kernel, number, members, out)?,
+        }
+        Ok(Told {
+            count: number,
+            ..self
+        })
+    }
+}
+
+/// Writes all findings, those of one cause together, with the values on which they depend.
+fn push_causes(
     alloc: Global,
     subject: Subject,
+    typed: &Typed,
+    findings: &[Finding],
+    known: &Known<'_>,
+    out: &mut String,
+) -> Result<(), AllocError> {
+    let telling = Telling {
+        subject,
+        names: slot_names(alloc, typed)?,
+        causes: Causes::of(alloc, known, findings)?,
+    };
+    let mut told = Told {
+        count: 0,
+        has_hints: false,
+    };
+    for label in 0..findings.len() {
+        let members = members(alloc, findings, &telling.causes, label)?;
+        if !members.is_empty() {
+            told = told.push_members(alloc, subject, members.as_slice(), out)?;
+            told = told.push_hints(alloc, &telling, label, out)?;
+        }
+    }
+    Ok(())
+}
+
+/// Writes all findings, with the kernel as it is read.
+fn push_known(
+    alloc: Global,
+    subject: Subject,
+    typed: &Typed,
     findings: &[Finding],
     out: &mut String,
 ) -> Result<(), AllocError> {
-    match read_proper_kernel(alloc, subject.kernel) {
-        Ok(typed) => push_hints(alloc, subject.kernel, typed.core(), findings, out)?,
-        Err(_) => return Err(AllocError),
+    match read_conditions(alloc, typed, subject.conditions) {
+        Ok(conditions) => {
+            let known = Known::of(alloc, typed, &conditions)?;
+            push_causes(alloc, subject, typed, findings, &known, out)
+        }
+        Err(_) => Err(AllocError),
     }
-    out.push_str("\n")?;
-    push_paragraph(out, "", POSSIBLE)
 }
 
 /// All findings, and what to do about those that are only possible.
@@ -195,13 +322,48 @@ fn push_findings(
     findings: &[Finding],
     out: &mut String,
 ) -> Result<(), AllocError> {
-    for (place, finding) in findings.iter().enumerate() {
-        push_finding(alloc, subject, place.saturating_add(1), finding, out)?;
+    if findings.is_empty() {
+        return Ok(());
+    }
+    match read_proper_kernel(alloc, subject.kernel) {
+        Ok(typed) => push_known(alloc, subject, &typed, findings, out)?,
+        Err(_) => return Err(AllocError),
     }
     if findings.iter().any(is_possible) {
-        push_advice(alloc, subject, findings, out)?;
+        out.push_str("\n")?;
+        push_paragraph(out, "", POSSIBLE)?;
     }
     Ok(())
+}
+
+/// Writes which tests multiply the paths from a place, with the kernel as it is read.
+fn push_known_tests(
+    alloc: Global,
+    subject: Subject,
+    typed: &Typed,
+    place: Site,
+    out: &mut String,
+) -> Result<(), AllocError> {
+    match read_conditions(alloc, typed, subject.conditions) {
+        Ok(conditions) => {
+            let known = Known::of(alloc, typed, &conditions)?;
+            push_paths(alloc, subject.kernel, typed, &known, place, out)
+        }
+        Err(_) => Err(AllocError),
+    }
+}
+
+/// Writes which tests multiply the paths from the place to which a refusal points.
+fn push_tests(
+    alloc: Global,
+    subject: Subject,
+    place: Site,
+    out: &mut String,
+) -> Result<(), AllocError> {
+    match read_proper_kernel(alloc, subject.kernel) {
+        Ok(typed) => push_known_tests(alloc, subject, &typed, place, out),
+        Err(_) => Err(AllocError),
+    }
 }
 
 /// How many steps a work-item takes by a certificate.
@@ -229,6 +391,9 @@ fn explanation(
         push_paragraph(&mut out, "", meaning(refused.number))?;
     }
     push_findings(alloc, subject, refused.findings, &mut out)?;
+    if let (MANY_PATHS, Some(place)) = (refused.number, refused.place) {
+        push_tests(alloc, subject, place, &mut out)?;
+    }
     if let Some(certificate) = refused.over_budget {
         push_cost(alloc, subject.kernel, certificate, &mut out)?;
     }

@@ -1,37 +1,70 @@
 //! Values of which little is known, on which what was not shown depends.
 
+use crate::given::{Given, OneValue};
 use crate::paragraph::push_paragraph;
 use crate::parts::{MOST, put, put_both, statements_of, terms_of};
-use crate::source::push_site;
-use crate::vague::{Reason, Slots};
-use core_code::tree::{Core, Operator, Site, Statement, Term};
-use findings::{Finding, FindingKind, Grade, Spot};
+use crate::source::{push_label, push_site};
+use crate::vague::{Slots, Vague};
+use core_code::tree::{Operator, Site, Statement, Term};
+use findings::{Finding, FindingKind, Spot};
+use launch::conditions::Conditions;
 use std::alloc::{AllocError, Global};
+use syntax::site_at;
+use types::typed::Typed;
 use words::Fault;
 
-/// The most hints that are told.
+/// The most hints that are told of a cause.
 const SHOWN: usize = 4;
 
-/// The sentence in front of the hints.
+/// The sentence in front of the first hints.
 const HEAD: &str =
     "Of these values, on which that depends, little more than a range is known. If that is the reason, test them, or write \
      them otherwise, as docs/KERNELS.md says:";
 
-/// A value of which little is known.
-#[derive(Clone, Copy)]
-struct Hint {
-    site: Site,
-    reason: Reason,
+/// The words in front of further hints.
+const NEXT: &str = "That depends on such values, too:";
+
+/// The statements of a kernel, where each begins, and what is known of its variables.
+#[derive(Drop)]
+pub struct Known<'a> {
+    pub statements: Vec<&'a Statement>,
+    pub sites: Vec<Site>,
+    pub slots: Slots<'a>,
+    count: usize,
 }
 
-/// The terms on which something depends: those that are left, which variables were met, and what was found; steps count where one of the
-/// findings is of an index.
+impl<'a> Known<'a> {
+    pub fn of(
+        alloc: Global,
+        typed: &'a Typed,
+        conditions: &Conditions,
+    ) -> Result<Known<'a>, AllocError> {
+        let core = typed.core();
+        let statements = statements_of(alloc, core.body.as_slice())?;
+        let mut sites = Vec::new(alloc);
+        for statement in statements.iter() {
+            sites.push(site_at(typed.kernel(), Some(statement.number())))?;
+        }
+        let given = Given::of(alloc, core, conditions)?;
+        let slots = Slots::of(alloc, core, given, statements.as_slice())?;
+        Ok(Known {
+            statements,
+            sites,
+            slots,
+            count: core.arguments.len().saturating_add(core.variables.len()),
+        })
+    }
+}
+
+/// The terms on which a finding depends: those that are left, which variables were met, and what was found; steps count where the finding
+/// is of an index, and what tells two accesses apart where it is a data race.
 #[derive(Drop)]
 struct Slice<'a> {
     left: Vec<&'a Term>,
     met: Vec<bool>,
-    hints: Vec<Hint>,
+    hints: Vec<Vague>,
     has_index: bool,
+    is_of_two: bool,
 }
 
 /// A finding is of that site.
@@ -57,6 +90,11 @@ fn is_of_indexes(kind: FindingKind) -> bool {
 /// Items come to different places, or come too often.
 fn is_of_tests(kind: FindingKind) -> bool {
     matches!(kind, FindingKind::Divergence | FindingKind::Bound)
+}
+
+/// What is not shown of a loop is looked for in the loop's own test.
+fn is_asked(finding: &Finding, site: Site) -> bool {
+    finding.kind != FindingKind::Bound || is_of(finding, site)
 }
 
 impl<'a> Slice<'a> {
@@ -103,14 +141,22 @@ impl<'a> Slice<'a> {
         Ok(())
     }
 
-    /// Notes a hint where a variable steps by what is no number, if a finding is of an index.
-    fn push_step(&mut self, slots: &Slots, slot: u32, value: &Term) -> Result<(), AllocError> {
+    /// Notes a hint where a variable steps by what is no number, if the finding is of an index.
+    fn push_step(&mut self, slots: &Slots<'_>, slot: u32, value: &Term) -> Result<(), AllocError> {
         match slots.step(slot, value) {
-            Some(site) if self.has_index => {
-                self.hints.push(Hint {
-                    site,
-                    reason: Reason::Step,
-                })?;
+            Some(hint) if self.has_index => {
+                self.hints.push(hint)?;
+                Ok(())
+            }
+            _ => Ok(()),
+        }
+    }
+
+    /// Notes why little is known of a term, where it is of that finding.
+    fn push_vague(&mut self, slots: &Slots<'_>, term: &Term) -> Result<(), AllocError> {
+        match slots.what_is_vague(term) {
+            Some(hint) if self.is_of_two || !hint.reason.is_of_two() => {
+                self.hints.push(hint)?;
                 Ok(())
             }
             _ => Ok(()),
@@ -121,7 +167,7 @@ impl<'a> Slice<'a> {
     fn meet(
         &mut self,
         statements: &[&'a Statement],
-        slots: &Slots,
+        slots: &Slots<'_>,
         wanted: u32,
     ) -> Result<(), AllocError> {
         let Some(is_met) = self.met.get_mut(wanted as usize) else {
@@ -173,14 +219,16 @@ impl<'a> Slice<'a> {
     }
 
     /// All that the terms depend on, with what is found there.
-    fn follow(&mut self, statements: &[&'a Statement], slots: &Slots) -> Result<(), AllocError> {
+    fn follow(
+        &mut self,
+        statements: &[&'a Statement],
+        slots: &Slots<'_>,
+    ) -> Result<(), AllocError> {
         for _term in 0..MOST {
             let Some(term) = self.left.pop() else {
                 return Ok(());
             };
-            if let Some((site, reason)) = slots.reason(term) {
-                self.hints.push(Hint { site, reason })?;
-            }
+            self.push_vague(slots, term)?;
             match term {
                 Term::Variable { slot } => self.meet(statements, slots, *slot)?,
                 _ => self.push_operands(term)?,
@@ -190,37 +238,37 @@ impl<'a> Slice<'a> {
     }
 }
 
-/// The hints of all findings that are only possible, in the order in which they are met.
-fn hints_of(alloc: Global, core: &Core, findings: &[Finding]) -> Result<Vec<Hint>, AllocError> {
-    let statements = statements_of(alloc, core.body.as_slice())?;
-    let count = core.arguments.len().saturating_add(core.variables.len());
-    let slots = Slots::of(alloc, core, statements.as_slice())?;
+/// The values of which little is known, on which a finding depends, in the order in which they are met.
+pub fn hints_of(
+    alloc: Global,
+    known: &Known<'_>,
+    finding: &Finding,
+) -> Result<Vec<Vague>, AllocError> {
+    let statements = known.statements.as_slice();
     let mut slice = Slice {
         left: Vec::new(alloc),
-        met: vec![in alloc; false; count]?,
+        met: vec![in alloc; false; known.count]?,
         hints: Vec::new(alloc),
-        has_index: false,
+        has_index: is_of_indexes(finding.kind),
+        is_of_two: finding.kind == FindingKind::Race,
     };
-    for finding in findings {
-        if let Grade::Possible = finding.grade {
-            slice.has_index |= is_of_indexes(finding.kind);
-            for statement in statements.iter() {
-                slice.begin(alloc, finding, statement)?;
-            }
+    for (statement, site) in statements.iter().zip(known.sites.iter()) {
+        if is_asked(finding, *site) {
+            slice.begin(alloc, finding, statement)?;
         }
     }
-    slice.follow(statements.as_slice(), &slots)?;
+    slice.follow(statements, &known.slots)?;
     Ok(slice.hints)
 }
 
 /// The number of a place, in the order of the source.
-fn order_of(site: Site) -> u64 {
+pub fn order_of(site: Site) -> u64 {
     ((site.line as u64) << 32) | site.column as u64
 }
 
 /// The first hint, in the order of the source, behind a place; none where there is no more.
-fn first_behind(hints: &[Hint], place: u64) -> Option<Hint> {
-    let mut first: Option<Hint> = None;
+fn first_behind(hints: &[Vague], place: u64) -> Option<Vague> {
+    let mut first: Option<Vague> = None;
     for hint in hints {
         let is_nearer = match first {
             Some(other) => order_of(hint.site) < order_of(other.site),
@@ -233,11 +281,27 @@ fn first_behind(hints: &[Hint], place: u64) -> Option<Hint> {
     first
 }
 
+/// Writes with which line of the conditions a value would be exact; nothing where one value of one thing does not make it so.
+fn push_one(
+    alloc: Global,
+    names: &[&str],
+    one: Option<OneValue>,
+    out: &mut String,
+) -> Result<(), AllocError> {
+    let Some(one) = one else {
+        return Ok(());
+    };
+    let mut label = String::from_str(alloc, "exact if the conditions say ")?;
+    one.push(names, &mut label)?;
+    push_label(out, &label)
+}
+
 /// Writes the first hints in the order of the source, each with its line.
 fn push_some(
     alloc: Global,
     kernel: &[u8],
-    hints: &[Hint],
+    names: &[&str],
+    hints: &[Vague],
     out: &mut String,
 ) -> Result<(), AllocError> {
     let mut place = 0;
@@ -247,32 +311,24 @@ fn push_some(
             return Ok(());
         };
         place = order_of(hint.site);
-        push_site(
-            alloc,
-            out,
-            kernel,
-            hint.site,
-            hint.site.line == line,
-            hint.reason.text(),
-        )?;
+        let is_shown = hint.site.line == line;
+        push_site(alloc, out, kernel, hint.site, is_shown, hint.reason.text())?;
+        push_one(alloc, names, hint.one, out)?;
         line = hint.site.line;
     }
     Ok(())
 }
 
-/// Values on which findings that are only possible depend, behind an empty line.
+/// Writes values on which findings that are only possible depend, behind an empty line; the names are those of the arguments.
 pub fn push_hints(
     alloc: Global,
     kernel: &[u8],
-    core: &Core,
-    findings: &[Finding],
+    names: &[&str],
+    hints: &[Vague],
+    is_first: bool,
     out: &mut String,
 ) -> Result<(), AllocError> {
-    let hints = hints_of(alloc, core, findings)?;
-    if hints.is_empty() {
-        return Ok(());
-    }
     out.push_str("\n")?;
-    push_paragraph(out, "", HEAD)?;
-    push_some(alloc, kernel, hints.as_slice(), out)
+    push_paragraph(out, "", if is_first { HEAD } else { NEXT })?;
+    push_some(alloc, kernel, names, hints, out)
 }

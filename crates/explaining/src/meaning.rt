@@ -109,7 +109,7 @@ const MEANINGS: &[(u8, &str)] = &[
     ),
     (
         51,
-        "The certificate is of another version: version 1 is the only one.",
+        "The certificate is of another version: versions 1 and 2 are read, and version 4 with --wide.",
     ),
     (
         52,

@@ -7,6 +7,7 @@ ghost use Rattle.launch.specs.View.{launch as launch_seen};
 ghost use Rattle.work_item.specs.Proper.{is_proper};
 ghost use Rattle.machine.specs.Worlds.{IsSound};
 
+use crate::causes::site_of;
 use crate::index::{Reach, reach_of};
 use crate::names::{Names, names_of};
 use crate::paragraph::push_paragraph;
@@ -26,14 +27,6 @@ const INDENT: &str = "   ";
 
 /// How many values are told of an item, and how many buffers of a launch.
 const MOST: usize = 8;
-
-/// The source place of a spot; none for the end of the kernel.
-pub fn site_of(spot: Spot) -> Option<Site> {
-    match spot {
-        Spot::Store(site) | Spot::Load(site) | Spot::Barrier(site) | Spot::At(site) => Some(site),
-        Spot::End => None,
-    }
-}
 
 /// Events one after another, until so many accesses were made.
 fn advance(world: &mut World, events: &[Event], accesses: usize) -> Result<(), AllocError>

@@ -45,7 +45,7 @@ pub fn meant(kind: FindingKind) -> &'static str {
 }
 
 /// The words for what is done at a site, by the finding's kind, as they stand before the work-item.
-fn action(kind: FindingKind, spot: Spot) -> &'static str {
+pub fn action(kind: FindingKind, spot: Spot) -> &'static str {
     match (spot, kind) {
         (Spot::Store(_), _) => "store",
         (Spot::Load(_), _) => "load",

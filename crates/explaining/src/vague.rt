@@ -1,18 +1,23 @@
-//! Operators of whose results only a range is known to the walk of a kernel.
+//! Operators of whose results only a range is known to the wide walk of a kernel.
 
-use core_code::tree::{Core, Function, Operator, Site, Statement, Term};
+use crate::given::{Given, OneValue};
+use crate::kinds::kind_of;
+use core_code::tree::{Core, Operator, Site, Statement, Term, UnaryOperator};
 use std::alloc::{AllocError, Global};
 use words::Kind;
+
+/// How often the statements are gone over to learn which variables may be negative.
+const PASSES: usize = 4;
 
 /// Why only the range of a value is known.
 #[derive(Clone, Copy)]
 pub enum Reason {
     Product,
     Quotient,
-    Difference,
+    Negative,
     Mask,
-    SignedMask,
     Bits,
+    SignedBits,
     Loaded,
     Step,
 }
@@ -23,22 +28,38 @@ impl Reason {
         match self {
             Reason::Product => "product of two that are no numbers",
             Reason::Quotient => "quotient or remainder by what is no number",
-            Reason::Difference => "quotient or remainder of what may be negative",
-            Reason::Mask => "mask that is no number",
-            Reason::SignedMask => "mask of an int that may be negative",
-            Reason::Bits => "bits of two values",
+            Reason::Negative => "quotient or remainder of an int that may be negative",
+            Reason::Mask => "bits of two values: at most each of them, no more is known",
+            Reason::Bits => "bits of two values: at most their sum (where no bits meet, add them)",
+            Reason::SignedBits => "bits of ints that may be negative",
             Reason::Loaded => "loaded, so any value until it is tested",
-            Reason::Step =>
-                "step that is no number (a size is one where one count of groups is allowed)",
+            Reason::Step => "step that is no number",
         }
+    }
+
+    /// Enough is known of the value for one access, and too little to tell two apart.
+    pub fn is_of_two(self) -> bool {
+        matches!(self, Reason::Mask | Reason::Bits)
     }
 }
 
-/// Which variables are a number of the text, and which may be negative as far as ranges show, by their slots.
+/// A value of which little is known: where its operator is, why, and what the conditions might say to make it exact.
+#[derive(Clone, Copy)]
+pub struct Vague {
+    pub site: Site,
+    pub reason: Reason,
+    pub one: Option<OneValue>,
+}
+
+/// What is known of a kernel's variables, by their slots: which are a number, which may be negative, and which would be a number if an
+/// argument or a size were.
 #[derive(Drop)]
-pub struct Slots {
+pub struct Slots<'a> {
+    core: &'a Core,
+    given: Given,
     numbers: Vec<bool>,
     dips: Vec<bool>,
+    ones: Vec<Option<OneValue>>,
 }
 
 /// The mark of a slot.
@@ -52,56 +73,24 @@ fn mark(marks: &mut [bool], slot: u32, is: bool) {
     }
 }
 
-/// A value that is the same at every launch.
-fn is_number(term: &Term, numbers: &[bool]) -> bool {
-    match term {
-        Term::Literal { .. } => true,
-        Term::Variable { slot } => is_marked(numbers, *slot),
-        Term::Id { function, .. } => matches!(function, Function::LocalSize),
-        Term::Unary { of, .. } | Term::Convert { of, .. } => is_number(of, numbers),
-        Term::Binary { left, right, .. } => is_number(left, numbers) && is_number(right, numbers),
-        _ => false,
-    }
-}
-
-/// A value of which ranges do not show that it is at least 0, so that a quotient by a number is not known.
-fn may_dip(term: &Term, dips: &[bool], kind: Kind) -> bool {
-    match term {
-        Term::Variable { slot } => is_marked(dips, *slot),
-        Term::Load { .. } => kind == Kind::Int,
-        Term::Convert { of, .. } => may_dip(of, dips, kind),
-        Term::Binary {
-            operator: Operator::Subtract | Operator::Remainder,
-            ..
-        } => true,
-        Term::Binary {
-            operator: Operator::Add | Operator::Multiply,
-            left,
-            right,
-            ..
-        } => may_dip(left, dips, kind) || may_dip(right, dips, kind),
-        _ => false,
-    }
-}
-
-/// The variable of a slot is an `int`.
-fn is_int(core: &Core, slot: u32) -> bool {
-    let place = slot as usize;
-    let arguments = core.arguments.as_slice();
-    let kind = match arguments.get(place) {
-        Some(kind) => Some(kind),
-        None => core
-            .variables
-            .as_slice()
-            .get(place.saturating_sub(arguments.len())),
-    };
-    kind.is_some_and(|kind| *kind == Kind::Int)
-}
-
 fn is_variable(term: &Term, wanted: u32) -> bool {
     match term {
         Term::Variable { slot } => *slot == wanted,
         _ => false,
+    }
+}
+
+/// A result of an operator on ints may be negative, by which of its operands may be.
+fn may_dip_by(operator: Operator, left: bool, right: bool) -> bool {
+    match operator {
+        Operator::Subtract => true,
+        Operator::Remainder => left,
+        Operator::BitAnd => left && right,
+        Operator::Add
+        | Operator::Multiply
+        | Operator::Divide
+        | Operator::BitOr
+        | Operator::BitXor => left || right,
     }
 }
 
@@ -110,78 +99,223 @@ fn is_plain(term: &Term) -> bool {
     matches!(term, Term::Variable { .. } | Term::Id { .. })
 }
 
-impl Slots {
-    /// The slots of a kernel, so many, none of which is known to be a number or to become negative.
-    fn new(alloc: Global, count: usize) -> Result<Slots, AllocError> {
-        Ok(Slots {
-            numbers: vec![in alloc; false; count]?,
-            dips: vec![in alloc; false; count]?,
-        })
-    }
-
-    /// Notes of the variable that a statement sets whether it is a number by then, and whether it may be negative.
-    fn take(&mut self, statement: &Statement, is_first: bool) {
-        if let Statement::Set { slot, value, .. } = statement {
-            let is_number = is_first && is_number(value, self.numbers.as_slice());
-            let dips = may_dip(value, self.dips.as_slice(), Kind::Uint);
-            mark(self.numbers.as_mut_slice(), *slot, is_number);
-            if dips {
-                mark(self.dips.as_mut_slice(), *slot, true);
-            }
-        }
-    }
-
-    /// The slots of a kernel, with what is known of its variables: one that is set twice is no number, and in a loop nothing but its type
-    /// is known of it.
-    pub fn of(alloc: Global, core: &Core, statements: &[&Statement]) -> Result<Slots, AllocError> {
+impl<'a> Slots<'a> {
+    /// The slots of a kernel in front of its first statement.
+    fn new(alloc: Global, core: &'a Core, given: Given) -> Result<Slots<'a>, AllocError> {
         let count = core.arguments.len().saturating_add(core.variables.len());
-        let mut slots = Slots::new(alloc, count)?;
-        let mut seen = vec![in alloc; false; count]?;
-        for statement in statements {
-            if let Statement::Set { slot, .. } = *statement {
-                let is_first = !is_marked(seen.as_slice(), *slot);
-                mark(seen.as_mut_slice(), *slot, true);
-                slots.take(statement, is_first);
-                if !is_first && is_int(core, *slot) {
-                    mark(slots.dips.as_mut_slice(), *slot, true);
-                }
-            }
+        let mut slots = Slots {
+            core,
+            given,
+            numbers: Vec::new(alloc),
+            dips: Vec::new(alloc),
+            ones: Vec::new(alloc),
+        };
+        for place in 0..count {
+            slots.push_slot(place)?;
         }
         Ok(slots)
     }
 
-    fn is_number(&self, term: &Term) -> bool {
-        is_number(term, self.numbers.as_slice())
+    /// An argument, or a variable that nothing sets so far.
+    fn push_slot(&mut self, place: usize) -> Result<(), AllocError> {
+        let is_number = self.given.is_one(place);
+        let dips = self.given.may_be_negative(place);
+        let one = self.given.one_argument(place);
+        self.numbers.push(is_number)?;
+        self.dips.push(dips)?;
+        self.ones.push(one)?;
+        Ok(())
     }
 
-    fn may_dip(&self, term: &Term, kind: Kind) -> bool {
-        may_dip(term, self.dips.as_slice(), kind)
+    /// A value that is the same at every launch.
+    pub fn is_number(&self, term: &Term) -> bool {
+        match term {
+            Term::Literal { .. } => true,
+            Term::Variable { slot } => is_marked(self.numbers.as_slice(), *slot),
+            Term::Id {
+                function,
+                dimension,
+            } => self.given.is_number(*function, *dimension),
+            Term::Unary { of, .. } | Term::Convert { of, .. } => self.is_number(of),
+            Term::Binary { left, right, .. } => self.is_number(left) && self.is_number(right),
+            _ => false,
+        }
+    }
+
+    /// An int that may be negative, as far as is known here.
+    pub fn may_dip(&self, term: &Term) -> bool {
+        if kind_of(self.core, term) == Kind::Uint {
+            return false;
+        }
+        match term {
+            Term::Variable { slot } => is_marked(self.dips.as_slice(), *slot),
+            Term::Load { .. } => true,
+            Term::Unary { operator, .. } => {
+                matches!(operator, UnaryOperator::Negate | UnaryOperator::Complement)
+            }
+            Term::Convert { of, .. } => self.may_dip(of),
+            Term::Binary {
+                operator,
+                left,
+                right,
+                ..
+            } => {
+                let dips = self.may_dip(left);
+                may_dip_by(*operator, dips, self.may_dip(right))
+            }
+            Term::Select { taken, skipped, .. } => self.may_dip(taken) || self.may_dip(skipped),
+            Term::Minimum { left, right } => self.may_dip(left) || self.may_dip(right),
+            Term::Maximum { left, right } => self.may_dip(left) && self.may_dip(right),
+            _ => false,
+        }
+    }
+
+    /// What would make a value a number that is none: one value of an argument or of a size.
+    fn one_value(&self, term: &Term) -> Option<OneValue> {
+        match term {
+            Term::Variable { slot } => *self.ones.get(*slot as usize)?,
+            Term::Id {
+                function,
+                dimension,
+            } => self.given.one_groups(*function, *dimension),
+            Term::Unary { of, .. } | Term::Convert { of, .. } => self.one_value(of),
+            Term::Binary { left, right, .. } => {
+                let one = self.one_value(left);
+                self.one_of_both(left, right, one, self.one_value(right))
+            }
+            _ => None,
+        }
+    }
+
+    /// What would make both of two values numbers, by what would make each of them one.
+    fn one_of_both(
+        &self,
+        left: &Term,
+        right: &Term,
+        one: Option<OneValue>,
+        other: Option<OneValue>,
+    ) -> Option<OneValue> {
+        if self.is_number(left) {
+            return other;
+        }
+        let one = one?;
+        if self.is_number(right) || other?.is_like(one) {
+            return Some(one);
+        }
+        None
+    }
+
+    /// What would make one of two values a number, the right one first.
+    fn one_of_either(&self, left: &Term, right: &Term) -> Option<OneValue> {
+        match self.one_value(right) {
+            Some(one) => Some(one),
+            None => self.one_value(left),
+        }
+    }
+
+    /// A variable is set, for the first time or once more.
+    fn set(&mut self, slot: u32, value: &Term, is_first: bool) {
+        let is_number = is_first && self.is_number(value);
+        let one = if is_first {
+            self.one_value(value)
+        } else {
+            None
+        };
+        mark(self.numbers.as_mut_slice(), slot, is_number);
+        if let Some(it) = self.ones.get_mut(slot as usize) {
+            *it = one;
+        }
+    }
+
+    /// Which variables are numbers: those that are set once, to one. An argument has a value before it is set.
+    fn set_all(&mut self, alloc: Global, statements: &[&Statement]) -> Result<(), AllocError> {
+        let mut seen = vec![in alloc; false; self.numbers.len()]?;
+        for statement in statements {
+            if let Statement::Set { slot, value, .. } = *statement {
+                let is_argument = (*slot as usize) < self.core.arguments.len();
+                let is_first = !is_argument && !is_marked(seen.as_slice(), *slot);
+                mark(seen.as_mut_slice(), *slot, true);
+                self.set(*slot, value, is_first);
+            }
+        }
+        Ok(())
+    }
+
+    /// Which variables may be negative, by one more pass over what they are set to.
+    fn dip(&mut self, statements: &[&Statement]) {
+        for statement in statements {
+            if let Statement::Set { slot, value, .. } = *statement {
+                if self.may_dip(value) {
+                    mark(self.dips.as_mut_slice(), *slot, true);
+                }
+            }
+        }
+    }
+
+    /// The slots of a kernel, with what is known of its variables.
+    pub fn of(
+        alloc: Global,
+        core: &'a Core,
+        given: Given,
+        statements: &[&Statement],
+    ) -> Result<Slots<'a>, AllocError> {
+        let mut slots = Slots::new(alloc, core, given)?;
+        slots.set_all(alloc, statements)?;
+        for _pass in 0..PASSES {
+            slots.dip(statements);
+        }
+        Ok(slots)
     }
 
     /// Why only the range of a quotient or remainder is known.
-    fn reason_of_division(&self, left: &Term, right: &Term, kind: Kind) -> Option<Reason> {
+    fn reason_of_division(&self, left: &Term, right: &Term) -> Option<Reason> {
         if !self.is_number(right) {
             Some(Reason::Quotient)
-        } else if self.may_dip(left, kind) {
-            Some(Reason::Difference)
+        } else if self.may_dip(left) {
+            Some(Reason::Negative)
         } else {
             None
         }
     }
 
-    /// Why only the range of a mask is known.
-    fn reason_of_mask(&self, left: &Term, right: &Term, kind: Kind) -> Option<Reason> {
-        if !self.is_number(left) && !self.is_number(right) {
-            Some(Reason::Mask)
-        } else if kind == Kind::Int && (self.may_dip(left, kind) || self.may_dip(right, kind)) {
-            Some(Reason::SignedMask)
-        } else {
-            None
+    /// Why only a range is known of the bits of two values.
+    fn reason_of_bits(&self, operator: Operator, left: &Term, right: &Term) -> Option<Reason> {
+        if may_dip_by(operator, self.may_dip(left), self.may_dip(right)) {
+            return Some(Reason::SignedBits);
+        }
+        if self.is_number(left) || self.is_number(right) {
+            return None;
+        }
+        match operator {
+            Operator::BitAnd => Some(Reason::Mask),
+            _ => Some(Reason::Bits),
         }
     }
 
-    /// The place at which a variable steps by a size, an argument or a variable that is no number; none where the value is no such step.
-    pub fn step(&self, slot: u32, value: &Term) -> Option<Site> {
+    /// Why only the range of what an operator gives is known.
+    fn reason_of(&self, operator: Operator, left: &Term, right: &Term) -> Option<Reason> {
+        match operator {
+            Operator::Multiply if self.is_number(left) || self.is_number(right) => None,
+            Operator::Multiply => Some(Reason::Product),
+            Operator::Divide | Operator::Remainder => self.reason_of_division(left, right),
+            Operator::BitAnd | Operator::BitOr | Operator::BitXor => {
+                self.reason_of_bits(operator, left, right)
+            }
+            Operator::Add | Operator::Subtract => None,
+        }
+    }
+
+    /// What the conditions might say to make a value exact.
+    fn one_for(&self, reason: Reason, left: &Term, right: &Term) -> Option<OneValue> {
+        match reason {
+            Reason::Product => self.one_of_either(left, right),
+            Reason::Quotient => self.one_value(right),
+            _ => None,
+        }
+    }
+
+    /// The step of a variable by a size, an argument or a variable that is no number; none where the value is no such step.
+    pub fn step(&self, slot: u32, value: &Term) -> Option<Vague> {
         match value {
             Term::Convert { of, .. } => self.step(slot, of),
             Term::Binary {
@@ -191,34 +325,37 @@ impl Slots {
                 right,
                 ..
             } if is_variable(left, slot) && is_plain(right) && !self.is_number(right) => Some(
-                *site,
+                Vague {
+                    site: *site,
+                    reason: Reason::Step,
+                    one: self.one_value(right),
+                },
             ),
             _ => None,
         }
     }
 
     /// Why only the range of a term's value is known, and where its operator is.
-    pub fn reason(&self, term: &Term) -> Option<(Site, Reason)> {
+    pub fn what_is_vague(&self, term: &Term) -> Option<Vague> {
         match term {
-            Term::Load { site, .. } => Some((*site, Reason::Loaded)),
+            Term::Load { site, .. } => Some(Vague {
+                site: *site,
+                reason: Reason::Loaded,
+                one: None,
+            }),
             Term::Binary {
                 operator,
-                kind,
                 site,
                 left,
                 right,
+                ..
             } => {
-                let reason = match operator {
-                    Operator::Multiply if self.is_number(left) || self.is_number(right) => None,
-                    Operator::Multiply => Some(Reason::Product),
-                    Operator::Divide | Operator::Remainder => {
-                        self.reason_of_division(left, right, *kind)
-                    }
-                    Operator::BitAnd => self.reason_of_mask(left, right, *kind),
-                    Operator::BitOr | Operator::BitXor => Some(Reason::Bits),
-                    Operator::Add | Operator::Subtract => None,
-                };
-                Some((*site, reason?))
+                let reason = self.reason_of(*operator, left, right)?;
+                Some(Vague {
+                    site: *site,
+                    reason,
+                    one: self.one_for(reason, left, right),
+                })
             }
             _ => None,
         }

@@ -11,7 +11,8 @@ use crate::proving::{Proved, Sought, findings_of, found, unproved};
 use crate::refusal::Refusal;
 use crate::{Texts, Verdict};
 use cert_check::check_as;
-use cert_check::error::CheckError;
+use cert_check::error::{CheckError, Pointer};
+use core_code::tree::Site;
 use explaining::{Refused, explain};
 use launch_text::laws::what_is_read_of_conditions_is_their_text;
 use proof_search::Found;
@@ -23,6 +24,14 @@ use verify::{VerifyError, find_as};
 
 /// The number of steps that pass the budget.
 const OVER_BUDGET: u8 = 56;
+
+/// The place in the kernel's text to which a refusal points.
+fn site_of(place: Option<Pointer>) -> Option<Site> {
+    match place {
+        Some(Pointer::At { line, column }) => Some(Site { line, column }),
+        Some(Pointer::Number(_)) | None => None,
+    }
+}
 
 /// Writes what a refusal means behind the lines that tell it.
 fn going_on(
@@ -53,6 +62,7 @@ fn unfound(
 {
     let refused = Refused {
         number: error.number(),
+        place: site_of(error.place()),
         findings: findings_of(error),
         over_budget,
     };
@@ -111,6 +121,7 @@ fn unaccepted(alloc: Global, texts: Texts, error: &CheckError) -> Verdict
     };
     let refused = Refused {
         number,
+        place: site_of(refusal.place),
         findings: &[],
         over_budget: (number == OVER_BUDGET).then_some(texts.certificate),
     };

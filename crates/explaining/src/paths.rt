@@ -1,0 +1,224 @@
+//! Which tests multiply the paths from a place.
+
+use crate::flows::{paths_from, paths_of};
+use crate::forks::{Fork, Tests};
+use crate::hints::Known;
+use crate::paragraph::push_paragraph;
+use crate::source::{push_label, push_site};
+use core_code::tree::{Site, Statement};
+use places::{Point, points_of};
+use std::alloc::{AllocError, Global};
+use syntax::site_at;
+use types::typed::Typed;
+
+/// How many tests are told.
+const MOST: usize = 10;
+
+/// How many paths there may be from a place.
+const ALLOWED: u64 = 256;
+
+/// A greater number of paths is not told.
+const TOLD: u64 = 1_000_000;
+
+/// What to do about too many paths.
+const ADVICE: &str =
+    "A barrier or a loop between two tests parts them. A test by < or > has two ways where one by ==, != or a number itself has three: \
+     write if (x > 0u) for if (x), and if (x < 1u) for if (x == 0u).";
+
+/// The point of a site.
+fn point_at<'p, 'a>(typed: &Typed, points: &'p [Point<'a>], place: Site) -> Option<&'p Point<'a>> {
+    for point in points {
+        if site_at(typed.kernel(), Some(point.statement.number())) == place {
+            return Some(point);
+        }
+    }
+    None
+}
+
+/// The place from which the paths begin, in words.
+fn beginning(point: Option<&Point<'_>>) -> &'static str {
+    match point {
+        None => "From the kernel's beginning",
+        Some(point) => match point.statement {
+            Statement::Barrier { .. } => "From that barrier",
+            _ => "From that loop's test",
+        },
+    }
+}
+
+/// How many tests make more than two ways, and how many make two.
+fn counts(forks: &[Fork]) -> (usize, usize) {
+    let mut wide = 0usize;
+    for fork in forks {
+        if fork.ways > 2 {
+            wide = wide.saturating_add(1);
+        }
+    }
+    (wide, forks.len().saturating_sub(wide))
+}
+
+/// Writes a test with its ways.
+fn push_fork(
+    alloc: Global,
+    kernel: &[u8],
+    fork: &Fork,
+    line: u32,
+    out: &mut String,
+) -> Result<(), AllocError> {
+    let ways = fork.ways;
+    let note = fork.note;
+    let label = format!(in alloc; "{ways} ways{note}")?;
+    push_site(
+        alloc,
+        out,
+        kernel,
+        fork.site,
+        fork.site.line == line,
+        &label,
+    )
+}
+
+/// Writes the first tests in the order of the walk; those with two ways stand back where there are too many.
+fn push_forks(
+    alloc: Global,
+    kernel: &[u8],
+    forks: &[Fork],
+    out: &mut String,
+) -> Result<(), AllocError> {
+    let (wide, _) = counts(forks);
+    let mut room = MOST;
+    let mut narrow = MOST.saturating_sub(wide);
+    let mut line = 0;
+    for fork in forks {
+        let is_told = room > 0 && (fork.ways > 2 || narrow > 0);
+        if is_told {
+            room = room.saturating_sub(1);
+            narrow = if fork.ways > 2 {
+                narrow
+            } else {
+                narrow.saturating_sub(1)
+            };
+            push_fork(alloc, kernel, fork, line, out)?;
+            line = fork.site.line;
+        }
+    }
+    let left = forks.len().saturating_sub(MOST);
+    if left > 0 {
+        let label = format!(in alloc; "and {left} more")?;
+        push_label(out, &label)?;
+    }
+    Ok(())
+}
+
+/// The tests behind a place, and how many paths these make by the text.
+#[derive(Drop)]
+struct Count {
+    forks: Vec<Fork>,
+    total: u64,
+}
+
+/// How many paths there are by the text.
+fn write_total(total: u64, text: &mut String) -> Result<(), AllocError> {
+    if total > TOLD {
+        write!(
+            text,
+            "By the text these make over {TOLD} paths; {ALLOWED} are allowed. "
+        )
+    } else if total > ALLOWED {
+        write!(
+            text,
+            "By the text these make {total} paths; {ALLOWED} are allowed. "
+        )
+    } else {
+        Ok(())
+    }
+}
+
+/// How many paths the wide walk has, where it has fewer.
+fn write_wide(wide: Option<u64>, text: &mut String) -> Result<(), AllocError> {
+    match wide {
+        Some(wide) => write!(text, "With --wide there are {wide}. "),
+        None => Ok(()),
+    }
+}
+
+/// How many paths there are by the text, and what to do.
+fn push_total(
+    alloc: Global,
+    total: u64,
+    wide: Option<u64>,
+    out: &mut String,
+) -> Result<(), AllocError> {
+    let mut text = String::new(alloc);
+    write_total(total, &mut text)?;
+    write_wide(wide, &mut text)?;
+    text.push_str(ADVICE)?;
+    push_paragraph(out, "", &text)
+}
+
+/// The paths from a point, or from a kernel's beginning, in the wide walk or not.
+fn count_paths(
+    alloc: Global,
+    typed: &Typed,
+    known: &Known<'_>,
+    point: Option<&Point<'_>>,
+    is_wide: bool,
+) -> Result<Count, AllocError> {
+    let mut tests = Tests::of(alloc, typed, &known.slots, is_wide)?;
+    let flows = match point {
+        Some(point) => paths_from(alloc, &mut tests, point)?,
+        None => paths_of(alloc, &mut tests, typed.core().body.as_slice())?,
+    };
+    Ok(Count {
+        forks: tests.forks,
+        total: flows.total(),
+    })
+}
+
+/// Writes the tests behind a place, with how many paths these make.
+fn push_count(
+    alloc: Global,
+    kernel: &[u8],
+    point: Option<&Point<'_>>,
+    count: &Count,
+    wide: Option<u64>,
+    out: &mut String,
+) -> Result<(), AllocError> {
+    if count.forks.is_empty() {
+        return Ok(());
+    }
+    out.push_str("\n")?;
+    let begin = beginning(point);
+    let head = format!(in alloc;
+        "{begin} to the next barrier, loop or end these tests multiply the paths:"
+    )?;
+    push_paragraph(out, "", &head)?;
+    push_forks(alloc, kernel, count.forks.as_slice(), out)?;
+    push_total(alloc, count.total, wide, out)
+}
+
+/// Writes which tests multiply the paths from a place, and what to do. Where few paths come from the beginning nothing is said: the
+/// obligations may be too many.
+pub fn push_paths(
+    alloc: Global,
+    kernel: &[u8],
+    typed: &Typed,
+    known: &Known<'_>,
+    place: Site,
+    out: &mut String,
+) -> Result<(), AllocError> {
+    let points = points_of(alloc, typed.core().body.as_slice())?;
+    let point = point_at(typed, points.as_slice(), place);
+    let wide = count_paths(alloc, typed, known, point, true)?;
+    if wide.total > ALLOWED {
+        return push_count(alloc, kernel, point, &wide, None, out);
+    }
+    let narrow = count_paths(alloc, typed, known, point, false)?;
+    if narrow.total > ALLOWED {
+        return push_count(alloc, kernel, point, &narrow, Some(wide.total), out);
+    }
+    match point {
+        Some(_) => push_count(alloc, kernel, point, &wide, None, out),
+        None => Ok(()),
+    }
+}

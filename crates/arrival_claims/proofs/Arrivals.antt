@@ -6,12 +6,12 @@ use Rattle.facts.specs.declared.error.WalkError.{WalkError}
 use Rattle.walk_trees.specs.Trees.{Leaf}
 use Rattle.walk_trees.specs.Walks.{arrived}
 use Rattle.obligations.specs.Roots.{kinds, are_slots}
-use Rattle.obligations.specs.Walking.{Placed, refused, arrive_at, stops}
+use Rattle.obligations.specs.Walking.{Placed, refused, claim_lines, arrive_at, stops}
 use Rattle.path_steps.specs.Paths.{Found, Followed, collect, stopped}
 use Rattle.path_steps.specs.Leads.{Steps}
 use Rattle.path_steps.specs.Refusals.{StopsAtStep}
 use Rattle.path_steps.proofs.Refusing.{refused_from}
-use Rattle.arrival_claims.specs.Claims.{claim_lines, Comes, IsRefusedAt}
+use Rattle.arrival_claims.specs.Claims.{Comes, IsRefusedAt}
 
 module _ {E : Type 0} (w : Placed E) (a h : Option ℕ) (stop : Stop) (turns : Turns) (l : Followed E) (b : Bool) (d : b ≡ are_slots w.kernel 0 (kinds w.kernel) l.state.variables) (p : b ≡ true) where
   lawful : collect l.found (arrive_at w a h stop turns l.state) ≡ collect l.found (claim_lines w a h l.state (λ st. Leaf (arrived stop turns st)))

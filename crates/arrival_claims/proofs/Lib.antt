@@ -1,6 +1,8 @@
 pub mod OnPaths
 pub mod EachSlot
 pub mod Making
+pub mod Putting
+pub mod Digits
 pub mod Lines
 pub mod Each
 pub mod Arrivals

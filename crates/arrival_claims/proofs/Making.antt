@@ -9,7 +9,7 @@ use Rattle.facts.specs.declared.error.WalkError.{WalkError}
 use Rattle.facts.specs.declared.error.WalkError.TheVariants as errors
 use Rattle.facts.proofs.Tests.{and_left, and_right}
 use Rattle.walk_trees.specs.Fitting.{all_fit}
-use Rattle.obligations.specs.Replacing.{Replacement, replaced_from, made_from}
+use Rattle.obligations.specs.Replacing.{Replacement, form_of, replaced_from, made_from}
 use Rattle.arrival_claims.specs.Unfit.{AreUnfit}
 
 not_all : (xs ys : List Fact) (f : Fact) → fits f ≡ false → all_fit (xs ++ f ∷ ys) ≡ false
@@ -22,20 +22,20 @@ unfit_among errors.TooLarge xs ys f h = not_all xs ys f h
 unfit_among errors.Memory xs ys f h = tt
 
 module _ (by : Replacement) (f : Fact) (t : Weighted ℕ) (ts : Terms) (before all : List Fact) (d : before ++ made_from by f (t ∷ ts) ≡ all) where
-  pub made_more : (after : List Fact) (part g : Fact) → part ≡ multiple t.coefficient (by t.symbol) → g ≡ sum f part → after ≡ before ++ part ∷ sum f part ∷ [] → after ++ made_from by g ts ≡ all
+  pub made_more : (after : List Fact) (part g : Fact) → part ≡ multiple t.coefficient (form_of by t.symbol) → g ≡ sum f part → after ≡ before ++ part ∷ sum f part ∷ [] → after ++ made_from by g ts ≡ all
   made_more after part g p q r =
       (λ i. r i ++ made_from by (q i) ts)
       ∙ append_assoc before (part ∷ sum f part ∷ []) (made_from by (sum f part) ts)
       ∙ ap (λ x. before ++ (x ∷ sum f x ∷ made_from by (sum f x) ts)) p
       ∙ d
 
-  pub part_unfit : (e : WalkError) → IsUnfit e (multiple t.coefficient (by t.symbol)) → AreUnfit e all
-  part_unfit e h = subst (AreUnfit e) d (unfit_among e before _ (multiple t.coefficient (by t.symbol)) h)
+  pub part_unfit : (e : WalkError) → IsUnfit e (multiple t.coefficient (form_of by t.symbol)) → AreUnfit e all
+  part_unfit e h = subst (AreUnfit e) d (unfit_among e before _ (multiple t.coefficient (form_of by t.symbol)) h)
 
-  pub sum_unfit : (e : WalkError) (part : Fact) → part ≡ multiple t.coefficient (by t.symbol) → IsUnfit e (sum f part) → AreUnfit e all
+  pub sum_unfit : (e : WalkError) (part : Fact) → part ≡ multiple t.coefficient (form_of by t.symbol) → IsUnfit e (sum f part) → AreUnfit e all
   sum_unfit e part p h =
-      let m = multiple t.coefficient (by t.symbol) in
+      let m = multiple t.coefficient (form_of by t.symbol) in
       subst (AreUnfit e) (append_assoc before (m ∷ []) (sum f m ∷ made_from by (sum f m) ts) ∙ d) (unfit_among e (before ++ m ∷ []) _ (sum f m) (subst (λ x. IsUnfit e (sum f x)) p h))
 
-pub replaced_more : (by : Replacement) (f g part : Fact) (t : Weighted ℕ) (ts : Terms) (all : Fact) → replaced_from by f (t ∷ ts) ≡ all → part ≡ multiple t.coefficient (by t.symbol) → g ≡ sum f part → replaced_from by g ts ≡ all
+pub replaced_more : (by : Replacement) (f g part : Fact) (t : Weighted ℕ) (ts : Terms) (all : Fact) → replaced_from by f (t ∷ ts) ≡ all → part ≡ multiple t.coefficient (form_of by t.symbol) → g ≡ sum f part → replaced_from by g ts ≡ all
 replaced_more by f g part t ts all d p q = ap (λ x. replaced_from by x ts) (q ∙ ap (sum f) p) ∙ d

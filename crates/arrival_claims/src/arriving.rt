@@ -7,20 +7,21 @@ ghost use Rattle.obligations.specs.Walking as walking;
 ghost use Rattle.path_steps.specs.Leads.{Steps};
 ghost use Rattle.path_steps.specs.Refusals.{StopsAtStep};
 ghost use Rattle.path_steps.specs.View.{followed, stop as stop_seen, turns as turns_seen};
-ghost use Rattle.obligations.specs.View.{congruence as congruence_seen};
+ghost use Rattle.obligations.specs.View.{congruence as congruence_seen, multiple as multiple_seen};
 ghost use Rattle.arrival_claims.specs.Claims as claims;
 ghost use Rattle.arrival_claims.specs.Claims.{Comes, IsRefusedAt};
 ghost use Rattle.arrival_claims.specs.View.{placed};
 
 use crate::claiming::claim_facts;
 use crate::dividing::claim_congruences;
-use crate::lookups::{congruences_of, facts_of};
+use crate::lookups::{congruences_of, facts_of, multiples_of};
+use crate::multiplying::claim_multiples;
 use crate::placing::Placing;
 use crate::slots::are_slots;
 use domain::Domain;
 use facts::WalkError;
 use linear::Form;
-use obligations::Congruence;
+use obligations::{Congruence, Multiple};
 use path_steps::{Goal, Path, Sort, Stop};
 use std::alloc::Global;
 
@@ -72,17 +73,36 @@ fn congruences_at<'a, D: Domain>(
     }
 }
 
-/// Claims the facts, then the congruences, that are said of a place by its anchor and its loop.
+#[tactic(auto, unfolding(crate::specs::View::placed))]
+/// The multiples of a place, in the wide walk; of the entry there are none.
+fn multiples_at<'a, D: Domain>(
+    placing: &Placing<'a, D>,
+    anchor: Option<u32>,
+    head: Option<u32>,
+) -> &'a [Multiple]
+    ensures { map multiple_seen result.now ≡ roots.multiples_at (placed D.Domain placing.now).notes anchor head }
+{
+    if !placing.notes.is_wide {
+        return &[];
+    }
+    match (anchor, head) {
+        (None, None) => &[],
+        _ => multiples_of(placing.notes.places.as_slice(), anchor, head),
+    }
+}
+
+/// Claims the facts, then the congruences, then the multiples that are said of a place by its anchor and its loop.
 fn claim_lines<D: Domain>(
     placing: &Placing<'_, D>,
     path: &mut Path<D>,
     anchor: Option<u32>,
     head: Option<u32>,
 ) -> Result<(), WalkError>
-    ensures { MatchResult result (λ _. Steps (followed path.old) (followed path.new) (claims.claim_lines (placed D.Domain placing.now) anchor head)) (λ e. StopsAtStep (followed path.old) e (claims.claim_lines (placed D.Domain placing.now) anchor head)) }
+    ensures { MatchResult result (λ _. Steps (followed path.old) (followed path.new) (walking.claim_lines (placed D.Domain placing.now) anchor head)) (λ e. StopsAtStep (followed path.old) e (walking.claim_lines (placed D.Domain placing.now) anchor head)) }
 {
     claim_facts(placing, path, facts_at(placing, anchor, head))?;
-    claim_congruences(placing, path, congruences_at(placing, anchor, head))
+    claim_congruences(placing, path, congruences_at(placing, anchor, head))?;
+    claim_multiples(placing, path, multiples_at(placing, anchor, head))
 }
 
 /// Claims what is said of the place that a path reaches, and notes the end; a path whose variables are not of their kinds is refused.

@@ -10,11 +10,12 @@ ghost use Rattle.arrival_claims.specs.Claims as claims;
 ghost use Rattle.arrival_claims.specs.View.{placed};
 
 use crate::placing::Placing;
-use crate::replacing::replaced;
+use crate::replacing::put;
 use domain::Domain;
 use facts::WalkError;
 use linear::Form;
 use path_steps::{Goal, Path, Setting, Sort, settles};
+use std::alloc::Global;
 
 /// A claim that a form is at least 0 that is put together of others.
 pub fn claim_told<D: Domain>(
@@ -31,16 +32,27 @@ pub fn claim_told<D: Domain>(
     Ok(())
 }
 
+/// Claims that -1 is at least 0, which is shown only where no item comes there.
+pub fn claim_never<D: Domain>(alloc: Global, path: &mut Path<D>) -> Result<(), WalkError>
+    ensures { MatchResult result (λ _. Steps (followed path.old) (followed path.new) walking.never) (λ e. StopsAtStep (followed path.old) e walking.never) }
+{
+    let form = Form::constant(alloc, -1);
+    path.claim(Sort::OfFact, true, false, Goal::AtLeastZero(form))?;
+    Ok(())
+}
+
 /// Claims that one fact of a place holds where the path comes there.
 fn claim_fact<D: Domain>(
     placing: &Placing<'_, D>,
     path: &mut Path<D>,
     fact: &Form,
 ) -> Result<(), WalkError>
-    ensures { MatchResult result (λ _. Steps (followed path.old) (followed path.new) (claims.claim_fact (placed D.Domain placing.now) (form_seen fact.now))) (λ e. StopsAtStep (followed path.old) e (claims.claim_fact (placed D.Domain placing.now) (form_seen fact.now))) }
+    ensures { MatchResult result (λ _. Steps (followed path.old) (followed path.new) (walking.claim_fact (placed D.Domain placing.now) (form_seen fact.now))) (λ e. StopsAtStep (followed path.old) e (walking.claim_fact (placed D.Domain placing.now) (form_seen fact.now))) }
 {
-    let told = replaced(placing, path, fact)?;
-    claim_told(placing.setting, path, Sort::OfFact, told.made, told.form)
+    match put(placing, path, fact)? {
+        Some(told) => claim_told(placing.setting, path, Sort::OfFact, told.made, told.form),
+        None => claim_never(placing.setting.alloc, path),
+    }
 }
 
 /// Claims that each of a place's facts holds where the path comes there, one after another.

@@ -14,9 +14,10 @@ ghost use Rattle.obligations.specs.View.{congruence as congruence_seen};
 ghost use Rattle.arrival_claims.specs.Claims as claims;
 ghost use Rattle.arrival_claims.specs.View.{placed};
 
+use crate::claiming::claim_never;
 use crate::lookups::quotient_of;
 use crate::placing::Placing;
-use crate::replacing::{PathForm, keep, replaced};
+use crate::replacing::{PathForm, keep, put};
 use crate::symbols::copied;
 use domain::Domain;
 use facts::WalkError;
@@ -78,14 +79,13 @@ pub fn with_product(alloc: Global, made: Vec<Form>, product: &Form) -> Result<Ve
 fn claim_over<D: Domain>(
     alloc: Global,
     path: &mut Path<D>,
-    modulus: u64,
+    settled: bool,
     made: Vec<Form>,
     form: &Form,
     product: &Form,
 ) -> Result<(), WalkError>
-    ensures { MatchResult result (λ _. Steps (followed path.old) (followed path.new) (claims.claim_over modulus (forms made.items) (form_seen form.now) (form_seen product.now))) (λ e. StopsAtStep (followed path.old) e (claims.claim_over modulus (forms made.items) (form_seen form.now) (form_seen product.now))) }
+    ensures { MatchResult result (λ _. Steps (followed path.old) (followed path.new) (claims.claim_over settled (forms made.items) (form_seen form.now) (form_seen product.now))) (λ e. StopsAtStep (followed path.old) e (claims.claim_over settled (forms made.items) (form_seen form.now) (form_seen product.now))) }
 {
-    let settled = divides_form(modulus, form);
     let over = difference(alloc, form, product)?;
     let made = with_product(alloc, made, product)?;
     path.claim(
@@ -101,13 +101,12 @@ fn claim_over<D: Domain>(
 fn claim_under<D: Domain>(
     alloc: Global,
     path: &mut Path<D>,
-    modulus: u64,
+    settled: bool,
     form: &Form,
     product: &Form,
 ) -> Result<(), WalkError>
-    ensures { MatchResult result (λ _. Steps (followed path.old) (followed path.new) (claims.claim_under modulus (form_seen form.now) (form_seen product.now))) (λ e. StopsAtStep (followed path.old) e (claims.claim_under modulus (form_seen form.now) (form_seen product.now))) }
+    ensures { MatchResult result (λ _. Steps (followed path.old) (followed path.new) (claims.claim_under settled (form_seen form.now) (form_seen product.now))) (λ e. StopsAtStep (followed path.old) e (claims.claim_under settled (form_seen form.now) (form_seen product.now))) }
 {
-    let settled = divides_form(modulus, form);
     let under = difference(alloc, product, form)?;
     let made = Vec::new(alloc);
     path.claim(
@@ -119,19 +118,19 @@ fn claim_under<D: Domain>(
     Ok(())
 }
 
-/// Claims that a form is at least the product of the modulus and the named quotient, and that it is at most that.
-fn claim_divided<D: Domain>(
+/// Claims that a form is at least the product with the named quotient, and that it is at most that.
+pub fn claim_divided<D: Domain>(
     alloc: Global,
     path: &mut Path<D>,
-    modulus: u64,
+    settled: bool,
     told: PathForm,
     product: &Form,
 ) -> Result<(), WalkError>
-    ensures { MatchResult result (λ _. Steps (followed path.old) (followed path.new) (claims.claim_divided modulus (forms told.made.items) (form_seen told.form) (form_seen product.now))) (λ e. StopsAtStep (followed path.old) e (claims.claim_divided modulus (forms told.made.items) (form_seen told.form) (form_seen product.now))) }
+    ensures { MatchResult result (λ _. Steps (followed path.old) (followed path.new) (claims.claim_divided settled (forms told.made.items) (form_seen told.form) (form_seen product.now))) (λ e. StopsAtStep (followed path.old) e (claims.claim_divided settled (forms told.made.items) (form_seen told.form) (form_seen product.now))) }
 {
     let PathForm { made, form } = told;
-    claim_over(alloc, path, modulus, made, &form, product)?;
-    claim_under(alloc, path, modulus, &form, product)
+    claim_over(alloc, path, settled, made, &form, product)?;
+    claim_under(alloc, path, settled, &form, product)
 }
 
 /// Whether a form has neither terms nor a constant.
@@ -178,7 +177,7 @@ pub fn times(alloc: Global, number: u64, form: &Form) -> Result<Form, WalkError>
 
 #[tactic(auto, unfolding(path_steps::specs::View::followed, crate::specs::View::placed))]
 /// The quotient that the entry of the next claim names.
-fn next_quotient<D: Domain>(placing: &Placing<'_, D>, path: &Path<D>) -> Result<Form, WalkError>
+pub fn next_quotient<D: Domain>(placing: &Placing<'_, D>, path: &Path<D>) -> Result<Form, WalkError>
     ensures { MatchResult result (λ f. form_seen f ≡ (placed D.Domain placing.now).notes.quotient ((followed path.now).state.claims + 1)) IsMemory }
 {
     let claim = path.count as u64 + 1;
@@ -200,23 +199,32 @@ fn next_product<D: Domain>(
     times(placing.setting.alloc, modulus, &quotient)
 }
 
+/// Claims that a form in the path's terms is the product of a modulus and the quotient that the entry of the next claim names.
+fn claim_put<D: Domain>(
+    placing: &Placing<'_, D>,
+    path: &mut Path<D>,
+    modulus: u64,
+    told: PathForm,
+) -> Result<(), WalkError>
+    ensures { MatchResult result (λ _. Steps (followed path.old) (followed path.new) (claims.claim_put (placed D.Domain placing.now) modulus (forms told.made.items) (form_seen told.form))) (λ e. StopsAtStep (followed path.old) e (claims.claim_put (placed D.Domain placing.now) modulus (forms told.made.items) (form_seen told.form))) }
+{
+    let product = next_product(placing, path, modulus)?;
+    let settled = divides_form(modulus, &told.form);
+    claim_divided(placing.setting.alloc, path, settled, told, &product)
+}
+
 /// Claims that one congruence of a place holds where the path comes there.
 fn claim_congruence<D: Domain>(
     placing: &Placing<'_, D>,
     path: &mut Path<D>,
     congruence: &Congruence,
 ) -> Result<(), WalkError>
-    ensures { MatchResult result (λ _. Steps (followed path.old) (followed path.new) (claims.claim_congruence (placed D.Domain placing.now) (congruence_seen congruence.now))) (λ e. StopsAtStep (followed path.old) e (claims.claim_congruence (placed D.Domain placing.now) (congruence_seen congruence.now))) }
+    ensures { MatchResult result (λ _. Steps (followed path.old) (followed path.new) (walking.claim_congruence (placed D.Domain placing.now) (congruence_seen congruence.now))) (λ e. StopsAtStep (followed path.old) e (walking.claim_congruence (placed D.Domain placing.now) (congruence_seen congruence.now))) }
 {
-    let told = replaced(placing, path, &congruence.form)?;
-    let product = next_product(placing, path, congruence.modulus)?;
-    claim_divided(
-        placing.setting.alloc,
-        path,
-        congruence.modulus,
-        told,
-        &product,
-    )
+    match put(placing, path, &congruence.form)? {
+        Some(told) => claim_put(placing, path, congruence.modulus, told),
+        None => claim_never(placing.setting.alloc, path),
+    }
 }
 
 /// Claims that each of a place's congruences holds where the path comes there, one after another.

@@ -7,7 +7,7 @@ ghost use Rattle.obligations.specs.View as view;
 
 use linear::Form;
 use loop_bounds::{Bound, LoopBound};
-use obligations::{Congruence, Lines, Quotient, Visible};
+use obligations::{Congruence, Lines, Multiple, Quotient, Visible};
 
 /// The numbers are the same, or there are none.
 fn same_number(left: Option<u32>, right: Option<u32>) -> bool
@@ -50,6 +50,22 @@ pub fn congruences_of<'n>(
     for lines in places {
         if is_of(lines, anchor, head) {
             return lines.congruences.as_slice();
+        }
+    }
+    &[]
+}
+
+/// The multiples that notes say of a place, by its anchor and its loop; none where nothing is said of it.
+pub fn multiples_of<'n>(
+    places: &'n [Lines],
+    anchor: Option<u32>,
+    head: Option<u32>,
+) -> &'n [Multiple]
+    ensures { map view.multiple result.now ≡ view.multiples_of places.now anchor head }
+{
+    for lines in places {
+        if is_of(lines, anchor, head) {
+            return lines.multiples.as_slice();
         }
     }
     &[]

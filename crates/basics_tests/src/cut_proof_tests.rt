@@ -18,7 +18,8 @@ fn derivation(alloc: Global, last: &[(i64, u32)]) -> Result<Derivation, AllocErr
     lines.push(Line::Div(2, 1))?;
     let parts = Vec::from_slice(alloc, last)?;
     lines.push(Line::Sum(parts))?;
-    Ok(Derivation { lines })
+    let lemmas = Vec::new(alloc);
+    Ok(Derivation { lemmas, lines })
 }
 
 // `2*x - 1 >= 0` and `1 - 2*x >= 0`, which meet at one half.

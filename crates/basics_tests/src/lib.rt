@@ -11,6 +11,8 @@ mod congruence_tests;
 #[cfg(test)]
 mod cut_proof_tests;
 #[cfg(test)]
+mod derivation_tests;
+#[cfg(test)]
 mod gate_tests;
 #[cfg(test)]
 mod interval_tests;
@@ -24,6 +26,8 @@ mod lines_tests;
 mod log_tests;
 #[cfg(test)]
 mod loop_bounds_tests;
+#[cfg(test)]
+mod making;
 #[cfg(test)]
 mod product_tests;
 #[cfg(test)]

@@ -1,7 +1,7 @@
 //! Quotients of one form by one number are one symbol.
 
 use crate::sums::plus_symbol;
-use guesses::{copied, is_new, is_same};
+use guesses::{Factors, copied, is_new, is_product, is_same, plain, times};
 use linear::{Form, Symbol};
 use std::alloc::{AllocError, Global};
 
@@ -99,8 +99,26 @@ impl Aliases {
         Ok(())
     }
 
-    /// The symbol itself, or the earlier one that it is equal to.
+    /// The symbol itself, or the earlier one that it is equal to; of a product that of its factors.
     fn earlier(&self, symbol: Symbol) -> Symbol {
+        if !is_product(symbol) {
+            return self.earlier_plain(symbol);
+        }
+        let mut product: Option<Symbol> = None;
+        let factors = Factors::of(symbol);
+        for factor in [factors.first, factors.second, factors.third] {
+            if factor != 0 {
+                let one = self.earlier_plain(plain(factor));
+                product = match product {
+                    None => Some(one),
+                    Some(others) => times(others, one),
+                };
+            }
+        }
+        product.unwrap_or(symbol)
+    }
+
+    fn earlier_plain(&self, symbol: Symbol) -> Symbol {
         for alias in self.list.as_slice() {
             if alias.symbol == symbol {
                 return alias.earlier;

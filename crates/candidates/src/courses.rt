@@ -2,18 +2,28 @@
 
 use crate::reach::one_value;
 use crate::single_values::{Given, has_slot, settled};
-use guesses::{Leaf, Sight, divisor_of, is_same, one_of, try_difference, variable};
+use guesses::{
+    Leaf, Sight, divisor_of, is_launch, is_same, one_of, try_difference, try_multiple, variable,
+};
 use linear::Form;
 use std::alloc::{AllocError, Global};
+
+/// How many forms by which a variable steps are looked at.
+const FORMS: usize = 2;
+
+/// How many terms such a form has, at most.
+const TERMS: usize = 2;
 
 /// How many values that a variable begins with are looked at.
 const STARTS: usize = 4;
 
-/// The values that a variable begins with, over ids and arguments, and the numbers, not 0, by which it steps.
+/// The values that a variable begins with, over ids and arguments, the numbers, not 0, by which it steps, and the forms.
 #[derive(Drop)]
 pub struct Course {
     pub starts: Vec<Form>,
     pub strides: Vec<i64>,
+    /// What is no one number by which it steps, over symbols of the launch.
+    pub by_forms: Vec<Form>,
 }
 
 /// Two variables, by their slots, which step on one path by these numbers, and on no other path by other ones.
@@ -37,6 +47,13 @@ impl Course {
     fn add_stride(&mut self, stride: i64) -> Result<(), AllocError> {
         if !self.strides.iter().any(|other| *other == stride) {
             self.strides.push(stride)?;
+        }
+        Ok(())
+    }
+
+    fn add_form(&mut self, form: Form) -> Result<(), AllocError> {
+        if self.by_forms.len() < FORMS && !self.by_forms.iter().any(|other| is_same(other, &form)) {
+            self.by_forms.push(form)?;
         }
         Ok(())
     }
@@ -77,6 +94,7 @@ impl Courses {
             of_slots.push(Course {
                 starts: Vec::new(alloc),
                 strides: Vec::new(alloc),
+                by_forms: Vec::new(alloc),
             })?;
         }
         Ok(Courses {
@@ -133,6 +151,20 @@ impl Courses {
     }
 }
 
+/// By how much a value is more than its variable was, with the one values of variables put in.
+fn step_of(
+    alloc: Global,
+    slot: u32,
+    value: &Form,
+    values: &[Given],
+) -> Result<Option<Form>, AllocError> {
+    let own = one_of(alloc, variable(slot))?;
+    match try_difference(alloc, value, &own)? {
+        Some(step) => settled(alloc, &step, values),
+        None => Ok(None),
+    }
+}
+
 /// The number, not 0, by which a value is more than its variable was, in each launch and item; none where it is no one number.
 fn stride_of(
     alloc: Global,
@@ -141,11 +173,7 @@ fn stride_of(
     values: &[Given],
     known: &[Form],
 ) -> Result<Option<i64>, AllocError> {
-    let own = one_of(alloc, variable(slot))?;
-    let Some(step) = try_difference(alloc, value, &own)? else {
-        return Ok(None);
-    };
-    let Some(step) = settled(alloc, &step, values)? else {
+    let Some(step) = step_of(alloc, slot, value, values)? else {
         return Ok(None);
     };
     match one_value(alloc, known, &step)? {
@@ -182,4 +210,63 @@ pub fn steps_of(
         }
     }
     Ok(steps)
+}
+
+/// A form with terms of the launch alone, few of them.
+fn is_of_launch(form: &Form) -> bool {
+    let terms = form.terms();
+    !terms.is_empty() && terms.len() <= TERMS && terms.iter().all(|term| is_launch(term.symbol))
+}
+
+/// The form, or its opposite, which begins above 0.
+fn above(alloc: Global, form: Form) -> Result<Option<Form>, AllocError> {
+    match form.terms().first() {
+        Some(term) if term.coefficient < 0 => try_multiple(alloc, &form, -1),
+        _ => Ok(Some(form)),
+    }
+}
+
+/// The form over symbols of the launch, which is no one number, by which a variable steps; none of other steps.
+fn form_of_step(
+    alloc: Global,
+    slot: u32,
+    value: &Form,
+    values: &[Given],
+    known: &[Form],
+) -> Result<Option<Form>, AllocError> {
+    let Some(step) = step_of(alloc, slot, value, values)? else {
+        return Ok(None);
+    };
+    if !is_of_launch(&step) || one_value(alloc, known, &step)?.is_some() {
+        return Ok(None);
+    }
+    above(alloc, step)
+}
+
+impl Courses {
+    /// Notes the forms by which variables step along a path.
+    pub fn add_forms(
+        &mut self,
+        alloc: Global,
+        sights: (&Sight, &Sight),
+        leaf: &Leaf,
+        values: &[Given],
+        known: &[Form],
+    ) -> Result<(), AllocError> {
+        for slot in sights.1.slots.iter() {
+            if let Some(value) = grown(sights.0, leaf, *slot) {
+                if let Some(form) = form_of_step(alloc, *slot, value, values, known)? {
+                    self.add_form(*slot, form)?;
+                }
+            }
+        }
+        Ok(())
+    }
+
+    fn add_form(&mut self, slot: u32, form: Form) -> Result<(), AllocError> {
+        match self.of_slots.get_mut(slot as usize) {
+            Some(course) => course.add_form(form),
+            None => Ok(()),
+        }
+    }
 }

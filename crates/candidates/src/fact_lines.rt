@@ -1,8 +1,8 @@
 //! Facts that are worth a guess at a place.
 
 use guesses::{
-    Candidate, Line, Sight, index_of, is_at_anchor, is_global, is_same, is_turns, is_variable,
-    reduced,
+    Candidate, Factors, Line, Sight, index_of, is_at_anchor, is_global, is_same, is_turns,
+    is_variable, reduced,
 };
 use linear::{Form, Symbol};
 use std::alloc::{AllocError, Global};
@@ -23,8 +23,18 @@ fn has(numbers: &[u32], number: u64) -> bool {
     numbers.iter().any(|other| *other as u64 == number)
 }
 
-/// The symbol is one of the place.
+/// The symbol is one of the place, or a product of such symbols.
 pub fn sees_symbol(sight: &Sight, symbol: Symbol) -> bool {
+    for factor in Factors::of(symbol).symbols() {
+        if factor.is_some_and(|one| !sees_plain(sight, one)) {
+            return false;
+        }
+    }
+    true
+}
+
+/// The symbol, which is no product, is one of the place.
+fn sees_plain(sight: &Sight, symbol: Symbol) -> bool {
     let index = index_of(symbol);
     if is_variable(symbol) {
         has(sight.slots.as_slice(), index)

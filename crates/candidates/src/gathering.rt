@@ -2,15 +2,16 @@
 
 use crate::fact_lines::fact_at;
 use crate::shelf::Shelf;
-use guesses::{Candidate, Line, Sight, reduced, try_difference, try_multiple};
+use guesses::{Candidate, Line, Sight, has_product, reduced, try_difference, try_multiple};
 use linear::Form;
 use std::alloc::{AllocError, Global};
 
-/// The places, what is known anyway, and what is told of them so far.
+/// The places, whether their walk is the wide one, what is known anyway, and what is told of them so far.
 #[derive(Drop)]
 pub struct Gathering<'a> {
     pub alloc: Global,
     pub sights: &'a [Sight],
+    pub is_wide: bool,
     unsigned: &'a [bool],
     pub known: Vec<Form>,
     pub shelf: Shelf,
@@ -39,12 +40,14 @@ impl<'a> Gathering<'a> {
         sights: &'a [Sight],
         known: &[Form],
         unsigned: &'a [bool],
+        is_wide: bool,
     ) -> Result<Gathering<'a>, AllocError> {
         let known = all_reduced(alloc, known)?;
         let shelf = Shelf::new(alloc)?;
         Ok(Gathering {
             alloc,
             sights,
+            is_wide,
             unsigned,
             known,
             shelf,
@@ -61,7 +64,7 @@ impl<'a> Gathering<'a> {
         let Some(sight) = self.sights.get(place) else {
             return Ok(());
         };
-        if is_entry(sight) {
+        if is_entry(sight) || (!self.is_wide && has_product(fact)) {
             return Ok(());
         }
         let known = self.known.as_slice();

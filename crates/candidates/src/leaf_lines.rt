@@ -5,7 +5,7 @@ use crate::gathering::Gathering;
 use crate::names::Except;
 use crate::naming::Naming;
 use crate::single_values::{Given, has_slot};
-use guesses::{Leaf, Line, Sight, one_of, turns, variable};
+use guesses::{Leaf, Line, Sight, one_of, speaks_of, turns, variable};
 use linear::{Form, Symbol};
 use std::alloc::AllocError;
 
@@ -16,7 +16,7 @@ fn tell_value(
     symbol: Symbol,
     value: &Form,
 ) -> Result<(), AllocError> {
-    if value.coefficient(symbol) != 0 {
+    if speaks_of(value, symbol) {
         return Ok(());
     }
     let own = one_of(told.alloc, symbol)?;
@@ -25,7 +25,7 @@ fn tell_value(
 
 /// A value along a path from that place makes a variable begin anew.
 fn is_start(from: &Sight, slot: u32, value: &Form) -> bool {
-    !has_slot(from, slot) || value.coefficient(variable(slot)) == 0
+    !has_slot(from, slot) || !speaks_of(value, variable(slot))
 }
 
 /// The value of a variable, rewritten without it, and that it begins so.
@@ -147,6 +147,10 @@ pub fn tell_leaf(
     };
     let steps = steps_of(told.alloc, from, to, leaf, values, told.known.as_slice())?;
     courses.add_steps(steps.as_slice())?;
+    if told.is_wide {
+        let known = told.known.as_slice();
+        courses.add_forms(told.alloc, (from, to), leaf, values, known)?;
+    }
     tell_values(told, courses, from, to, leaf, naming)?;
     tell_alike(told, leaf.to, to)?;
     tell_facts(told, to, leaf, naming)

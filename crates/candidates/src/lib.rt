@@ -14,6 +14,7 @@ mod courses;
 mod drifts;
 mod fact_lines;
 mod flags;
+mod form_strides;
 mod gathering;
 mod growth;
 mod leaf_lines;

@@ -1,7 +1,10 @@
 //! What symbols of a path are called at the place that it reaches.
 
 use crate::sums::{plus_symbol, plus_times};
-use guesses::{is_at_anchor, is_global, one_of, try_difference, try_multiple};
+use guesses::{
+    Factors, has_anchored, is_at_anchor, is_global, is_product, one_of, plain, speaks_of,
+    try_difference, try_multiple, try_product,
+};
 use linear::{Form, Symbol, Term};
 use std::alloc::{AllocError, Global};
 
@@ -14,9 +17,9 @@ pub enum Except {
     AtAnchor,
 }
 
-fn has_anchored(form: &Form) -> bool {
+fn is_anchored(form: &Form) -> bool {
     for term in form.terms() {
-        if is_at_anchor(term.symbol) {
+        if has_anchored(term.symbol) {
             return true;
         }
     }
@@ -60,8 +63,8 @@ impl Name {
     fn is_without(&self, except: Except) -> bool {
         match except {
             Except::Nothing => true,
-            Except::Of(symbol) => self.owner != symbol && self.form.coefficient(symbol) == 0,
-            Except::AtAnchor => !is_at_anchor(self.owner) && !has_anchored(&self.form),
+            Except::Of(symbol) => self.owner != symbol && !speaks_of(&self.form, symbol),
+            Except::AtAnchor => !is_at_anchor(self.owner) && !is_anchored(&self.form),
         }
     }
 }
@@ -123,7 +126,31 @@ impl Names {
 
     /// The symbol is the same at the place reached, or has a name there.
     pub fn has(&self, symbol: Symbol) -> bool {
-        is_global(symbol) || self.find(symbol).is_some()
+        is_global(symbol) || self.find(symbol).is_some() || self.has_factors(symbol)
+    }
+
+    /// The symbol is a product whose factors are the same at the place reached, or have a name there that is once the factor.
+    fn has_factors(&self, symbol: Symbol) -> bool {
+        if !is_product(symbol) {
+            return false;
+        }
+        for factor in Factors::of(symbol).symbols() {
+            if factor.is_some_and(|one| !is_global(one)
+                && self.once(one, Except::Nothing).is_none())
+            {
+                return false;
+            }
+        }
+        true
+    }
+
+    /// The first name of a symbol that is the symbol once, and is not left out.
+    fn once(&self, symbol: Symbol, except: Except) -> Option<&Name> {
+        let named = self.find(symbol)?;
+        named
+            .names
+            .iter()
+            .find(|name| name.factor == 1 && name.is_without(except))
     }
 
     /// How many symbols of the form have no name.
@@ -206,6 +233,12 @@ impl Names {
         if is_global(term.symbol) {
             return plus_symbol(alloc, sum, term.symbol, term.coefficient);
         }
+        if is_product(term.symbol) && self.find(term.symbol).is_none() {
+            return match self.product(alloc, term.symbol, except)? {
+                Some(form) => plus_times(alloc, sum, &form, term.coefficient),
+                None => Ok(None),
+            };
+        }
         let Some(name) = self.name_of(term, except) else {
             return Ok(None);
         };
@@ -213,6 +246,44 @@ impl Names {
             return Ok(None);
         };
         plus_times(alloc, sum, &name.form, times)
+    }
+
+    /// A product with names in place of its factors.
+    fn product(
+        &self,
+        alloc: Global,
+        symbol: Symbol,
+        except: Except,
+    ) -> Result<Option<Form>, AllocError> {
+        let factors = Factors::of(symbol);
+        let mut product = Form::constant(alloc, 1);
+        for factor in [factors.first, factors.second, factors.third] {
+            if factor != 0 {
+                let Some(next) = self.times_factor(alloc, &product, plain(factor), except)? else {
+                    return Ok(None);
+                };
+                product = next;
+            }
+        }
+        Ok(Some(product))
+    }
+
+    /// A form times a symbol, with its name.
+    fn times_factor(
+        &self,
+        alloc: Global,
+        form: &Form,
+        symbol: Symbol,
+        except: Except,
+    ) -> Result<Option<Form>, AllocError> {
+        if is_global(symbol) {
+            let one = one_of(alloc, symbol)?;
+            return try_product(alloc, form, &one);
+        }
+        match self.once(symbol, except) {
+            Some(name) => try_product(alloc, form, &name.form),
+            None => Ok(None),
+        }
     }
 
     /// The best name of a term's symbol that its coefficient admits and that is not left out.

@@ -4,8 +4,8 @@ use crate::aliases::Aliases;
 use crate::names::{Except, Name, Named, Names};
 use crate::sums::plus_symbol;
 use guesses::{
-    Leaf, Sight, at_anchor, copied, is_global, is_variable, try_difference, try_multiple, turns,
-    variable,
+    Leaf, Sight, at_anchor, copied, is_global, is_product, is_variable, try_difference,
+    try_multiple, turns, variable,
 };
 use linear::{Form, Symbol, Term};
 use std::alloc::{AllocError, Global};
@@ -222,6 +222,9 @@ fn solve(alloc: Global, names: &mut Names, value: &Value) -> Result<(), AllocErr
     let Some(term) = names.only_unnamed(&value.form) else {
         return Ok(());
     };
+    if is_product(term.symbol) {
+        return Ok(());
+    }
     let Some(others) = without_term(alloc, &value.form, term)? else {
         return Ok(());
     };

@@ -39,6 +39,7 @@ fn line_key(line: &Line) -> u64 {
         Line::Same(slot) => *slot as u64,
         Line::Fact(form) => form_key(form),
         Line::Multiple { modulus, form } => mixed(form_key(form), *modulus),
+        Line::MultipleOf { of, form } => mixed(form_key(form), form_key(of)),
     }
 }
 

@@ -1,7 +1,10 @@
 //! Variables that have one value over ids and arguments wherever they get one.
 
 use crate::fact_lines::{is_all_global, slot_of};
-use guesses::{Leaf, Sight, copied, is_same, variable};
+use guesses::{
+    Factors, Leaf, Sight, copied, is_product, is_same, one_of, plain, try_difference, try_multiple,
+    try_product, try_sum, variable,
+};
 use linear::{Form, LinearError, Symbol, Term};
 use std::alloc::{AllocError, Global};
 
@@ -106,6 +109,9 @@ fn replaced(
     term: Term,
     values: &[Given],
 ) -> Result<Option<Form>, AllocError> {
+    if is_product(term.symbol) {
+        return replaced_product(alloc, form, term, values);
+    }
     let Some(value) = value_of(values, term.symbol) else {
         return Ok(Some(form.copy(alloc)?));
     };
@@ -113,6 +119,61 @@ fn replaced(
         Ok(form) => Ok(Some(form)),
         Err(LinearError::TooLarge) => Ok(None),
         Err(LinearError::Memory) => Err(AllocError),
+    }
+}
+
+/// A form times a symbol, or the one value of its variable.
+fn times_value(
+    alloc: Global,
+    form: &Form,
+    symbol: Symbol,
+    values: &[Given],
+) -> Result<Option<Form>, AllocError> {
+    match value_of(values, symbol) {
+        Some(value) => try_product(alloc, form, value),
+        None => {
+            let one = one_of(alloc, symbol)?;
+            try_product(alloc, form, &one)
+        }
+    }
+}
+
+/// The product of a term with the one value of each variable among its factors in its place.
+fn product_of_values(
+    alloc: Global,
+    term: Term,
+    values: &[Given],
+) -> Result<Option<Form>, AllocError> {
+    let factors = Factors::of(term.symbol);
+    let mut product = Form::constant(alloc, term.coefficient);
+    for factor in [factors.first, factors.second, factors.third] {
+        if factor != 0 {
+            let Some(next) = times_value(alloc, &product, plain(factor), values)? else {
+                return Ok(None);
+            };
+            product = next;
+        }
+    }
+    Ok(Some(product))
+}
+
+/// The form with the one values of a product's variables in their places.
+fn replaced_product(
+    alloc: Global,
+    form: &Form,
+    term: Term,
+    values: &[Given],
+) -> Result<Option<Form>, AllocError> {
+    let Some(product) = product_of_values(alloc, term, values)? else {
+        return Ok(None);
+    };
+    let one = one_of(alloc, term.symbol)?;
+    let Some(own) = try_multiple(alloc, &one, term.coefficient)? else {
+        return Ok(None);
+    };
+    match try_difference(alloc, form, &own)? {
+        Some(others) => try_sum(alloc, &others, &product),
+        None => Ok(None),
     }
 }
 

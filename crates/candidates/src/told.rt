@@ -4,6 +4,7 @@ use crate::carrying::carry;
 use crate::courses::Courses;
 use crate::drifts::tell_drifts;
 use crate::flags::tell_flags;
+use crate::form_strides::tell_by_forms;
 use crate::gathering::Gathering;
 use crate::growth::tell_growth;
 use crate::leaf_lines::tell_leaf;
@@ -52,21 +53,24 @@ fn tell_leaves(
 }
 
 /// The candidates of ranks 0 to 3, each once, that the ends of all paths tell of a walk which takes each claim as shown, and by how much
-/// variables step. What is known of each launch and item is not said again; variables are `uint` by their slots.
+/// variables step. What is known of each launch and item is not said again; variables are `uint` by their slots. Multiples of forms are told
+/// of wide walks alone.
 pub fn guess_told(
     alloc: Global,
     sights: &[Sight],
     leaves: &[Leaf],
     known: &[Form],
     unsigned: &[bool],
+    is_wide: bool,
 ) -> Result<Told, AllocError> {
     let namings = namings_of(alloc, sights, leaves)?;
     let values = given_values(alloc, sights, leaves, unsigned.len())?;
-    let mut told = Gathering::new(alloc, sights, known, unsigned)?;
+    let mut told = Gathering::new(alloc, sights, known, unsigned, is_wide)?;
     let courses = tell_leaves(&mut told, values.as_slice(), leaves, namings.as_slice())?;
     tell_flags(&mut told, leaves, namings.as_slice())?;
     carry(&mut told, leaves, namings.as_slice())?;
     tell_strides(&mut told, &courses)?;
+    tell_by_forms(&mut told, &courses)?;
     tell_growth(&mut told, &courses, leaves, values.as_slice())?;
     tell_weaker(&mut told, leaves)?;
     tell_drifts(&mut told, &courses, leaves, values.as_slice())?;

@@ -160,7 +160,7 @@ fn search_all(rt: &HostRuntime, text: &str, rounds: i64) -> io::Result<()> {
         undecided: 0,
     };
     let mut facts: Vec<Fact> = Vec::new(rt.alloc());
-    let mut memory = Memory::new(rt.alloc());
+    let mut memory = Memory::new(rt.alloc(), false);
     for line in text.lines() {
         take(rt, line, &mut facts, rounds, &mut memory, &mut counts)?;
     }

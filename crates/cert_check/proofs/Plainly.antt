@@ -23,7 +23,8 @@ use Rattle.walk.specs.Unfound.{IsFirstOfMany}
 use Rattle.plain_kernels.specs.Domains.{domain}
 use Rattle.plain_kernels.specs.Claims.{is_range}
 use Rattle.plain_kernels.specs.Kernels.{HasLimits, IsPlain, has_signed}
-use Rattle.entry_check.specs.Lacking.{Stops, owing, with_entries}
+use Rattle.certificate_notes.specs.Noted.{stated}
+use Rattle.entry_check.specs.Lacking.{Stops, owing, said, with_entries}
 use Rattle.entry_check.specs.declared.error.ShowError.{ShowError}
 use Rattle.entry_check.specs.declared.error.ShowError.TheVariants as shows
 use Rattle.cert_check.specs.Refusing.{AreRead, Shows}
@@ -51,7 +52,7 @@ module _ (laws : Laws) (k : semantics.Kernel) (tree : surface.Kernel) (c : Condi
   not_many : (n : Notes) (s : Option ℕ) → IsFirstOfMany s (all_trees domain k c n) → ⊥
   not_many n s m = let t = laws.one_tree k c n limits plain in few_paths s t.0 (all_trees domain k c n) t.1 t.2 m
 
-  named : (n : Notes) (i : ℕ) → Stops n.quotient cert.entries 0 (owing domain k c n cert.entries) (suc i) → IsUnrefuted k c n cert (suc i) × IsOwnRange k cert (suc i)
+  named : (n : Notes) (i : ℕ) → Stops (said n (stated k tree)) cert.entries 0 (owing domain k c n cert.entries) (suc i) → IsUnrefuted k tree c n cert (suc i) × IsOwnRange k cert (suc i)
   named n i (o, (j, e, l, q), (s, a, r), p) =
       let m : j ≡ i = omega (arith, e) in
       ((o, (j, e, l, q), r), λ b. laws.ranges k c (with_entries cert.entries n) i o limits plain b (subst (λ x. o ≡ get_or (owing domain k c n cert.entries) x o) m q) s a)

@@ -13,12 +13,13 @@ use Rattle.core_code.specs.declared.tree.Core.{Core}
 use Rattle.certificate.specs.Certificates.{Says}
 use Rattle.launch_text.specs.declared.error.LaunchTextError.TheVariants as launches
 use Rattle.arrivals.specs.Loops.{unmet}
-use Rattle.walk_trees.specs.Shown.{IsShown}
+use Rattle.walk_trees.specs.Shown.{IsShownWithProducts}
 use Rattle.obligations.specs.Notes.{Notes}
 use Rattle.obligations.specs.Telling.{TellsOfItems}
 use Rattle.obligations.specs.Limits.{AreLimits}
 use Rattle.obligations.specs.Listing.{all_trees}
 use Rattle.obligations.specs.Shown.{obligations}
+use Rattle.certificate_notes.specs.Noted.{stated}
 use Rattle.walk.specs.Unfound.{IsFirstOfMany}
 use Rattle.syntax.specs.Sites.{site_at}
 use Rattle.plain_kernels.specs.Domains.{domain}
@@ -31,14 +32,14 @@ use Rattle.cert_check.specs.declared.error.CheckError.TheVariants as errors
 
 -- by what is said of its places and loops all is shown of a kernel, and its steps are within the budget
 abbrev pub IsShownBy : semantics.Kernel → Conditions → Notes → Type 0
-IsShownBy k c n = TellsOfItems n × AreLimits n × All IsShown (obligations domain k c n) × (steps_of k n ≤ c.budget)
+IsShownBy k c n = TellsOfItems n × AreLimits n × All IsShownWithProducts (obligations domain k c n) × (steps_of k n ≤ c.budget)
 
 abbrev pub AllIsShown : semantics.Kernel → Conditions → Type 0
 AllIsShown k c = (n : Notes) × IsShownBy k c n
 
 -- with what a certificate says nothing stops the check
 abbrev pub PassesWith : semantics.Kernel → surface.Kernel → Conditions → Certificate → Type 0
-PassesWith k tree c cert = (n : Notes) × IsSaid k tree cert n × PassesOf domain k c n cert.entries
+PassesWith k tree c cert = (n : Notes) × IsSaid k tree cert n × PassesOf domain k c (stated k tree) n cert.entries
 
 -- what an error tells that is not told with its place as yet
 abbrev pub Unshown : semantics.Kernel → surface.Kernel → Conditions → Certificate → ShowError → Type 0

@@ -17,9 +17,10 @@ use Rattle.plain_kernels.specs.Domains.{domain}
 use Rattle.plain_kernels.specs.Claims.{is_range}
 use Rattle.plain_kernels.specs.Kernels.{IsPlain, has_signed}
 use Rattle.entry_check.specs.Entries.{has_entry, is_refuted, is_past}
-use Rattle.entry_check.specs.Lacking.{IsNumbered, owing, steps_of}
+use Rattle.entry_check.specs.Lacking.{IsNumbered, owing, said, steps_of}
 use Rattle.arrivals.specs.Places.{places}
 use Rattle.obligations.specs.Notes.{Notes}
+use Rattle.certificate_notes.specs.Noted.{stated}
 use Rattle.certificate_notes.specs.Noting.{lacks}
 use Rattle.cert_check.specs.Refusing.{AreRead, IsSaid}
 use Rattle.cert_check.specs.declared.accepted.Accepted.{Accepted}
@@ -33,14 +34,14 @@ abbrev pub IsOwnRange : semantics.Kernel → Certificate → (number : ℕ) → 
 IsOwnRange k cert n = is_range k n ≡ true → (has_entry cert.entries n ≡ true) × (has_signed k.arguments k.body ≡ true)
 
 -- the obligation of this number has no entry that fits it and refutes its facts
-abbrev pub IsUnrefuted : semantics.Kernel → Conditions → Notes → Certificate → (number : ℕ) → Type 0
-IsUnrefuted k c n cert m = (o : Obligation) × IsNumbered 0 (owing domain k c n cert.entries) m o × (is_refuted n.quotient cert.entries m o ≡ false)
+abbrev pub IsUnrefuted : semantics.Kernel → surface.Kernel → Conditions → Notes → Certificate → (number : ℕ) → Type 0
+IsUnrefuted k tree c n cert m = (o : Obligation) × IsNumbered 0 (owing domain k c n cert.entries) m o × (is_refuted (said n (stated k tree)) cert.entries m o ≡ false)
 
 -- 0: the certificate names what the kernel lacks, or has an entry past the last; a number is that of an obligation that is not shown;
 -- there are over 65,536 obligations; or the stores outnumber the budget. No form leaves i64, and no place has many paths
 abbrev pub TellsPlain : semantics.Kernel → surface.Kernel → Conditions → Certificate → ShowError → Type 0
 TellsPlain k tree c cert (shows.NotShown zero) = (lacks k tree (places k.body) cert ≡ true) ⊎ ((n : Notes) × IsSaid k tree cert n × (is_past cert.entries (length (owing domain k c n cert.entries)) ≡ true))
-TellsPlain k tree c cert (shows.NotShown (suc m)) = (n : Notes) × IsSaid k tree cert n × IsUnrefuted k c n cert (suc m) × IsOwnRange k cert (suc m)
+TellsPlain k tree c cert (shows.NotShown (suc m)) = (n : Notes) × IsSaid k tree cert n × IsUnrefuted k tree c n cert (suc m) × IsOwnRange k cert (suc m)
 TellsPlain k tree c cert (shows.ManyPaths s) = ⊥
 TellsPlain k tree c cert (shows.Walk walks.TooMany) = (n : Notes) × IsSaid k tree cert n × (65536 < length (owing domain k c n cert.entries))
 TellsPlain k tree c cert (shows.Walk walks.TooLarge) = ⊥

@@ -22,7 +22,7 @@ use Rattle.arrivals.specs.Places.{places}
 use Rattle.core_code.specs.View.{site as site_seen}
 use Rattle.obligations.specs.Notes.{Notes}
 use Rattle.obligations.specs.Listing.{all_trees}
-use Rattle.certificate_notes.specs.Noted.{Noted, noted}
+use Rattle.certificate_notes.specs.Noted.{Noted, noted, stated}
 use Rattle.certificate_notes.specs.Noting.{lacks, notes_by}
 use Rattle.walk.specs.Unfound.{IsFirstOfMany}
 use Rattle.syntax.specs.Sites.{site_at}
@@ -49,10 +49,10 @@ IsSaid k tree cert n = (m : Noted) × (noted k tree (places k.body) cert ≡ Som
 -- not shown. That there are too many paths is told with its place in the source
 abbrev pub Shows : semantics.Kernel → surface.Kernel → Conditions → Certificate → ShowError → Type 0
 Shows k tree c cert (shows.ManyPaths s) = ⊥
-Shows k tree c cert (shows.NotShown zero) = (lacks k tree (places k.body) cert ≡ true) ⊎ ((n : Notes) × IsSaid k tree cert n × TellsOf domain k c n cert.entries (shows.NotShown 0))
-Shows k tree c cert (shows.NotShown (suc m)) = (n : Notes) × IsSaid k tree cert n × TellsOf domain k c n cert.entries (shows.NotShown (suc m))
-Shows k tree c cert (shows.Walk e) = (n : Notes) × IsSaid k tree cert n × TellsOf domain k c n cert.entries (shows.Walk e)
-Shows k tree c cert shows.OverBudget = (n : Notes) × IsSaid k tree cert n × TellsOf domain k c n cert.entries shows.OverBudget
+Shows k tree c cert (shows.NotShown zero) = (lacks k tree (places k.body) cert ≡ true) ⊎ ((n : Notes) × IsSaid k tree cert n × TellsOf domain k c (stated k tree) n cert.entries (shows.NotShown 0))
+Shows k tree c cert (shows.NotShown (suc m)) = (n : Notes) × IsSaid k tree cert n × TellsOf domain k c (stated k tree) n cert.entries (shows.NotShown (suc m))
+Shows k tree c cert (shows.Walk e) = (n : Notes) × IsSaid k tree cert n × TellsOf domain k c (stated k tree) n cert.entries (shows.Walk e)
+Shows k tree c cert shows.OverBudget = (n : Notes) × IsSaid k tree cert n × TellsOf domain k c (stated k tree) n cert.entries shows.OverBudget
 Shows k tree c cert shows.Memory = Unit {0}
 
 -- each loop with a barrier meets one on each way through
@@ -85,7 +85,7 @@ TellsBy says (Err e) kernel conditions certificate = RefusesBy says e kernel con
 -- the check
 abbrev pub IsPassedBy : (says : List ℕ → Read) → Kernel × Core → Conditions → (certificate : List ℕ) → Type 0
 IsPassedBy says typed c certificate =
-    AreMet typed × (cert : Certificate) × (n : Notes) × (says certificate ≡ Ok cert) × IsSaid (core_seen typed.1) (tree_seen typed.0) cert n × PassesOf domain (core_seen typed.1) c n cert.entries
+    AreMet typed × (cert : Certificate) × (n : Notes) × (says certificate ≡ Ok cert) × IsSaid (core_seen typed.1) (tree_seen typed.0) cert n × PassesOf domain (core_seen typed.1) c (stated (core_seen typed.1) (tree_seen typed.0)) n cert.entries
 
 -- of the check of versions 1 and 2
 abbrev pub Refuses : CheckError → (kernel conditions certificate : List ℕ) → Type 0

@@ -4,6 +4,7 @@ ghost use Rattle.std.specs.Prelude.{◌≡◌, nat_lt, true, map, List, [], Bool
 ghost use Rattle.arrivals.specs.Places as meant;
 ghost use Rattle.certificate.specs.Certificates.{certificate as certificate_seen};
 ghost use Rattle.certificate.specs.View.{entry as entry_seen};
+ghost use Rattle.certificate_notes.specs.Noted.{stated};
 ghost use Rattle.core_code.specs.View.{kernel as core_seen};
 ghost use Rattle.facts.specs.Launching.{are_sizes};
 ghost use Rattle.launch.specs.View.{conditions as conditions_seen};
@@ -12,15 +13,16 @@ ghost use Rattle.obligations.specs.Telling.{TellsOfItems};
 ghost use Rattle.places.specs.View.{place as place_seen};
 ghost use Rattle.plain_kernels.specs.Domains.{domain};
 ghost use Rattle.syntax.specs.View.{kernel as tree_seen};
+ghost use Rattle.entry_check.specs.View.{stated as stated_seen};
 ghost use Rattle.entry_check.specs.Lacking.{PassesOf, TellsOf, steps_of};
 ghost use Rattle.cert_check.specs.Checked.{AllIsShown, PassesWith, Unshown};
 
 use certificate::Certificate;
 use certificate::tree::Entry;
-use certificate_notes::{NamesError, notes_of};
+use certificate_notes::{NamesError, names_of, notes_of};
 use core_code::tree::Core;
 use domain::Elements;
-use entry_check::{ShowError, show_all};
+use entry_check::{Said, ShowError, show_all};
 use launch::conditions::Conditions;
 use loop_bounds::cost;
 use obligations::Notes;
@@ -40,28 +42,55 @@ fn is_over(core: &Core, notes: &Notes, budget: u64) -> bool
     }
 }
 
-/// Shows all that is to be shown of a kernel, with notes of its places and loops, within the budget; an error tells what is not shown.
+/// Shows all that is to be shown of a kernel, with what is said of it, within the budget; an error tells what is not shown.
 fn show_noted(
     alloc: Global,
     core: &Core,
     conditions: &Conditions,
-    notes: &Notes,
     places: &[Place<'_>],
-    entries: &[Entry],
+    said: &Said<'_>,
 ) -> Result<(), ShowError>
     requires sizes { are_sizes (core_seen core.now).sizes ≡ true }
     requires places { map place_seen places.now ≡ meant.places (core_seen core.now).body }
-    requires items { (flags : List Bool) → TellsOfItems (seen notes.now flags) }
-    ensures passed { IfOk result (λ _. PassesOf domain (core_seen core.now) (conditions_seen conditions.now) (seen notes.now []) (map entry_seen entries.now)) }
+    requires items { (flags : List Bool) → TellsOfItems (seen said.now.notes.now flags) }
+    ensures passed { IfOk result (λ _. PassesOf domain (core_seen core.now) (conditions_seen conditions.now) (stated_seen said.now.names) (seen said.now.notes.now []) (map entry_seen said.now.entries.now)) }
     ensures shown { IfOk result (λ _. AllIsShown (core_seen core.now) (conditions_seen conditions.now)) }
-    ensures lacks { IfErr result (TellsOf domain (core_seen core.now) (conditions_seen conditions.now) (seen notes.now []) (map entry_seen entries.now)) }
+    ensures lacks { IfErr result (TellsOf domain (core_seen core.now) (conditions_seen conditions.now) (stated_seen said.now.names) (seen said.now.notes.now []) (map entry_seen said.now.entries.now)) }
 {
-    noted_rankings_are_limits(notes);
-    show_all::<Elements>(alloc, core, conditions, notes, places, entries)?;
-    if is_over(core, notes, conditions.budget) {
+    noted_rankings_are_limits(said.notes);
+    show_all::<Elements>(alloc, core, conditions, places, said)?;
+    if is_over(core, said.notes, conditions.budget) {
         return Err(ShowError::OverBudget);
     }
     Ok(())
+}
+
+/// Shows all that is to be shown of a kernel, with notes of its places and loops and the entries of a certificate.
+fn show_entries<'n>(
+    alloc: Global,
+    typed: &'n Typed,
+    conditions: &Conditions,
+    places: &[Place<'_>],
+    notes: &'n Notes,
+    entries: &'n [Entry],
+) -> Result<(), ShowError>
+    requires sizes { are_sizes (core_seen typed.now.1).sizes ≡ true }
+    requires places { map place_seen places.now ≡ meant.places (core_seen typed.now.1).body }
+    requires items { (flags : List Bool) → TellsOfItems (seen notes.now flags) }
+    ensures passed { IfOk result (λ _. PassesOf domain (core_seen typed.now.1) (conditions_seen conditions.now) (stated (core_seen typed.now.1) (tree_seen typed.now.0)) (seen notes.now []) (map entry_seen entries.now)) }
+    ensures shown { IfOk result (λ _. AllIsShown (core_seen typed.now.1) (conditions_seen conditions.now)) }
+    ensures lacks { IfErr result (TellsOf domain (core_seen typed.now.1) (conditions_seen conditions.now) (stated (core_seen typed.now.1) (tree_seen typed.now.0)) (seen notes.now []) (map entry_seen entries.now)) }
+{
+    let names = match names_of(alloc, typed) {
+        Ok(names) => names,
+        Err(NamesError::Memory) => return Err(ShowError::Memory),
+    };
+    let said = Said {
+        notes,
+        names,
+        entries,
+    };
+    show_noted(alloc, typed.core(), conditions, places, &said)
 }
 
 /// Shows all that is to be shown of a kernel, with what a certificate says of its places and loops; an error tells what is not shown.
@@ -84,5 +113,5 @@ pub(crate) fn show(
         Err(NamesError::Memory) => return Err(ShowError::Memory),
     };
     let entries = certificate.entries();
-    show_noted(alloc, typed.core(), conditions, &notes, places, entries)
+    show_entries(alloc, typed, conditions, places, &notes, entries)
 }

@@ -7,26 +7,34 @@ use Rattle.std.proofs.lemmas.List.{append-nil, drop_more, drop_all}
 use Rattle.std.proofs.lemmas.Option.{slice_get_within, get_or_from_slice_get}
 use Rattle.linear.specs.Linear.{Form}
 use Rattle.texts.specs.Lines.{text_of_lines}
-use Rattle.certificate_text.specs.Certificate.{Name, Place, Bound, EntrySort, Show, Positive, Negative, Quotient, Entry, Certificate}
-use Rattle.certificate_text.specs.Lines.{EntryItem, StepItem}
+use Rattle.certificate_text.specs.Certificate.{Name, Place, Bound, EntrySort, Show, Positive, Negative, Quotient, Lemma, Entry, Certificate}
+use Rattle.certificate_text.specs.Text.{main_lines, step_line}
+use Rattle.certificate_text.specs.Lines.{EntryItem}
 use Rattle.certificate_text.specs.Items.{items_of}
 use Rattle.certificate_text.specs.FormTables.{FormTable}
 use Rattle.certificate_text.specs.NumberedText.{forms_of, numbered_line, table_line, lines_of_two}
-use Rattle.certificate_text.proofs.ItemsNumbered.{entry_by, items_written}
-use Rattle.certificate.specs.NumberedLines.{place_lines, bound_line, sort_text, entry_lines}
+use Rattle.certificate_text.proofs.ItemsNumbered.{main_by, entry_by, items_written}
+use Rattle.certificate.specs.NumberedLines.{place_lines, bound_line, sort_text, entry_line, lemma_lines, entry_lines}
 use Rattle.certificate.proofs.Texts.{lines-append, whole}
 
-entry_line : (forms : FormTable) (n : ℕ) (s : EntrySort) → numbered_line forms (EntryItem n s) ≡ codes "ob " ++ (decimal n ++ (codes " " ++ sort_text forms s))
-entry_line forms n Show = refl
-entry_line forms n Positive = refl
-entry_line forms n Negative = refl
-entry_line forms n (Quotient f) = refl
+entry_line_is : (forms : FormTable) (n : ℕ) (s : EntrySort) → numbered_line forms (EntryItem n s) ≡ codes "ob " ++ (decimal n ++ (codes " " ++ sort_text forms s))
+entry_line_is forms n Show = refl
+entry_line_is forms n Positive = refl
+entry_line_is forms n Negative = refl
+entry_line_is forms n (Quotient f) = refl
+
+main_is : (forms : FormTable) (ls : List Lemma) → main_by (numbered_line forms) ls ≡ main_lines ls
+main_is forms [] = refl
+main_is forms (l ∷ ls) = refl
+
+entry_is : (forms : FormTable) (e : Entry) → entry_by (numbered_line forms) e ≡ entry_lines forms e
+entry_is forms e =
+    ap (λ l. l ∷ (flat_map (lemma_lines forms) e.lemmas ++ (main_by (numbered_line forms) e.lemmas ++ map step_line e.steps))) (entry_line_is forms e.obligation e.sort)
+    ∙ ap (λ ls. entry_line forms e ∷ (flat_map (lemma_lines forms) e.lemmas ++ (ls ++ map step_line e.steps))) (main_is forms e.lemmas)
 
 entries_are : (forms : FormTable) (es : List Entry) → flat_map (entry_by (numbered_line forms)) es ≡ flat_map (entry_lines forms) es
 entries_are forms [] = refl
-entries_are forms (e ∷ es) =
-    ap (λ l. (l ∷ map (λ s. numbered_line forms (StepItem s)) e.steps) ++ flat_map (entry_by (numbered_line forms)) es) (entry_line forms e.obligation e.sort)
-    ∙ ap (λ ls. entry_lines forms e ++ ls) (entries_are forms es)
+entries_are forms (e ∷ es) = ap (λ ls. ls ++ flat_map (entry_by (numbered_line forms)) es) (entry_is forms e) ∙ ap (λ ls. entry_lines forms e ++ ls) (entries_are forms es)
 
 -- the lines of a certificate between the table and the last line
 parts_are : (forms : FormTable) (c : Certificate) → map (numbered_line forms) (items_of c) ≡ flat_map (place_lines forms) c.places ++ (map (bound_line forms) c.bounds ++ flat_map (entry_lines forms) c.entries)

@@ -45,6 +45,12 @@ pub four : (out line : List ℕ) (a b c : List (List ℕ)) → (((out ++ (line +
 four out line a b c =
     simp append_assoc (ap (λ t. out ++ (line ++ (10 ∷ t))) (sym (lines-append a (b ++ c) ∙ ap (λ t. text_of_lines a ++ t) (lines-append b c))))
 
+-- a line, and four rows of lines
+pub five : (out line : List ℕ) (a b c d : List (List ℕ)) → ((((out ++ (line ++ 10 ∷ [])) ++ text_of_lines a) ++ text_of_lines b) ++ text_of_lines c) ++ text_of_lines d ≡ out ++ text_of_lines (line ∷ (a ++ (b ++ (c ++ d))))
+five out line a b c d =
+    append_assoc (((out ++ (line ++ 10 ∷ [])) ++ text_of_lines a) ++ text_of_lines b) (text_of_lines c) (text_of_lines d)
+    ∙ ap (λ t. (((out ++ (line ++ 10 ∷ [])) ++ text_of_lines a) ++ text_of_lines b) ++ t) (sym (lines-append c d)) ∙ four out line a b (c ++ d)
+
 -- the first line, three rows of lines, and the last line
 pub whole : (first last : List ℕ) (a b c : List (List ℕ)) → (((first ++ text_of_lines a) ++ text_of_lines b) ++ text_of_lines c) ++ (last ++ 10 ∷ []) ≡ first ++ text_of_lines ((a ++ (b ++ c)) ++ last ∷ [])
 whole first last a b c =

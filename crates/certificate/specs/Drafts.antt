@@ -15,6 +15,7 @@ abbrev pub opened : Open → drafting.Open
 opened opens.Nothing = drafting.Nothing
 opened (opens.InPlace p) = drafting.InPlace (view.place p)
 opened (opens.InEntry e) = drafting.InEntry (view.entry e)
+opened (opens.InLemma e l) = drafting.InLemma (view.entry e) (view.lemma l)
 opened opens.Ended = drafting.Ended
 
 abbrev pub draft : Draft → drafting.Draft

@@ -1,5 +1,5 @@
 -- The forms of numbers, and what the code's answers stand for.
-use Rattle.std.specs.Prelude.{ℕ, max, Option, Some}
+use Rattle.std.specs.Prelude.{ℕ, Option, Some}
 use Rattle.linear.specs.Linear as linear
 use Rattle.certificate_text.specs.Certificate as certificate
 use Rattle.certificate_text.specs.Lines as meaning
@@ -23,16 +23,12 @@ used_sort r = (r.0, view.sort r.1)
 abbrev pub used_item : ℕ × Item → ℕ × meaning.Item
 used_item r = (r.0, items.item r.1)
 
--- the form of the number that stands for it, and the largest number that is used then
-abbrev pub form_by : tables.FormTable → ℕ → linear.Form certificate.Name → Option (ℕ × linear.Form certificate.Name)
-form_by forms used number =
-    then (reading.number_in number) (λ n. then (reading.allowed_form forms used n) (λ f. Some (max used n, f)))
-
+-- a sort with the form of its number
 abbrev pub sort_by : tables.FormTable → ℕ → certificate.EntrySort → Option (ℕ × certificate.EntrySort)
 sort_by forms used certificate.Show = Some (used, certificate.Show)
 sort_by forms used certificate.Positive = Some (used, certificate.Positive)
 sort_by forms used certificate.Negative = Some (used, certificate.Negative)
-sort_by forms used (certificate.Quotient number) = then (form_by forms used number) (λ r. Some (r.0, certificate.Quotient r.1))
+sort_by forms used (certificate.Quotient number) = then (reading.form_by forms used number) (λ r. Some (r.0, certificate.Quotient r.1))
 
 abbrev pub numbered_draft : NumberedDraft → reading.NumberedDraft
 numbered_draft d = reading.numbered_draft d.used (drafts.draft d.read)

@@ -5,14 +5,14 @@ use Rattle.linear.specs.Linear as linear
 use Rattle.certificate_text.specs.Certificate as certificate
 use Rattle.certificate.specs.declared.tree.Dimension.{Dimension}
 use Rattle.certificate.specs.declared.tree.Dimension.TheVariants as dimensions
-use Rattle.certificate.specs.declared.tree.Name.{Name}
-use Rattle.certificate.specs.declared.tree.Name.TheVariants as names
+use Rattle.certificate.specs.declared.tree.Name.{Name, Variable, AtAnchor, Turns, Fresh, Argument, Length, Groups, Group, Local, Second', Product'}
 use Rattle.certificate.specs.declared.tree.Term.{Term}
 use Rattle.certificate.specs.declared.tree.Form.{Form}
 use Rattle.certificate.specs.declared.tree.Anchor.{Anchor}
 use Rattle.certificate.specs.declared.tree.Anchor.TheVariants as anchors
 use Rattle.certificate.specs.declared.tree.Spot.{Spot}
 use Rattle.certificate.specs.declared.tree.Congruence.{Congruence}
+use Rattle.certificate.specs.declared.tree.Multiple.{Multiple}
 use Rattle.certificate.specs.declared.tree.Place.{Place}
 use Rattle.certificate.specs.declared.tree.Descent.{Descent}
 use Rattle.certificate.specs.declared.tree.Descent.TheVariants as descents
@@ -22,6 +22,7 @@ use Rattle.certificate.specs.declared.tree.EntrySort.TheVariants as sorts
 use Rattle.certificate.specs.declared.tree.Scaled.{Scaled}
 use Rattle.certificate.specs.declared.tree.Step.{Step}
 use Rattle.certificate.specs.declared.tree.Step.TheVariants as steps
+use Rattle.certificate.specs.declared.tree.Lemma.{Lemma}
 use Rattle.certificate.specs.declared.tree.Entry.{Entry}
 
 abbrev pub dimension : Dimension → certificate.Dimension
@@ -30,15 +31,17 @@ dimension dimensions.Second = certificate.Second
 dimension dimensions.Third = certificate.Third
 
 abbrev pub name : Name → certificate.Name
-name (names.Variable s) = certificate.Variable (string_bytes s)
-name (names.AtAnchor s) = certificate.AtAnchor (string_bytes s)
-name (names.Turns n) = certificate.Turns n
-name (names.Fresh n) = certificate.Fresh n
-name (names.Argument s) = certificate.Argument (string_bytes s)
-name (names.Length s) = certificate.Length (string_bytes s)
-name (names.Groups d) = certificate.Groups (dimension d)
-name (names.Group d) = certificate.Group (dimension d)
-name (names.Local d) = certificate.Local (dimension d)
+name (Variable s) = certificate.Variable (string_bytes s)
+name (AtAnchor s) = certificate.AtAnchor (string_bytes s)
+name (Turns n) = certificate.Turns n
+name (Fresh n) = certificate.Fresh n
+name (Argument s) = certificate.Argument (string_bytes s)
+name (Length s) = certificate.Length (string_bytes s)
+name (Groups d) = certificate.Groups (dimension d)
+name (Group d) = certificate.Group (dimension d)
+name (Local d) = certificate.Local (dimension d)
+name (Second' p n) = certificate.Second (name n)
+name (Product' p first q others) = certificate.Product (name first) (name others)
 
 abbrev pub term : Term → linear.Weighted certificate.Name
 term t = record { coefficient = t.coefficient; symbol = name t.name }
@@ -56,12 +59,16 @@ spot s = record { anchor = anchor s.anchor; head = s.head }
 abbrev pub congruence : Congruence → certificate.Congruence
 congruence c = record { modulus = c.modulus; form = form c.form }
 
+abbrev pub multiple : Multiple → certificate.Multiple
+multiple m = record { of = form m.of; form = form m.form }
+
 abbrev pub place : Place → certificate.Place
 place p = record {
   spot = spot p.spot;
   same = map string_bytes p.same.items;
   facts = map form p.facts.items;
   congruences = map congruence p.congruences.items;
+  multiples = map multiple p.multiples.items;
 }
 
 abbrev pub descent : Descent → certificate.Descent
@@ -85,6 +92,10 @@ abbrev pub step : Step → certificate.Step
 step (steps.Given n) = certificate.Given n
 step (steps.Sum parts) = certificate.Sum (map scaled parts.items)
 step (steps.Divide s) = certificate.Divide (scaled s)
+step (steps.Product first second) = certificate.Product first second
+
+abbrev pub lemma : Lemma → certificate.Lemma
+lemma l = record { form = form l.form; steps = map step l.steps.items }
 
 abbrev pub entry : Entry → certificate.Entry
-entry e = record { obligation = e.obligation; sort = sort e.sort; steps = map step e.steps.items }
+entry e = record { obligation = e.obligation; sort = sort e.sort; lemmas = map lemma e.lemmas.items; steps = map step e.steps.items }

@@ -20,6 +20,3 @@ Means view (Err e) meaning = Fails e meaning
 
 abbrev pub descent_left : Option (Descent × Pieces) → Option (certificate.Descent × List (List ℕ))
 descent_left r = option_map (λ p. (view.descent p.0, left p.1)) r
-
-abbrev pub pair : {A B : Type 0} → A → B → A × B
-pair a b = (a, b)

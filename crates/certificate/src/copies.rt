@@ -19,6 +19,12 @@ fn copy_of_name(alloc: Global, name: &Name) -> Result<Name, AllocError>
         Name::Groups(dimension) => Ok(Name::Groups(*dimension)),
         Name::Group(dimension) => Ok(Name::Group(*dimension)),
         Name::Local(dimension) => Ok(Name::Local(*dimension)),
+        Name::Second(name) => Ok(Name::Second(Box::new(alloc, copy_of_name(alloc, name)?)?)),
+        Name::Product(first, others) => {
+            let first = Box::new(alloc, copy_of_name(alloc, first)?)?;
+            let others = Box::new(alloc, copy_of_name(alloc, others)?)?;
+            Ok(Name::Product(first, others))
+        }
     }
 }
 

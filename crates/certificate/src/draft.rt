@@ -1,7 +1,8 @@
 //! A certificate of which some lines are read, and what may stand behind them.
 
-ghost use Rattle.std.specs.Prelude.{◌≡◌};
+ghost use Rattle.std.specs.Prelude.{◌≡◌, IfOk};
 ghost use Rattle.certificate_text.specs.Drafts as drafting;
+ghost use Rattle.certificate_text.specs.Reading as reading;
 ghost use Rattle.certificate.specs.View as view;
 ghost use Rattle.certificate.specs.Items as items;
 ghost use Rattle.certificate.specs.Drafts as drafts;
@@ -9,9 +10,10 @@ ghost use Rattle.certificate.specs.WordAnswers.{Means};
 
 use crate::item::Item;
 use crate::line_error::LineError;
+use crate::narrow::is_narrow_item;
 use crate::order::{bound_follows, entry_follows, has_line, place_follows};
-use crate::tree::{Bound, Descent, Entry, EntrySort, Place, Spot, Step};
-use std::alloc::Global;
+use crate::tree::{Bound, Entry, EntrySort, Form, Lemma, Place, Spot, Step};
+use std::alloc::{AllocError, Global};
 
 /// The parts of a certificate whose lines are complete, and whether it is wide.
 #[derive(Drop)]
@@ -28,6 +30,7 @@ pub enum Open {
     Nothing,
     InPlace(Place),
     InEntry(Entry),
+    InLemma(Entry, Lemma),
     Ended,
 }
 
@@ -46,20 +49,10 @@ fn place_fits(settled: &Parts, spot: Spot) -> bool
     place_follows(settled.places.as_slice(), spot)
 }
 
-/// Whether loops may end so: they double in a wide certificate alone.
-pub(crate) fn descent_fits(is_wide: bool, descent: Descent) -> bool
-    ensures { result ≡ drafting.descent_fits is_wide (view.descent descent) }
-{
-    match descent {
-        Descent::Down(_) | Descent::Halve => true,
-        Descent::Double(_) => is_wide,
-    }
-}
-
 fn bound_fits(settled: &Parts, bound: &Bound) -> bool
     ensures { result ≡ drafting.bound_fits (drafts.parts settled.now) (view.bound bound.now) }
 {
-    if !(descent_fits(settled.is_wide, bound.descent) && settled.entries.is_empty()) {
+    if !settled.entries.is_empty() {
         return false;
     }
     bound_follows(settled.bounds.as_slice(), bound.number)
@@ -71,7 +64,7 @@ fn entry_fits(settled: &Parts, obligation: u64) -> bool
     entry_follows(settled.entries.as_slice(), obligation)
 }
 
-/// The settled parts with the open one; an error where that is a place without a line, or the end was read.
+/// The settled parts with the open one; an error where that is a place without a line or a lemma, or the end was read.
 fn settle(settled: Parts, opened: Open) -> Result<Parts, LineError>
     ensures { Means drafts.parts result (drafting.settle (drafts.parts settled) (drafts.opened opened)) }
 {
@@ -89,44 +82,120 @@ fn settle(settled: Parts, opened: Open) -> Result<Parts, LineError>
             settled.entries.push(entry)?;
             Ok(settled)
         }
-        Open::Ended => Err(LineError::Bad),
+        Open::InLemma(_, _) | Open::Ended => Err(LineError::Bad),
     }
 }
 
-/// A place with one more line: `same` lines come first, then `fact` lines, then `mod` lines; an error where the line is none.
+/// A place with one more line: `same` lines come first, then `fact` lines, then `mod` lines, then `multiple` lines; an error where the line
+/// is none.
 fn add_to_place(place: Place, item: Item) -> Result<Place, LineError>
     ensures { Means view.place result (drafting.add_to_place (view.place place) (items.item item)) }
 {
     let mut place = place;
     match item {
         Item::Same(name) => {
-            if !(place.facts.is_empty() && place.congruences.is_empty()) {
+            let forms = place.congruences.is_empty() && place.multiples.is_empty();
+            if !(place.facts.is_empty() && forms) {
                 return Err(LineError::Bad);
             }
             place.same.push(name)?;
             Ok(place)
         }
         Item::Fact(form) => {
-            if !place.congruences.is_empty() {
+            if !(place.congruences.is_empty() && place.multiples.is_empty()) {
                 return Err(LineError::Bad);
             }
             place.facts.push(form)?;
             Ok(place)
         }
         Item::Congruence(congruence) => {
+            if !place.multiples.is_empty() {
+                return Err(LineError::Bad);
+            }
             place.congruences.push(congruence)?;
+            Ok(place)
+        }
+        Item::Multiple(multiple) => {
+            place.multiples.push(multiple)?;
             Ok(place)
         }
         _ => Err(LineError::Bad),
     }
 }
 
-fn add_step(entry: Entry, step: Step) -> Result<Entry, LineError>
-    ensures { Means view.entry result (drafting.with_step (view.entry entry) (view.step step)) }
+fn with_step(entry: Entry, step: Step) -> Result<Entry, AllocError>
+    ensures { IfOk result (λ e. view.entry e ≡ drafting.with_step (view.entry entry) (view.step step)) }
 {
     let mut entry = entry;
     entry.steps.push(step)?;
     Ok(entry)
+}
+
+fn with_lemma(entry: Entry, lemma: Lemma) -> Result<Entry, AllocError>
+    ensures { IfOk result (λ e. view.entry e ≡ drafting.with_lemma (view.entry entry) (view.lemma lemma)) }
+{
+    let mut entry = entry;
+    entry.lemmas.push(lemma)?;
+    Ok(entry)
+}
+
+fn lemma_with_step(lemma: Lemma, step: Step) -> Result<Lemma, AllocError>
+    ensures { IfOk result (λ l. view.lemma l ≡ drafting.lemma_with_step (view.lemma lemma) (view.step step)) }
+{
+    let mut lemma = lemma;
+    lemma.steps.push(step)?;
+    Ok(lemma)
+}
+
+/// A lemma whose steps follow.
+fn lemma_at(alloc: Global, form: Form) -> Lemma
+    ensures { view.lemma result ≡ drafting.lemma_at (view.form form) }
+{
+    let steps = Vec::new(alloc);
+    Lemma { form, steps }
+}
+
+/// An entry with one more line: lemmas come before all other lines.
+fn add_to_entry(alloc: Global, entry: Entry, item: Item) -> Result<Open, LineError>
+    ensures { Means drafts.opened result (drafting.add_to_entry (view.entry entry) (items.item item)) }
+{
+    match item {
+        Item::Step(step) => Ok(Open::InEntry(with_step(entry, step)?)),
+        Item::Lemma(form) => {
+            if !(entry.lemmas.is_empty() && entry.steps.is_empty()) {
+                return Err(LineError::Bad);
+            }
+            Ok(Open::InLemma(entry, lemma_at(alloc, form)))
+        }
+        _ => Err(LineError::Bad),
+    }
+}
+
+/// A lemma of an entry with one more line: behind it comes the next one, or what shows the obligation.
+fn add_to_lemma(alloc: Global, entry: Entry, lemma: Lemma, item: Item) -> Result<Open, LineError>
+    ensures { Means drafts.opened result (drafting.add_to_lemma (view.entry entry) (view.lemma lemma) (items.item item)) }
+{
+    match item {
+        Item::Step(step) => Ok(Open::InLemma(entry, lemma_with_step(lemma, step)?)),
+        Item::Lemma(form) => {
+            let entry = with_lemma(entry, lemma)?;
+            Ok(Open::InLemma(entry, lemma_at(alloc, form)))
+        }
+        Item::Main => Ok(Open::InEntry(with_lemma(entry, lemma)?)),
+        _ => Err(LineError::Bad),
+    }
+}
+
+/// What is open, with one more line.
+fn add_to(alloc: Global, opened: Open, item: Item) -> Result<Open, LineError>
+    ensures { Means drafts.opened result (drafting.add_to (drafts.opened opened) (items.item item)) }
+{
+    match opened {
+        Open::InPlace(place) => Ok(Open::InPlace(add_to_place(place, item)?)),
+        Open::InEntry(entry) => add_to_entry(alloc, entry, item),
+        Open::InLemma(entry, lemma) => add_to_lemma(alloc, entry, lemma, item),
+        Open::Nothing | Open::Ended => Err(LineError::Bad),
+    }
 }
 
 fn add_place(alloc: Global, draft: Draft, spot: Spot) -> Result<Draft, LineError>
@@ -141,6 +210,7 @@ fn add_place(alloc: Global, draft: Draft, spot: Spot) -> Result<Draft, LineError
         same: Vec::new(alloc),
         facts: Vec::new(alloc),
         congruences: Vec::new(alloc),
+        multiples: Vec::new(alloc),
     };
     Ok(Draft {
         settled,
@@ -177,22 +247,9 @@ fn add_entry(
     let entry = Entry {
         obligation,
         sort,
+        lemmas: Vec::new(alloc),
         steps: Vec::new(alloc),
     };
-    Ok(Draft {
-        settled,
-        opened: Open::InEntry(entry),
-    })
-}
-
-fn add_to_entry(draft: Draft, step: Step) -> Result<Draft, LineError>
-    ensures { Means drafts.draft result (drafting.add_to_entry (drafts.draft draft) (view.step step)) }
-{
-    let Draft { settled, opened } = draft;
-    let Open::InEntry(entry) = opened else {
-        return Err(LineError::Bad);
-    };
-    let entry = add_step(entry, step)?;
     Ok(Draft {
         settled,
         opened: Open::InEntry(entry),
@@ -209,31 +266,34 @@ fn add_end(draft: Draft) -> Result<Draft, LineError>
     })
 }
 
-fn add_within(draft: Draft, item: Item) -> Result<Draft, LineError>
+fn add_within(alloc: Global, draft: Draft, item: Item) -> Result<Draft, LineError>
     ensures { Means drafts.draft result (drafting.add_within (drafts.draft draft) (items.item item)) }
 {
     let Draft { settled, opened } = draft;
-    let Open::InPlace(place) = opened else {
-        return Err(LineError::Bad);
-    };
-    let place = add_to_place(place, item)?;
-    Ok(Draft {
-        settled,
-        opened: Open::InPlace(place),
-    })
+    let opened = add_to(alloc, opened, item)?;
+    Ok(Draft { settled, opened })
 }
 
 /// A draft with one more line; an error where the line may not stand behind those that are read.
 #[tactic(auto, unfolding(certificate_text::specs::Drafts::add))]
-pub fn add(alloc: Global, draft: Draft, item: Item) -> Result<Draft, LineError>
+fn add(alloc: Global, draft: Draft, item: Item) -> Result<Draft, LineError>
     ensures { Means drafts.draft result (drafting.add (drafts.draft draft) (items.item item)) }
 {
     match item {
         Item::Place(spot) => add_place(alloc, draft, spot),
         Item::Bound(bound) => add_bound(draft, bound),
         Item::Entry(obligation, sort) => add_entry(alloc, draft, obligation, sort),
-        Item::Step(step) => add_to_entry(draft, step),
         Item::End => add_end(draft),
-        item => add_within(draft, item),
+        item => add_within(alloc, draft, item),
     }
+}
+
+/// A draft with one more line, which a certificate that is not wide may have.
+pub fn add_fitting(alloc: Global, draft: Draft, item: Item) -> Result<Draft, LineError>
+    ensures { Means drafts.draft result (reading.add_fitting (drafts.draft draft) (items.item item)) }
+{
+    if !(draft.settled.is_wide || is_narrow_item(&item)) {
+        return Err(LineError::Bad);
+    }
+    add(alloc, draft, item)
 }

@@ -6,7 +6,7 @@ ghost use Rattle.certificate_text.specs.Rules as rules;
 ghost use Rattle.certificate.specs.View as view;
 
 use crate::proper::{is_form, is_integer, is_natural};
-use crate::tree::{Entry, EntrySort, Scaled, Step};
+use crate::tree::{Entry, EntrySort, Lemma, Scaled, Step};
 use std::alloc::{AllocError, Global};
 
 fn is_sort(alloc: Global, sort: &EntrySort) -> Result<bool, AllocError>
@@ -66,6 +66,7 @@ fn is_step(step: &Step) -> bool
             are_scaled(parts) && (parts_rise(parts) && !parts.is_empty())
         }
         Step::Divide(quotient) => is_scaled(*quotient),
+        Step::Product(first, second) => is_integer(*first) && is_integer(*second),
     }
 }
 
@@ -81,12 +82,32 @@ fn are_steps(steps: &[Step]) -> bool
     true
 }
 
+fn is_lemma(alloc: Global, lemma: &Lemma) -> Result<bool, AllocError>
+    ensures { IfOk result (λ b. b ≡ rules.is_lemma (view.lemma lemma.now)) }
+{
+    let form = is_form(alloc, &lemma.form)?;
+    Ok(form && are_steps(lemma.steps.as_slice()))
+}
+
+#[tactic(auto, using(crate::proofs::Rows::all_rows))]
+fn are_lemmas(alloc: Global, lemmas: &[Lemma]) -> Result<bool, AllocError>
+    ensures { IfOk result (λ b. b ≡ rules.all rules.is_lemma (map view.lemma lemmas.now)) }
+{
+    for lemma in lemmas {
+        if !is_lemma(alloc, lemma)? {
+            return Ok(false);
+        }
+    }
+    Ok(true)
+}
+
 fn is_entry(alloc: Global, entry: &Entry) -> Result<bool, AllocError>
     ensures { IfOk result (λ b. b ≡ rules.is_entry (view.entry entry.now)) }
 {
     let sort = is_sort(alloc, &entry.sort)?;
+    let lemmas = are_lemmas(alloc, entry.lemmas.as_slice())?;
     let numbered = is_natural(entry.obligation) && 1 <= entry.obligation;
-    Ok(numbered && (sort && are_steps(entry.steps.as_slice())))
+    Ok(numbered && (sort && (lemmas && are_steps(entry.steps.as_slice()))))
 }
 
 #[tactic(auto, using(crate::proofs::Rows::all_rows))]

@@ -10,9 +10,9 @@ ghost use Rattle.certificate.specs.Items as items;
 ghost use Rattle.certificate.specs.WordAnswers.{Means};
 
 use crate::line_error::LineError;
-use crate::name::{form, identifier};
+use crate::name::{constant, form, identifier};
 use crate::order::part_follows;
-use crate::tree::{Bound, Congruence, EntrySort, Form, Scaled, Spot, Step};
+use crate::tree::{Bound, Congruence, EntrySort, Form, Multiple, Scaled, Spot, Step};
 use crate::word::{descent, integer, is, natural, natural_from, scaled, spot};
 use lines::pieces::Pieces;
 use std::alloc::Global;
@@ -24,8 +24,11 @@ pub enum Item {
     Same(String),
     Fact(Form),
     Congruence(Congruence),
+    Multiple(Multiple),
     Bound(Bound),
     Entry(u64, EntrySort),
+    Lemma(Form),
+    Main,
     Step(Step),
     End,
 }
@@ -42,6 +45,31 @@ fn congruence(alloc: Global, words: Pieces<'_>) -> Result<Congruence, LineError>
     };
     let form = form(alloc, others)?;
     Ok(Congruence { modulus, form })
+}
+
+/// A multiple, of the numbers of its two forms and of the word between them.
+fn multiple_in(alloc: Global, form: &[u8], between: &[u8], of: &[u8]) -> Result<Multiple, LineError>
+    ensures { Means view.multiple result (meaning.multiple_in form.now between.now of.now) }
+{
+    if !is(between, "of") {
+        return Err(LineError::Bad);
+    }
+    let form = constant(Vec::new(alloc), form)?;
+    let of = constant(Vec::new(alloc), of)?;
+    Ok(Multiple { of, form })
+}
+
+#[tactic(auto, unfolding(certificate_text::specs::Lines::multiple_of))]
+fn multiple(alloc: Global, words: Pieces<'_>) -> Result<Multiple, LineError>
+    ensures { Means view.multiple result (meaning.multiple_of (left words.entry)) }
+{
+    let Some((form, others)) = words.next() else {
+        return Err(LineError::Bad);
+    };
+    let Some((between, of)) = others.two() else {
+        return Err(LineError::Bad);
+    };
+    multiple_in(alloc, form, between, of)
 }
 
 #[tactic(auto, unfolding(certificate_text::specs::Lines::bound_of))]
@@ -171,6 +199,21 @@ fn sum(alloc: Global, words: Pieces<'_>) -> Result<Step, LineError>
     Ok(Step::Sum(parts))
 }
 
+fn product(words: Pieces<'_>) -> Result<Step, LineError>
+    ensures { Means view.step result (meaning.product_of (left words.entry)) }
+{
+    let Some((first, second)) = words.two() else {
+        return Err(LineError::Bad);
+    };
+    let Some(first) = integer(first) else {
+        return Err(LineError::Bad);
+    };
+    let Some(second) = integer(second) else {
+        return Err(LineError::Bad);
+    };
+    Ok(Step::Product(first, second))
+}
+
 fn place_item(alloc: Global, keyword: &[u8], words: Pieces<'_>) -> Result<Item, LineError>
     ensures { Means items.item result (meaning.place_item keyword.now (left words.entry)) }
 {
@@ -191,8 +234,28 @@ fn place_item(alloc: Global, keyword: &[u8], words: Pieces<'_>) -> Result<Item, 
         Ok(Item::Fact(form(alloc, words)?))
     } else if is(keyword, "mod") {
         Ok(Item::Congruence(congruence(alloc, words)?))
+    } else if is(keyword, "multiple") {
+        Ok(Item::Multiple(multiple(alloc, words)?))
     } else {
         Err(LineError::Bad)
+    }
+}
+
+fn lemma_item(alloc: Global, keyword: &[u8], words: Pieces<'_>) -> Result<Item, LineError>
+    ensures { Means items.item result (meaning.lemma_item keyword.now (left words.entry)) }
+{
+    if is(keyword, "p") {
+        Ok(Item::Step(product(words)?))
+    } else if is(keyword, "l") {
+        Ok(Item::Lemma(form(alloc, words)?))
+    } else if is(keyword, "m") {
+        if words.is_over() {
+            Ok(Item::Main)
+        } else {
+            Err(LineError::Bad)
+        }
+    } else {
+        place_item(alloc, keyword, words)
     }
 }
 
@@ -206,7 +269,7 @@ fn step_item(alloc: Global, keyword: &[u8], words: Pieces<'_>) -> Result<Item, L
     } else if is(keyword, "d") {
         Ok(Item::Step(divide(words)?))
     } else {
-        place_item(alloc, keyword, words)
+        lemma_item(alloc, keyword, words)
     }
 }
 

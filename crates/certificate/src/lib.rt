@@ -15,6 +15,7 @@ pub mod item;
 pub mod line_error;
 mod migration;
 pub mod name;
+mod narrow;
 pub mod numbered_reader;
 mod numbered_writer;
 pub mod numbers;

@@ -16,12 +16,13 @@ ghost use Rattle.certificate.specs.Tables.{table as table_seen};
 ghost use Rattle.certificate.specs.WordAnswers.{Means};
 
 use crate::certificate::Certificate;
-use crate::draft::{Draft, Open, Parts, add};
+use crate::draft::{Draft, Open, Parts, add_fitting};
 use crate::error::{CertError, CertFault};
 use crate::form_table::FormTable;
 use crate::item::read_item;
 use crate::line_error::LineError;
 use crate::name::form;
+use crate::narrow::is_narrow_form;
 use crate::numbers::filled;
 use crate::reader::{LIMIT, bad, version};
 use crate::word::is;
@@ -62,7 +63,7 @@ pub fn add_numbered(
 {
     let item = read_item(alloc, Pieces::of(line, b' '))?;
     let (used, item) = filled(alloc, table, draft.used, item)?;
-    let read = add(alloc, draft.read, item)?;
+    let read = add_fitting(alloc, draft.read, item)?;
     Ok(NumberedDraft { used, read })
 }
 
@@ -134,12 +135,21 @@ pub fn table_words(line: &[u8]) -> Option<Pieces<'_>>
     Some(others)
 }
 
-/// The table with one form more; an error where the words make none, or one that is there already.
-pub fn add_form(alloc: Global, table: FormTable, words: Pieces<'_>) -> Result<FormTable, LineError>
-    ensures { Means table_seen result (reading.add_form (table_seen table) (left words.entry)) }
+/// The table with one form more; an error where the words make none, or one that is there already, or one that a certificate of this kind
+/// may not have.
+pub fn add_form(
+    alloc: Global,
+    is_wide: bool,
+    table: FormTable,
+    words: Pieces<'_>,
+) -> Result<FormTable, LineError>
+    ensures { Means table_seen result (reading.add_form is_wide (table_seen table) (left words.entry)) }
 {
     let mut table = table;
     let form = form(alloc, words)?;
+    if !(is_wide || is_narrow_form(&form)) {
+        return Err(LineError::Bad);
+    }
     if !table.add(alloc, form)? {
         return Err(LineError::Bad);
     }
@@ -160,7 +170,7 @@ fn read_table(alloc: Global, is_wide: bool, lines: Pieces<'_>) -> Result<Certifi
         let Some(words) = table_words(line) else {
             return read_numbered(alloc, is_wide, &table, number, rest);
         };
-        match add_form(alloc, table, words) {
+        match add_form(alloc, is_wide, table, words) {
             Ok(next) => table = next,
             Err(LineError::Bad) => return Err(bad(number)),
             Err(LineError::Memory) => return Err(CertError::Memory),

@@ -14,9 +14,9 @@ ghost use Rattle.certificate.specs.Tables.{table as table_seen};
 
 use crate::certificate::Certificate;
 use crate::form_table::FormTable;
-use crate::part_writer::{push_descent, push_form, push_same, push_spot, push_steps};
+use crate::part_writer::{push_descent, push_form, push_main, push_same, push_spot, push_steps};
 use crate::tabling::table_of;
-use crate::tree::{Bound, Congruence, Entry, EntrySort, Form, Place};
+use crate::tree::{Bound, Congruence, Entry, EntrySort, Form, Lemma, Multiple, Place};
 use std::alloc::{AllocError, Global};
 
 fn push_table_line(out: &mut String, form: &Form) -> Result<(), AllocError>
@@ -109,7 +109,37 @@ fn push_congruences(
     Ok(())
 }
 
-#[tactic(auto, using(crate::proofs::Texts::four))]
+fn push_multiple(
+    alloc: Global,
+    out: &mut String,
+    table: &FormTable,
+    multiple: &Multiple,
+) -> Result<(), AllocError>
+    ensures { OnOk result (string_bytes out.new ≡ string_bytes out.old ++ (lines.multiple_line (table_seen table.now) (view.multiple multiple.now) ++ 10 ∷ [])) }
+{
+    out.push_str("multiple ")?;
+    push_number(alloc, out, table, &multiple.form)?;
+    out.push_str(" of ")?;
+    push_number(alloc, out, table, &multiple.of)?;
+    out.push_str("\n")
+}
+
+#[tactic(auto, using(crate::proofs::Texts::one_line, crate::proofs::Texts::no_line))]
+fn push_multiples(
+    alloc: Global,
+    out: &mut String,
+    table: &FormTable,
+    multiples: &[Multiple],
+) -> Result<(), AllocError>
+    ensures { OnOk result (string_bytes out.new ≡ string_bytes out.old ++ text_of_lines (map (lines.multiple_line (table_seen table.now)) (map view.multiple multiples.now))) }
+{
+    for multiple in multiples {
+        push_multiple(alloc, out, table, multiple)?;
+    }
+    Ok(())
+}
+
+#[tactic(auto, using(crate::proofs::Texts::five))]
 fn push_place(
     alloc: Global,
     out: &mut String,
@@ -121,7 +151,8 @@ fn push_place(
     push_spot(out, place.spot)?;
     push_same(out, place.same.as_slice())?;
     push_facts(alloc, out, table, place.facts.as_slice())?;
-    push_congruences(alloc, out, table, place.congruences.as_slice())
+    push_congruences(alloc, out, table, place.congruences.as_slice())?;
+    push_multiples(alloc, out, table, place.multiples.as_slice())
 }
 
 #[tactic(auto, using(crate::proofs::Texts::one_block, crate::proofs::Texts::no_block))]
@@ -190,6 +221,50 @@ fn push_sort(
     }
 }
 
+fn push_lemma(
+    alloc: Global,
+    out: &mut String,
+    table: &FormTable,
+    lemma: &Lemma,
+) -> Result<(), AllocError>
+    ensures { OnOk result (string_bytes out.new ≡ string_bytes out.old ++ text_of_lines (lines.lemma_lines (table_seen table.now) (view.lemma lemma.now))) }
+{
+    out.push_str("l ")?;
+    push_number(alloc, out, table, &lemma.form)?;
+    out.push_str("\n")?;
+    push_steps(out, lemma.steps.as_slice())
+}
+
+#[tactic(auto, using(crate::proofs::Texts::one_block, crate::proofs::Texts::no_block))]
+fn push_lemmas(
+    alloc: Global,
+    out: &mut String,
+    table: &FormTable,
+    lemmas: &[Lemma],
+) -> Result<(), AllocError>
+    ensures { OnOk result (string_bytes out.new ≡ string_bytes out.old ++ text_of_lines (flat_map (lines.lemma_lines (table_seen table.now)) (map view.lemma lemmas.now))) }
+{
+    for lemma in lemmas {
+        push_lemma(alloc, out, table, lemma)?;
+    }
+    Ok(())
+}
+
+fn push_entry_line(
+    alloc: Global,
+    out: &mut String,
+    table: &FormTable,
+    entry: &Entry,
+) -> Result<(), AllocError>
+    ensures { OnOk result (string_bytes out.new ≡ string_bytes out.old ++ (lines.entry_line (table_seen table.now) (view.entry entry.now) ++ 10 ∷ [])) }
+{
+    let obligation = entry.obligation;
+    write!(out, "ob {obligation} ")?;
+    push_sort(alloc, out, table, &entry.sort)?;
+    out.push_str("\n")
+}
+
+#[tactic(auto, using(crate::proofs::Texts::four))]
 fn push_entry(
     alloc: Global,
     out: &mut String,
@@ -198,10 +273,9 @@ fn push_entry(
 ) -> Result<(), AllocError>
     ensures { OnOk result (string_bytes out.new ≡ string_bytes out.old ++ text_of_lines (lines.entry_lines (table_seen table.now) (view.entry entry.now))) }
 {
-    let obligation = entry.obligation;
-    write!(out, "ob {obligation} ")?;
-    push_sort(alloc, out, table, &entry.sort)?;
-    out.push_str("\n")?;
+    push_entry_line(alloc, out, table, entry)?;
+    push_lemmas(alloc, out, table, entry.lemmas.as_slice())?;
+    push_main(out, entry.lemmas.as_slice())?;
     push_steps(out, entry.steps.as_slice())
 }
 

@@ -6,14 +6,14 @@ ghost use Rattle.certificate_text.specs.NumberedReading as reading;
 ghost use Rattle.certificate.specs.View as view;
 ghost use Rattle.certificate.specs.Items as items;
 ghost use Rattle.certificate.specs.Tables.{table as table_seen};
-ghost use Rattle.certificate.specs.Numbers.{used_form, form_by, used_sort, sort_by, used_item};
+ghost use Rattle.certificate.specs.Numbers.{used_form, used_sort, sort_by, used_item};
 ghost use Rattle.certificate.specs.WordAnswers.{Means};
 
 use crate::copies::copy_of_form;
 use crate::form_table::FormTable;
 use crate::item::Item;
 use crate::line_error::LineError;
-use crate::tree::{Bound, Congruence, EntrySort, Form};
+use crate::tree::{Bound, Congruence, EntrySort, Form, Multiple};
 use std::alloc::Global;
 
 /// The number that stands for a form, written as a form without terms.
@@ -43,7 +43,7 @@ fn form_of(
     used: u64,
     number: &Form,
 ) -> Result<(u64, Form), LineError>
-    ensures { Means used_form result (form_by (table_seen table.now) used (view.form number.now)) }
+    ensures { Means used_form result (reading.form_by (table_seen table.now) used (view.form number.now)) }
 {
     let Some(number) = number_in(number) else {
         return Err(LineError::Bad);
@@ -71,8 +71,8 @@ fn filled_sort(
     }
 }
 
-/// A line with the form of its number in place of the number, and the largest number that is used then; an error where it is none of the
-/// table, or over one above the largest that was used.
+/// A line with the forms of its numbers in place of the numbers, and the largest number that is used then; an error where one is none of
+/// the table, or over one above the largest that was used.
 pub fn filled(
     alloc: Global,
     table: &FormTable,
@@ -90,6 +90,15 @@ pub fn filled(
             let (used, form) = form_of(alloc, table, used, &congruence.form)?;
             let modulus = congruence.modulus;
             Ok((used, Item::Congruence(Congruence { modulus, form })))
+        }
+        Item::Multiple(multiple) => {
+            let (used, form) = form_of(alloc, table, used, &multiple.form)?;
+            let (used, of) = form_of(alloc, table, used, &multiple.of)?;
+            Ok((used, Item::Multiple(Multiple { of, form })))
+        }
+        Item::Lemma(number) => {
+            let (used, form) = form_of(alloc, table, used, &number)?;
+            Ok((used, Item::Lemma(form)))
         }
         Item::Bound(bound) => {
             let (used, form) = form_of(alloc, table, used, &bound.form)?;

@@ -1,14 +1,15 @@
 //! What may stand behind what: places, loops, entries, lines of a sum and names rise.
 
-ghost use Rattle.std.specs.Prelude.{◌≡◌, map};
-ghost use Rattle.std.specs.Option.{option_copied};
+ghost use Rattle.std.specs.Prelude.{◌≡◌, map, IfOk};
 ghost use Rattle.texts.specs.Lines as lines;
 ghost use Rattle.certificate_text.specs.Forms as forms;
 ghost use Rattle.certificate_text.specs.Lines as meaning;
 ghost use Rattle.certificate_text.specs.Drafts as drafting;
 ghost use Rattle.certificate.specs.View as view;
 
-use crate::tree::{Anchor, Bound, Entry, Place, Scaled, Spot};
+use crate::spelling::term_is_before;
+use crate::tree::{Anchor, Bound, Entry, Place, Scaled, Spot, Term};
+use std::alloc::{AllocError, Global};
 use std::cmp::Ordering;
 
 fn anchor_is_before(left: Anchor, right: Anchor) -> bool
@@ -78,13 +79,27 @@ pub fn part_follows(parts: &[Scaled], part: Scaled) -> bool
     }
 }
 
-/// Whether a name may stand behind the one before it.
-pub fn name_follows(before: Option<&[u8]>, name: &[u8]) -> bool
-    ensures { result ≡ forms.name_follows (option_copied before.entry) name.now }
+/// Whether bytes stand before others, as in a dictionary.
+fn is_before(left: &[u8], right: &[u8]) -> bool
+    ensures { result ≡ forms.is_before left.now right.now }
 {
-    match before {
-        None => true,
-        Some(before) => before.cmp(name) == Ordering::Less,
+    left.cmp(right) == Ordering::Less
+}
+
+/// Whether two names may stand in a product in this order: they rise, or are the same.
+pub fn in_order(left: &[u8], right: &[u8]) -> bool
+    ensures { result ≡ forms.in_order left.now right.now }
+{
+    !is_before(right, left)
+}
+
+/// Whether a term may stand behind those before it.
+pub fn term_follows(alloc: Global, terms: &[Term], term: &Term) -> Result<bool, AllocError>
+    ensures { IfOk result (λ b. b ≡ lines.follows forms.term_is_before (map view.term terms.now) (view.term term.now)) }
+{
+    match terms.last() {
+        None => Ok(true),
+        Some(last) => term_is_before(alloc, last, term),
     }
 }
 
@@ -92,5 +107,7 @@ pub fn name_follows(before: Option<&[u8]>, name: &[u8]) -> bool
 pub fn has_line(place: &Place) -> bool
     ensures { result ≡ drafting.has_line (view.place place.now) }
 {
-    !(place.same.is_empty() && (place.facts.is_empty() && place.congruences.is_empty()))
+    let forms = place.facts.is_empty()
+        && (place.congruences.is_empty() && place.multiples.is_empty());
+    !(place.same.is_empty() && forms)
 }

@@ -9,7 +9,8 @@ ghost use Rattle.certificate.specs.View as view;
 
 use crate::spelling::push_name;
 use crate::tree::{
-    Anchor, Bound, Congruence, Descent, Entry, EntrySort, Form, Place, Scaled, Spot, Step, Term,
+    Anchor, Bound, Congruence, Descent, Entry, EntrySort, Form, Lemma, Multiple, Place, Scaled,
+    Spot, Step, Term,
 };
 use std::alloc::AllocError;
 
@@ -107,14 +108,35 @@ fn push_congruences(out: &mut String, congruences: &[Congruence]) -> Result<(), 
     Ok(())
 }
 
-#[tactic(auto, using(crate::proofs::Texts::four))]
+fn push_multiple(out: &mut String, multiple: &Multiple) -> Result<(), AllocError>
+    ensures { OnOk result (string_bytes out.new ≡ string_bytes out.old ++ (text.multiple_line (view.multiple multiple.now) ++ 10 ∷ [])) }
+{
+    out.push_str("multiple ")?;
+    push_form(out, &multiple.form)?;
+    out.push_str(" of ")?;
+    push_form(out, &multiple.of)?;
+    out.push_str("\n")
+}
+
+#[tactic(auto, using(crate::proofs::Texts::one_line, crate::proofs::Texts::no_line))]
+fn push_multiples(out: &mut String, multiples: &[Multiple]) -> Result<(), AllocError>
+    ensures { OnOk result (string_bytes out.new ≡ string_bytes out.old ++ text_of_lines (map text.multiple_line (map view.multiple multiples.now))) }
+{
+    for multiple in multiples {
+        push_multiple(out, multiple)?;
+    }
+    Ok(())
+}
+
+#[tactic(auto, using(crate::proofs::Texts::five))]
 fn push_place(out: &mut String, place: &Place) -> Result<(), AllocError>
     ensures { OnOk result (string_bytes out.new ≡ string_bytes out.old ++ text_of_lines (text.place_lines (view.place place.now))) }
 {
     push_spot(out, place.spot)?;
     push_same(out, place.same.as_slice())?;
     push_facts(out, place.facts.as_slice())?;
-    push_congruences(out, place.congruences.as_slice())
+    push_congruences(out, place.congruences.as_slice())?;
+    push_multiples(out, place.multiples.as_slice())
 }
 
 #[tactic(auto, using(crate::proofs::Texts::one_block, crate::proofs::Texts::no_block))]
@@ -203,6 +225,7 @@ fn push_step(out: &mut String, step: &Step) -> Result<(), AllocError>
             out.push_str("d")?;
             push_scaled(out, quotient)?
         }
+        Step::Product(first, second) => write!(out, "p {first} {second}")?,
     }
     out.push_str("\n")
 }
@@ -217,13 +240,51 @@ pub fn push_steps(out: &mut String, steps: &[Step]) -> Result<(), AllocError>
     Ok(())
 }
 
-fn push_entry(out: &mut String, entry: &Entry) -> Result<(), AllocError>
-    ensures { OnOk result (string_bytes out.new ≡ string_bytes out.old ++ text_of_lines (text.entry_lines (view.entry entry.now))) }
+fn push_lemma(out: &mut String, lemma: &Lemma) -> Result<(), AllocError>
+    ensures { OnOk result (string_bytes out.new ≡ string_bytes out.old ++ text_of_lines (text.lemma_lines (view.lemma lemma.now))) }
+{
+    out.push_str("l ")?;
+    push_form(out, &lemma.form)?;
+    out.push_str("\n")?;
+    push_steps(out, lemma.steps.as_slice())
+}
+
+#[tactic(auto, using(crate::proofs::Texts::one_block, crate::proofs::Texts::no_block))]
+fn push_lemmas(out: &mut String, lemmas: &[Lemma]) -> Result<(), AllocError>
+    ensures { OnOk result (string_bytes out.new ≡ string_bytes out.old ++ text_of_lines (flat_map text.lemma_lines (map view.lemma lemmas.now))) }
+{
+    for lemma in lemmas {
+        push_lemma(out, lemma)?;
+    }
+    Ok(())
+}
+
+/// The line between the lemmas and what shows the obligation, where there are lemmas.
+pub fn push_main(out: &mut String, lemmas: &[Lemma]) -> Result<(), AllocError>
+    ensures { OnOk result (string_bytes out.new ≡ string_bytes out.old ++ text_of_lines (text.main_lines (map view.lemma lemmas.now))) }
+{
+    match lemmas {
+        [] => Ok(()),
+        [_, ..] => out.push_str("m\n"),
+    }
+}
+
+fn push_entry_line(out: &mut String, entry: &Entry) -> Result<(), AllocError>
+    ensures { OnOk result (string_bytes out.new ≡ string_bytes out.old ++ (text.entry_line entry.now.obligation (view.sort entry.now.sort) ++ 10 ∷ [])) }
 {
     let obligation = entry.obligation;
     write!(out, "ob {obligation} ")?;
     push_sort(out, &entry.sort)?;
-    out.push_str("\n")?;
+    out.push_str("\n")
+}
+
+#[tactic(auto, using(crate::proofs::Texts::four))]
+fn push_entry(out: &mut String, entry: &Entry) -> Result<(), AllocError>
+    ensures { OnOk result (string_bytes out.new ≡ string_bytes out.old ++ text_of_lines (text.entry_lines (view.entry entry.now))) }
+{
+    push_entry_line(out, entry)?;
+    push_lemmas(out, entry.lemmas.as_slice())?;
+    push_main(out, entry.lemmas.as_slice())?;
     push_steps(out, entry.steps.as_slice())
 }
 

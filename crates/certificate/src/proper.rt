@@ -1,6 +1,6 @@
 //! Which names, terms and forms have a text.
 
-ghost use Rattle.std.specs.Prelude.{◌≡◌, map, IfOk};
+ghost use Rattle.std.specs.Prelude.{◌≡◌, ◌&&◌, map, IfOk};
 ghost use Rattle.std.specs.String.{string_bytes};
 ghost use Rattle.certificate_text.specs.Forms as forms;
 ghost use Rattle.texts.specs.Identifiers as identifiers;
@@ -8,8 +8,9 @@ ghost use Rattle.certificate_text.specs.Rules as rules;
 ghost use Rattle.texts.specs.Lines as numbers;
 ghost use Rattle.certificate.specs.View as view;
 
-use crate::spelling::term_is_before;
-use crate::tree::{Congruence, Form, Name, Term};
+use crate::order::in_order;
+use crate::spelling::{spelling, term_is_before};
+use crate::tree::{Congruence, Form, Multiple, Name, Term};
 use crate::word::is_identifier;
 use std::alloc::{AllocError, Global};
 
@@ -32,39 +33,107 @@ pub fn is_spelt(name: &String) -> bool
     is_identifier(name.as_bytes())
 }
 
-fn is_name(name: &Name) -> bool
-    ensures { result ≡ rules.is_name (view.name name.now) }
+/// Whether a name is one of one item alone, and can be written.
+fn is_plain_name(name: &Name) -> bool
+    ensures { result ≡ rules.is_plain_name (view.name name.now) }
 {
     match name {
         Name::Variable(name) | Name::AtAnchor(name) => is_spelt(name),
         Name::Argument(name) | Name::Length(name) => is_spelt(name),
         Name::Turns(number) | Name::Fresh(number) => is_natural(*number),
         Name::Groups(_) | Name::Group(_) | Name::Local(_) => true,
+        Name::Second(_) | Name::Product(_, _) => false,
     }
 }
 
-fn is_term(term: &Term) -> bool
-    ensures { result ≡ rules.is_term (view.term term.now) }
+fn is_factor(name: &Name) -> bool
+    ensures { result ≡ rules.is_factor (view.name name.now) }
 {
-    is_integer(term.coefficient) && (term.coefficient != 0 && is_name(&term.name))
+    match name {
+        Name::Second(name) => is_plain_name(name),
+        Name::Variable(_) | Name::AtAnchor(_) | Name::Argument(_) | Name::Length(_) =>
+            is_plain_name(name),
+        Name::Turns(_) | Name::Fresh(_) => is_plain_name(name),
+        Name::Groups(_) | Name::Group(_) | Name::Local(_) => true,
+        Name::Product(_, _) => false,
+    }
+}
+
+/// Whether two names may stand in a product in this order.
+fn names_rise(alloc: Global, left: &Name, right: &Name) -> Result<bool, AllocError>
+    ensures { IfOk result (λ b. b ≡ rules.names_rise (view.name left.now) (view.name right.now)) }
+{
+    let left = spelling(alloc, left)?;
+    let right = spelling(alloc, right)?;
+    Ok(in_order(left.as_bytes(), right.as_bytes()))
+}
+
+fn is_pair(alloc: Global, first: &Name, second: &Name) -> Result<bool, AllocError>
+    ensures { IfOk result (λ b. b ≡ rules.is_pair (view.name first.now) (view.name second.now)) }
+{
+    let rise = names_rise(alloc, first, second)?;
+    Ok(is_factor(first) && (is_factor(second) && rise))
+}
+
+fn is_triple(alloc: Global, first: &Name, second: &Name, third: &Name) -> Result<bool, AllocError>
+    ensures { IfOk result (λ b. b ≡ (rules.is_factor (view.name first.now) && (rules.is_pair (view.name second.now) (view.name third.now) && rules.names_rise (view.name first.now) (view.name second.now)))) }
+{
+    let pair = is_pair(alloc, second, third)?;
+    let rise = names_rise(alloc, first, second)?;
+    Ok(is_factor(first) && (pair && rise))
+}
+
+fn is_product(alloc: Global, first: &Name, others: &Name) -> Result<bool, AllocError>
+    ensures { IfOk result (λ b. b ≡ rules.is_product (view.name first.now) (view.name others.now)) }
+{
+    match others {
+        Name::Product(second, third) => is_triple(alloc, first, second, third),
+        Name::Variable(_) | Name::AtAnchor(_) | Name::Argument(_) | Name::Length(_) => is_pair(
+            alloc, first, others,
+        ),
+        Name::Turns(_) | Name::Fresh(_) => is_pair(alloc, first, others),
+        Name::Groups(_) | Name::Group(_) | Name::Local(_) | Name::Second(_) => is_pair(
+            alloc, first, others,
+        ),
+    }
+}
+
+fn is_name(alloc: Global, name: &Name) -> Result<bool, AllocError>
+    ensures { IfOk result (λ b. b ≡ rules.is_name (view.name name.now)) }
+{
+    match name {
+        Name::Product(first, others) => is_product(alloc, first, others),
+        Name::Variable(_) | Name::AtAnchor(_) | Name::Argument(_) | Name::Length(_) => Ok(is_factor(
+            name,
+        )),
+        Name::Turns(_) | Name::Fresh(_) => Ok(is_factor(name)),
+        Name::Groups(_) | Name::Group(_) | Name::Local(_) | Name::Second(_) => Ok(is_factor(name)),
+    }
+}
+
+fn is_term(alloc: Global, term: &Term) -> Result<bool, AllocError>
+    ensures { IfOk result (λ b. b ≡ rules.is_term (view.term term.now)) }
+{
+    let named = is_name(alloc, &term.name)?;
+    Ok(is_integer(term.coefficient) && (term.coefficient != 0 && named))
 }
 
 #[tactic(auto, using(crate::proofs::Rows::all_rows))]
-fn are_terms(terms: &[Term]) -> bool
-    ensures { result ≡ rules.all rules.is_term (map view.term terms.now) }
+fn are_terms(alloc: Global, terms: &[Term]) -> Result<bool, AllocError>
+    ensures { IfOk result (λ b. b ≡ rules.all rules.is_term (map view.term terms.now)) }
 {
     for term in terms {
-        if !is_term(term) {
-            return false;
+        if !is_term(alloc, term)? {
+            return Ok(false);
         }
     }
-    true
+    Ok(true)
 }
 
 /// Whether names rise in the order of their bytes.
 #[tactic(auto, using(crate::proofs::Rows::rising_rows))]
 fn terms_rise(alloc: Global, terms: &[Term]) -> Result<bool, AllocError>
-    ensures { IfOk result (λ b. b ≡ rules.rises rules.term_is_before (map view.term terms.now)) }
+    ensures { IfOk result (λ b. b ≡ rules.rises forms.term_is_before (map view.term terms.now)) }
 {
     let mut i = 0;
     while i + 1 < terms.len() {
@@ -80,8 +149,9 @@ pub fn is_form(alloc: Global, form: &Form) -> Result<bool, AllocError>
     ensures { IfOk result (λ b. b ≡ rules.is_form (view.form form.now)) }
 {
     let terms = form.terms.as_slice();
+    let named = are_terms(alloc, terms)?;
     let risen = terms_rise(alloc, terms)?;
-    Ok(are_terms(terms) && (risen && is_integer(form.constant)))
+    Ok(named && (risen && is_integer(form.constant)))
 }
 
 #[tactic(auto, using(crate::proofs::Rows::all_rows))]
@@ -109,6 +179,26 @@ pub fn are_congruences(alloc: Global, congruences: &[Congruence]) -> Result<bool
 {
     for congruence in congruences {
         if !is_congruence(alloc, congruence)? {
+            return Ok(false);
+        }
+    }
+    Ok(true)
+}
+
+fn is_multiple(alloc: Global, multiple: &Multiple) -> Result<bool, AllocError>
+    ensures { IfOk result (λ b. b ≡ rules.is_multiple (view.multiple multiple.now)) }
+{
+    let of = is_form(alloc, &multiple.of)?;
+    let form = is_form(alloc, &multiple.form)?;
+    Ok(of && form)
+}
+
+#[tactic(auto, using(crate::proofs::Rows::all_rows))]
+pub fn are_multiples(alloc: Global, multiples: &[Multiple]) -> Result<bool, AllocError>
+    ensures { IfOk result (λ b. b ≡ rules.all rules.is_multiple (map view.multiple multiples.now)) }
+{
+    for multiple in multiples {
+        if !is_multiple(alloc, multiple)? {
             return Ok(false);
         }
     }

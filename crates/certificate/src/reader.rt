@@ -16,7 +16,7 @@ ghost use Rattle.certificate.specs.declared.error.CertError.TheVariants.{Refused
 ghost use Rattle.certificate.specs.declared.error.CertFault.TheVariants.{BadLine};
 
 use crate::certificate::Certificate;
-use crate::draft::{Draft, Open, Parts, add};
+use crate::draft::{Draft, Open, Parts, add_fitting};
 use crate::error::{CertError, CertFault};
 use crate::item::read_item;
 use crate::line_error::LineError;
@@ -63,7 +63,7 @@ fn add_line(alloc: Global, draft: Draft, line: &[u8]) -> Result<Draft, LineError
     ensures { Means drafts.draft result (reading.add_line (drafts.draft draft) line.now) }
 {
     let item = read_item(alloc, Pieces::of(line, b' '))?;
-    add(alloc, draft, item)
+    add_fitting(alloc, draft, item)
 }
 
 /// The certificate that is read, if nothing stands behind its last line.

@@ -5,10 +5,13 @@ ghost use Rattle.certificate_text.specs.Rules as rules;
 ghost use Rattle.certificate.specs.View as view;
 ghost use Rattle.certificate.specs.Drafts as drafts;
 
-use crate::draft::{Parts, descent_fits};
+use crate::draft::Parts;
 use crate::entries::{are_entries, entries_rise};
+use crate::narrow::is_narrow;
 use crate::order::{has_line, spot_is_before};
-use crate::proper::{are_congruences, are_forms, are_identifiers, is_form, is_integer, is_natural};
+use crate::proper::{
+    are_congruences, are_forms, are_identifiers, are_multiples, is_form, is_integer, is_natural,
+};
 use crate::tree::{Anchor, Bound, Descent, Place, Spot};
 use std::alloc::{AllocError, Global};
 
@@ -30,8 +33,9 @@ fn is_place(alloc: Global, place: &Place) -> Result<bool, AllocError>
 {
     let facts = are_forms(alloc, place.facts.as_slice())?;
     let congruences = are_congruences(alloc, place.congruences.as_slice())?;
+    let multiples = are_multiples(alloc, place.multiples.as_slice())?;
     let same = are_identifiers(place.same.as_slice());
-    Ok(is_spot(place.spot) && (same && (facts && congruences)) && has_line(place))
+    Ok(is_spot(place.spot) && (same && (facts && (congruences && multiples))) && has_line(place))
 }
 
 #[tactic(auto, using(crate::proofs::Rows::all_rows))]
@@ -77,18 +81,12 @@ fn is_bound(alloc: Global, bound: &Bound) -> Result<bool, AllocError>
     Ok(is_natural(bound.number) && (is_descent(bound.descent) && (is_integer(bound.most) && form)))
 }
 
-fn is_bound_in(alloc: Global, is_wide: bool, bound: &Bound) -> Result<bool, AllocError>
-    ensures { IfOk result (λ b. b ≡ rules.is_bound_in is_wide (view.bound bound.now)) }
-{
-    Ok(is_bound(alloc, bound)? && descent_fits(is_wide, bound.descent))
-}
-
 #[tactic(auto, using(crate::proofs::Rows::all_rows))]
-fn are_bounds(alloc: Global, is_wide: bool, bounds: &[Bound]) -> Result<bool, AllocError>
-    ensures { IfOk result (λ b. b ≡ rules.all (rules.is_bound_in is_wide) (map view.bound bounds.now)) }
+fn are_bounds(alloc: Global, bounds: &[Bound]) -> Result<bool, AllocError>
+    ensures { IfOk result (λ b. b ≡ rules.all rules.is_bound (map view.bound bounds.now)) }
 {
     for bound in bounds {
-        if !is_bound_in(alloc, is_wide, bound)? {
+        if !is_bound(alloc, bound)? {
             return Ok(false);
         }
     }
@@ -109,14 +107,22 @@ fn bounds_rise(bounds: &[Bound]) -> bool
     true
 }
 
-/// Whether the format, length aside, has a text for these parts, as a certificate that is wide or not.
-pub fn is_any_certificate(alloc: Global, parts: &Parts) -> Result<bool, AllocError>
-    ensures { IfOk result (λ b. b ≡ rules.is_any_certificate (drafts.parts parts.now)) }
+/// Whether the parts can be written, and rise.
+fn is_written(alloc: Global, parts: &Parts) -> Result<bool, AllocError>
+    ensures { IfOk result (λ b. b ≡ rules.is_written (drafts.parts parts.now)) }
 {
     let places = parts.places.as_slice();
     let bounds = parts.bounds.as_slice();
     let entries = parts.entries.as_slice();
     let placed = are_places(alloc, places)? && places_rise(places);
-    let bounded = are_bounds(alloc, parts.is_wide, bounds)? && bounds_rise(bounds);
+    let bounded = are_bounds(alloc, bounds)? && bounds_rise(bounds);
     Ok(placed && (bounded && (are_entries(alloc, entries)? && entries_rise(entries))))
+}
+
+/// Whether the format, length aside, has a text for these parts, as a certificate that is wide or not.
+pub fn is_any_certificate(alloc: Global, parts: &Parts) -> Result<bool, AllocError>
+    ensures { IfOk result (λ b. b ≡ rules.is_any_certificate (drafts.parts parts.now)) }
+{
+    let written = is_written(alloc, parts)?;
+    Ok((parts.is_wide || is_narrow(parts)) && written)
 }

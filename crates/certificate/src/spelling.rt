@@ -3,7 +3,7 @@
 ghost use Rattle.std.specs.Prelude.{◌≡◌, ◌++◌, IfOk, OnOk};
 ghost use Rattle.std.specs.String.{string_bytes};
 ghost use Rattle.certificate_text.specs.Text as text;
-ghost use Rattle.certificate_text.specs.Rules as rules;
+ghost use Rattle.certificate_text.specs.Forms as forms;
 ghost use Rattle.certificate.specs.View as view;
 
 use crate::tree::{Dimension, Name, Term};
@@ -42,10 +42,19 @@ pub fn push_name(out: &mut String, name: &Name) -> Result<(), AllocError>
             out.push_str("local.")?;
             push_dimension(out, *dimension)
         }
+        Name::Second(name) => {
+            push_name(out, name)?;
+            out.push_str("'")
+        }
+        Name::Product(first, others) => {
+            push_name(out, first)?;
+            out.push_str("*")?;
+            push_name(out, others)
+        }
     }
 }
 
-fn spelling(alloc: Global, name: &Name) -> Result<String, AllocError>
+pub(crate) fn spelling(alloc: Global, name: &Name) -> Result<String, AllocError>
     ensures { IfOk result (λ s. string_bytes s ≡ text.name_text (view.name name.now)) }
 {
     let mut out = String::new(alloc);
@@ -55,7 +64,7 @@ fn spelling(alloc: Global, name: &Name) -> Result<String, AllocError>
 
 /// Whether a term stands before another, by the bytes of its name.
 pub fn term_is_before(alloc: Global, left: &Term, right: &Term) -> Result<bool, AllocError>
-    ensures { IfOk result (λ b. b ≡ rules.term_is_before (view.term left.now) (view.term right.now)) }
+    ensures { IfOk result (λ b. b ≡ forms.term_is_before (view.term left.now) (view.term right.now)) }
 {
     let left = spelling(alloc, &left.name)?;
     let right = spelling(alloc, &right.name)?;

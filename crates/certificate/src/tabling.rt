@@ -1,10 +1,10 @@
 //! The table of the forms of a certificate, in the order of first use.
 
-ghost use Rattle.std.specs.Prelude.{◌≡◌, map, IfOk, OnOk};
+ghost use Rattle.std.specs.Prelude.{◌≡◌, map, fold, IfOk, OnOk};
 ghost use Rattle.std.specs.List.{flat_map};
-ghost use Rattle.std.specs.Option.{option_map};
-ghost use Rattle.certificate_text.specs.Lines.{FactItem, CongruenceItem, BoundItem, EntryItem};
+ghost use Rattle.certificate_text.specs.Lines.{FactItem, CongruenceItem, MultipleItem, BoundItem};
 ghost use Rattle.certificate_text.specs.Items as items;
+ghost use Rattle.certificate_text.specs.FormTables.{with_form};
 ghost use Rattle.certificate_text.specs.NumberedText as text;
 ghost use Rattle.certificate.specs.View as view;
 ghost use Rattle.certificate.specs.Certificates.{certificate};
@@ -13,7 +13,7 @@ ghost use Rattle.certificate.specs.UsedForms.{with_forms};
 
 use crate::certificate::Certificate;
 use crate::form_table::FormTable;
-use crate::tree::{Bound, Congruence, Entry, EntrySort, Form, Place};
+use crate::tree::{Bound, Congruence, Entry, EntrySort, Form, Lemma, Multiple, Place};
 use std::alloc::{AllocError, Global};
 
 #[tactic(auto, using(crate::proofs::Noting::one_noted, crate::proofs::Noting::all_noted))]
@@ -40,11 +40,27 @@ fn note_congruences(
     Ok(())
 }
 
+#[tactic(auto, using(crate::proofs::Noting::two_noted, crate::proofs::Noting::all_noted))]
+fn note_multiples(
+    alloc: Global,
+    table: &mut FormTable,
+    multiples: &[Multiple],
+) -> Result<(), AllocError>
+    ensures { OnOk result (table_seen table.new ≡ with_forms (table_seen table.old) (map MultipleItem (map view.multiple multiples.now))) }
+{
+    for multiple in multiples {
+        table.note(alloc, &multiple.form)?;
+        table.note(alloc, &multiple.of)?;
+    }
+    Ok(())
+}
+
 fn note_place(alloc: Global, table: &mut FormTable, place: &Place) -> Result<(), AllocError>
     ensures { OnOk result (table_seen table.new ≡ with_forms (table_seen table.old) (items.place_items (view.place place.now))) }
 {
     note_facts(alloc, table, place.facts.as_slice())?;
     note_congruences(alloc, table, place.congruences.as_slice())?;
+    note_multiples(alloc, table, place.multiples.as_slice())?;
     Ok(())
 }
 
@@ -68,23 +84,37 @@ fn note_bounds(alloc: Global, table: &mut FormTable, bounds: &[Bound]) -> Result
     Ok(())
 }
 
-/// The form of a sort that has one.
-fn form_of(sort: &EntrySort) -> Option<&Form>
-    ensures { option_map (λ f. view.form f.now) result ≡ items.sort_form (view.sort sort.now) }
+fn note_sort(alloc: Global, table: &mut FormTable, sort: &EntrySort) -> Result<(), AllocError>
+    ensures { OnOk result (table_seen table.new ≡ fold with_form (table_seen table.old) (items.sort_forms (view.sort sort.now))) }
 {
     match sort {
-        EntrySort::Show | EntrySort::Positive | EntrySort::Negative => None,
-        EntrySort::Quotient(form) => Some(form),
+        EntrySort::Show | EntrySort::Positive | EntrySort::Negative => Ok(()),
+        EntrySort::Quotient(form) => table.note(alloc, form),
     }
+}
+
+fn note_lemma(alloc: Global, table: &mut FormTable, lemma: &Lemma) -> Result<(), AllocError>
+    ensures { OnOk result (table_seen table.new ≡ with_forms (table_seen table.old) (items.lemma_items (view.lemma lemma.now))) }
+{
+    table.note(alloc, &lemma.form)?;
+    Ok(())
+}
+
+#[tactic(auto, using(crate::proofs::Noting::block_noted, crate::proofs::Noting::blocks_noted))]
+fn note_lemmas(alloc: Global, table: &mut FormTable, lemmas: &[Lemma]) -> Result<(), AllocError>
+    ensures { OnOk result (table_seen table.new ≡ with_forms (table_seen table.old) (flat_map items.lemma_items (map view.lemma lemmas.now))) }
+{
+    for lemma in lemmas {
+        note_lemma(alloc, table, lemma)?;
+    }
+    Ok(())
 }
 
 fn note_entry(alloc: Global, table: &mut FormTable, entry: &Entry) -> Result<(), AllocError>
     ensures { OnOk result (table_seen table.new ≡ with_forms (table_seen table.old) (items.entry_items (view.entry entry.now))) }
 {
-    let Some(form) = form_of(&entry.sort) else {
-        return Ok(());
-    };
-    table.note(alloc, form)?;
+    note_sort(alloc, table, &entry.sort)?;
+    note_lemmas(alloc, table, entry.lemmas.as_slice())?;
     Ok(())
 }
 

@@ -10,7 +10,8 @@ pub enum Dimension {
     Third,
 }
 
-/// A symbol, by what it is called.
+/// A symbol, by what it is called. The second item's symbol of a name, and the product of a name and of others (`a*b*c` is that of `a` and
+/// of `b*c`), stand in wide certificates alone.
 #[derive(Drop)]
 pub enum Name {
     Variable(String),
@@ -22,6 +23,8 @@ pub enum Name {
     Groups(Dimension),
     Group(Dimension),
     Local(Dimension),
+    Second(Box<Name>),
+    Product(Box<Name>, Box<Name>),
 }
 
 /// A symbol with its coefficient.
@@ -60,13 +63,21 @@ pub struct Congruence {
     pub ghost small: { modulus < 2 ^ 63 },
 }
 
-/// The lines of a spot: names on which the items of a group agree, forms that are at least 0, and congruences.
+/// A form that is a multiple of another; in wide certificates alone.
+#[derive(Drop)]
+pub struct Multiple {
+    pub of: Form,
+    pub form: Form,
+}
+
+/// The lines of a spot: names on which the items of a group agree, forms that are at least 0, congruences, and multiples.
 #[derive(Drop)]
 pub struct Place {
     pub spot: Spot,
     pub same: Vec<String>,
     pub facts: Vec<Form>,
     pub congruences: Vec<Congruence>,
+    pub multiples: Vec<Multiple>,
 }
 
 /// What each turn of a loop makes of its form: less by a step at least, at most half, or, from that number on, at least twice as large.
@@ -102,18 +113,28 @@ pub struct Scaled {
     pub line: i64,
 }
 
-/// A line of a derivation. Facts and lines are counted from 1; a number that names none may stand here.
+/// A line of a derivation. Facts and lines are counted from 1; a number that names none may stand here. Products of two lines stand in wide
+/// certificates alone.
 #[derive(Drop)]
 pub enum Step {
     Given(i64),
     Sum(Vec<Scaled>),
     Divide(Scaled),
+    Product(i64, i64),
 }
 
-/// An entry: the number of its obligation, the manner in which it shows that, and the steps of its derivation.
+/// A form that is at least 0, and the steps that show it; in wide certificates alone.
+#[derive(Drop)]
+pub struct Lemma {
+    pub form: Form,
+    pub steps: Vec<Step>,
+}
+
+/// An entry: the number of its obligation, the manner in which it shows that, its lemmas, and the steps of its derivation.
 #[derive(Drop)]
 pub struct Entry {
     pub obligation: u64,
     pub sort: EntrySort,
+    pub lemmas: Vec<Lemma>,
     pub steps: Vec<Step>,
 }

@@ -7,7 +7,7 @@ use Rattle.std.specs.Prelude.{Result, Ok, Err, IfOk, IfSome}
 use Rattle.std.specs.Option.{option_map}
 use Rattle.obligations.specs.Notes as notes
 use Rattle.obligations.specs.Listing.{is_some}
-use Rattle.obligations.specs.Telling.{tells, all_tell, congruences_tell, TellsOfItems}
+use Rattle.obligations.specs.Telling.{tells, all_tell, congruences_tell, multiples_tell, TellsOfItems}
 use Rattle.certificate_notes.specs.declared.error.NamesError.{NamesError}
 use Rattle.certificate_notes.specs.Noted.{Noted}
 use Rattle.obligations.specs.declared.notes.Lines.{Lines}
@@ -36,6 +36,10 @@ congruences-same : (ls : List Lines) (a h : Option ℕ) → seen.congruences_of 
 congruences-same [] a h = refl
 congruences-same (l ∷ ls) a h = either (seen.is_of a h l) _ _ _ _ refl (congruences-same ls a h)
 
+multiples-same : (ls : List Lines) (a h : Option ℕ) → seen.multiples_of ls a h ≡ noting.multiples_of (map lines ls) a h
+multiples-same [] a h = refl
+multiples-same (l ∷ ls) a h = either (seen.is_of a h l) _ _ _ _ refl (multiples-same ls a h)
+
 same-same : (ls : List Lines) (b : ℕ) → seen.same_of ls b ≡ noting.same_of (map lines ls) b
 same-same [] b = refl
 same-same (l ∷ ls) b = either (seen.is_of (Some b) None l) _ _ _ _ refl (same-same ls b)
@@ -57,6 +61,7 @@ seen-agrees n entries = record {
   same = same-same n.places.items;
   facts = facts-same n.places.items;
   congruences = congruences-same n.places.items;
+  multiples = multiples-same n.places.items;
   ranking = ranking-same n.rankings.items;
   visible = visible-same n.visible.items;
   quotient = quotient-same n.quotients.items;
@@ -69,6 +74,7 @@ pub agrees-tells : (n m : notes.Notes) → Agrees n m → TellsOfItems m → Tel
 agrees-tells n m a t = record {
   facts = λ a' h. ap (all_tell (is_some h)) (a.facts a' h) ∙ t.facts a' h;
   congruences = λ a' h. ap (congruences_tell (is_some h)) (a.congruences a' h) ∙ t.congruences a' h;
+  multiples = λ a' h. ap (multiples_tell (is_some h)) (a.multiples a' h) ∙ t.multiples a' h;
   rankings = λ k. ap (λ r. tells false r.form) (a.ranking k) ∙ t.rankings k;
 }
 

@@ -1,5 +1,6 @@
 pub mod Agreeing
 pub mod Each
 pub mod LinesTell
+pub mod ProductTells
 pub mod Telling
 pub mod Tells

@@ -1,5 +1,5 @@
 -- What is noted of places tells of items alone.
-use Rattle.std.proofs.Common.{◌≡◌, ℕ, Bool, true, false, cond, List, [], ◌∷◌, Option, None, Some, refl}
+use Rattle.std.proofs.Common.{◌≡◌, ℕ, Bool, true, false, cond, ◌&&◌, List, [], ◌∷◌, Option, None, Some, refl}
 use Rattle.std.specs.Option.{option_map}
 use Rattle.std.proofs.lemmas.Bool.{and_from}
 use Rattle.linear.specs.Linear.{Form}
@@ -7,20 +7,20 @@ use Rattle.facts.specs.Symbols.{Fact, constant}
 use Rattle.arrivals.specs.Places as places
 use Rattle.obligations.specs.Notes as notes
 use Rattle.obligations.specs.Listing.{is_some}
-use Rattle.obligations.specs.Telling.{tells, all_tell, congruences_tell}
+use Rattle.obligations.specs.Telling.{tells, all_tell, congruences_tell, multiples_tell}
 use Rattle.certificate_text.specs.Certificate as certificate
 use Rattle.certificate_text.specs.Certificate.{Name, Anchor, KernelEntry, Barrier, Certificate}
 use Rattle.certificate_notes.specs.Scenes.{Named, Scene}
 use Rattle.certificate_notes.specs.Sights.{Chart, Sight, fact}
-use Rattle.certificate_notes.specs.Noted.{put_first, each, Lines, congruence, joined, lines_at, lines_of}
+use Rattle.certificate_notes.specs.Noted.{put_first, each, Lines, congruence, multiple, multiple_by, joined, lines_at, lines_of}
 use Rattle.certificate_notes.specs.Stations.{scene_at, Station, at_barrier, at_head, head_behind, station, anchor_number, is_place}
 use Rattle.certificate_notes.proofs.Telling.{FormTells, added-tells, symbol-tells, Fits}
 
 abbrev pub Names : Bool → Chart → Sight → Type 0
 Names b c s = (f : Form Name) → FormTells b (fact c s f)
 
-pub names : (b : Bool) (c : Chart) (here before : List Named) (around : List ℕ) → Fits b before → Names b c (record { here = here; before = before; around = around; has_new = false })
-names b c here before around h f = added-tells b c (record { here = here; before = before; around = around; has_new = false }) (symbol-tells b c here before around h) f.terms (constant f.constant) refl
+pub names : (b : Bool) (c : Chart) (here before : List Named) (around : List ℕ) → Fits b before → Names b c (record { here = here; before = before; around = around; has_new = false; has_second = false })
+names b c here before around h f = added-tells b c (record { here = here; before = before; around = around; has_new = false; has_second = false }) (symbol-tells b c here before around h) f.terms (constant f.constant) refl
 
 abbrev pub AllTell : Bool → Option (List Fact) → Type 0
 AllTell b None = Unit {0}
@@ -48,23 +48,39 @@ congruences-tell : (b : Bool) (c : Chart) (s : Sight) → Names b c s → (gs : 
 congruences-tell b c s h [] = refl
 congruences-tell b c s h (g ∷ gs) = first-divides b g.modulus (fact c s g.form) (each (congruence c s) gs) (h g.form) (congruences-tell b c s h gs)
 
+abbrev pub AllMultiply : Bool → Option (List notes.Multiple) → Type 0
+AllMultiply b None = Unit {0}
+AllMultiply b (Some ms) = multiples_tell b ms ≡ true
+
+first-multiplies : (b : Bool) (f g : Option Fact) (ms : Option (List notes.Multiple)) → FormTells b f → FormTells b g → AllMultiply b ms → AllMultiply b (put_first (multiple_by f g) ms)
+first-multiplies b None g ms h k l = tt
+first-multiplies b (Some f) None ms h k l = tt
+first-multiplies b (Some f) (Some g) None h k l = tt
+first-multiplies b (Some f) (Some g) (Some ms) h k l = and_from (tells b f && tells b g) (multiples_tell b ms) (and_from (tells b f) (tells b g) h k) l
+
+multiples-tell : (b : Bool) (c : Chart) (s : Sight) → Names b c s → (ms : List certificate.Multiple) → AllMultiply b (each (multiple c s) ms)
+multiples-tell b c s h [] = refl
+multiples-tell b c s h (m ∷ ms) = first-multiplies b (fact c s m.form) (fact c s m.of) (each (multiple c s) ms) (h m.form) (h m.of) (multiples-tell b c s h ms)
+
 -- lines
 pub record LinesTell (l : Lines) : Type 0 where
   pub facts : all_tell (is_some l.head) l.facts ≡ true
   pub congruences : congruences_tell (is_some l.head) l.congruences ≡ true
+  pub multiples : multiples_tell (is_some l.head) l.multiples ≡ true
 
 abbrev pub MayLines : Option Lines → Type 0
 MayLines None = Unit {0}
 MayLines (Some l) = LinesTell l
 
-joined-tell : (st : Station) (ns : Option (List ℕ)) (fs : Option (List Fact)) (cs : Option (List notes.Congruence)) → AllTell (is_some st.head) fs → AllDivide (is_some st.head) cs → MayLines (joined st ns fs cs)
-joined-tell st None fs cs h k = tt
-joined-tell st (Some ns) None cs h k = tt
-joined-tell st (Some ns) (Some fs) None h k = tt
-joined-tell st (Some ns) (Some fs) (Some cs) h k = record { facts = h; congruences = k }
+joined-tell : (st : Station) (ns : Option (List ℕ)) (fs : Option (List Fact)) (cs : Option (List notes.Congruence)) (ms : Option (List notes.Multiple)) → AllTell (is_some st.head) fs → AllDivide (is_some st.head) cs → AllMultiply (is_some st.head) ms → MayLines (joined st ns fs cs ms)
+joined-tell st None fs cs ms h k l = tt
+joined-tell st (Some ns) None cs ms h k l = tt
+joined-tell st (Some ns) (Some fs) None ms h k l = tt
+joined-tell st (Some ns) (Some fs) (Some cs) None h k l = tt
+joined-tell st (Some ns) (Some fs) (Some cs) (Some ms) h k l = record { facts = h; congruences = k; multiples = l }
 
 station-tells : (c : Chart) (p : certificate.Place) (st : Station) → Names (is_some st.head) c st.sight → MayLines (lines_at c p (Some st))
-station-tells c p st h = joined-tell st _ _ _ (facts-tell (is_some st.head) c st.sight h p.facts) (congruences-tell (is_some st.head) c st.sight h p.congruences)
+station-tells c p st h = joined-tell st _ _ _ _ (facts-tell (is_some st.head) c st.sight h p.facts) (congruences-tell (is_some st.head) c st.sight h p.congruences) (multiples-tell (is_some st.head) c st.sight h p.multiples)
 
 barrier-tells : (c : Chart) (p : certificate.Place) (o : Option Scene) → MayLines (lines_at c p (option_map at_barrier o))
 barrier-tells c p None = tt

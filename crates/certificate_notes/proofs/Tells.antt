@@ -1,12 +1,12 @@
 -- What is noted of places and loops tells of items alone.
-use Rattle.std.proofs.Common.{◌≡◌, ℕ, Bool, true, false, cond, nat_eq, List, [], ◌∷◌, Option, None, Some, refl, ap, sym, ◌∙◌, subst}
+use Rattle.std.proofs.Common.{◌≡◌, ℕ, Bool, true, false, cond, ◌&&◌, nat_eq, List, [], ◌∷◌, Option, None, Some, refl, ap, sym, ◌∙◌, subst}
 use Rattle.std.proofs.lemmas.Bool.{and_parts}
 use Rattle.semantics.specs.Launch as launch
 use Rattle.facts.specs.Symbols.{Fact}
 use Rattle.arrivals.specs.Places as places
 use Rattle.obligations.specs.Notes as notes
 use Rattle.obligations.specs.Listing.{is_some}
-use Rattle.obligations.specs.Telling.{tells, all_tell, congruences_tell, TellsOfItems}
+use Rattle.obligations.specs.Telling.{tells, all_tell, congruences_tell, multiples_tell, TellsOfItems}
 use Rattle.obligations.specs.View.{same_number}
 use Rattle.certificate_text.specs.Rules.{all}
 use Rattle.texts.specs.Surface as surface
@@ -14,7 +14,7 @@ use Rattle.certificate_text.specs.Certificate as certificate
 use Rattle.certificate_text.specs.Certificate.{Name, Anchor, KernelEntry, Barrier, Certificate}
 use Rattle.certificate_notes.specs.Scenes.{Scene}
 use Rattle.certificate_notes.specs.Sights.{Chart, chart_of, fact}
-use Rattle.certificate_notes.specs.Noted.{put_first, each, Lines, lines_of, Ranked, bound_of, ranked, ranked_at, ranked_of, has_line, Quoted, quotients_of, Noted, noted_all, noted_by, noted}
+use Rattle.certificate_notes.specs.Noted.{put_first, each, Lines, lines_of, Ranked, bound_of, ranked, ranked_at, ranked_of, has_line, are_stated, Quoted, quotients_of, Noted, noted_all, noted_by, noted}
 use Rattle.certificate_notes.specs.Stations.{loop_at, in_test}
 use Rattle.certificate_notes.specs.Noting as noting
 use Rattle.certificate_notes.proofs.LinesTell.{names, LinesTell, EachTells, MayEach, all-lines-tell}
@@ -71,7 +71,7 @@ where-noted true o h = h
 where-noted false o h = tt
 
 noted-tells : (c : Chart) (ps : List places.Place) (cert : Certificate) → MayNoted (noted_by c ps cert)
-noted-tells c ps cert = where-noted (all (has_line cert.bounds) c.scenes) _ (together cert.is_wide c (each (lines_of c ps) cert.places) (each (ranked_of c) cert.bounds) (quotients_of c cert.entries) (all-lines-tell c ps cert.places) (rankings-tell c cert.bounds))
+noted-tells c ps cert = where-noted (all (has_line cert.bounds) c.scenes && all (are_stated c) cert.entries) _ (together cert.is_wide c (each (lines_of c ps) cert.places) (each (ranked_of c) cert.bounds) (quotients_of c cert.entries) (all-lines-tell c ps cert.places) (rankings-tell c cert.bounds))
 
 -- what is asked of it
 same-some : (a b : Option ℕ) → same_number a b ≡ true → is_some a ≡ is_some b
@@ -88,6 +88,10 @@ found-congruences : (b : Bool) (l : Lines) (h : Option ℕ) (cs : List notes.Con
 found-congruences true l h cs e t k = ap (λ x. congruences_tell x l.congruences) (sym (e refl)) ∙ t.congruences
 found-congruences false l h cs e t k = k
 
+found-multiples : (b : Bool) (l : Lines) (h : Option ℕ) (ms : List notes.Multiple) → (b ≡ true → is_some l.head ≡ is_some h) → LinesTell l → multiples_tell (is_some h) ms ≡ true → multiples_tell (is_some h) (cond b l.multiples ms) ≡ true
+found-multiples true l h ms e t k = ap (λ x. multiples_tell x l.multiples) (sym (e refl)) ∙ t.multiples
+found-multiples false l h ms e t k = k
+
 of-head : (a h : Option ℕ) (l : Lines) → noting.is_of a h l ≡ true → is_some l.head ≡ is_some h
 of-head a h l e = same-some l.head h (and_parts (same_number l.anchor a) (same_number l.head h) e).1
 
@@ -99,6 +103,10 @@ congruences-told : (ls : List Lines) → EachTells ls → (a h : Option ℕ) →
 congruences-told [] t a h = refl
 congruences-told (l ∷ ls) t a h = found-congruences (noting.is_of a h l) l h (noting.congruences_of ls a h) (of-head a h l) t.0 (congruences-told ls t.1 a h)
 
+multiples-told : (ls : List Lines) → EachTells ls → (a h : Option ℕ) → multiples_tell (is_some h) (noting.multiples_of ls a h) ≡ true
+multiples-told [] t a h = refl
+multiples-told (l ∷ ls) t a h = found-multiples (noting.is_of a h l) l h (noting.multiples_of ls a h) (of-head a h l) t.0 (multiples-told ls t.1 a h)
+
 found-ranking : (b : Bool) (r s : notes.Ranking) → tells false r.form ≡ true → tells false s.form ≡ true → tells false (cond b r s).form ≡ true
 found-ranking true r s h k = h
 found-ranking false r s h k = k
@@ -108,7 +116,7 @@ rankings-told [] t n = refl
 rankings-told (r ∷ rs) t n = found-ranking (nat_eq r.loop n) r.ranking (noting.ranking_of rs n) t.0 (rankings-told rs t.1 n)
 
 pub notes-tell : (m : Noted) (entries : List Bool) → NotedTells m → TellsOfItems (noting.notes_by m entries)
-notes-tell m entries t = record { facts = facts-told m.places t.places; congruences = congruences-told m.places t.places; rankings = rankings-told m.rankings t.rankings }
+notes-tell m entries t = record { facts = facts-told m.places t.places; congruences = congruences-told m.places t.places; multiples = multiples-told m.places t.places; rankings = rankings-told m.rankings t.rankings }
 
 pub told : (k : launch.Kernel) (tree : surface.Kernel) (ps : List places.Place) (cert : Certificate) (m : Noted) → noted k tree ps cert ≡ Some m → NotedTells m
 told k tree ps cert m e = subst MayNoted e (noted-tells (chart_of k tree) ps cert)

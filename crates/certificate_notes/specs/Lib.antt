@@ -1,6 +1,7 @@
 pub mod Behind
 pub mod Noted
 pub mod NotesView
+pub mod NamesView
 pub mod Noting
 pub mod Scenes
 pub mod Sights

@@ -1,6 +1,7 @@
 -- What a certificate says of a kernel's places and loops, in slots and symbols; nothing where it names what the kernel lacks.
-use Rattle.std.specs.Prelude.{ℕ, ℤ, pos, suc, ◌^◌, Bool, true, false, cond, not, ◌&&◌, ◌||◌, nat_eq, nat_le, nat_lt, List, [], ◌∷◌, map, Option, None, Some}
+use Rattle.std.specs.Prelude.{ℕ, ℤ, pos, suc, ◌^◌, Bool, true, false, cond, not, ◌&&◌, ◌||◌, nat_eq, nat_le, nat_lt, List, [], ◌∷◌, map, Option, None, Some, is_some}
 use Rattle.std.specs.Option.{option_map}
+use Rattle.linear.specs.Linear.{Form}
 use Rattle.semantics.specs.Launch as launch
 use Rattle.facts.specs.Symbols.{Fact}
 use Rattle.arrivals.specs.Places as places
@@ -9,7 +10,7 @@ use Rattle.certificate_text.specs.Rules.{all}
 use Rattle.texts.specs.Lines.{is_natural}
 use Rattle.texts.specs.Surface as surface
 use Rattle.certificate_text.specs.Certificate as certificate
-use Rattle.certificate_text.specs.Certificate.{Descent, Down, Halve, Double, EntrySort, Show, Positive, Negative, Quotient, Certificate}
+use Rattle.certificate_text.specs.Certificate.{Descent, Down, Halve, Double, EntrySort, Show, Positive, Negative, Quotient, Name, Certificate}
 use Rattle.certificate_notes.specs.Scenes.{Named, Scene}
 use Rattle.certificate_notes.specs.Stations.{loop_at, Station, station, anchor_number, is_place, in_test}
 use Rattle.certificate_notes.specs.Sights.{Chart, chart_of, Sight, slot_of, fact}
@@ -31,6 +32,7 @@ pub record Lines : Type 0 where
   pub same : List ℕ
   pub facts : List Fact
   pub congruences : List notes.Congruence
+  pub multiples : List notes.Multiple
 
 -- slots rise in the order of declaration
 abbrev pub rise : (least : ℕ) → List ℕ → Bool
@@ -44,15 +46,24 @@ rising (Some ns) = cond (rise 0 ns) (Some ns) None
 abbrev pub congruence : Chart → Sight → certificate.Congruence → Option notes.Congruence
 congruence c s g = option_map (λ f. record { modulus = g.modulus; form = f }) (fact c s g.form)
 
-abbrev pub joined : Station → Option (List ℕ) → Option (List Fact) → Option (List notes.Congruence) → Option Lines
-joined st None fs cs = None
-joined st (Some ns) None cs = None
-joined st (Some ns) (Some fs) None = None
-joined st (Some ns) (Some fs) (Some cs) = Some (record { anchor = st.anchor; head = st.head; same = ns; facts = fs; congruences = cs })
+abbrev pub multiple_by : (form of : Option Fact) → Option notes.Multiple
+multiple_by None g = None
+multiple_by (Some f) None = None
+multiple_by (Some f) (Some g) = Some (record { of = g; form = f })
+
+abbrev pub multiple : Chart → Sight → certificate.Multiple → Option notes.Multiple
+multiple c s m = multiple_by (fact c s m.form) (fact c s m.of)
+
+abbrev pub joined : Station → Option (List ℕ) → Option (List Fact) → Option (List notes.Congruence) → Option (List notes.Multiple) → Option Lines
+joined st None fs cs ms = None
+joined st (Some ns) None cs ms = None
+joined st (Some ns) (Some fs) None ms = None
+joined st (Some ns) (Some fs) (Some cs) None = None
+joined st (Some ns) (Some fs) (Some cs) (Some ms) = Some (record { anchor = st.anchor; head = st.head; same = ns; facts = fs; congruences = cs; multiples = ms })
 
 abbrev pub lines_at : Chart → certificate.Place → Option Station → Option Lines
 lines_at c p None = None
-lines_at c p (Some st) = joined st (rising (each (slot_of st.agreeing) p.same)) (each (fact c st.sight) p.facts) (each (congruence c st.sight) p.congruences)
+lines_at c p (Some st) = joined st (rising (each (slot_of st.agreeing) p.same)) (each (fact c st.sight) p.facts) (each (congruence c st.sight) p.congruences) (each (multiple c st.sight) p.multiples)
 
 abbrev pub lines_of : Chart → List places.Place → certificate.Place → Option Lines
 lines_of c ps p = cond (is_place ps (anchor_number p.spot.anchor) p.spot.head) (lines_at c p (station c p.spot.anchor p.spot.head)) None
@@ -102,7 +113,24 @@ loops_among [] = []
 loops_among (s ∷ ss) = cond s.is_loop (s.number ∷ loops_among ss) (loops_among ss)
 
 abbrev pub anywhere : Chart → Sight
-anywhere c = record { here = c.names; before = c.names; around = loops_among c.scenes; has_new = true }
+anywhere c = record { here = c.names; before = c.names; around = loops_among c.scenes; has_new = true; has_second = false }
+
+-- names of two items: a second item has those of the first one
+abbrev pub of_both : Chart → Sight
+of_both c = record { here = c.names; before = c.names; around = loops_among c.scenes; has_new = true; has_second = true }
+
+-- what a lemma says in symbols, where the kernel has all that it names
+abbrev pub lemma_form : Chart → Form Name → Option Fact
+lemma_form c f = fact c (of_both c) f
+
+abbrev pub stated : launch.Kernel → surface.Kernel → Form Name → Option Fact
+stated k tree f = lemma_form (chart_of k tree) f
+
+abbrev pub is_stated : Chart → certificate.Lemma → Bool
+is_stated c l = is_some (lemma_form c l.form)
+
+abbrev pub are_stated : Chart → certificate.Entry → Bool
+are_stated c e = all (is_stated c) e.lemmas
 
 abbrev pub quoted : ℕ → Option Fact → Option (List Quoted) → Option (List Quoted)
 quoted n f rest = cond (nat_lt n (2 ^ 32)) (put_first (option_map (λ q. record { claim = n; form = q }) f) rest) None
@@ -146,7 +174,7 @@ noted_all is_wide c (Some ls) (Some rs) None = None
 noted_all is_wide c (Some ls) (Some rs) (Some qs) = Some (record { is_wide = is_wide; places = ls; rankings = rs; visible = visible_in c; quotients = qs })
 
 abbrev pub noted_by : Chart → List places.Place → Certificate → Option Noted
-noted_by c ps cert = cond (all (has_line cert.bounds) c.scenes) (noted_all cert.is_wide c (each (lines_of c ps) cert.places) (each (ranked_of c) cert.bounds) (quotients_of c cert.entries)) None
+noted_by c ps cert = cond (all (has_line cert.bounds) c.scenes && all (are_stated c) cert.entries) (noted_all cert.is_wide c (each (lines_of c ps) cert.places) (each (ranked_of c) cert.bounds) (quotients_of c cert.entries)) None
 
 abbrev pub noted : launch.Kernel → surface.Kernel → List places.Place → Certificate → Option Noted
 noted k tree ps cert = noted_by (chart_of k tree) ps cert

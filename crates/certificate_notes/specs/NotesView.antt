@@ -6,7 +6,7 @@ use Rattle.obligations.specs.declared.notes.Lines.{Lines}
 use Rattle.obligations.specs.declared.notes.Visible.{Visible}
 use Rattle.obligations.specs.declared.notes.Quotient.{Quotient}
 use Rattle.obligations.specs.declared.notes.Notes.{Notes}
-use Rattle.obligations.specs.View.{congruence, ranking}
+use Rattle.obligations.specs.View.{congruence, multiple, ranking}
 use Rattle.certificate_notes.specs.Noted as noted
 use Rattle.certificate_notes.specs.Stations as stations
 use Rattle.certificate_notes.specs.View.{named, sight}
@@ -16,7 +16,7 @@ abbrev pub station : Station → stations.Station
 station s = record { anchor = s.anchor; head = s.head; agreeing = map named s.agreeing.now; sight = sight s.sight }
 
 abbrev pub lines : Lines → noted.Lines
-lines l = record { anchor = l.anchor; head = l.head; same = l.same.items; facts = map form l.facts.items; congruences = map congruence l.congruences.items }
+lines l = record { anchor = l.anchor; head = l.head; same = l.same.items; facts = map form l.facts.items; congruences = map congruence l.congruences.items; multiples = map multiple l.multiples.items }
 
 abbrev pub ranked : LoopBound → noted.Ranked
 ranked b = record { loop = b.number; ranking = ranking b.bound }

@@ -25,6 +25,10 @@ abbrev pub congruences_of : List Lines → (anchor head : Option ℕ) → List n
 congruences_of [] a h = []
 congruences_of (l ∷ ls) a h = cond (is_of a h l) l.congruences (congruences_of ls a h)
 
+abbrev pub multiples_of : List Lines → (anchor head : Option ℕ) → List notes.Multiple
+multiples_of [] a h = []
+multiples_of (l ∷ ls) a h = cond (is_of a h l) l.multiples (multiples_of ls a h)
+
 abbrev pub same_of : List Lines → (barrier : ℕ) → List ℕ
 same_of [] b = []
 same_of (l ∷ ls) b = cond (is_of (Some b) None l) l.same (same_of ls b)
@@ -46,6 +50,7 @@ notes_by m entries = record {
   same = same_of m.places;
   facts = facts_of m.places;
   congruences = congruences_of m.places;
+  multiples = multiples_of m.places;
   ranking = ranking_of m.rankings;
   visible = visible_of m.visible;
   quotient = quotient_of m.quotients;
@@ -58,6 +63,7 @@ pub record Agrees (n m : notes.Notes) : Type 0 where
   pub same : (barrier : ℕ) → n.same barrier ≡ m.same barrier
   pub facts : (anchor head : Option ℕ) → n.facts anchor head ≡ m.facts anchor head
   pub congruences : (anchor head : Option ℕ) → n.congruences anchor head ≡ m.congruences anchor head
+  pub multiples : (anchor head : Option ℕ) → n.multiples anchor head ≡ m.multiples anchor head
   pub ranking : (loop : ℕ) → n.ranking loop ≡ m.ranking loop
   pub visible : (statement : Option ℕ) → n.visible statement ≡ m.visible statement
   pub quotient : (claim : ℕ) → n.quotient claim ≡ m.quotient claim

@@ -1,13 +1,15 @@
 -- The symbols that may be named at a place, in the test of a loop and in a quotient, and forms of them.
-use Rattle.std.specs.Prelude.{ℕ, ◌-◌, ◌^◌, ℤ, pos, Bool, cond, nat_eq, nat_le, nat_lt, ◌&&◌, List, [], ◌∷◌, ◌++◌, length, Option, None, Some, bytes_eq}
+use Rattle.std.specs.Prelude.{ℕ, ◌+◌, ◌-◌, ◌%◌, ◌^◌, ℤ, pos, Bool, cond, nat_eq, nat_le, nat_lt, ◌&&◌, List, [], ◌∷◌, ◌++◌, length, Option, None, Some, bytes_eq}
 use Rattle.std.specs.Option.{option_map}
 use Rattle.linear.specs.Linear.{Weighted, Form}
 use Rattle.semantics.specs.Launch as launch
 use Rattle.linear.specs.Exact.{fits, sum, multiple}
+use Rattle.linear.specs.Products.{and_then, times}
 use Rattle.facts.specs.Symbols as symbols
 use Rattle.facts.specs.Symbols.{Fact, constant, number}
 use Rattle.texts.specs.Surface.{Parameter, Buffer, Value, Kernel}
-use Rattle.certificate_text.specs.Certificate.{Dimension, First, Second, Third, Name, Variable, AtAnchor, Turns, Fresh, Argument, Length, Groups, Group, Local}
+use Rattle.certificate_text.specs.Certificate as certificate
+use Rattle.certificate_text.specs.Certificate.{Dimension, First, Second, Third, Name, Variable, AtAnchor, Turns, Fresh, Argument, Length, Groups, Group, Local, Product}
 use Rattle.certificate_notes.specs.Scenes.{Named, Scene, opened, gone_over}
 
 -- buffer parameters by their numbers
@@ -37,12 +39,13 @@ chart_of k tree = record {
 }
 
 -- the variables that stand for what they are now, and for what they were at the anchor; the loops around; whether symbols that are new
--- on a path are among them
+-- on a path are among them, and those of a second item
 pub record Sight : Type 0 where
   pub here : List Named
   pub before : List Named
   pub around : List ℕ
   pub has_new : Bool
+  pub has_second : Bool
 
 -- the first of that name, of that number
 abbrev pub slot_of : List Named → (name : List ℕ) → Option ℕ
@@ -62,16 +65,45 @@ dimension_number Third = 2
 abbrev pub new_number : (has_new : Bool) → ℕ → Option ℕ
 new_number has n = cond (has && (nat_le 1 n && nat_lt n (2 ^ 32))) (Some (n - 1)) None
 
+-- the second item's copy of a symbol that is an item's own: six families on
+abbrev pub second_of : (has_second : Bool) → ℕ → Option ℕ
+second_of has n = cond (has && (nat_le 3 (n % 16) && nat_lt (n % 16) 9)) (Some (n + 6)) None
+
+-- the product of two symbols, where it is one
+abbrev pub product_of : Option ℕ → Option ℕ → Option ℕ
+product_of m n = and_then m (λ a. and_then n (λ b. times a b))
+
+-- the symbol of the first term
+abbrev pub first_of : List (Weighted ℕ) → Option ℕ
+first_of [] = None
+first_of (t ∷ ts) = Some t.symbol
+
+abbrev pub plain_symbol : Chart → Sight → Name → Option ℕ
+plain_symbol c s (Variable x) = option_map (λ n. number (symbols.Variable symbols.First n)) (slot_of s.here x)
+plain_symbol c s (AtAnchor x) = option_map (λ n. number (symbols.AtAnchor symbols.First n)) (slot_of s.before x)
+plain_symbol c s (Turns n) = option_map (λ m. number (symbols.Turns symbols.First m)) (found_in s.around n)
+plain_symbol c s (Fresh n) = option_map (λ k. number (symbols.New symbols.First k)) (new_number s.has_new n)
+plain_symbol c s (Argument x) = option_map (λ n. number (symbols.ArgumentOf n)) (slot_of c.arguments x)
+plain_symbol c s (Length x) = option_map (λ n. number (symbols.Length n)) (slot_of c.buffers x)
+plain_symbol c s (Groups d) = Some (number (symbols.Groups (dimension_number d)))
+plain_symbol c s (Group d) = Some (number (symbols.Group symbols.First (dimension_number d)))
+plain_symbol c s (Local d) = Some (number (symbols.Local symbols.First (dimension_number d)))
+plain_symbol c s (certificate.Second x) = None
+plain_symbol c s (Product x y) = None
+
+-- a name's symbol: of a second item where those may be named, of a product by its factors
 abbrev pub symbol : Chart → Sight → Name → Option ℕ
-symbol c s (Variable x) = option_map (λ n. number (symbols.Variable symbols.First n)) (slot_of s.here x)
-symbol c s (AtAnchor x) = option_map (λ n. number (symbols.AtAnchor symbols.First n)) (slot_of s.before x)
-symbol c s (Turns n) = option_map (λ m. number (symbols.Turns symbols.First m)) (found_in s.around n)
-symbol c s (Fresh n) = option_map (λ k. number (symbols.New symbols.First k)) (new_number s.has_new n)
-symbol c s (Argument x) = option_map (λ n. number (symbols.ArgumentOf n)) (slot_of c.arguments x)
-symbol c s (Length x) = option_map (λ n. number (symbols.Length n)) (slot_of c.buffers x)
-symbol c s (Groups d) = Some (number (symbols.Groups (dimension_number d)))
-symbol c s (Group d) = Some (number (symbols.Group symbols.First (dimension_number d)))
-symbol c s (Local d) = Some (number (symbols.Local symbols.First (dimension_number d)))
+symbol c s (certificate.Second x) = and_then (symbol c s x) (second_of s.has_second)
+symbol c s (Product x y) = product_of (symbol c s x) (symbol c s y)
+symbol c s (Variable x) = plain_symbol c s (Variable x)
+symbol c s (AtAnchor x) = plain_symbol c s (AtAnchor x)
+symbol c s (Turns n) = plain_symbol c s (Turns n)
+symbol c s (Fresh n) = plain_symbol c s (Fresh n)
+symbol c s (Argument x) = plain_symbol c s (Argument x)
+symbol c s (Length x) = plain_symbol c s (Length x)
+symbol c s (Groups d) = plain_symbol c s (Groups d)
+symbol c s (Group d) = plain_symbol c s (Group d)
+symbol c s (Local d) = plain_symbol c s (Local d)
 
 -- a form, where all its numbers are of `i64`: those of a certificate always are
 abbrev pub fitting : Fact → Option Fact

@@ -24,10 +24,10 @@ pub record Station : Type 0 where
   pub sight : Sight
 
 abbrev pub at_barrier : Scene → Station
-at_barrier b = record { anchor = Some b.number; head = None; agreeing = b.here; sight = record { here = b.here; before = []; around = b.around; has_new = false } }
+at_barrier b = record { anchor = Some b.number; head = None; agreeing = b.here; sight = record { here = b.here; before = []; around = b.around; has_new = false; has_second = false } }
 
 abbrev pub at_head : (anchor : Option ℕ) (before : List Named) → Scene → Station
-at_head a before h = record { anchor = a; head = Some h.number; agreeing = []; sight = record { here = h.here; before = before; around = h.around; has_new = false } }
+at_head a before h = record { anchor = a; head = Some h.number; agreeing = []; sight = record { here = h.here; before = before; around = h.around; has_new = false; has_second = false } }
 
 abbrev pub head_behind : Option Scene → Option Scene → Option Station
 head_behind None h = None
@@ -54,4 +54,4 @@ is_place (p ∷ ps) a h = is_at a h p || is_place ps a h
 
 -- in a loop's test there is no anchor
 abbrev pub in_test : Scene → Sight
-in_test s = record { here = s.here; before = []; around = s.around; has_new = false }
+in_test s = record { here = s.here; before = []; around = s.around; has_new = false; has_second = false }

@@ -27,4 +27,4 @@ chart c = record {
 }
 
 abbrev pub sight : Sight → sights.Sight
-sight s = record { here = map named s.here.now; before = map named s.before.now; around = s.around.now; has_new = s.has_new }
+sight s = record { here = map named s.here.now; before = map named s.before.now; around = s.around.now; has_new = s.has_new; has_second = s.has_second }

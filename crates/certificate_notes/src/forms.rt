@@ -63,7 +63,7 @@ fn with_named(
 ) -> Result<Option<Form>, NamesError>
     ensures { IfOk result (λ r. option_map form_seen r ≡ sights.added (chart_seen chart.now) (sight_seen sight.now) (view.term term.now ∷ []) (form_seen form.now)) }
 {
-    let Some(symbol) = symbol(chart, sight, &term.name) else {
+    let Some(symbol) = symbol(alloc, chart, sight, &term.name)? else {
         return Ok(None);
     };
     with_term(alloc, form, term.coefficient, symbol)

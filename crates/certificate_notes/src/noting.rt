@@ -14,10 +14,13 @@ ghost use Rattle.certificate_notes.specs.Noted.{Noted};
 ghost use Rattle.certificate_notes.specs.Noting as noting;
 ghost use Rattle.certificate_notes.specs.Noting.{Agrees};
 ghost use Rattle.certificate_notes.specs.View.{chart as chart_seen};
+ghost use Rattle.certificate_notes.specs.NamesView.{names as names_seen};
 ghost use Rattle.certificate_notes.specs.NotesView.{lines as lines_seen, notes as notes_seen};
 
-use crate::chart::{Chart, chart_of};
+use crate::chart::Chart;
 use crate::error::NamesError;
+use crate::lemmas::{all_are_stated, names_of};
+use crate::names::Names;
 use crate::place_lines::lines_of;
 use crate::quotients::quotients_of;
 use crate::ranking_lines::{have_lines, rankings_of};
@@ -51,13 +54,17 @@ fn all_lines(
 /// The notes that a certificate makes of a kernel; none where a loop lacks its line, or the kernel lacks what a line names.
 fn noted_by(
     alloc: Global,
-    chart: &Chart<'_>,
+    names: &Names<'_>,
     kernel_places: &[Place<'_>],
     certificate: &Certificate,
 ) -> Result<Option<Notes>, NamesError>
-    ensures { IfOk result (λ r. option_map notes_seen r ≡ noted.noted_by (chart_seen chart.now) (map place_seen kernel_places.now) (certificate_seen certificate.now)) }
+    ensures { IfOk result (λ r. option_map notes_seen r ≡ noted.noted_by (names_seen names.now) (map place_seen kernel_places.now) (certificate_seen certificate.now)) }
 {
+    let chart = &names.chart;
     if !have_lines(certificate.bounds(), chart.scenes.as_slice()) {
+        return Ok(None);
+    }
+    if !all_are_stated(alloc, names, certificate.entries())? {
         return Ok(None);
     }
     let Some(places) = all_lines(alloc, chart, kernel_places, certificate.places())? else {
@@ -92,6 +99,6 @@ pub fn notes_of(
     ensures items { IfOk result (λ r. IfSome r (λ n. (entries : List Bool) → TellsOfItems (seen n entries))) }
     ensures all { IfOk result (λ r. option_map notes_seen r ≡ noted.noted (core_seen kernel.now.1) (tree_seen kernel.now.0) (map place_seen places.now) (certificate_seen certificate.now)) }
 {
-    let chart = chart_of(alloc, kernel.core(), kernel.kernel())?;
-    noted_by(alloc, &chart, places, certificate)
+    let names = names_of(alloc, kernel)?;
+    noted_by(alloc, &names, places, certificate)
 }

@@ -6,7 +6,7 @@ ghost use Rattle.std.specs.String.{string_bytes};
 ghost use Rattle.linear.specs.Forms.{form as form_seen};
 ghost use Rattle.places.specs.View.{place as place_seen};
 ghost use Rattle.certificate.specs.View as view;
-ghost use Rattle.obligations.specs.View.{congruence as congruence_seen};
+ghost use Rattle.obligations.specs.View.{congruence as congruence_seen, multiple as multiple_seen};
 ghost use Rattle.certificate_notes.specs.Sights as sights;
 ghost use Rattle.certificate_notes.specs.Noted as noted;
 ghost use Rattle.certificate_notes.specs.View.{chart as chart_seen, sight as sight_seen, named};
@@ -21,7 +21,7 @@ use crate::spots::{anchor_number, is_place};
 use crate::station::{Station, station_of};
 use certificate::tree;
 use linear::Form;
-use obligations::{Congruence, Lines};
+use obligations::{Congruence, Lines, Multiple};
 use places::Place;
 use std::alloc::Global;
 
@@ -133,6 +133,44 @@ fn congruences_of(
     Ok(Some(found))
 }
 
+/// A multiple that is told of a place, in slots and symbols; none where it names what the kernel lacks.
+fn multiple(
+    alloc: Global,
+    chart: &Chart<'_>,
+    sight: &Sight<'_>,
+    multiple: &tree::Multiple,
+) -> Result<Option<Multiple>, NamesError>
+    ensures { IfOk result (λ r. option_map multiple_seen r ≡ noted.multiple (chart_seen chart.now) (sight_seen sight.now) (view.multiple multiple.now)) }
+{
+    let Some(form) = fact(alloc, chart, sight, &multiple.form)? else {
+        return Ok(None);
+    };
+    let Some(of) = fact(alloc, chart, sight, &multiple.of)? else {
+        return Ok(None);
+    };
+    Ok(Some(Multiple { of, form }))
+}
+
+#[tactic(auto, using(crate::proofs::Each::each_rows))]
+/// The multiples that are told of a place, in slots and symbols; none where one names what the kernel lacks.
+fn multiples_of(
+    alloc: Global,
+    chart: &Chart<'_>,
+    sight: &Sight<'_>,
+    multiples: &[tree::Multiple],
+) -> Result<Option<Vec<Multiple>>, NamesError>
+    ensures { IfOk result (λ r. option_map (λ v. map multiple_seen v.items) r ≡ noted.each (noted.multiple (chart_seen chart.now) (sight_seen sight.now)) (map view.multiple multiples.now)) }
+{
+    let mut found = Vec::new(alloc);
+    for one in multiples {
+        let Some(one) = multiple(alloc, chart, sight, one)? else {
+            return Ok(None);
+        };
+        found.push(one)?;
+    }
+    Ok(Some(found))
+}
+
 /// The notes of a place, by what may be named there; none where another thing is named, or the slots that agree do not rise.
 fn lines_at(
     alloc: Global,
@@ -152,12 +190,17 @@ fn lines_at(
     let Some(congruences) = found else {
         return Ok(None);
     };
+    let found = multiples_of(alloc, chart, &station.sight, place.multiples.as_slice())?;
+    let Some(multiples) = found else {
+        return Ok(None);
+    };
     Ok(Some(Lines {
         anchor: station.anchor,
         head: station.head,
         same,
         facts,
         congruences,
+        multiples,
     }))
 }
 

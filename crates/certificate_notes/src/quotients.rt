@@ -21,7 +21,7 @@ use obligations::Quotient;
 use std::alloc::Global;
 
 /// The numbers of the loops.
-fn loops_among(alloc: Global, scenes: &[Scene<'_>]) -> Result<Vec<u32>, NamesError>
+pub fn loops_among(alloc: Global, scenes: &[Scene<'_>]) -> Result<Vec<u32>, NamesError>
     ensures { IfOk result (λ v. v.items ≡ noted.loops_among (map scene_seen scenes.now)) }
 {
     let mut loops = Vec::new(alloc);
@@ -110,6 +110,7 @@ pub fn quotients_of(
         before: chart.names.as_slice(),
         around: loops.as_slice(),
         has_new: true,
+        has_second: false,
     };
     push_all(alloc, chart, &sight, entries)
 }

@@ -54,6 +54,7 @@ pub fn in_test<'a>(scene: &'a Scene<'a>) -> Sight<'a>
         before: &[],
         around: scene.around.as_slice(),
         has_new: false,
+        has_second: false,
     }
 }
 
@@ -80,6 +81,7 @@ fn at_head<'a>(anchor: Option<u32>, before: &'a [Named<'a>], head: &'a Scene<'a>
             before,
             around: head.around.as_slice(),
             has_new: false,
+            has_second: false,
         },
     }
 }

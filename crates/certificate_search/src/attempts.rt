@@ -70,6 +70,7 @@ fn guesses(
         hoped.leaves.as_slice(),
         hoped.known.as_slice(),
         hoped.unsigned.as_slice(),
+        matter.subject.is_wide,
     )?;
     let mut all = unrefuted(alloc, told.candidates, observed, rank)?;
     if rank >= 3 {

@@ -8,8 +8,8 @@ use crate::table::Demand;
 use crate::used::{Ground, used_guesses};
 use cut_proof::Derivation;
 use cut_search::{Answer, Memory, Point};
-use guess_walk::{Division, both_sides, facts_of, reached};
-use guesses::Line;
+use guess_walk::{Division, FormDivision, Shown, both_sides, both_sides_by, facts_of, reached};
+use guesses::{Line, has_product};
 use linear::{Form, Symbol};
 use path_steps::{Claim, Goal, Stop};
 use std::alloc::{AllocError, Global};
@@ -51,8 +51,11 @@ fn value_of(form: &Form, point: &[(Symbol, i64)]) -> Option<i64> {
     Some(sum)
 }
 
-/// The form is below 0 at one of the points.
+/// The form is below 0 at one of the points. A point, at which products need not be products, tells nothing of a form with products.
 fn is_denied(form: &Form, points: &[Point]) -> bool {
+    if has_product(form) {
+        return false;
+    }
     for point in points {
         if value_of(form, point.as_slice()).is_some_and(|value| value < 0) {
             return true;
@@ -63,7 +66,7 @@ fn is_denied(form: &Form, points: &[Point]) -> bool {
 
 /// The modulus does not divide the form at one of the points.
 fn is_undivided(form: &Form, modulus: u64, points: &[Point]) -> bool {
-    if modulus == 0 {
+    if modulus == 0 || has_product(form) {
         return false;
     }
     for point in points {
@@ -149,6 +152,24 @@ fn joined(mut first: Vec<u32>, second: &[u32]) -> Result<Vec<u32>, AllocError> {
     Ok(first)
 }
 
+/// The guesses that both sides of a congruence rest on, or of a multiple of a form.
+fn support_of_both(
+    alloc: Global,
+    ground: &Ground<'_>,
+    at: OnPath,
+    facts: &[Form],
+    shown: &Shown,
+) -> Result<Option<Vec<u32>>, AllocError> {
+    let part = Part::Claim(at);
+    let Some(least) = support_of(alloc, ground, part, facts, &shown.least)? else {
+        return Ok(None);
+    };
+    let Some(most) = support_of(alloc, ground, part, facts, &shown.most)? else {
+        return Ok(None);
+    };
+    Ok(Some(joined(least, most.as_slice())?))
+}
+
 /// A congruence, by facts without a denial.
 fn divided(
     alloc: Global,
@@ -158,18 +179,25 @@ fn divided(
     memory: &mut Memory,
     points: &mut Vec<Point>,
 ) -> Result<Option<Vec<u32>>, AllocError> {
-    let Some(shown) = both_sides(alloc, division, memory, points)? else {
-        return Ok(None);
-    };
-    let part = Part::Claim(at);
-    let facts = division.facts;
-    let Some(least) = support_of(alloc, ground, part, facts, &shown.least)? else {
-        return Ok(None);
-    };
-    let Some(most) = support_of(alloc, ground, part, facts, &shown.most)? else {
-        return Ok(None);
-    };
-    Ok(Some(joined(least, most.as_slice())?))
+    match both_sides(alloc, division, memory, points)? {
+        Some(shown) => support_of_both(alloc, ground, at, division.facts, &shown),
+        None => Ok(None),
+    }
+}
+
+/// A multiple of a form, by facts without a denial.
+fn divided_by(
+    alloc: Global,
+    ground: &Ground<'_>,
+    at: OnPath,
+    division: FormDivision<'_>,
+    memory: &mut Memory,
+    points: &mut Vec<Point>,
+) -> Result<Option<Vec<u32>>, AllocError> {
+    match both_sides_by(alloc, division, memory, points)? {
+        Some(shown) => support_of_both(alloc, ground, at, division.facts, &shown),
+        None => Ok(None),
+    }
 }
 
 /// An obligation by its number, what it is about, and the guess that it is of.
@@ -225,6 +253,21 @@ fn claim_support(
                 known: known.as_slice(),
             };
             Ok(divided(alloc, ground, at, division, memory, points)?)
+        }
+        (Goal::Divided { form, .. }, Line::MultipleOf { of, .. }) => {
+            let Some(mut facts) = facts_of(alloc, ground.found, target.number, Manner::ByQuotient)?
+            else {
+                return Ok(None);
+            };
+            drop(facts.pop());
+            let known = ground.known_by_form(alloc, at.path, of)?;
+            let division = FormDivision {
+                facts: facts.as_slice(),
+                form,
+                of,
+                known: known.as_slice(),
+            };
+            Ok(divided_by(alloc, ground, at, division, memory, points)?)
         }
         _ => Ok(None),
     }

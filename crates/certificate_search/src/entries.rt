@@ -8,7 +8,10 @@ use crate::used::{Ground, used_guesses};
 use certificate::tree::{Entry, EntrySort};
 use cut_proof::Derivation;
 use cut_search::{Answer, Memory};
-use guess_walk::{Division, Names, Shown, both_sides, facts_of, reached, steps_of};
+use guess_walk::{
+    Division, FormDivision, Names, Shown, both_sides, both_sides_by, facts_of, lemmas_of, reached,
+    steps_of,
+};
 use guesses::{Line, copied};
 use linear::Form;
 use path_steps::{Goal, Sort};
@@ -40,10 +43,12 @@ struct Heading {
     sort: EntrySort,
 }
 
-/// The entry of an obligation with this derivation, and the guesses that it uses; none where the part is not of the walk.
+/// The entry of an obligation with this derivation, and the guesses that it uses; none where the part is not of the walk, or a symbol of a
+/// lemma has no name.
 fn entry_with(
     alloc: Global,
     ground: &Ground<'_>,
+    names: &Names<'_>,
     heading: Heading,
     facts: &[Form],
     derivation: &Derivation,
@@ -52,27 +57,30 @@ fn entry_with(
         return Ok(None);
     };
     let used = used_guesses(alloc, &origin, facts, derivation)?;
+    let Some(lemmas) = lemmas_of(alloc, names, derivation)? else {
+        return Ok(None);
+    };
     let steps = steps_of(alloc, derivation)?;
-    Ok(Some(Made {
-        entry: Entry {
-            obligation: heading.number,
-            sort: heading.sort,
-            steps,
-        },
-        used,
-    }))
+    let entry = Entry {
+        obligation: heading.number,
+        sort: heading.sort,
+        lemmas,
+        steps,
+    };
+    Ok(Some(Made { entry, used }))
 }
 
 /// An entry by facts, if the search refutes them.
 fn made_of(
     alloc: Global,
     ground: &Ground<'_>,
+    names: &Names<'_>,
     heading: Heading,
     facts: &[Form],
     memory: &mut Memory,
 ) -> Result<Option<Made>, AllocError> {
     match memory.ask(alloc, facts)? {
-        Answer::Proof(derivation) => entry_with(alloc, ground, heading, facts, &derivation),
+        Answer::Proof(derivation) => entry_with(alloc, ground, names, heading, facts, &derivation),
         Answer::Model(_) | Answer::Undecided => Ok(None),
     }
 }
@@ -81,8 +89,8 @@ fn made_of(
 fn made_by(
     alloc: Global,
     ground: &Ground<'_>,
+    names: &Names<'_>,
     number: usize,
-    part: Part,
     manner: Manner,
     memory: &mut Memory,
 ) -> Result<Option<Made>, FindError>
@@ -99,10 +107,10 @@ fn made_by(
     };
     let heading = Heading {
         number: number as u64,
-        part,
+        part: ground.found.part(number),
         sort,
     };
-    Ok(made_of(alloc, ground, heading, facts.as_slice(), memory)?)
+    Ok(made_of(alloc, ground, names, heading, facts.as_slice(), memory)?)
 }
 
 fn outcome_of(found: Option<Made>) -> Outcome {
@@ -116,22 +124,22 @@ fn outcome_of(found: Option<Made>) -> Outcome {
 fn divisor(
     alloc: Global,
     ground: &Ground<'_>,
+    names: &Names<'_>,
     number: usize,
-    part: Part,
     memory: &mut Memory,
 ) -> Result<Outcome, FindError>
     requires first { 0 < number }
     requires last { number ≤ length (listed domain ground.now.found.now) }
 {
-    let positive = made_by(alloc, ground, number, part, Manner::ByPositive, memory)?;
+    let positive = made_by(alloc, ground, names, number, Manner::ByPositive, memory)?;
     if positive.is_some() {
         return Ok(outcome_of(positive));
     }
-    let negative = made_by(alloc, ground, number, part, Manner::ByNegative, memory)?;
+    let negative = made_by(alloc, ground, names, number, Manner::ByNegative, memory)?;
     if negative.is_some() {
         return Ok(outcome_of(negative));
     }
-    let plain = made_by(alloc, ground, number, part, Manner::Plainly, memory)?;
+    let plain = made_by(alloc, ground, names, number, Manner::Plainly, memory)?;
     Ok(outcome_of(plain))
 }
 
@@ -173,20 +181,58 @@ fn both_entries(
         part,
         sort: EntrySort::Quotient(first),
     };
-    let least = entry_with(alloc, ground, heading, facts, &shown.least)?;
+    let least = entry_with(alloc, ground, names, heading, facts, &shown.least)?;
     let heading = Heading {
         number: (claim.number as u64).saturating_add(1),
         part,
         sort: EntrySort::Quotient(second),
     };
-    let most = entry_with(alloc, ground, heading, facts, &shown.most)?;
+    let most = entry_with(alloc, ground, names, heading, facts, &shown.most)?;
     match (least, most) {
         (Some(least), Some(most)) => Ok(Outcome::Two(least, most)),
         _ => Ok(Outcome::Unshown),
     }
 }
 
-/// The two entries of a congruence, found at its first claim.
+/// Derivations that a form is what a line of the place reached says of it: a number divides it, or it is a multiple of a form.
+fn both_shown(
+    alloc: Global,
+    ground: &Ground<'_>,
+    at: OnPath,
+    facts: &[Form],
+    memory: &mut Memory,
+) -> Result<Option<Shown>, AllocError> {
+    let (Some(line), Some(form)) = (multiple_at(ground, at), divided_form(alloc, ground, at)?)
+    else {
+        return Ok(None);
+    };
+    let mut points = Vec::new(alloc);
+    match line {
+        Line::Multiple { modulus, .. } => {
+            let known = ground.known_multiples(alloc, at.path)?;
+            let division = Division {
+                facts,
+                form: &form,
+                modulus: *modulus,
+                known: known.as_slice(),
+            };
+            both_sides(alloc, division, memory, &mut points)
+        }
+        Line::MultipleOf { of, .. } => {
+            let known = ground.known_by_form(alloc, at.path, of)?;
+            let division = FormDivision {
+                facts,
+                form: &form,
+                of,
+                known: known.as_slice(),
+            };
+            both_sides_by(alloc, division, memory, &mut points)
+        }
+        Line::Same(_) | Line::Fact(_) => Ok(None),
+    }
+}
+
+/// The two entries of a congruence, or of a multiple of a form, found at its first claim.
 fn congruence(
     alloc: Global,
     ground: &Ground<'_>,
@@ -197,26 +243,11 @@ fn congruence(
     requires first { 0 < claim.number }
     requires last { claim.number ≤ length (listed domain ground.now.found.now) }
 {
-    let at = claim.at;
-    let Some(Line::Multiple { modulus, .. }) = multiple_at(ground, at) else {
-        return Ok(Outcome::Unshown);
-    };
     let Some(mut facts) = facts_of(alloc, ground.found, claim.number, Manner::ByQuotient)? else {
         return Ok(Outcome::Unshown);
     };
     drop(facts.pop());
-    let Some(form) = divided_form(alloc, ground, at)? else {
-        return Ok(Outcome::Unshown);
-    };
-    let known = ground.known_multiples(alloc, at.path)?;
-    let mut points = Vec::new(alloc);
-    let division = Division {
-        facts: facts.as_slice(),
-        form: &form,
-        modulus: *modulus,
-        known: known.as_slice(),
-    };
-    match both_sides(alloc, division, memory, &mut points)? {
+    match both_shown(alloc, ground, claim.at, facts.as_slice(), memory)? {
         Some(shown) => Ok(both_entries(alloc, ground, names, claim, facts.as_slice(), &shown)?),
         None => Ok(Outcome::Unshown),
     }
@@ -253,7 +284,7 @@ fn shown(
 {
     let part = ground.found.part(number);
     match (ground.found.sort(number), part) {
-        (Sort::OfDivisor, _) => divisor(alloc, ground, number, part, memory),
+        (Sort::OfDivisor, _) => divisor(alloc, ground, names, number, memory),
         (Sort::OfCongruence, Part::Claim(at)) => {
             if ground.found.is_second_claim(number) {
                 return Ok(Outcome::Nothing);
@@ -261,7 +292,7 @@ fn shown(
             congruence(alloc, ground, names, Numbered { number, at }, memory)
         }
         _ => {
-            let found = made_by(alloc, ground, number, part, Manner::Plainly, memory)?;
+            let found = made_by(alloc, ground, names, number, Manner::Plainly, memory)?;
             Ok(outcome_of(found))
         }
     }

@@ -40,7 +40,7 @@ fn narrows(candidate: &Candidate) -> bool {
             .terms()
             .iter()
             .any(|term| term.coefficient.unsigned_abs() == 1),
-        Line::Same(_) | Line::Multiple { .. } => false,
+        Line::Same(_) | Line::Multiple { .. } | Line::MultipleOf { .. } => false,
     }
 }
 

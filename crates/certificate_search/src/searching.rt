@@ -49,6 +49,7 @@ fn options_of(
         hoped.leaves.as_slice(),
         hoped.known.as_slice(),
         hoped.unsigned.as_slice(),
+        subject.is_wide,
     )?;
     let strides = told.strides.as_slice();
     guess_rankings(alloc, subject.typed.core(), subject.is_wide, strides)
@@ -171,7 +172,7 @@ pub fn search<R: Threads + Sync>(
     subject: Subject<'_>,
     workers: u32,
 ) -> Result<Certificate, SearchError> {
-    let names = names_of(alloc, subject.typed)?;
-    let mut memory = Memory::new(alloc);
+    let names = names_of(alloc, subject.typed, subject.is_wide)?;
+    let mut memory = Memory::new(alloc, subject.is_wide);
     search_named(rt, alloc, subject, &names, workers, &mut memory)
 }

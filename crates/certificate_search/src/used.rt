@@ -4,7 +4,7 @@ use cut_proof::{Derivation, Line as ProofLine};
 use domain::Elements;
 use facts::{Family, Side};
 use guess_walk::{Begun, LineTable, PlaceLines, is_place};
-use guesses::{Candidate, Line, Sight, copied, index_of};
+use guesses::{Candidate, Line, Sight, copied, index_of, is_product, is_same};
 use linear::Form;
 use std::alloc::{AllocError, Global};
 use two_thread::{Obligations, OnPath, Part};
@@ -42,6 +42,9 @@ fn slot_of(fact: &Form) -> Option<u32> {
     if terms.len() != 2 || index_of(first.symbol) != index_of(second.symbol) {
         return None;
     }
+    if is_product(first.symbol) || is_product(second.symbol) {
+        return None;
+    }
     match (Family::of(first.symbol), Family::of(second.symbol)) {
         (Family::Variable(Side::First), Family::Variable(Side::Second))
         | (Family::AtAnchor(Side::First), Family::AtAnchor(Side::Second)) => {
@@ -55,6 +58,9 @@ impl<'a> Origin<'a> {
     /// The guess that a fact is, by its number from 1.
     fn guess_of(&self, facts: &[Form], number: u32) -> Option<u32> {
         let place = (number as usize).checked_sub(1)?;
+        if place >= facts.len() {
+            return None;
+        }
         let own = place.checked_sub(self.launch)?;
         if own < self.first.count {
             return self.first.used(own);
@@ -69,15 +75,14 @@ impl<'a> Origin<'a> {
     }
 }
 
-/// The guesses that a derivation uses, each once.
-pub fn used_guesses(
-    alloc: Global,
+/// Adds the guesses that lines use, each once.
+fn add_used(
+    used: &mut Vec<u32>,
     origin: &Origin<'_>,
     facts: &[Form],
-    derivation: &Derivation,
-) -> Result<Vec<u32>, AllocError> {
-    let mut used = Vec::new(alloc);
-    for line in derivation.lines.as_slice() {
+    lines: &[ProofLine],
+) -> Result<(), AllocError> {
+    for line in lines {
         let ProofLine::Given(number) = line else {
             continue;
         };
@@ -88,6 +93,21 @@ pub fn used_guesses(
             used.push(guess)?;
         }
     }
+    Ok(())
+}
+
+/// The guesses that a derivation uses, each once.
+pub fn used_guesses(
+    alloc: Global,
+    origin: &Origin<'_>,
+    facts: &[Form],
+    derivation: &Derivation,
+) -> Result<Vec<u32>, AllocError> {
+    let mut used = Vec::new(alloc);
+    for lemma in derivation.lemmas.as_slice() {
+        add_used(&mut used, origin, facts, lemma.lines.as_slice())?;
+    }
+    add_used(&mut used, origin, facts, derivation.lines.as_slice())?;
     Ok(used)
 }
 
@@ -193,6 +213,36 @@ impl<'a> Ground<'a> {
             }
         }
         Ok(known)
+    }
+
+    /// The multiples of a form known where a path begins, each with the index of its quotient among new symbols.
+    pub fn known_by_form(
+        &self,
+        alloc: Global,
+        path: usize,
+        by: &Form,
+    ) -> Result<Vec<(u32, Form)>, AllocError> {
+        let mut known = Vec::new(alloc);
+        let place = self.places.get(path).copied().unwrap_or(usize::MAX);
+        let Some(lines) = self.table.places.get(place) else {
+            return Ok(known);
+        };
+        let mut index = u32::try_from(lines.multiples.len()).unwrap_or(u32::MAX);
+        for guess in lines.of_forms.as_slice() {
+            if let Some(form) = self.multiple_of(*guess, by) {
+                known.push((index, copied(alloc, form)?))?;
+            }
+            index = index.saturating_add(1);
+        }
+        Ok(known)
+    }
+
+    /// The form that a guess says to be a multiple of that one, if it does.
+    fn multiple_of(&self, guess: u32, by: &Form) -> Option<&'a Form> {
+        match &self.candidates.get(guess as usize)?.line {
+            Line::MultipleOf { of, form } if is_same(of, by) => Some(form),
+            _ => None,
+        }
     }
 
     /// The parts of an obligation's facts; none where the obligation is not of the walk.

@@ -7,7 +7,7 @@ use Rattle.std.proofs.lemmas.Bool.{cond_both}
 use Rattle.std.proofs.lemmas.List.{append-nil}
 use Rattle.std.proofs.lemmas.List.Splits.{join_with_byte-slice_split}
 use Rattle.std.proofs.lemmas.Slice.Eq.{bytes_eq-Decides}
-use Rattle.texts.specs.Lines.{NumberFault, pieces, sole, two, first, follows}
+use Rattle.texts.specs.Lines.{NumberFault, is_empty, pieces, sole, two, first, follows}
 use Rattle.certificate_text.specs.Forms.{then, when, number, begins as begins_so}
 use Rattle.certificate_text.specs.Rules.{all, rises}
 use Rattle.texts.proofs.Fits.{begins, both}
@@ -61,6 +61,10 @@ two_back [] r e = absurd cc
 two_back (a ∷ []) r e = absurd cc
 two_back (a ∷ b ∷ []) r e = let q : (a, b) ≡ r = cc in ap (λ p. p.0 ∷ p.1 ∷ []) q
 two_back (a ∷ b ∷ c ∷ ws) r e = absurd cc
+
+pub none_left : {A : Type 0} (ws : List A) → is_empty ws ≡ true → ws ≡ []
+none_left [] e = refl
+none_left (w ∷ ws) e = absurd cc
 
 -- a word that is spelt so, or not
 pub by_word : {A : Type 0} (w k : List ℕ) (x y : Option A) (a : A) → cond (bytes_eq w k) x y ≡ Some a → ((w ≡ k) × (x ≡ Some a)) ⊎ (y ≡ Some a)

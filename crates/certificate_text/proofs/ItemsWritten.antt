@@ -8,17 +8,19 @@ use Rattle.std.proofs.lemmas.Bool.{cond-true}
 use Rattle.std.proofs.lemmas.List.{append-nil}
 use Rattle.linear.specs.Linear.{Form}
 use Rattle.texts.specs.Lines.{is_empty, pieces, words, sole, natural_of, integer_of, follows}
-use Rattle.certificate_text.specs.Certificate.{Name, Anchor, KernelEntry, Barrier, Spot, Congruence, Descent, Down, Halve, Double, Bound, EntrySort, Show, Positive, Negative, Quotient, Scaled, Step, Given, Sum, Divide}
-use Rattle.certificate_text.specs.Text.{form_text, anchor_text, head_text, place_line, congruence_line, descent_text, bound_line, sort_text, entry_line, scaled_text, step_line}
-use Rattle.certificate_text.specs.Forms.{then, when, number, identifier_of, form_of}
-use Rattle.certificate_text.specs.Lines.{Item, PlaceItem, SameItem, FactItem, CongruenceItem, BoundItem, EntryItem, StepItem, EndItem, at_least, anchor_of, spot_of, congruence_of, descent_of, bound_of, sort_of, entry_of, scaled_of, line_is_before, sum_of, given_of, item_of}
+use Rattle.certificate_text.specs.Certificate.{Name, Anchor, KernelEntry, Barrier, Spot, Congruence, Multiple, Descent, Down, Halve, Double, Bound, EntrySort, Show, Positive, Negative, Quotient, Scaled, Step, Given, Sum, Divide, Product}
+use Rattle.certificate_text.specs.Text.{term_text, form_text, anchor_text, head_text, place_line, congruence_line, multiple_line, descent_text, bound_line, sort_text, entry_line, lemma_line, scaled_text, step_line}
+use Rattle.certificate_text.specs.Forms.{then, when, number, identifier_of, form, constant_of, form_of}
+use Rattle.certificate_text.specs.Lines.{Item, PlaceItem, SameItem, FactItem, CongruenceItem, MultipleItem, BoundItem, EntryItem, LemmaItem, MainItem, StepItem, EndItem, at_least, anchor_of, spot_of, congruence_of, multiple_of, descent_of, bound_of, sort_of, entry_of, scaled_of, line_is_before, sum_of, given_of, product_of, item_of}
 use Rattle.certificate_text.specs.Rules.{all, rises, is_form, is_anchor, is_head, is_spot, is_congruence, is_descent, is_bound, is_sort, is_scaled, is_step}
 use Rattle.texts.specs.Lines.{is_natural, is_integer}
 use Rattle.texts.proofs.Fits.{both}
+use Rattle.certificate_text.proofs.Cuts.{none_left}
 use Rattle.texts.proofs.Decimals.{natural_forth, integer_forth}
-use Rattle.certificate_text.proofs.FormsWritten.{is_free, is_plain, cut_one, cut_at, all_append, plain_free, natural_plain, integer_plain, identifier_plain, identifier_forth, form_forth, rises_follow, moved}
+use Rattle.certificate_text.proofs.NamesWritten.{is_free, is_plain, cut_one, cut_at, all_append, plain_free, natural_plain, integer_plain, identifier_plain, identifier_forth}
+use Rattle.certificate_text.proofs.FormsWritten.{form_forth, rises_follow, moved}
 use Rattle.certificate_text.specs.Items.{item_line}
-use Rattle.certificate_text.proofs.ItemsRead.{is_item}
+use Rattle.certificate_text.proofs.PartsRead.{is_constant, is_item}
 
 natural_free : (c n : ℕ) → is_plain c ≡ false → is_natural n ≡ true → is_free c (decimal n) ≡ true
 natural_free c n p h = plain_free c (decimal n) p (natural_plain n h)
@@ -96,7 +98,7 @@ descent_forth (Double least) rest h =
     let p = both (is_natural least) (nat_le 1 least) h in
     (codes "double", decimal least ∷ pieces 32 rest, ap (λ ws. codes "double" ∷ ws) (natural_word least rest p.0), rw (least_read 1 least p.0 p.1) refl)
 
-bound_read : (ws : List (List ℕ)) (b : Bound) (w : List ℕ) (vs : List (List ℕ)) (rest : List (List ℕ)) → is_natural b.loop ≡ true → is_integer b.most ≡ true → ws ≡ decimal b.loop ∷ w ∷ vs → descent_of w vs ≡ Some (b.descent, signed_decimal b.most ∷ rest) → form_of [] None rest ≡ Some b.form → bound_of ws ≡ Some b
+bound_read : (ws : List (List ℕ)) (b : Bound) (w : List ℕ) (vs : List (List ℕ)) (rest : List (List ℕ)) → is_natural b.loop ≡ true → is_integer b.most ≡ true → ws ≡ decimal b.loop ∷ w ∷ vs → descent_of w vs ≡ Some (b.descent, signed_decimal b.most ∷ rest) → form_of [] rest ≡ Some b.form → bound_of ws ≡ Some b
 unfolding bound_of
 bound_read ws b w vs rest n m e d f = rw (e, natural_read b.loop n, d, integer_read b.most m, f) refl
 
@@ -170,9 +172,40 @@ step_forth (Sum parts) h =
     let p = both (all is_scaled parts) (rises line_is_before parts && not (is_empty parts)) h in
     let q = both (rises line_is_before parts) (not (is_empty parts)) p.1 in
     ap item_of (part_cut (codes "s") parts refl p.0) ∙ ap (option_map StepItem) (sum_forth [] parts p.0 q.0 q.1)
+step_forth (Product f l) h =
+    let p = both (is_integer f) (is_integer l) h in
+    ap (λ ws. option_map StepItem (product_of ws)) (integer_word f (signed_decimal l) p.0 ∙ ap (λ ws. signed_decimal f ∷ ws) (cut_one 32 (signed_decimal l) (integer_free 32 l refl p.1)))
+    ∙ rw (integer_read f p.0, integer_read l p.1) refl
 step_forth (Divide s) h =
     let c = part_cut (codes "d") (s ∷ []) refl (rw h refl) in
     ap (λ t. item_of (words (codes "d" ++ t))) (sym (append-nil (scaled_text s))) ∙ ap item_of c ∙ ap (λ o. option_map StepItem (option_map Divide o)) (scaled_read s h)
+
+-- a form without terms is its number
+constant_is : (f : Form Name) → is_constant f ≡ true → form_text f ≡ signed_decimal f.constant
+constant_is f h = ap (λ ts. flat_map term_text ts ++ signed_decimal f.constant) (none_left f.terms (both (is_empty f.terms) (is_integer f.constant) h).0)
+
+constant_forth : (f : Form Name) → is_constant f ≡ true → constant_of [] (signed_decimal f.constant) ≡ Some f
+constant_forth f h =
+    let p = both (is_empty f.terms) (is_integer f.constant) h in
+    ap (option_map (form [])) (integer_read f.constant p.1) ∙ ap (λ ts. Some (form ts f.constant)) (sym (none_left f.terms p.0))
+
+multiple_read : (ws : List (List ℕ)) (m : Multiple) → ws ≡ signed_decimal m.form.constant ∷ codes "of" ∷ signed_decimal m.of.constant ∷ [] → is_constant m.form ≡ true → is_constant m.of ≡ true → multiple_of ws ≡ Some m
+unfolding multiple_of
+multiple_read ws m e f g = rw (e, constant_forth m.form f, constant_forth m.of g) refl
+
+multiple_forth : (m : Multiple) → is_item (MultipleItem m) ≡ true → item_of (words (multiple_line m)) ≡ Some (MultipleItem m)
+unfolding item_of
+multiple_forth m h =
+    let p = both (is_constant m.form) (is_constant m.of) h in
+    let f = (both (is_empty m.form.terms) (is_integer m.form.constant) p.0).1 in
+    let g = (both (is_empty m.of.terms) (is_integer m.of.constant) p.1).1 in
+    let text : form_text m.form ++ (codes " of " ++ form_text m.of) ≡ signed_decimal m.form.constant ++ (codes " of " ++ signed_decimal m.of.constant) = ap (λ t. t ++ (codes " of " ++ form_text m.of)) (constant_is m.form p.0) ∙ ap (λ t. signed_decimal m.form.constant ++ (codes " of " ++ t)) (constant_is m.of p.1) in
+    let cut = ap (pieces 32) text ∙ integer_word m.form.constant (codes "of " ++ signed_decimal m.of.constant) f ∙ ap (λ ws. signed_decimal m.form.constant ∷ codes "of" ∷ ws) (cut_one 32 (signed_decimal m.of.constant) (integer_free 32 m.of.constant refl g)) in
+    ap (λ ws. option_map MultipleItem (multiple_of ws)) cut ∙ ap (option_map MultipleItem) (multiple_read _ m refl p.0 p.1)
+
+lemma_forth : (f : Form Name) → is_form f ≡ true → item_of (words (lemma_line f)) ≡ Some (LemmaItem f)
+unfolding item_of
+lemma_forth f h = ap (option_map LemmaItem) (form_forth f h)
 
 pub item_forth : (i : Item) → is_item i ≡ true → item_of (words (item_line i)) ≡ Some i
 unfolding item_of
@@ -180,7 +213,10 @@ item_forth (PlaceItem s) h = place_forth s h
 item_forth (SameItem name) h = same_forth name h
 item_forth (FactItem f) h = fact_forth f h
 item_forth (CongruenceItem c) h = congruence_forth c h
+item_forth (MultipleItem m) h = multiple_forth m h
 item_forth (BoundItem b) h = bound_forth b h
 item_forth (EntryItem n sort) h = entry_forth n sort h
+item_forth (LemmaItem f) h = lemma_forth f h
+item_forth MainItem h = refl
 item_forth (StepItem s) h = step_forth s h
 item_forth EndItem h = refl

@@ -1,109 +1,44 @@
 -- A text of version 2 or 4 is that of the certificate that it says.
-use Rattle.std.proofs.Common.{◌≡◌, ℕ, suc, ◌+◌, ◌≤◌, Bool, true, false, not, ◌&&◌, List, [], ◌∷◌, ◌++◌, length, map, Option, None, Some, Ok, Err, refl, ap, sym, subst, ◌∙◌, append_assoc, arith}
-use Rattle.std.specs.Prelude.{ℤ, pos, codes, bytes_eq, nat_eq, nat_le, nat_lt, max, fold}
+use Rattle.std.proofs.Common.{◌≡◌, ℕ, suc, ◌+◌, Bool, true, false, not, ◌&&◌, ◌||◌, List, [], ◌∷◌, ◌++◌, length, map, Option, None, Some, Ok, Err, refl, ap, sym, subst, ◌∙◌, append_assoc, arith}
+use Rattle.std.specs.Prelude.{ℤ, pos, codes, bytes_eq, nat_eq, nat_lt, fold}
 use Rattle.std.specs.Fmt.{signed_decimal}
-use Rattle.std.specs.List.{join_with_byte, filter_map, cons_option}
+use Rattle.std.specs.List.{join_with_byte}
 use Rattle.std.proofs.lemmas.Bool.{cond_both}
 use Rattle.std.proofs.lemmas.Bool.Decides.{Decides-int_eq}
 use Rattle.std.proofs.lemmas.Fmt.{decimal_digit}
-use Rattle.std.proofs.lemmas.Grind.{flat_map-append, fold-append}
+use Rattle.std.proofs.lemmas.Grind.{flat_map-append}
 use Rattle.std.proofs.lemmas.List.{append-nil, length-append, map_push}
-use Rattle.std.proofs.lemmas.List.Elements.{filter_map-append}
 use Rattle.std.proofs.lemmas.List.Splits.{join_with_byte-slice_split}
 use Rattle.std.proofs.lemmas.Slice.Eq.{bytes_eq-Decides}
 use Rattle.linear.specs.Linear.{Form}
 use Rattle.texts.specs.Lines.{is_empty, two, pieces, words, text_of_lines, integer_of}
 use Rattle.certificate_text.specs.Certificate.{Name, Certificate, BadLine, OtherVersion}
-use Rattle.certificate_text.specs.Text.{body_lines}
 use Rattle.certificate_text.specs.Forms.{number, form_of}
 use Rattle.certificate_text.specs.Lines.{Item, EndItem, item_of}
-use Rattle.certificate_text.specs.Drafts.{begun, add}
-use Rattle.certificate_text.specs.Reading.{Read, is_ended, version_of, unless, certificate_limit}
-use Rattle.certificate_text.specs.Rules.{all, is_form, is_certificate, is_any_certificate, is_wide_certificate}
-use Rattle.certificate_text.specs.Items.{items_of, item_line, form_in, put_form}
-use Rattle.certificate_text.specs.FormTables.{FormTable, has_form, with_form, form_at}
-use Rattle.certificate_text.specs.NumberedText.{forms_in, forms_of, number_form, numbered_by, numbered, numbered_line, table_line, lines_of_two, text_of_two, text_of_four}
-use Rattle.certificate_text.specs.NumberedReading.{number_in, allowed_form, filled_by, filled, NumberedDraft, numbered_draft, add_filled, add_numbered, all_used, finish_numbered, go_to, read_numbered, table_words, add_form, by_table_words, read_table, is_version, numbered_head, read_numbered_text, numbered_certificate, certificate_of_two, certificate_of_four}
+use Rattle.certificate_text.specs.Drafts.{begun}
+use Rattle.certificate_text.specs.Reading.{Read, add_fitting, is_ended, version_of, unless, certificate_limit}
+use Rattle.certificate_text.specs.Rules.{is_form, is_narrow_form, is_certificate, is_any_certificate, is_wide_certificate}
+use Rattle.certificate_text.specs.Items.{items_of, item_line, line_forms}
+use Rattle.certificate_text.specs.FormTables.{FormTable, has_form, with_form}
+use Rattle.certificate_text.specs.NumberedText.{forms_in, forms_of, numbered_line, table_line, lines_of_two, text_of_two, text_of_four}
+use Rattle.certificate_text.specs.NumberedReading.{filled, NumberedDraft, numbered_draft, add_filled, add_numbered, all_used, finish_numbered, go_to, read_numbered, table_words, add_form, by_table_words, read_table, is_version, numbered_head, read_numbered_text, numbered_certificate, certificate_of_two, certificate_of_four}
 use Rattle.texts.proofs.Fits.{both}
 use Rattle.texts.proofs.Decimals.{integer_back}
-use Rattle.certificate_text.proofs.Cuts.{spaced, pieces_back, then_back, when_back, cond_back, number_back, two_back, all_push}
-use Rattle.certificate_text.proofs.ItemsRead.{is_item, item_back, andt, same, none_left, whole_back}
-use Rattle.certificate_text.proofs.DraftsRead.{IsDraft, draft_lines, add_kind, add_back}
-use Rattle.certificate_text.proofs.Read.{joined_more, lines_push, is_open_end, unless_back, nothing_read, narrow}
-use Rattle.certificate_text.proofs.Tables.{le_back, eq_back, denied, is_fresh, fresh_push, all_at, at_place, Grown, grown_back}
-use Rattle.certificate_text.proofs.Tables as tables
+use Rattle.certificate_text.proofs.Cuts.{spaced, pieces_back, then_back, when_back, cond_back, number_back, two_back, all_push, none_left}
+use Rattle.certificate_text.proofs.ItemsRead.{item_part, item_back}
+use Rattle.certificate_text.proofs.PartsRead.{andt, same}
+use Rattle.certificate_text.proofs.PartsRead.{whole_back}
+use Rattle.certificate_text.proofs.DraftsRead.{IsRead, draft_items, add_fitting_back}
+use Rattle.certificate_text.proofs.Read.{joined_more, lines_push, ended_items, ended_good, unless_back, nothing_read, narrow}
+use Rattle.certificate_text.proofs.Tables.{eq_back, denied, fresh_push}
 use Rattle.certificate_text.proofs.FirstLines.{number_of_version, first_line, numbered_text}
-use Rattle.certificate_text.proofs.ItemsNumbered.{lines_are, items_good, same_items, form_put, put_back, put_good, number_in_back}
-
--- a table as it is read
-pub record IsTable (forms : FormTable) : Type 0 where
-  pub good : all is_form forms ≡ true
-  pub fresh : is_fresh [] forms ≡ true
-
--- the forms that one line more uses
-pub forms_push : (items : List Item) (i : Item) → forms_in (items ++ i ∷ []) ≡ fold with_form (forms_in items) (filter_map form_in (i ∷ []))
-forms_push items i =
-    ap (fold with_form []) (filter_map-append form_in items (i ∷ [])) ∙ fold-append with_form [] (filter_map form_in items) (filter_map form_in (i ∷ []))
-
-abbrev pub used_by : FormTable → Option (Form Name) → FormTable
-used_by seen None = seen
-used_by seen (Some f) = with_form seen f
-
-pub used_is : (seen : FormTable) (o : Option (Form Name)) → fold with_form seen (cons_option o []) ≡ used_by seen o
-used_is seen None = refl
-used_is seen (Some f) = refl
-
--- what an item is that was filled: with its number it is what was read
-record IsFilled (forms seen : FormTable) (raw : Item) (n : ℕ) (i : Item) : Type 0 where
-  number : numbered forms i ≡ raw
-  good : is_item i ≡ true
-  left : FormTable
-  table : forms ≡ used_by seen (form_in i) ++ left
-  used : length (used_by seen (form_in i)) ≡ n
-
-below_seen : (n u m : ℕ) → nat_le n (u + 1) ≡ true → m ≡ u → n ≤ m + 1
-below_seen n u m h e = let b = le_back n (u + 1) h in omega (arith, b, e)
-
--- a table with the forms that are used so far in front
-filled_form : (forms seen left : FormTable) (raw : Item) (number : Form Name) (u n : ℕ) (f : Form Name) → IsTable forms → forms ≡ seen ++ left → length seen ≡ u → is_item raw ≡ true → form_in raw ≡ Some number → number ≡ number_form n → allowed_form forms u n ≡ Some f → IsFilled forms seen raw (max u n) (put_form f raw)
-filled_form forms seen left raw number u n f t split l g o same_number e =
-    let c = cond_back (nat_le n (u + 1)) (form_at forms n) f e in
-    let below = below_seen n u (length seen) c.0 l in
-    let k = at_place forms n f c.1 in
-    let fine = all_at is_form forms k.0 f t.good k.2 in
-    let r = grown_back forms seen left f n t.fresh split below c.1 in
-    let own = form_put f number raw o in
-    record {
-      number = ap (numbered_by forms (put_form f raw)) own ∙ ap (λ m. put_form (number_form m) (put_form f raw)) (tables.number_back forms n f t.fresh c.1) ∙ ap (λ h. put_form h (put_form f raw)) (sym same_number) ∙ put_back f number raw o;
-      good = put_good f raw fine g;
-      left = r.left;
-      table = r.table ∙ ap (λ p. used_by seen p ++ r.left) (sym own);
-      used = ap (λ p. length (used_by seen p)) own ∙ r.used ∙ ap (λ m. max m n) l;
-    }
-
-filled_by_back : (forms seen left : FormTable) (raw : Item) (u : ℕ) (o : Option (Form Name)) (r : ℕ × Item) → IsTable forms → forms ≡ seen ++ left → length seen ≡ u → is_item raw ≡ true → form_in raw ≡ o → filled_by forms u raw o ≡ Some r → IsFilled forms seen raw r.0 r.1
-filled_by_back forms seen left raw u None r t split l g o e =
-    let q : (u, raw) ≡ r = same (u, raw) r e in
-    let made : IsFilled forms seen raw u raw = record {
-      number = ap (numbered_by forms raw) o;
-      good = g;
-      left = left;
-      table = split ∙ ap (λ p. used_by seen p ++ left) (sym o);
-      used = ap (λ p. length (used_by seen p)) o ∙ l;
-    } in
-    subst (λ (p : ℕ × Item). IsFilled forms seen raw p.0 p.1) q made
-filled_by_back forms seen left raw u (Some number) r t split l g o e =
-    let n = then_back (number_in number) _ r e in
-    let f = then_back (allowed_form forms u n.0) _ r n.2 in
-    let made = filled_form forms seen left raw number u n.0 f.0 t split l g o (number_in_back number n.0 n.1) f.1 in
-    subst (λ (p : ℕ × Item). IsFilled forms seen raw p.0 p.1) (same (max u n.0, put_form f.0 raw) r f.2) made
+use Rattle.certificate_text.proofs.ItemsFilled.{IsTable, forms_push, filled_back}
 
 -- what was read behind the table: its items, whose forms stand in front in the table
 pub record IsNumbered (is_wide : Bool) (forms : FormTable) (d : NumberedDraft) (items : List Item) : Type 0 where
-  pub draft : IsDraft d.read
+  pub draft : IsRead d.read
   pub kind : d.read.settled.is_wide ≡ is_wide
-  pub lines : draft_lines d.read ≡ map item_line items
-  pub good : all is_item items ≡ true
+  pub items_are : draft_items d.read ≡ items
   pub left : FormTable
   pub table : forms ≡ forms_in items ++ left
   pub used : length (forms_in items) ≡ d.used
@@ -119,15 +54,14 @@ add_numbered_back is_wide forms d items line e t h q =
     let raw = then_back (item_of (words line)) _ e q in
     let b = item_back line raw.0 raw.1 in
     let r = then_back (filled forms d.used raw.0) (add_filled d.read) e raw.2 in
-    let f = filled_by_back forms (forms_in items) h.left raw.0 d.used (form_in raw.0) r.0 t h.table h.used b.1 refl r.1 in
-    let a = then_back (add d.read r.0.1) _ e r.2 in
-    let x = add_back d.read r.0.1 a.0 h.draft f.good a.1 in
-    let grown : forms_in (items ++ r.0.1 ∷ []) ≡ used_by (forms_in items) (form_in r.0.1) = forms_push items r.0.1 ∙ used_is (forms_in items) (form_in r.0.1) in
+    let f = filled_back forms (forms_in items) h.left raw.0 d.used r.0 t h.table h.used (item_part raw.0 b.1) r.1 in
+    let a = then_back (add_fitting d.read r.0.1) _ e r.2 in
+    let x = add_fitting_back d.read r.0.1 a.0 h.draft f.good a.1 in
+    let grown : forms_in (items ++ r.0.1 ∷ []) ≡ fold with_form (forms_in items) (line_forms r.0.1) = forms_push items r.0.1 in
     let made : IsNumbered is_wide forms (numbered_draft r.0.0 a.0) (items ++ r.0.1 ∷ []) = record {
-      draft = x.0;
-      kind = add_kind d.read r.0.1 a.0 a.1 ∙ h.kind;
-      lines = x.1 ∙ ap (λ ls. ls ++ item_line r.0.1 ∷ []) h.lines ∙ sym (map_push item_line items r.0.1);
-      good = all_push is_item items r.0.1 h.good f.good;
+      draft = x.read;
+      kind = x.kind ∙ h.kind;
+      items_are = x.items ∙ ap (λ is. is ++ r.0.1 ∷ []) h.items_are;
       left = f.left;
       table = f.table ∙ ap (λ s. s ++ f.left) (sym grown);
       used = ap length grown ∙ f.used;
@@ -139,7 +73,7 @@ add_numbered_back is_wide forms d items line e t h q =
     }
 
 nothing_numbered : (is_wide : Bool) (forms : FormTable) → IsNumbered is_wide forms (numbered_draft 0 (begun is_wide)) []
-nothing_numbered is_wide forms = record { draft = nothing_read is_wide; kind = refl; lines = refl; good = refl; left = forms; table = refl; used = refl }
+nothing_numbered is_wide forms = record { draft = nothing_read is_wide; kind = refl; items_are = refl; left = forms; table = refl; used = refl }
 
 abbrev pub numbered_lines : FormTable → List Item → List (List ℕ)
 numbered_lines forms items = map (numbered_line forms) items
@@ -176,16 +110,12 @@ end_numbered forms items = forms_push items EndItem
 -- all lines are read
 ended : (is_wide : Bool) (forms : FormTable) (d : NumberedDraft) (items : List Item) (c : Certificate) → IsNumbered is_wide forms d items → is_ended d.read.opened ≡ true → d.used ≡ length forms → d.read.settled ≡ c → Ends is_wide forms (text_of_lines (numbered_lines forms items)) [] c
 ended is_wide forms d items c h e u s =
-    let good : is_any_certificate c ≡ true = ap is_any_certificate (sym s) ∙ h.draft.settled in
-    let lines : map item_line items ≡ map item_line (items_of c ++ EndItem ∷ []) =
-    sym h.lines ∙ ap (λ ls. body_lines d.read.settled ++ ls) (is_open_end d.read.opened e) ∙ ap (λ x. body_lines x ++ codes "end" ∷ []) s ∙ ap (λ ls. ls ++ codes "end" ∷ []) (sym (lines_are c)) ∙ sym (map_push item_line (items_of c) EndItem)
-    in
-    let all_of : items ≡ items_of c ++ EndItem ∷ [] = same_items items (items_of c ++ EndItem ∷ []) h.good (all_push is_item (items_of c) EndItem (items_good c good) refl) lines in
+    let all_of : items ≡ items_of c ++ EndItem ∷ [] = sym h.items_are ∙ ended_items d.read c e s in
     let none : h.left ≡ [] = no_more (forms_in items) h.left d.used h.used (u ∙ ap length h.table) in
     record {
       table = sym (end_numbered forms (items_of c)) ∙ ap forms_in (sym all_of) ∙ sym (append-nil (forms_in items)) ∙ ap (λ l. forms_in items ++ l) (sym none) ∙ sym h.table;
       text = append-nil (text_of_lines (numbered_lines forms items)) ∙ ap (λ is. text_of_lines (numbered_lines forms is)) all_of ∙ ap text_of_lines (map_push (numbered_line forms) (items_of c) EndItem);
-      good = good;
+      good = ended_good d.read c h.draft s;
       kind = ap (λ (x : Certificate). x.is_wide) (sym s) ∙ h.kind;
     }
 
@@ -214,7 +144,7 @@ read_numbered_back is_wide forms n d items (line ∷ others) c t h =
     })
 
 -- a line of the table is that of its form
-pub table_line_back : (line : List ℕ) (ws : List (List ℕ)) (f : Form Name) → table_words (words line) ≡ Some ws → form_of [] None ws ≡ Some f → (table_line f ≡ line) × (is_form f ≡ true)
+pub table_line_back : (line : List ℕ) (ws : List (List ℕ)) (f : Form Name) → table_words (words line) ≡ Some ws → form_of [] ws ≡ Some f → (table_line f ≡ line) × (is_form f ≡ true)
 table_line_back line ws f p q = by_words (words line) refl p
   where
     by_words : (all_of : List (List ℕ)) → words line ≡ all_of → table_words all_of ≡ Some ws → (table_line f ≡ line) × (is_form f ≡ true)
@@ -231,12 +161,13 @@ pub record Adds (forms : FormTable) (line : List ℕ) (more : FormTable) : Type 
   pub line_is : table_line form ≡ line
   pub table : IsTable more
 
-pub add_form_back : (forms : FormTable) (line : List ℕ) (ws : List (List ℕ)) (more : FormTable) → IsTable forms → table_words (words line) ≡ Some ws → add_form forms ws ≡ Some more → Adds forms line more
-add_form_back forms line ws more t p q =
-    let f = then_back (form_of [] None ws) _ more q in
-    let a = when_back (not (has_form forms f.0)) (forms ++ f.0 ∷ []) more f.2 in
+pub add_form_back : (is_wide : Bool) (forms : FormTable) (line : List ℕ) (ws : List (List ℕ)) (more : FormTable) → IsTable forms → table_words (words line) ≡ Some ws → add_form is_wide forms ws ≡ Some more → Adds forms line more
+add_form_back is_wide forms line ws more t p q =
+    let f = then_back (form_of [] ws) _ more q in
+    let a = when_back ((is_wide || is_narrow_form f.0) && not (has_form forms f.0)) (forms ++ f.0 ∷ []) more f.2 in
+    let new = both (is_wide || is_narrow_form f.0) (not (has_form forms f.0)) a.0 in
     let b = table_line_back line ws f.0 p f.1 in
-    let made : IsTable (forms ++ f.0 ∷ []) = record { good = all_push is_form forms f.0 t.good b.1; fresh = fresh_push [] forms f.0 t.fresh (denied (has_form forms f.0) a.0) } in
+    let made : IsTable (forms ++ f.0 ∷ []) = record { good = all_push is_form forms f.0 t.good b.1; fresh = fresh_push [] forms f.0 t.fresh (denied (has_form forms f.0) new.1) } in
     record { form = f.0; more_is = sym a.1; line_is = b.0; table = subst IsTable a.1 made }
 
 -- what is left to read of the table and behind it
@@ -252,12 +183,12 @@ table_ended is_wide forms rest c h = record {
   kind = h.kind;
 }
 
-table_line_read : (is_wide : Bool) (forms : FormTable) (n : ℕ) (line : List ℕ) (others : List (List ℕ)) (c : Certificate) → IsTable forms → is_empty others ≡ false → ((more : FormTable) → IsTable more → read_table is_wide more (suc n) others ≡ Ok c → EndsTable is_wide (text_of_lines (map table_line more)) (join_with_byte 10 others) c) → (o : Option (List (List ℕ))) → table_words (words line) ≡ o → by_table_words o (read_numbered forms n (numbered_draft 0 (begun is_wide)) (line ∷ others)) (λ ws. go_to n (add_form forms ws) (λ more. read_table is_wide more (suc n) others)) ≡ Ok c → EndsTable is_wide (text_of_lines (map table_line forms)) (join_with_byte 10 (line ∷ others)) c
+table_line_read : (is_wide : Bool) (forms : FormTable) (n : ℕ) (line : List ℕ) (others : List (List ℕ)) (c : Certificate) → IsTable forms → is_empty others ≡ false → ((more : FormTable) → IsTable more → read_table is_wide more (suc n) others ≡ Ok c → EndsTable is_wide (text_of_lines (map table_line more)) (join_with_byte 10 others) c) → (o : Option (List (List ℕ))) → table_words (words line) ≡ o → by_table_words o (read_numbered forms n (numbered_draft 0 (begun is_wide)) (line ∷ others)) (λ ws. go_to n (add_form is_wide forms ws) (λ more. read_table is_wide more (suc n) others)) ≡ Ok c → EndsTable is_wide (text_of_lines (map table_line forms)) (join_with_byte 10 (line ∷ others)) c
 table_line_read is_wide forms n line others c t e back None w q =
     table_ended is_wide forms (join_with_byte 10 (line ∷ others)) c (read_numbered_back is_wide forms n (numbered_draft 0 (begun is_wide)) [] (line ∷ others) c t (nothing_numbered is_wide forms) q)
 table_line_read is_wide forms n line others c t e back (Some ws) w q =
-    let g = went_to n (add_form forms ws) (λ more. read_table is_wide more (suc n) others) c q in
-    let a = add_form_back forms line ws g.0 t w g.1 in
+    let g = went_to n (add_form is_wide forms ws) (λ more. read_table is_wide more (suc n) others) c q in
+    let a = add_form_back is_wide forms line ws g.0 t w g.1 in
     let r = back g.0 a.table g.2 in
     let lines : map table_line g.0 ≡ map table_line forms ++ line ∷ [] = ap (map table_line) a.more_is ∙ map_push table_line forms a.form ∙ ap (λ l. map table_line forms ++ l ∷ []) a.line_is in
     record {
@@ -269,7 +200,7 @@ table_line_read is_wide forms n line others c t e back (Some ws) w q =
 pub read_table_back : (is_wide : Bool) (forms : FormTable) (n : ℕ) (ls : List (List ℕ)) (c : Certificate) → IsTable forms → read_table is_wide forms n ls ≡ Ok c → EndsTable is_wide (text_of_lines (map table_line forms)) (join_with_byte 10 ls) c
 read_table_back is_wide forms n [] c t = λ q. absurd cc
 read_table_back is_wide forms n (line ∷ others) c t =
-    cond_both (is_empty others) (Err (BadLine n)) (by_table_words (table_words (words line)) (read_numbered forms n (numbered_draft 0 (begun is_wide)) (line ∷ others)) (λ ws. go_to n (add_form forms ws) (λ more. read_table is_wide more (suc n) others))) (λ r. r ≡ Ok c → EndsTable is_wide (text_of_lines (map table_line forms)) (join_with_byte 10 (line ∷ others)) c)
+    cond_both (is_empty others) (Err (BadLine n)) (by_table_words (table_words (words line)) (read_numbered forms n (numbered_draft 0 (begun is_wide)) (line ∷ others)) (λ ws. go_to n (add_form is_wide forms ws) (λ more. read_table is_wide more (suc n) others))) (λ r. r ≡ Ok c → EndsTable is_wide (text_of_lines (map table_line forms)) (join_with_byte 10 (line ∷ others)) c)
     (λ e q. absurd cc)
     (λ e q. table_line_read is_wide forms n line others c t e (λ more u r. read_table_back is_wide more (suc n) others c u r) (table_words (words line)) refl q)
 

@@ -16,7 +16,7 @@ use Rattle.certificate_text.specs.Rules.{all, is_form}
 use Rattle.certificate_text.specs.FormTables.{FormTable, is_same_form, has_form, with_form, number_of, form_at}
 use Rattle.texts.proofs.Fits.{both}
 use Rattle.certificate_text.proofs.FormsWritten.{form_forth, moved}
-use Rattle.certificate_text.proofs.ItemsRead.{same}
+use Rattle.certificate_text.proofs.PartsRead.{same}
 
 pub told : (b : Bool) → (b ≡ true) ⊎ (b ≡ false)
 told true = inl refl
@@ -38,7 +38,7 @@ eq_back n k h = grind (arith, nat_tests)
 -- forms that are written alike are one form
 pub same_form : (f g : Form Name) → is_form f ≡ true → is_form g ≡ true → is_same_form f g ≡ true → f ≡ g
 same_form f g p q e =
-    same f g (sym (form_forth f p) ∙ ap (λ t. form_of [] None (pieces 32 t)) ((bytes_eq-Decides (form_text f) (form_text g)).0 e) ∙ form_forth g q)
+    same f g (sym (form_forth f p) ∙ ap (λ t. form_of [] (pieces 32 t)) ((bytes_eq-Decides (form_text f) (form_text g)).0 e) ∙ form_forth g q)
 
 pub form_itself : (f : Form Name) → is_same_form f f ≡ true
 form_itself f = (bytes_eq-Decides (form_text f) (form_text f)).1 refl

@@ -1,31 +1,36 @@
 -- A certificate is read of its text.
-use Rattle.std.proofs.Common.{◌≡◌, ℕ, suc, ◌≤◌, Bool, true, false, not, nat_eq, ◌&&◌, List, [], ◌∷◌, ◌++◌, length, map, Option, None, Some, Ok, refl, ap, sym, subst, ◌∙◌, append_assoc, arith}
+use Rattle.std.proofs.Common.{◌≡◌, ℕ, suc, ◌≤◌, true, false, not, nat_eq, ◌||◌, List, [], ◌∷◌, ◌++◌, length, map, Option, None, Some, Ok, refl, ap, sym, subst, ◌∙◌, append_assoc, arith}
 use Rattle.std.specs.Prelude.{ℤ, pos, codes, nat_lt, nat_le}
 use Rattle.std.specs.List.{flat_map}
 use Rattle.std.specs.Fmt.{decimal, signed_decimal}
-use Rattle.std.proofs.lemmas.Bool.{cond-true, cond-false}
+use Rattle.std.proofs.lemmas.Bool.{cond-false}
 use Rattle.std.proofs.lemmas.Bool.Decides.{nat_tests}
 use Rattle.std.proofs.lemmas.Fmt.{decimal_digit}
-use Rattle.std.proofs.lemmas.List.{append-nil}
+use Rattle.std.proofs.lemmas.List.{map_push}
 use Rattle.linear.specs.Linear.{Weighted, Form}
-use Rattle.texts.specs.Lines.{integer_of, is_empty, follows, pieces, words, text_of_lines}
-use Rattle.certificate_text.specs.Certificate.{Name, Anchor, KernelEntry, Barrier, Spot, Congruence, Place, Descent, Down, Halve, Double, Bound, EntrySort, Show, Positive, Negative, Quotient, Scaled, Step, Given, Sum, Divide, Entry, Certificate}
-use Rattle.certificate_text.specs.Text.{name_text, term_text, form_text, anchor_text, head_text, place_line, same_line, fact_line, congruence_line, place_lines, descent_text, bound_line, sort_text, entry_line, scaled_text, step_line, entry_lines, body_lines, text_of}
-use Rattle.certificate_text.specs.Forms.{then, when, number}
-use Rattle.texts.specs.Identifiers.{is_identifier}
-use Rattle.certificate_text.specs.Lines.{Item, PlaceItem, SameItem, FactItem, CongruenceItem, BoundItem, EntryItem, StepItem, EndItem}
-use Rattle.certificate_text.specs.Drafts.{bound_is_behind, entry_is_behind, Nothing, InPlace, InEntry, Ended, Draft, draft, certificate_with, begun, nothing_yet, has_line, settle, place_fits, descent_fits, place_at, entry_at, add}
-use Rattle.certificate_text.specs.Reading.{add_line, finish, go_on, read_lines, unless, head_of_version, head_fault, read_text, certificate_limit, certificate_of}
-use Rattle.certificate_text.specs.Rules.{all, rises, is_name, is_term, is_form, is_anchor, is_head, is_spot, is_congruence, is_open_place, is_place, is_descent, is_bound, is_bound_in, is_sort, is_scaled, is_step, is_entry, place_is_before, bound_is_before, entry_is_before, is_certificate, is_any_certificate}
-use Rattle.texts.specs.Lines.{is_natural, is_integer}
+use Rattle.texts.specs.Lines.{integer_of, is_empty, pieces, words, text_of_lines, is_natural, is_integer}
+use Rattle.certificate_text.specs.Certificate.{Name, Anchor, KernelEntry, Barrier, Descent, Down, Halve, Double, EntrySort, Show, Positive, Negative, Quotient, Scaled, Given, Sum, Divide, Product, Certificate}
+use Rattle.certificate_text.specs.Text.{name_text, term_text, form_text, anchor_text, head_text, descent_text, sort_text, scaled_text, body_lines, text_of}
+use Rattle.certificate_text.specs.Forms.{then, number}
+use Rattle.certificate_text.specs.Lines.{Item, PlaceItem, SameItem, FactItem, CongruenceItem, MultipleItem, BoundItem, EntryItem, LemmaItem, MainItem, StepItem, EndItem}
+use Rattle.certificate_text.specs.Drafts.{Ended, Draft, draft, begun, nothing_yet, add}
+use Rattle.certificate_text.specs.Reading.{add_fitting, add_line, finish, go_on, read_lines, unless, head_of_version, head_fault, read_text, certificate_limit, certificate_of}
+use Rattle.certificate_text.specs.Rules.{all, is_name, is_term, is_form, is_anchor, is_head, is_descent, is_sort, is_scaled, is_narrow, is_narrow_item, is_written, is_certificate, is_any_certificate}
 use Rattle.texts.proofs.Fits.{both}
 use Rattle.texts.proofs.Decimals.{integer_forth}
-use Rattle.certificate_text.proofs.FormsWritten.{is_free, cut_at, all_append, plain_free, natural_plain, integer_plain, identifier_plain, name_plain, rises_follow, moved}
-use Rattle.certificate_text.specs.Items.{item_line}
-use Rattle.certificate_text.proofs.ItemsRead.{is_item, andt}
+use Rattle.certificate_text.proofs.Cuts.{then_back, all_push}
+use Rattle.certificate_text.proofs.NamesWritten.{is_free, cut_at, all_append, plain_free, natural_plain, integer_plain, identifier_plain, name_free}
+use Rattle.certificate_text.specs.Items.{items_of, item_line}
+use Rattle.certificate_text.proofs.PartsRead.{is_constant, is_item}
+use Rattle.certificate_text.proofs.ItemsRead.{item_part, constant_form}
+use Rattle.certificate_text.proofs.PartsRead.{andt, same}
 use Rattle.certificate_text.proofs.ItemsWritten.{item_forth}
+use Rattle.certificate_text.proofs.ItemsNumbered.{lines_are, items_good, narrow_items}
+use Rattle.certificate_text.proofs.ItemsAdded.{add_all, all_added, fitting, end_fits}
+use Rattle.certificate_text.proofs.Narrowness.{fits_in, Fits, items_narrow, items_fit}
+use Rattle.certificate_text.proofs.DraftsRead.{IsDraft, add_back}
+use Rattle.certificate_text.proofs.Read.{nothing_read}
 use Rattle.certificate_text.proofs.Tables.{denied}
-use Rattle.certificate_text.proofs.DraftsRead.{place_follows, bound_follows, entry_follows}
 
 -- no line feed stands in a line
 free_on : (a b : List ℕ) → is_free 10 a ≡ true → is_free 10 b ≡ true → is_free 10 (a ++ b) ≡ true
@@ -41,7 +46,7 @@ term_line : (t : Weighted Name) → is_term t ≡ true → is_free 10 (term_text
 term_line t h =
     let p = both (is_integer t.coefficient) _ h in
     let q = both _ (is_name t.symbol) p.1 in
-    free_on (signed_decimal t.coefficient) (codes "*" ++ (name_text t.symbol ++ codes " + ")) (integer_line t.coefficient p.0) (free_on (name_text t.symbol) (codes " + ") (plain_free 10 (name_text t.symbol) refl (name_plain t.symbol q.1)) refl)
+    free_on (signed_decimal t.coefficient) (codes "*" ++ (name_text t.symbol ++ codes " + ")) (integer_line t.coefficient p.0) (free_on (name_text t.symbol) (codes " + ") (name_free 10 t.symbol refl refl refl q.1) refl)
 
 terms_line : (ts : List (Weighted Name)) → all is_term ts ≡ true → is_free 10 (flat_map term_text ts) ≡ true
 terms_line [] h = refl
@@ -95,200 +100,40 @@ item_free (BoundItem b) h =
 item_free (EntryItem n c) h =
     let p = both _ (is_sort c) h in
     free_on (decimal n) (codes " " ++ sort_text c) (natural_line n (both (is_natural n) _ p.0).0) (sort_line c p.1)
+item_free (MultipleItem m) h =
+    let p = both (is_constant m.form) (is_constant m.of) h in
+    free_on (form_text m.form) (codes " of " ++ form_text m.of) (form_line m.form (constant_form m.form p.0)) (form_line m.of (constant_form m.of p.1))
+item_free (LemmaItem f) h = form_line f h
+item_free MainItem h = refl
 item_free (StepItem (Given n)) h = integer_line n h
 item_free (StepItem (Sum ps)) h = parts_line ps (both (all is_scaled ps) _ h).0
 item_free (StepItem (Divide s)) h = scaled_line s h
+item_free (StepItem (Product f l)) h = let p = both (is_integer f) (is_integer l) h in free_on (signed_decimal f) (codes " " ++ signed_decimal l) (integer_line f p.0) (integer_line l p.1)
 item_free EndItem h = refl
 
 pub some_more : {A : Type 0} (xs rest : List A) → is_empty rest ≡ false → is_empty (xs ++ rest) ≡ false
 some_more [] rest h = h
 some_more (x ∷ xs) rest h = refl
 
--- the lines lead from one draft to another, and have no line feed
-pub record Leads (d : Draft) (lines : List (List ℕ)) (e : Draft) : Type 0 where
-  pub reads : (n : ℕ) (rest : List (List ℕ)) → is_empty rest ≡ false → (m : ℕ) × (read_lines n d (lines ++ rest) ≡ read_lines m e rest)
-  pub free : all (is_free 10) lines ≡ true
-
-stays : (d : Draft) → Leads d [] d
-stays d = record { reads = λ n rest h. (n, refl); free = refl }
-
-pub leads_on : (d e f : Draft) (a b : List (List ℕ)) → Leads d a e → Leads e b f → Leads d (a ++ b) f
-leads_on d e f a b p q = record {
-  reads = λ n rest h.
-      let x = p.reads n (b ++ rest) (some_more b rest h) in
-      let y = q.reads x.0 rest h in
-      (y.0, ap (read_lines n d) (append_assoc a b rest) ∙ x.1 ∙ y.1);
-  free = all_append (is_free 10) a b p.free q.free;
-}
-
 went : (n : ℕ) (d : Draft) (line : List ℕ) (rest : List (List ℕ)) (e : Draft) → is_empty rest ≡ false → add_line d line ≡ Some e → read_lines n d (line ∷ rest) ≡ read_lines (suc n) e rest
 went n d line rest e h q =
     cond-false (is_empty rest) (finish n d line) (go_on n (add_line d line) (λ x. read_lines (suc n) x rest)) h ∙ ap (λ o. go_on n o (λ x. read_lines (suc n) x rest)) q
 
-by_item : (d : Draft) (i : Item) (e : Draft) → is_item i ≡ true → add d i ≡ Some e → Leads d (item_line i ∷ []) e
-by_item d i e h q =
-    let a : add_line d (item_line i) ≡ Some e = ap (λ o. then o (add d)) (item_forth i h) ∙ q in
-    record { reads = λ n rest s. (suc n, went n d (item_line i) rest e s a); free = andt (is_free 10 (item_line i)) true (item_free i h) refl }
+-- lines whose items may stand one behind the other are read
+lines_go : (n : ℕ) (d : Draft) (items : List Item) (e : Draft) (rest : List (List ℕ)) → IsDraft d → all is_item items ≡ true → Fits d.settled.is_wide items → add_all d items ≡ Some e → is_empty rest ≡ false → (m : ℕ) × (read_lines n d (map item_line items ++ rest) ≡ read_lines m e rest)
+lines_go n d [] e rest h g f q s = (n, ap (λ x. read_lines n x rest) (same d e q))
+lines_go n d (i ∷ items) e rest h g f q s =
+    let p = both (is_item i) (all is_item items) g in
+    let o = both (fits_in d.settled.is_wide i) (all (fits_in d.settled.is_wide) items) f in
+    let x = then_back (add d i) (λ y. add_all y items) e q in
+    let a = add_back d i x.0 h (item_part i p.0) x.1 in
+    let line : add_line d (item_line i) ≡ Some x.0 = ap (λ r. then r (add_fitting d)) (item_forth i p.0) ∙ fitting d i x.0 o.0 x.1 in
+    let r = lines_go (suc n) x.0 items e rest a.draft p.1 (subst (λ w. Fits w items) (sym a.kind) o.1) x.2 s in
+    (r.0, went n d (item_line i) (map item_line items ++ rest) x.0 (some_more (map item_line items) rest s) line ∙ r.1)
 
-abbrev in_place : Certificate → Spot → List (List ℕ) → List (Form Name) → List Congruence → Draft
-in_place c spot names facts congruences = draft c (InPlace (record { spot = spot; same = names; facts = facts; congruences = congruences }))
-
-add_same : (c : Certificate) (spot : Spot) (done : List (List ℕ)) (x : List ℕ) → add (in_place c spot done [] []) (SameItem x) ≡ Some (in_place c spot (done ++ x ∷ []) [] [])
-unfolding add
-add_same c spot done x = refl
-
-add_fact : (c : Certificate) (spot : Spot) (names : List (List ℕ)) (done : List (Form Name)) (x : Form Name) → add (in_place c spot names done []) (FactItem x) ≡ Some (in_place c spot names (done ++ x ∷ []) [])
-unfolding add
-add_fact c spot names done x = refl
-
-add_congruence : (c : Certificate) (spot : Spot) (names : List (List ℕ)) (facts : List (Form Name)) (done : List Congruence) (x : Congruence) → add (in_place c spot names facts done) (CongruenceItem x) ≡ Some (in_place c spot names facts (done ++ x ∷ []))
-unfolding add
-add_congruence c spot names facts done x = refl
-
-add_place_on : (d : Draft) (c : Certificate) (spot : Spot) → settle d.settled d.opened ≡ Some c → place_fits c spot ≡ true → add d (PlaceItem spot) ≡ Some (in_place c spot [] [] [])
-unfolding add
-add_place_on d c spot s f = ap (λ o. then o (λ x. when (place_fits x spot) (draft x (InPlace (place_at spot))))) s ∙ cond-true (place_fits c spot) (Some (draft c (InPlace (place_at spot)))) None f
-
-add_bound_on : (d : Draft) (is_wide : Bool) (places : List Place) (done : List Bound) (b : Bound) → settle d.settled d.opened ≡ Some (certificate_with is_wide places done []) → descent_fits is_wide b.descent ≡ true → follows bound_is_behind done b.loop ≡ true → add d (BoundItem b) ≡ Some (draft (certificate_with is_wide places (done ++ b ∷ []) []) Nothing)
-unfolding add
-add_bound_on d is_wide places done b s own f = rw (s, own, f) refl
-
-add_entry_on : (d : Draft) (is_wide : Bool) (places : List Place) (bounds : List Bound) (done : List Entry) (n : ℕ) (sort : EntrySort) → settle d.settled d.opened ≡ Some (certificate_with is_wide places bounds done) → follows entry_is_behind done n ≡ true → add d (EntryItem n sort) ≡ Some (draft (certificate_with is_wide places bounds done) (InEntry (entry_at n sort)))
-unfolding add
-add_entry_on d is_wide places bounds done n sort s f = rw (s, f) refl
-
-add_step_on : (c : Certificate) (n : ℕ) (sort : EntrySort) (done : List Step) (x : Step) → add (draft c (InEntry (record { obligation = n; sort = sort; steps = done }))) (StepItem x) ≡ Some (draft c (InEntry (record { obligation = n; sort = sort; steps = done ++ x ∷ [] })))
-unfolding add
-add_step_on c n sort done x = refl
-
-add_end_on : (d : Draft) (c : Certificate) → settle d.settled d.opened ≡ Some c → add d EndItem ≡ Some (draft c Ended)
-unfolding add
-add_end_on d c s = rw s refl
-
-names_lead : (c : Certificate) (spot : Spot) (done names : List (List ℕ)) → all is_identifier names ≡ true → Leads (in_place c spot done [] []) (map same_line names) (in_place c spot (done ++ names) [] [])
-names_lead c spot done [] h = subst (λ ns. Leads (in_place c spot done [] []) [] (in_place c spot ns [] [])) (sym (append-nil done)) (stays (in_place c spot done [] []))
-names_lead c spot done (x ∷ names) h =
-    let p = both (is_identifier x) (all is_identifier names) h in
-    subst (λ ns. Leads (in_place c spot done [] []) (map same_line (x ∷ names)) (in_place c spot ns [] [])) (sym (moved done x names))
-    (leads_on (in_place c spot done [] []) (in_place c spot (done ++ x ∷ []) [] []) (in_place c spot ((done ++ x ∷ []) ++ names) [] []) (same_line x ∷ []) (map same_line names)
-    (by_item (in_place c spot done [] []) (SameItem x) (in_place c spot (done ++ x ∷ []) [] []) p.0 (add_same c spot done x))
-    (names_lead c spot (done ++ x ∷ []) names p.1))
-
-facts_lead : (c : Certificate) (spot : Spot) (names : List (List ℕ)) (done facts : List (Form Name)) → all is_form facts ≡ true → Leads (in_place c spot names done []) (map fact_line facts) (in_place c spot names (done ++ facts) [])
-facts_lead c spot names done [] h = subst (λ fs. Leads (in_place c spot names done []) [] (in_place c spot names fs [])) (sym (append-nil done)) (stays (in_place c spot names done []))
-facts_lead c spot names done (x ∷ facts) h =
-    let p = both (is_form x) (all is_form facts) h in
-    subst (λ fs. Leads (in_place c spot names done []) (map fact_line (x ∷ facts)) (in_place c spot names fs [])) (sym (moved done x facts))
-    (leads_on (in_place c spot names done []) (in_place c spot names (done ++ x ∷ []) []) (in_place c spot names ((done ++ x ∷ []) ++ facts) []) (fact_line x ∷ []) (map fact_line facts)
-    (by_item (in_place c spot names done []) (FactItem x) (in_place c spot names (done ++ x ∷ []) []) p.0 (add_fact c spot names done x))
-    (facts_lead c spot names (done ++ x ∷ []) facts p.1))
-
-congruences_lead : (c : Certificate) (spot : Spot) (names : List (List ℕ)) (facts : List (Form Name)) (done congruences : List Congruence) → all is_congruence congruences ≡ true → Leads (in_place c spot names facts done) (map congruence_line congruences) (in_place c spot names facts (done ++ congruences))
-congruences_lead c spot names facts done [] h = subst (λ cs. Leads (in_place c spot names facts done) [] (in_place c spot names facts cs)) (sym (append-nil done)) (stays (in_place c spot names facts done))
-congruences_lead c spot names facts done (x ∷ more) h =
-    let p = both (is_congruence x) (all is_congruence more) h in
-    subst (λ cs. Leads (in_place c spot names facts done) (map congruence_line (x ∷ more)) (in_place c spot names facts cs)) (sym (moved done x more))
-    (leads_on (in_place c spot names facts done) (in_place c spot names facts (done ++ x ∷ [])) (in_place c spot names facts ((done ++ x ∷ []) ++ more)) (congruence_line x ∷ []) (map congruence_line more)
-    (by_item (in_place c spot names facts done) (CongruenceItem x) (in_place c spot names facts (done ++ x ∷ [])) p.0 (add_congruence c spot names facts done x))
-    (congruences_lead c spot names facts (done ++ x ∷ []) more p.1))
-
--- from a draft that is settled
-place_leads : (d : Draft) (c : Certificate) (p : Place) → settle d.settled d.opened ≡ Some c → place_fits c p.spot ≡ true → is_open_place p ≡ true → Leads d (place_lines p) (draft c (InPlace p))
-place_leads d c p s f h =
-    let a = both (is_spot p.spot) _ h in
-    let b = both (all is_identifier p.same) _ a.1 in
-    let g = both (all is_form p.facts) (all is_congruence p.congruences) b.1 in
-    let zero = in_place c p.spot [] [] [] in
-    let one = in_place c p.spot p.same [] [] in
-    let two = in_place c p.spot p.same p.facts [] in
-    let three = in_place c p.spot p.same p.facts p.congruences in
-    leads_on d zero three (place_line p.spot ∷ []) (map same_line p.same ++ (map fact_line p.facts ++ map congruence_line p.congruences))
-    (by_item d (PlaceItem p.spot) zero a.0 (add_place_on d c p.spot s f))
-    (leads_on zero one three (map same_line p.same) (map fact_line p.facts ++ map congruence_line p.congruences) (names_lead c p.spot [] p.same b.0)
-    (leads_on one two three (map fact_line p.facts) (map congruence_line p.congruences) (facts_lead c p.spot p.same [] p.facts g.0) (congruences_lead c p.spot p.same p.facts [] p.congruences g.1)))
-
--- a draft that is settled as that certificate
-pub record Settles (d : Draft) (lines : List (List ℕ)) (c : Certificate) : Type 0 where
-  pub last : Draft
-  pub leads : Leads d lines last
-  pub settled : settle last.settled last.opened ≡ Some c
-
-places_lead : (d : Draft) (is_wide : Bool) (done places : List Place) → settle d.settled d.opened ≡ Some (certificate_with is_wide done [] []) → all is_place places ≡ true → rises place_is_before (done ++ places) ≡ true → Settles d (flat_map place_lines places) (certificate_with is_wide (done ++ places) [] [])
-places_lead d is_wide done [] s h up = record { last = d; leads = stays d; settled = s ∙ ap (λ ps. Some (certificate_with is_wide ps [] [])) (sym (append-nil done)) }
-places_lead d is_wide done (p ∷ places) s h up =
-    let a = both (is_place p) (all is_place places) h in
-    let b = both (is_open_place p) (has_line p) a.0 in
-    let c = certificate_with is_wide done [] [] in
-    let e = draft c (InPlace p) in
-    let now : settle c (InPlace p) ≡ Some (certificate_with is_wide (done ++ p ∷ []) [] []) = cond-true (has_line p) (Some (certificate_with is_wide (done ++ p ∷ []) [] [])) None b.1 in
-    let r = places_lead e is_wide (done ++ p ∷ []) places now a.1 (ap (rises place_is_before) (sym (moved done p places)) ∙ up) in
-    record {
-      last = r.last;
-      leads = leads_on d e r.last (place_lines p) (flat_map place_lines places) (place_leads d c p s (place_follows done p ∙ rises_follow place_is_before done p places up) b.0) r.leads;
-      settled = r.settled ∙ ap (λ ps. Some (certificate_with is_wide ps [] [])) (sym (moved done p places));
-    }
-
-bounds_lead : (d : Draft) (is_wide : Bool) (places : List Place) (done bounds : List Bound) → settle d.settled d.opened ≡ Some (certificate_with is_wide places done []) → all (is_bound_in is_wide) bounds ≡ true → rises bound_is_before (done ++ bounds) ≡ true → Settles d (map bound_line bounds) (certificate_with is_wide places (done ++ bounds) [])
-bounds_lead d is_wide places done [] s h up = record { last = d; leads = stays d; settled = s ∙ ap (λ bs. Some (certificate_with is_wide places bs [])) (sym (append-nil done)) }
-bounds_lead d is_wide places done (b ∷ bounds) s h up =
-    let a = both (is_bound_in is_wide b) (all (is_bound_in is_wide) bounds) h in
-    let own = both (is_bound b) (descent_fits is_wide b.descent) a.0 in
-    let e = draft (certificate_with is_wide places (done ++ b ∷ []) []) Nothing in
-    let r = bounds_lead e is_wide places (done ++ b ∷ []) bounds refl a.1 (ap (rises bound_is_before) (sym (moved done b bounds)) ∙ up) in
-    record {
-      last = r.last;
-      leads = leads_on d e r.last (bound_line b ∷ []) (map bound_line bounds) (by_item d (BoundItem b) e own.0 (add_bound_on d is_wide places done b s own.1 (bound_follows done b ∙ rises_follow bound_is_before done b bounds up))) r.leads;
-      settled = r.settled ∙ ap (λ bs. Some (certificate_with is_wide places bs [])) (sym (moved done b bounds));
-    }
-
-abbrev in_entry : Certificate → ℕ → EntrySort → List Step → Draft
-in_entry c n sort steps = draft c (InEntry (record { obligation = n; sort = sort; steps = steps }))
-
-steps_lead : (c : Certificate) (n : ℕ) (sort : EntrySort) (done steps : List Step) → all is_step steps ≡ true → Leads (in_entry c n sort done) (map step_line steps) (in_entry c n sort (done ++ steps))
-steps_lead c n sort done [] h = subst (λ ss. Leads (in_entry c n sort done) [] (in_entry c n sort ss)) (sym (append-nil done)) (stays (in_entry c n sort done))
-steps_lead c n sort done (x ∷ steps) h =
-    let p = both (is_step x) (all is_step steps) h in
-    subst (λ ss. Leads (in_entry c n sort done) (map step_line (x ∷ steps)) (in_entry c n sort ss)) (sym (moved done x steps))
-    (leads_on (in_entry c n sort done) (in_entry c n sort (done ++ x ∷ [])) (in_entry c n sort ((done ++ x ∷ []) ++ steps)) (step_line x ∷ []) (map step_line steps)
-    (by_item (in_entry c n sort done) (StepItem x) (in_entry c n sort (done ++ x ∷ [])) p.0 (add_step_on c n sort done x))
-    (steps_lead c n sort (done ++ x ∷ []) steps p.1))
-
-entries_lead : (d : Draft) (is_wide : Bool) (places : List Place) (bounds : List Bound) (done entries : List Entry) → settle d.settled d.opened ≡ Some (certificate_with is_wide places bounds done) → all is_entry entries ≡ true → rises entry_is_before (done ++ entries) ≡ true → Settles d (flat_map entry_lines entries) (certificate_with is_wide places bounds (done ++ entries))
-entries_lead d is_wide places bounds done [] s h up = record { last = d; leads = stays d; settled = s ∙ ap (λ es. Some (certificate_with is_wide places bounds es)) (sym (append-nil done)) }
-entries_lead d is_wide places bounds done (x ∷ entries) s h up =
-    let a = both (is_entry x) (all is_entry entries) h in
-    let b = both (is_natural x.obligation && nat_le 1 x.obligation) (is_sort x.sort && all is_step x.steps) a.0 in
-    let g = both (is_sort x.sort) (all is_step x.steps) b.1 in
-    let c = certificate_with is_wide places bounds done in
-    let zero = in_entry c x.obligation x.sort [] in
-    let e = in_entry c x.obligation x.sort x.steps in
-    let r = entries_lead e is_wide places bounds (done ++ x ∷ []) entries refl a.1 (ap (rises entry_is_before) (sym (moved done x entries)) ∙ up) in
-    let first = by_item d (EntryItem x.obligation x.sort) zero (andt (is_natural x.obligation && nat_le 1 x.obligation) (is_sort x.sort) b.0 g.0) (add_entry_on d is_wide places bounds done x.obligation x.sort s (entry_follows done x ∙ rises_follow entry_is_before done x entries up)) in
-    record {
-      last = r.last;
-      leads = leads_on d e r.last (entry_lines x) (flat_map entry_lines entries) (leads_on d zero e (entry_line x.obligation x.sort ∷ []) (map step_line x.steps) first (steps_lead c x.obligation x.sort [] x.steps g.1)) r.leads;
-      settled = r.settled ∙ ap (λ es. Some (certificate_with is_wide places bounds es)) (sym (moved done x entries));
-    }
-
--- all of a certificate's lines
-pub body_leads : (c : Certificate) → is_any_certificate c ≡ true → Settles (begun c.is_wide) (body_lines c) c
-body_leads c h =
-    let a = both (all is_place c.places && rises place_is_before c.places) _ h in
-    let p = both (all is_place c.places) (rises place_is_before c.places) a.0 in
-    let b = both (all (is_bound_in c.is_wide) c.bounds && rises bound_is_before c.bounds) (all is_entry c.entries && rises entry_is_before c.entries) a.1 in
-    let q = both (all (is_bound_in c.is_wide) c.bounds) (rises bound_is_before c.bounds) b.0 in
-    let r = both (all is_entry c.entries) (rises entry_is_before c.entries) b.1 in
-    let x = places_lead (begun c.is_wide) c.is_wide [] c.places refl p.0 p.1 in
-    let y = bounds_lead x.last c.is_wide c.places [] c.bounds x.settled q.0 q.1 in
-    let z = entries_lead y.last c.is_wide c.places c.bounds [] c.entries y.settled r.0 r.1 in
-    record {
-      last = z.last;
-      leads = leads_on (begun c.is_wide) x.last z.last (flat_map place_lines c.places) (map bound_line c.bounds ++ flat_map entry_lines c.entries) x.leads (leads_on x.last y.last z.last (map bound_line c.bounds) (flat_map entry_lines c.entries) y.leads z.leads);
-      settled = z.settled;
-    }
-
-pub end_leads : (d : Draft) (c : Certificate) → settle d.settled d.opened ≡ Some c → Leads d (codes "end" ∷ []) (draft c Ended)
-end_leads d c s = by_item d EndItem (draft c Ended) refl (add_end_on d c s)
+lines_free : (items : List Item) → all is_item items ≡ true → all (is_free 10) (map item_line items) ≡ true
+lines_free [] h = refl
+lines_free (i ∷ items) h = let p = both (is_item i) (all is_item items) h in andt (is_free 10 (item_line i)) _ (item_free i p.0) (lines_free items p.1)
 
 pub pieces_of_lines : (lines : List (List ℕ)) → all (is_free 10) lines ≡ true → pieces 10 (text_of_lines lines) ≡ lines ++ [] ∷ []
 pieces_of_lines [] h = refl
@@ -306,11 +151,17 @@ short text h = grind (arith, nat_tests)
 pub certificate_forth : (c : Certificate) → is_certificate c ≡ true → length (text_of c) ≤ certificate_limit → certificate_of (text_of c) ≡ Ok c
 certificate_forth c h l =
     let p = both (not c.is_wide) (is_any_certificate c) h in
-    let b = body_leads c p.1 in
-    let all_lines = leads_on (begun c.is_wide) b.last (draft c Ended) (body_lines c) (codes "end" ∷ []) b.leads (end_leads b.last c b.settled) in
-    let rest : List (List ℕ) = body_lines c ++ codes "end" ∷ [] in
-    let cut = pieces_of_lines (codes "certificate 1" ∷ rest) (andt true (all (is_free 10) rest) refl all_lines.free) in
-    let r = all_lines.reads 2 ([] ∷ []) refl in
+    let kind = denied c.is_wide p.0 in
+    let w = both (c.is_wide || is_narrow c) (is_written c) p.1 in
+    let items : List Item = items_of c ++ EndItem ∷ [] in
+    let narrow : all is_narrow_item (items_of c) ≡ true = items_narrow c ∙ ap (λ v. v || is_narrow c) (sym kind) ∙ w.0 in
+    let good : all is_item items ≡ true = all_push is_item (items_of c) EndItem (narrow_items (items_of c) (items_good c p.1) narrow) refl in
+    let fits : Fits c.is_wide items = all_push (fits_in c.is_wide) (items_of c) EndItem (items_fit c w.0) (end_fits c.is_wide) in
+    let lines : body_lines c ++ codes "end" ∷ [] ≡ map item_line items = ap (λ ls. ls ++ codes "end" ∷ []) (sym (lines_are c)) ∙ sym (map_push item_line (items_of c) EndItem) in
+    let rest : List (List ℕ) = map item_line items in
+    let text : text_of c ≡ text_of_lines (codes "certificate 1" ∷ rest) = ap (λ ls. text_of_lines (codes "certificate 1" ∷ ls)) lines in
+    let cut = ap (pieces 10) text ∙ pieces_of_lines (codes "certificate 1" ∷ rest) (andt true (all (is_free 10) rest) refl (lines_free items good)) in
+    let r = lines_go 2 (begun c.is_wide) items (draft c Ended) ([] ∷ []) (nothing_read c.is_wide).draft good fits (all_added c w.1) refl in
     cond-false (nat_lt certificate_limit (length (text_of c))) _ _ (short (text_of c) l) ∙ ap read_text cut
     ∙ cond-false (is_empty (rest ++ [] ∷ [])) _ _ (some_more rest ([] ∷ []) refl) ∙ ap (λ f. unless f (read_lines 2 nothing_yet (rest ++ [] ∷ []))) first_reads
-    ∙ ap (λ w. read_lines 2 (begun w) (rest ++ [] ∷ [])) (sym (denied c.is_wide p.0)) ∙ r.1
+    ∙ ap (λ v. read_lines 2 (begun v) (rest ++ [] ∷ [])) (sym kind) ∙ r.1

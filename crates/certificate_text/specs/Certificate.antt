@@ -5,7 +5,7 @@ use Rattle.linear.specs.Linear.{Form}
 pub data Dimension : Type 0 where
   First Second Third : Dimension
 
--- a symbol, by what it is called
+-- a symbol, by what it is called; the second item's of a name, and the product of a name and of others
 pub data Name : Type 0 where
   Variable : (name : List ℕ) → Name
   AtAnchor : (name : List ℕ) → Name
@@ -16,6 +16,8 @@ pub data Name : Type 0 where
   Groups : (dimension : Dimension) → Name
   Group : (dimension : Dimension) → Name
   Local : (dimension : Dimension) → Name
+  Second : (name : Name) → Name
+  Product : (first others : Name) → Name
 
 -- where the items of a group meet: at their first step, or at a barrier statement
 pub data Anchor : Type 0 where
@@ -32,12 +34,18 @@ pub record Congruence : Type 0 where
   pub modulus : ℕ
   pub form : Form Name
 
--- what is said of a spot: names on which the items of a group agree, forms that are at least 0, and congruences
+-- a form that is a multiple of another
+pub record Multiple : Type 0 where
+  pub of : Form Name
+  pub form : Form Name
+
+-- what is said of a spot: names on which the items of a group agree, forms that are at least 0, congruences, and multiples
 pub record Place : Type 0 where
   pub spot : Spot
   pub same : List (List ℕ)
   pub facts : List (Form Name)
   pub congruences : List Congruence
+  pub multiples : List Multiple
 
 -- each turn makes the form less by a step at least, or at most half, or twice as large at least, from `least` on up to `most`
 pub data Descent : Type 0 where
@@ -62,18 +70,25 @@ pub record Scaled : Type 0 where
   pub factor : ℤ
   pub line : ℤ
 
--- a line of a derivation: a fact, a sum of earlier lines with weights, an earlier line divided
+-- a line of a derivation: a fact, a sum of earlier lines with weights, an earlier line divided, the product of two earlier lines
 pub data Step : Type 0 where
   Given : (fact : ℤ) → Step
   Sum : (parts : List Scaled) → Step
   Divide : (quotient : Scaled) → Step
+  Product : (first second : ℤ) → Step
+
+-- a form that is at least 0, and the lines that show it
+pub record Lemma : Type 0 where
+  pub form : Form Name
+  pub steps : List Step
 
 pub record Entry : Type 0 where
   pub obligation : ℕ
   pub sort : EntrySort
+  pub lemmas : List Lemma
   pub steps : List Step
 
--- in a wide certificate loops may double
+-- in a wide certificate loops may double, and names, places and entries have what stands behind the first nine, the first four and the first three
 pub record Certificate : Type 0 where
   pub is_wide : Bool
   pub places : List Place

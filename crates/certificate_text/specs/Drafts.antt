@@ -1,8 +1,10 @@
 -- A certificate of which some lines are read, and what may stand behind them.
 use Rattle.std.specs.Prelude.{ℕ, List, [], ◌∷◌, ◌++◌, Bool, true, false, not, nat_lt, ◌&&◌, ◌||◌, Option, None, Some}
+use Rattle.std.specs.Option.{option_map}
+use Rattle.linear.specs.Linear.{Form}
 use Rattle.texts.specs.Lines.{is_empty, follows}
-use Rattle.certificate_text.specs.Certificate.{Anchor, KernelEntry, Barrier, Spot, Place, Descent, Down, Halve, Double, Bound, Entry, Step, EntrySort, Certificate}
-use Rattle.certificate_text.specs.Lines.{Item, PlaceItem, SameItem, FactItem, CongruenceItem, BoundItem, EntryItem, StepItem, EndItem}
+use Rattle.certificate_text.specs.Certificate.{Name, Anchor, KernelEntry, Barrier, Spot, Place, Bound, Step, Lemma, Entry, EntrySort, Certificate}
+use Rattle.certificate_text.specs.Lines.{Item, PlaceItem, SameItem, FactItem, CongruenceItem, MultipleItem, BoundItem, EntryItem, LemmaItem, MainItem, StepItem, EndItem}
 use Rattle.certificate_text.specs.Forms.{then, when}
 
 abbrev pub anchor_is_before : (left right : Anchor) → Bool
@@ -27,6 +29,7 @@ pub data Open : Type 0 where
   Nothing : Open
   InPlace : (place : Place) → Open
   InEntry : (entry : Entry) → Open
+  InLemma : (entry : Entry) (lemma : Lemma) → Open
   Ended : Open
 
 pub record Draft : Type 0 where
@@ -53,22 +56,15 @@ abbrev pub nothing_yet : Draft
 nothing_yet = begun false
 
 abbrev pub has_line : Place → Bool
-has_line p = not (is_empty p.same && (is_empty p.facts && is_empty p.congruences))
+has_line p = not (is_empty p.same && (is_empty p.facts && (is_empty p.congruences && is_empty p.multiples)))
 
--- all that was read as settled: a place has a line
+-- all that was read as settled: a place has a line, and behind the last lemma stands what shows the obligation
 abbrev pub settle : Certificate → Open → Option Certificate
 settle c Nothing = Some c
 settle c (InPlace p) = when (has_line p) (record c { places = c.places ++ p ∷ [] })
 settle c (InEntry e) = Some (record c { entries = c.entries ++ e ∷ [] })
+settle c (InLemma e l) = None
 settle c Ended = None
-
-abbrev pub open_place : Open → Option Place
-open_place (InPlace p) = Some p
-open_place o = None
-
-abbrev pub open_entry : Open → Option Entry
-open_entry (InEntry e) = Some e
-open_entry o = None
 
 abbrev pub place_is_behind : Place → Spot → Bool
 place_is_behind p spot = spot_is_before p.spot spot
@@ -83,35 +79,59 @@ entry_is_behind e obligation = nat_lt e.obligation obligation
 abbrev pub place_fits : Certificate → Spot → Bool
 place_fits c spot = (is_empty c.bounds && is_empty c.entries) && follows place_is_behind c.places spot
 
--- loops double in a wide certificate alone
-abbrev pub descent_fits : (is_wide : Bool) → Descent → Bool
-descent_fits is_wide (Down step) = true
-descent_fits is_wide Halve = true
-descent_fits is_wide (Double least) = is_wide
-
 -- bounds come before entries, and rise by their loops
 abbrev pub bound_fits : Certificate → Bound → Bool
-bound_fits c b = descent_fits c.is_wide b.descent && (is_empty c.entries && follows bound_is_behind c.bounds b.loop)
+bound_fits c b = is_empty c.entries && follows bound_is_behind c.bounds b.loop
 
 -- entries rise by their obligations
 abbrev pub entry_fits : Certificate → ℕ → Bool
 entry_fits c obligation = follows entry_is_behind c.entries obligation
 
 abbrev pub place_at : Spot → Place
-place_at spot = record { spot = spot; same = []; facts = []; congruences = [] }
+place_at spot = record { spot = spot; same = []; facts = []; congruences = []; multiples = [] }
 
 abbrev pub entry_at : ℕ → EntrySort → Entry
-entry_at obligation sort = record { obligation = obligation; sort = sort; steps = [] }
+entry_at obligation sort = record { obligation = obligation; sort = sort; lemmas = []; steps = [] }
 
--- in a place `same` lines come first, then `fact` lines, then `mod` lines
+-- in a place `same` lines come first, then `fact` lines, then `mod` lines, then `multiple` lines
 abbrev pub add_to_place : Place → Item → Option Place
-add_to_place p (SameItem name) = when (is_empty p.facts && is_empty p.congruences) (record p { same = p.same ++ name ∷ [] })
-add_to_place p (FactItem f) = when (is_empty p.congruences) (record p { facts = p.facts ++ f ∷ [] })
-add_to_place p (CongruenceItem c) = Some (record p { congruences = p.congruences ++ c ∷ [] })
+add_to_place p (SameItem name) = when (is_empty p.facts && (is_empty p.congruences && is_empty p.multiples)) (record p { same = p.same ++ name ∷ [] })
+add_to_place p (FactItem f) = when (is_empty p.congruences && is_empty p.multiples) (record p { facts = p.facts ++ f ∷ [] })
+add_to_place p (CongruenceItem c) = when (is_empty p.multiples) (record p { congruences = p.congruences ++ c ∷ [] })
+add_to_place p (MultipleItem m) = Some (record p { multiples = p.multiples ++ m ∷ [] })
 add_to_place p item = None
 
-abbrev pub with_step : Entry → Step → Option Entry
-with_step e s = Some (record e { steps = e.steps ++ s ∷ [] })
+abbrev pub lemma_at : Form Name → Lemma
+lemma_at f = record { form = f; steps = [] }
+
+abbrev pub with_step : Entry → Step → Entry
+with_step e s = record e { steps = e.steps ++ s ∷ [] }
+
+abbrev pub with_lemma : Entry → Lemma → Entry
+with_lemma e l = record e { lemmas = e.lemmas ++ l ∷ [] }
+
+abbrev pub lemma_with_step : Lemma → Step → Lemma
+lemma_with_step l s = record l { steps = l.steps ++ s ∷ [] }
+
+-- lemmas come before all other lines of an entry
+abbrev pub add_to_entry : Entry → Item → Option Open
+add_to_entry e (StepItem s) = Some (InEntry (with_step e s))
+add_to_entry e (LemmaItem f) = when (is_empty e.lemmas && is_empty e.steps) (InLemma e (lemma_at f))
+add_to_entry e item = None
+
+-- behind a lemma comes the next one, or what shows the obligation
+abbrev pub add_to_lemma : Entry → Lemma → Item → Option Open
+add_to_lemma e l (StepItem s) = Some (InLemma e (lemma_with_step l s))
+add_to_lemma e l (LemmaItem f) = Some (InLemma (with_lemma e l) (lemma_at f))
+add_to_lemma e l MainItem = Some (InEntry (with_lemma e l))
+add_to_lemma e l item = None
+
+-- what is open, with one more line
+abbrev pub add_to : Open → Item → Option Open
+add_to (InPlace p) item = option_map InPlace (add_to_place p item)
+add_to (InEntry e) item = add_to_entry e item
+add_to (InLemma e l) item = add_to_lemma e l item
+add_to o item = None
 
 abbrev pub add_place : Draft → Spot → Option Draft
 add_place d spot = then (settle d.settled d.opened) (λ c. when (place_fits c spot) (draft c (InPlace (place_at spot))))
@@ -122,20 +142,16 @@ add_bound d b = then (settle d.settled d.opened) (λ c. when (bound_fits c b) (d
 abbrev pub add_entry : Draft → ℕ → EntrySort → Option Draft
 add_entry d n sort = then (settle d.settled d.opened) (λ c. when (entry_fits c n) (draft c (InEntry (entry_at n sort))))
 
-abbrev pub add_to_entry : Draft → Step → Option Draft
-add_to_entry d s = then (open_entry d.opened) (λ e. then (with_step e s) (λ f. Some (draft d.settled (InEntry f))))
-
 abbrev pub add_end : Draft → Option Draft
 add_end d = then (settle d.settled d.opened) (λ c. Some (draft c Ended))
 
 abbrev pub add_within : Draft → Item → Option Draft
-add_within d item = then (open_place d.opened) (λ p. then (add_to_place p item) (λ q. Some (draft d.settled (InPlace q))))
+add_within d item = then (add_to d.opened item) (λ o. Some (draft d.settled o))
 
 -- one more line
 unfoldable pub add : Draft → Item → Option Draft
 add d (PlaceItem spot) = add_place d spot
 add d (BoundItem b) = add_bound d b
 add d (EntryItem n sort) = add_entry d n sort
-add d (StepItem s) = add_to_entry d s
 add d EndItem = add_end d
 add d item = add_within d item

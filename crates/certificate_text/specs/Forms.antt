@@ -1,13 +1,14 @@
 -- The names and forms of a certificate, by their words. Words that fit nothing give nothing.
-use Rattle.std.specs.Prelude.{ℕ, ℤ, pos, List, [], ◌∷◌, ◌++◌, drop, Bool, true, cond, not, nat_eq, ◌&&◌, Option, None, Some, Result, Ok, Err, bytes_eq, codes}
+use Rattle.std.specs.Prelude.{ℕ, ℤ, pos, List, [], ◌∷◌, ◌++◌, drop, Bool, cond, not, nat_eq, ◌&&◌, Option, None, Some, Result, Ok, Err, bytes_eq, codes}
 use Rattle.std.specs.Option.{option_map}
 use Rattle.std.specs.Ordering.{nat_cmp, is_lt, int_eq}
 use Rattle.std.specs.List.{starts_with}
 use Rattle.std.specs.Cmp.Lexicographic.{slice_cmp}
 use Rattle.linear.specs.Linear.{Weighted, Form}
 use Rattle.texts.specs.Identifiers.{is_identifier}
-use Rattle.texts.specs.Lines.{NumberFault, pieces, two, natural_of, integer_of}
-use Rattle.certificate_text.specs.Certificate.{Dimension, First, Second, Third, Name, Variable, AtAnchor, Turns, Fresh, Argument, Length, Groups, Group, Local}
+use Rattle.texts.specs.Lines.{NumberFault, is_empty, pieces, first, sole, follows, natural_of, integer_of}
+use Rattle.certificate_text.specs.Certificate.{Dimension, First, Second, Third, Name, Variable, AtAnchor, Turns, Fresh, Argument, Length, Groups, Group, Local, Product}
+use Rattle.certificate_text.specs.Text.{name_text}
 
 abbrev pub then : {A B : Type 0} → Option A → (A → Option B) → Option B
 then None go = None
@@ -38,6 +39,7 @@ dimensional_of word =
     cond (begins word (codes "local.")) (option_map Local (dimension_of (drop 6 word))) (
     option_map Variable (identifier_of word))))
 
+-- a name of one item alone
 unfoldable pub name_of : List ℕ → Option Name
 name_of word =
     cond (begins word (codes "@")) (option_map AtAnchor (identifier_of (drop 1 word))) (
@@ -47,23 +49,50 @@ name_of word =
     cond (begins word (codes "len.")) (option_map Length (identifier_of (drop 4 word))) (
     dimensional_of word)))))
 
-abbrev pub weighted : ℤ → Name → Weighted Name
-weighted coefficient name = record { coefficient = coefficient; symbol = name }
-
--- the number and the name of `C*NAME`; no coefficient is 0
-abbrev pub term_of : List ℕ × List ℕ → Option (Weighted Name)
-term_of parts =
-    then (number (integer_of parts.0)) (λ coefficient. then (name_of parts.1) (λ name.
-    when (not (int_eq coefficient (pos 0))) (weighted coefficient name)))
-
 -- bytes before bytes, as in a dictionary
 abbrev pub is_before : (left right : List ℕ) → Bool
 is_before left right = is_lt (slice_cmp nat_cmp left right)
 
--- a name after the one before it
-abbrev pub name_follows : (before : Option (List ℕ)) → List ℕ → Bool
-name_follows None name = true
-name_follows (Some before) name = is_before before name
+-- the second item's, where `'` stands behind a name, and nothing behind that
+abbrev pub second_of : (word : List ℕ) → List (List ℕ) → Option Name
+second_of word behind = then (sole behind) (λ rest. cond (is_empty rest) (option_map Second (name_of word)) None)
+
+-- a name, and `'` behind that of the second item
+abbrev pub factor_of : List ℕ → Option Name
+factor_of word = then (first (pieces 39 word)) (λ w. cond (is_empty w.1) (name_of w.0) (second_of w.0 w.1))
+
+-- names of a product rise by their bytes, or are the same
+abbrev pub in_order : (left right : List ℕ) → Bool
+in_order left right = not (is_before right left)
+
+abbrev pub pair_of : (first second : List ℕ) → Option Name
+pair_of first second = then (factor_of first) (λ m. then (factor_of second) (λ n. when (in_order first second) (Product m n)))
+
+abbrev pub triple_of : (first second third : List ℕ) → Option Name
+triple_of first second third = then (factor_of first) (λ m. then (pair_of second third) (λ n. when (in_order first second) (Product m n)))
+
+abbrev pub product_in : (word : List ℕ) → List (List ℕ) → Option Name
+product_in word words = then (first words) (λ w. cond (is_empty w.1) (pair_of word w.0) (then (sole w.1) (triple_of word w.0)))
+
+-- one name, or two or three that have a product
+abbrev pub names_of : List (List ℕ) → Option Name
+names_of words = then (first words) (λ w. cond (is_empty w.1) (factor_of w.0) (product_in w.0 w.1))
+
+abbrev pub weighted : ℤ → Name → Weighted Name
+weighted coefficient name = record { coefficient = coefficient; symbol = name }
+
+-- the number and the names of `C*NAME`; no coefficient is 0
+abbrev pub term_in : (number_word : List ℕ) → (names : List (List ℕ)) → Option (Weighted Name)
+term_in number_word names =
+    then (number (integer_of number_word)) (λ coefficient. then (names_of names) (λ name.
+    when (not (int_eq coefficient (pos 0))) (weighted coefficient name)))
+
+abbrev pub term_of : List ℕ → Option (Weighted Name)
+term_of word = then (first (pieces 42 word)) (λ parts. term_in parts.0 parts.1)
+
+-- names rise in the order of their bytes
+abbrev pub term_is_before : (left right : Weighted Name) → Bool
+term_is_before left right = is_before (name_text left.symbol) (name_text right.symbol)
 
 abbrev pub form : List (Weighted Name) → ℤ → Form Name
 form terms constant = record { terms = terms; constant = constant }
@@ -72,9 +101,8 @@ abbrev pub constant_of : List (Weighted Name) → List ℕ → Option (Form Name
 constant_of terms word = option_map (form terms) (number (integer_of word))
 
 -- terms with ` + ` after each, their names rising, and a constant
-unfoldable pub form_of : (terms : List (Weighted Name)) (before : Option (List ℕ)) → List (List ℕ) → Option (Form Name)
-form_of terms before [] = None
-form_of terms before (word ∷ []) = constant_of terms word
-form_of terms before (word ∷ sign ∷ others) =
-    then (two (pieces 42 word)) (λ parts. then (term_of parts) (λ term.
-    cond (bytes_eq sign (codes "+") && name_follows before parts.1) (form_of (terms ++ term ∷ []) (Some parts.1) others) None))
+unfoldable pub form_of : (terms : List (Weighted Name)) → List (List ℕ) → Option (Form Name)
+form_of terms [] = None
+form_of terms (word ∷ []) = constant_of terms word
+form_of terms (word ∷ sign ∷ others) =
+    then (term_of word) (λ term. cond (bytes_eq sign (codes "+") && follows term_is_before terms term) (form_of (terms ++ term ∷ []) others) None)

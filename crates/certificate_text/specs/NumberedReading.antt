@@ -1,15 +1,16 @@
 -- Reading a certificate of version 2, or a wide one of version 4: the table of its forms, then line by line, to its end or its first fault.
-use Rattle.std.specs.Prelude.{ℕ, suc, ◌+◌, max, ℤ, pos, negsuc, List, [], ◌∷◌, ◌++◌, length, Bool, true, false, cond, not, nat_eq, nat_le, nat_lt, ◌&&◌, Option, None, Some, Ok, Err, bytes_eq, codes}
+use Rattle.std.specs.Prelude.{ℕ, suc, ◌+◌, max, ℤ, pos, negsuc, List, [], ◌∷◌, ◌++◌, length, Bool, true, false, cond, not, nat_eq, nat_le, nat_lt, ◌&&◌, ◌||◌, Option, None, Some, Ok, Err, bytes_eq, codes}
 use Rattle.std.specs.Ordering.{int_eq}
 use Rattle.linear.specs.Linear.{Form}
 use Rattle.texts.specs.Lines.{is_empty, line_feed, pieces, words}
 use Rattle.certificate_text.specs.Certificate.{Name, CertificateFault, BadLine, OtherVersion}
 use Rattle.certificate_text.specs.Forms.{then, when, form_of}
 use Rattle.certificate_text.specs.Lines.{Item, item_of}
-use Rattle.certificate_text.specs.Items.{form_in, put_form}
+use Rattle.certificate_text.specs.Items.{line_forms, put_forms}
 use Rattle.certificate_text.specs.FormTables.{FormTable, has_form, form_at}
-use Rattle.certificate_text.specs.Drafts.{Draft, begun, add}
-use Rattle.certificate_text.specs.Reading.{Read, is_ended, version_of, unless, certificate_limit}
+use Rattle.certificate_text.specs.Drafts.{Draft, begun}
+use Rattle.certificate_text.specs.Reading.{Read, add_fitting, is_ended, version_of, unless, certificate_limit}
+use Rattle.certificate_text.specs.Rules.{is_narrow_form}
 
 abbrev pub whole_number : ℤ → Option ℕ
 whole_number (pos n) = Some n
@@ -23,14 +24,18 @@ number_in f = cond (is_empty f.terms) (whole_number f.constant) None
 abbrev pub allowed_form : FormTable → (used n : ℕ) → Option (Form Name)
 allowed_form forms used n = cond (nat_le n (used + 1)) (form_at forms n) None
 
-abbrev pub filled_by : FormTable → (used : ℕ) → Item → Option (Form Name) → Option (ℕ × Item)
-filled_by forms used item None = Some (used, item)
-filled_by forms used item (Some number) =
-    then (number_in number) (λ n. then (allowed_form forms used n) (λ f. Some (max used n, put_form f item)))
+-- the form of the number that stands for it, and the largest number that is used then
+abbrev pub form_by : FormTable → (used : ℕ) → (number : Form Name) → Option (ℕ × Form Name)
+form_by forms used number = then (number_in number) (λ n. then (allowed_form forms used n) (λ f. Some (max used n, f)))
 
--- a line with the form of its number in place of the number, and the largest number that is used then
+-- the forms of numbers, one after the other
+abbrev pub forms_by : FormTable → (used : ℕ) → (numbers : List (Form Name)) → Option (ℕ × List (Form Name))
+forms_by forms used [] = Some (used, [])
+forms_by forms used (number ∷ numbers) = then (form_by forms used number) (λ f. then (forms_by forms f.0 numbers) (λ fs. Some (fs.0, f.1 ∷ fs.1)))
+
+-- a line with the forms of its numbers in place of the numbers, and the largest number that is used then
 abbrev pub filled : FormTable → (used : ℕ) → Item → Option (ℕ × Item)
-filled forms used item = filled_by forms used item (form_in item)
+filled forms used item = then (forms_by forms used (line_forms item)) (λ fs. Some (fs.0, put_forms fs.1 item))
 
 -- what was read, and the largest number that was used
 pub record NumberedDraft : Type 0 where
@@ -41,7 +46,7 @@ abbrev pub numbered_draft : ℕ → Draft → NumberedDraft
 numbered_draft used d = record { used = used; read = d }
 
 abbrev pub add_filled : Draft → ℕ × Item → Option NumberedDraft
-add_filled d line = then (add d line.1) (λ e. Some (numbered_draft line.0 e))
+add_filled d line = then (add_fitting d line.1) (λ e. Some (numbered_draft line.0 e))
 
 abbrev pub add_numbered : FormTable → NumberedDraft → List ℕ → Option NumberedDraft
 add_numbered forms d line = then (item_of (words line)) (λ item. then (filled forms d.used item) (add_filled d.read))
@@ -68,9 +73,9 @@ abbrev pub table_words : List (List ℕ) → Option (List (List ℕ))
 table_words [] = None
 table_words (word ∷ others) = when (bytes_eq word (codes "form")) others
 
--- one form more, which is not there yet
-abbrev pub add_form : FormTable → List (List ℕ) → Option FormTable
-add_form forms words = then (form_of [] None words) (λ f. when (not (has_form forms f)) (forms ++ f ∷ []))
+-- one form more, which is not there yet, of names that the certificate may have
+abbrev pub add_form : (is_wide : Bool) → FormTable → List (List ℕ) → Option FormTable
+add_form is_wide forms words = then (form_of [] words) (λ f. when ((is_wide || is_narrow_form f) && not (has_form forms f)) (forms ++ f ∷ []))
 
 abbrev pub by_table_words : Option (List (List ℕ)) → Read → (List (List ℕ) → Read) → Read
 by_table_words None read go = read
@@ -82,7 +87,7 @@ read_table is_wide forms n [] = Err (BadLine n)
 read_table is_wide forms n (line ∷ others) =
     cond (is_empty others) (Err (BadLine n)) (by_table_words (table_words (words line))
     (read_numbered forms n (numbered_draft 0 (begun is_wide)) (line ∷ others))
-    (λ ws. go_to n (add_form forms ws) (λ more. read_table is_wide more (suc n) others)))
+    (λ ws. go_to n (add_form is_wide forms ws) (λ more. read_table is_wide more (suc n) others)))
 
 abbrev pub is_version : (is_wide : Bool) → ℤ → Bool
 is_version false version = int_eq version (pos 2)

@@ -1,18 +1,18 @@
 -- The text of a certificate in version 2, and of a wide one in version 4: its forms in a table, and in its lines their numbers.
-use Rattle.std.specs.Prelude.{ℕ, pos, List, [], ◌∷◌, ◌++◌, map, fold, Option, None, Some, codes}
-use Rattle.std.specs.List.{filter_map}
+use Rattle.std.specs.Prelude.{ℕ, pos, List, [], ◌∷◌, ◌++◌, map, fold, codes}
+use Rattle.std.specs.List.{flat_map}
 use Rattle.linear.specs.Linear.{Form}
 use Rattle.texts.specs.Lines.{text_of_lines}
 use Rattle.certificate_text.specs.Certificate.{Name, Certificate}
 use Rattle.certificate_text.specs.Text.{form_text}
 use Rattle.certificate_text.specs.Forms.{form}
 use Rattle.certificate_text.specs.Lines.{Item}
-use Rattle.certificate_text.specs.Items.{items_of, item_line, form_in, put_form}
+use Rattle.certificate_text.specs.Items.{items_of, item_line, line_forms, put_forms}
 use Rattle.certificate_text.specs.FormTables.{FormTable, with_form, number_of}
 
 -- the forms of lines, each once, in the order of first use
 abbrev pub forms_in : List Item → FormTable
-forms_in items = fold with_form [] (filter_map form_in items)
+forms_in items = fold with_form [] (flat_map line_forms items)
 
 abbrev pub forms_of : Certificate → FormTable
 forms_of c = forms_in (items_of c)
@@ -21,13 +21,13 @@ forms_of c = forms_in (items_of c)
 abbrev pub number_form : ℕ → Form Name
 number_form n = form [] (pos n)
 
-abbrev pub numbered_by : FormTable → Item → Option (Form Name) → Item
-numbered_by forms item None = item
-numbered_by forms item (Some f) = put_form (number_form (number_of forms f)) item
+-- the number of a form, as that form
+abbrev pub number_for : FormTable → Form Name → Form Name
+number_for forms f = number_form (number_of forms f)
 
--- a line with the number of its form in place of the form
+-- a line with the numbers of its forms in place of the forms
 abbrev pub numbered : FormTable → Item → Item
-numbered forms item = numbered_by forms item (form_in item)
+numbered forms item = put_forms (map (number_for forms) (line_forms item)) item
 
 abbrev pub numbered_line : FormTable → Item → List ℕ
 numbered_line forms item = item_line (numbered forms item)

@@ -1,11 +1,12 @@
 -- Reading a certificate, line by line, to its end or its first fault.
-use Rattle.std.specs.Prelude.{ℕ, suc, ℤ, pos, List, [], ◌∷◌, length, Bool, true, false, cond, nat_lt, ◌&&◌, Option, None, Some, Result, Ok, Err, bytes_eq, codes}
+use Rattle.std.specs.Prelude.{ℕ, suc, ℤ, pos, List, [], ◌∷◌, length, Bool, true, false, cond, nat_lt, ◌&&◌, ◌||◌, Option, None, Some, Result, Ok, Err, bytes_eq, codes}
 use Rattle.std.specs.Ordering.{int_eq}
 use Rattle.texts.specs.Lines.{is_empty, two, line_feed, pieces, words, integer_of}
 use Rattle.certificate_text.specs.Certificate.{Certificate, CertificateFault, BadLine, OtherVersion}
-use Rattle.certificate_text.specs.Lines.{item_of}
+use Rattle.certificate_text.specs.Lines.{Item, item_of}
 use Rattle.certificate_text.specs.Forms.{then, number}
 use Rattle.certificate_text.specs.Drafts.{Open, Draft, nothing_yet, add, Ended}
+use Rattle.certificate_text.specs.Rules.{is_narrow_item}
 
 abbrev pub Read : Type 0
 Read = Result Certificate CertificateFault
@@ -22,8 +23,12 @@ abbrev pub go_on : ℕ → Option Draft → (Draft → Read) → Read
 go_on n None go = Err (BadLine n)
 go_on n (Some d) go = go d
 
+-- one more line, which a certificate that is not wide may have
+abbrev pub add_fitting : Draft → Item → Option Draft
+add_fitting d item = cond (d.settled.is_wide || is_narrow_item item) (add d item) None
+
 abbrev pub add_line : Draft → List ℕ → Option Draft
-add_line d line = then (item_of (words line)) (add d)
+add_line d line = then (item_of (words line)) (add_fitting d)
 
 -- line after line, each with its number; what follows the last line feed is no line
 abbrev pub read_lines : ℕ → Draft → List (List ℕ) → Read

@@ -4,7 +4,7 @@ use Rattle.std.specs.List.{flat_map}
 use Rattle.std.specs.Fmt.{decimal, signed_decimal}
 use Rattle.linear.specs.Linear.{Weighted, Form}
 use Rattle.texts.specs.Lines.{text_of_lines}
-use Rattle.certificate_text.specs.Certificate.{Dimension, First, Second, Third, Name, Variable, AtAnchor, Turns, Fresh, Argument, Length, Groups, Group, Local, Anchor, KernelEntry, Barrier, Spot, Congruence, Place, Descent, Down, Halve, Double, Bound, EntrySort, Show, Positive, Negative, Quotient, Scaled, Step, Given, Sum, Divide, Entry, Certificate}
+use Rattle.certificate_text.specs.Certificate.{Dimension, First, Second, Third, Name, Variable, AtAnchor, Turns, Fresh, Argument, Length, Groups, Group, Local, Product, Anchor, KernelEntry, Barrier, Spot, Congruence, Multiple, Place, Descent, Down, Halve, Double, Bound, EntrySort, Show, Positive, Negative, Quotient, Scaled, Step, Given, Sum, Divide, Lemma, Entry, Certificate}
 
 abbrev pub dimension_text : Dimension → List ℕ
 dimension_text First = codes "0"
@@ -21,6 +21,8 @@ name_text (Length name) = codes "len." ++ name
 name_text (Groups dimension) = codes "groups." ++ dimension_text dimension
 name_text (Group dimension) = codes "group." ++ dimension_text dimension
 name_text (Local dimension) = codes "local." ++ dimension_text dimension
+name_text (Second name) = name_text name ++ codes "'"
+name_text (Product first others) = name_text first ++ (codes "*" ++ name_text others)
 
 -- `C*NAME + `
 abbrev pub term_text : Weighted Name → List ℕ
@@ -50,8 +52,13 @@ fact_line f = codes "fact " ++ form_text f
 abbrev pub congruence_line : Congruence → List ℕ
 congruence_line c = codes "mod " ++ (decimal c.modulus ++ (codes " " ++ form_text c.form))
 
+-- the form, and what it is a multiple of
+abbrev pub multiple_line : Multiple → List ℕ
+multiple_line m = codes "multiple " ++ (form_text m.form ++ (codes " of " ++ form_text m.of))
+
 abbrev pub place_lines : Place → List (List ℕ)
-place_lines p = place_line p.spot ∷ (map same_line p.same ++ (map fact_line p.facts ++ map congruence_line p.congruences))
+place_lines p =
+    place_line p.spot ∷ (map same_line p.same ++ (map fact_line p.facts ++ (map congruence_line p.congruences ++ map multiple_line p.multiples)))
 
 abbrev pub descent_text : Descent → List ℕ
 descent_text (Down step) = codes "down " ++ decimal step
@@ -78,9 +85,21 @@ abbrev pub step_line : Step → List ℕ
 step_line (Given fact) = codes "g " ++ signed_decimal fact
 step_line (Sum parts) = codes "s" ++ flat_map scaled_text parts
 step_line (Divide quotient) = codes "d" ++ scaled_text quotient
+step_line (Product first second) = codes "p " ++ (signed_decimal first ++ (codes " " ++ signed_decimal second))
+
+abbrev pub lemma_line : Form Name → List ℕ
+lemma_line f = codes "l " ++ form_text f
+
+abbrev pub lemma_lines : Lemma → List (List ℕ)
+lemma_lines l = lemma_line l.form ∷ map step_line l.steps
+
+-- `m` stands behind lemmas alone
+abbrev pub main_lines : List Lemma → List (List ℕ)
+main_lines [] = []
+main_lines (l ∷ others) = codes "m" ∷ []
 
 abbrev pub entry_lines : Entry → List (List ℕ)
-entry_lines e = entry_line e.obligation e.sort ∷ map step_line e.steps
+entry_lines e = entry_line e.obligation e.sort ∷ (flat_map lemma_lines e.lemmas ++ (main_lines e.lemmas ++ map step_line e.steps))
 
 -- between the first line and the last
 abbrev pub body_lines : Certificate → List (List ℕ)

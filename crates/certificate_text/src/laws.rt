@@ -2,13 +2,13 @@
 //! text says one certificate. In version 2 `text_of_two` and `certificate_of_two` are, and in version 4, for wide certificates,
 //! `text_of_four` and `certificate_of_four`.
 
-ghost use Rattle.std.specs.Prelude.{◌≡◌, ◌≤◌, ◌++◌, ℕ, ℤ, pos, negsuc, List, [], ◌∷◌, length, true, Ok, Err, codes};
+ghost use Rattle.std.specs.Prelude.{◌≡◌, ◌≤◌, ◌++◌, ℕ, ℤ, pos, negsuc, List, [], ◌∷◌, length, true, None, Ok, Err, codes};
 ghost use Rattle.std.specs.Fmt.{decimal, signed_decimal};
 ghost use Rattle.linear.specs.Linear.{Form};
-ghost use Rattle.certificate_text.specs.Certificate.{Name, Variable, Congruence, Double, Bound, Quotient, Certificate, CertificateFault, BadLine, OtherVersion};
+ghost use Rattle.certificate_text.specs.Certificate.{Name, Variable, Argument, Group, Second, Product, Barrier, Congruence, Multiple, Double, Bound, Show, Quotient, Given, Certificate, CertificateFault, BadLine, OtherVersion};
 ghost use Rattle.certificate_text.specs.Text.{text_of, descent_text};
 ghost use Rattle.certificate_text.specs.Forms.{weighted, form};
-ghost use Rattle.certificate_text.specs.Lines.{FactItem, CongruenceItem, BoundItem, EntryItem};
+ghost use Rattle.certificate_text.specs.Lines.{FactItem, CongruenceItem, MultipleItem, BoundItem, EntryItem, LemmaItem};
 ghost use Rattle.certificate_text.specs.Drafts.{wide_certificate};
 ghost use Rattle.certificate_text.specs.Reading.{certificate_limit, certificate_of};
 ghost use Rattle.certificate_text.specs.Rules.{is_certificate, is_wide_certificate};
@@ -53,6 +53,8 @@ pub fn forms_are_written_as_numbers()
     ensures fact { (forms : FormTable) (f : Form Name) → numbered_line forms (FactItem f) ≡ codes "fact " ++ decimal (number_of forms f) }
     ensures congruence { (forms : FormTable) (c : Congruence) → numbered_line forms (CongruenceItem c) ≡ codes "mod " ++ (decimal c.modulus ++ (codes " " ++ decimal (number_of forms c.form))) }
     ensures bound { (forms : FormTable) (b : Bound) → numbered_line forms (BoundItem b) ≡ codes "loop " ++ (decimal b.loop ++ (codes " " ++ (descent_text b.descent ++ (codes " " ++ (signed_decimal b.most ++ (codes " " ++ decimal (number_of forms b.form))))))) }
+    ensures multiple { (forms : FormTable) (m : Multiple) → numbered_line forms (MultipleItem m) ≡ codes "multiple " ++ (decimal (number_of forms m.form) ++ (codes " of " ++ decimal (number_of forms m.of))) }
+    ensures lemma { (forms : FormTable) (f : Form Name) → numbered_line forms (LemmaItem f) ≡ codes "l " ++ decimal (number_of forms f) }
     ensures quotient { (forms : FormTable) (n : ℕ) (f : Form Name) → numbered_line forms (EntryItem n (Quotient f)) ≡ codes "ob " ++ (decimal n ++ (codes " " ++ (codes "quot " ++ decimal (number_of forms f)))) }
 {}
 
@@ -113,4 +115,28 @@ pub fn texts_of_four_are_read()
     ensures of_three { certificate_of_four (codes "certificate 3\nplace b3\nsame x\nend\n") ≡ Err OtherVersion }
     ensures three { certificate_any (codes "certificate 3\nplace b3\nsame x\nend\n") ≡ Err OtherVersion }
     ensures five { certificate_any (codes "certificate 5\nplace b3\nsame x\nend\n") ≡ Err OtherVersion }
+{}
+
+/// What texts of version 4 say of products, of the second item's symbols and of multiples, and that other versions have none of them.
+pub fn texts_with_products_are_read()
+    ensures product { certificate_of_four (codes "certificate 4\nform 1*x*y + 0\nplace b3\nfact 1\nend\n") ≡ Ok (wide_certificate (record { spot = record { anchor = Barrier 3; head = None }; same = []; facts = form (weighted (pos 1) (Product (Variable (codes "x")) (Variable (codes "y"))) ∷ []) (pos 0) ∷ []; congruences = []; multiples = [] } ∷ []) [] []) }
+    ensures three { certificate_of_four (codes "certificate 4\nform 3*arg.w*group.1*group.1 + 0\nplace b3\nfact 1\nend\n") ≡ Ok (wide_certificate (record { spot = record { anchor = Barrier 3; head = None }; same = []; facts = form (weighted (pos 3) (Product (Argument (codes "w")) (Product (Group Second) (Group Second))) ∷ []) (pos 0) ∷ []; congruences = []; multiples = [] } ∷ []) [] []) }
+    ensures second { certificate_of_four (codes "certificate 4\nform 1*x'*y + 0\nplace b3\nfact 1\nend\n") ≡ Ok (wide_certificate (record { spot = record { anchor = Barrier 3; head = None }; same = []; facts = form (weighted (pos 1) (Product (Second (Variable (codes "x"))) (Variable (codes "y"))) ∷ []) (pos 0) ∷ []; congruences = []; multiples = [] } ∷ []) [] []) }
+    ensures out_of_order { certificate_of_four (codes "certificate 4\nform 1*y*x + 0\nplace b3\nfact 1\nend\n") ≡ Err (BadLine 2) }
+    ensures too_many { certificate_of_four (codes "certificate 4\nform 1*x*x*x*x + 0\nplace b3\nfact 1\nend\n") ≡ Err (BadLine 2) }
+    ensures product_in_two { certificate_of_two (codes "certificate 2\nform 1*x*y + 0\nplace b3\nfact 1\nend\n") ≡ Err (BadLine 2) }
+    ensures second_in_one { certificate_of (codes "certificate 1\nplace b3\nfact 1*x' + 0\nend\n") ≡ Err (BadLine 3) }
+    ensures multiple { certificate_of_four (codes "certificate 4\nform 1*x + 0\nplace b3\nmultiple 1 of 1\nend\n") ≡ Ok (wide_certificate (record { spot = record { anchor = Barrier 3; head = None }; same = []; facts = []; congruences = []; multiples = record { of = form (weighted (pos 1) (Variable (codes "x")) ∷ []) (pos 0); form = form (weighted (pos 1) (Variable (codes "x")) ∷ []) (pos 0) } ∷ [] } ∷ []) [] []) }
+    ensures multiple_in_two { certificate_of_two (codes "certificate 2\nform 1*x + 0\nplace b3\nmultiple 1 of 1\nend\n") ≡ Err (BadLine 4) }
+{}
+
+/// What texts of version 4 say of lemmas and of products of lines, and that other versions have none of them.
+pub fn texts_with_lemmas_are_read()
+    ensures lemma { certificate_of_four (codes "certificate 4\nform 1*x + 0\nob 2 show\nl 1\ng 1\nm\np 1 2\nend\n") ≡ Ok (wide_certificate [] [] (record { obligation = 2; sort = Show; lemmas = record { form = form (weighted (pos 1) (Variable (codes "x")) ∷ []) (pos 0); steps = Given (pos 1) ∷ [] } ∷ []; steps = Product (pos 1) (pos 2) ∷ [] } ∷ [])) }
+    ensures not_ended { certificate_of_four (codes "certificate 4\nform 1*x + 0\nob 2 show\nl 1\ng 1\nend\n") ≡ Err (BadLine 6) }
+    ensures not_asked { certificate_of_four (codes "certificate 4\nob 2 show\nm\ng 1\nend\n") ≡ Err (BadLine 3) }
+    ensures twice { certificate_of_four (codes "certificate 4\nform 1*x + 0\nob 2 show\nl 1\nm\nm\nend\n") ≡ Err (BadLine 6) }
+    ensures late { certificate_of_four (codes "certificate 4\nform 1*x + 0\nob 2 show\ng 1\nl 1\nm\nend\n") ≡ Err (BadLine 5) }
+    ensures lemma_in_two { certificate_of_two (codes "certificate 2\nform 1*x + 0\nob 2 show\nl 1\nm\nend\n") ≡ Err (BadLine 4) }
+    ensures step_in_one { certificate_of (codes "certificate 1\nob 2 show\np 1 2\nend\n") ≡ Err (BadLine 3) }
 {}

@@ -49,7 +49,7 @@ next_line facts made made' answer answer' all i ls l f h g e m c k =
     let two = ap (λ o. if_made o (λ g. refutes_from facts (forms made ++ g ∷ []) (is_contradiction g) rest)) e in
     one ∙ two ∙ ap (λ l. refutes_from facts (forms made) answer (map line l)) (sym d) ∙ k
 
-no_more : (ls : List Line) (i : ℕ) → length ls ≤ i → drop i ls ≡ []
+pub no_more : {A : Type 0} (ls : List A) (i : ℕ) → length ls ≤ i → drop i ls ≡ []
 no_more [] zero h = refl
 no_more [] (suc i) h = refl
 no_more (l ∷ ls) zero h = absurd (omega arith)

@@ -1,10 +1,11 @@
 -- What the code has made, as the definitions have it.
-use Rattle.std.specs.Prelude.{ℕ, Option, None, Some}
+use Rattle.std.specs.Prelude.{ℕ, Option, None, Some, map}
 use Rattle.linear.specs.Linear as semantics
 use Rattle.linear.specs.declared.form.Form.{Form}
 use Rattle.linear.specs.Forms.{form}
 use Rattle.cut_proof.specs.Derivations as derivations
 use Rattle.cut_proof.specs.declared.Line.{Line}
+use Rattle.cut_proof.specs.declared.Lemma.{Lemma}
 use Rattle.cut_proof.specs.declared.Line.TheVariants as lines
 
 abbrev pub seen : Option Form → Option (semantics.Form ℕ)
@@ -15,3 +16,7 @@ abbrev pub line : Line → derivations.Line
 line (lines.Given n) = derivations.Given n
 line (lines.Sum parts) = derivations.Sum parts.items
 line (lines.Div d l) = derivations.Divide d l
+line (lines.Product l m) = derivations.Product l m
+
+abbrev pub lemma : Lemma → derivations.Lemma
+lemma l = record { form = form l.form; lines = map line l.lines.items }

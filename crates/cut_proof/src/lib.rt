@@ -1,18 +1,21 @@
 //! Section: Facts and domains. Promises a yes exactly to derivations that refute, so to impossible facts alone; stands on `linear`.
 //!
-//! Proofs by cutting planes that no whole numbers meet a list of linear facts (Chvátal; Cook, Coullard and Turán 1987).
+//! Proofs by cutting planes that no whole numbers meet a list of linear facts (Chvátal; Cook, Coullard and Turán 1987),
+//! and with products of facts (Handelman 1988): a product of symbols is a symbol, whose value is the product of theirs.
 //!
-//! A derivation is a list of lines, each a fact, a sum of earlier lines with weights of at least 1, or an earlier line
-//! whose coefficients all divide, divided, its constant rounded down. One that ends in a negative constant refutes the
-//! facts.
+//! A derivation is a list of lines, each a fact, a sum of earlier lines with weights of at least 1, an earlier line whose
+//! coefficients all divide, divided, its constant rounded down, or the product of two earlier lines. One that ends in a
+//! negative constant refutes the facts. Lemmas stand before it: each is a form, with lines that refute its denial, and
+//! is one more fact for all that follows.
 #![tactic(auto)]
 
-ghost use Rattle.std.specs.Prelude.{◌≡◌, ℕ, ℤ, pos, Some, None, Ok, Err, IfOk, MatchOption, IsTrue, length, map};
+ghost use Rattle.std.specs.Prelude.{◌≡◌, ℕ, ℤ, pos, true, Some, None, Ok, Err, IfOk, OnOk, MatchOption, IsTrue, length, map, List, [], ◌∷◌, ◌++◌};
 ghost use Rattle.linear.specs.Linear.{IsImpossible};
 ghost use Rattle.linear.specs.Exact.{sum, multiple};
+ghost use Rattle.linear.specs.Products.{IsImpossibleWithProducts, within_i64, denial};
 ghost use Rattle.linear.specs.Forms.{form, forms};
-ghost use Rattle.cut_proof.specs.View.{seen, line as line_seen};
-ghost use Rattle.cut_proof.specs.Derivations.{entry, within_i64, add_part, sum_line, divided_line, line_form, is_contradiction, refutes_of};
+ghost use Rattle.cut_proof.specs.View.{seen, line as line_seen, lemma as lemma_seen};
+ghost use Rattle.cut_proof.specs.Derivations.{entry, add_part, sum_line, divided_line, product_line, line_form, is_contradiction, refutes_of, refutes_with, are_without_products};
 
 use linear::{Fact, Form, LinearError};
 use std::alloc::{AllocError, Global};
@@ -26,25 +29,84 @@ pub enum Line {
     Sum(Vec<(i64, u32)>),
     /// A divisor and an earlier line.
     Div(i64, u32),
+    /// Two earlier lines, multiplied.
+    Product(u32, u32),
 }
 
-/// Lines, each of which may name those before it.
+/// A form, with lines that refute its denial.
 #[derive(Debug, Drop)]
-pub struct Derivation {
+pub struct Lemma {
+    pub form: Form,
     pub lines: Vec<Line>,
 }
 
-/// Whether the derivation refutes the facts: each line is as it says, no number of it leaves `i64`, and there is a last
-/// line, a negative constant. No whole numbers meet facts that are refuted.
+/// Lemmas, and lines, each of which may name those before it. Facts of the lines of a lemma are also the lemmas before it
+/// and then its own denial; facts of the last lines are also all lemmas.
+#[derive(Debug, Drop)]
+pub struct Derivation {
+    pub lemmas: Vec<Lemma>,
+    pub lines: Vec<Line>,
+}
+
+/// Whether the derivation refutes the facts: each lemma is shown, each line is as it says, no number of it leaves `i64`,
+/// and there is a last line, a negative constant. No whole numbers meet facts that are refuted, products being products;
+/// where no line is a product, none at all.
 pub fn refutes(alloc: Global, facts: &[Fact], derivation: &Derivation) -> Result<bool, AllocError>
-    ensures exact { IfOk result (λ b. b ≡ refutes_of (forms facts.now) (map line_seen derivation.now.lines.items)) }
-    ensures impossible { IfOk result (λ b. IsTrue b → IsImpossible (forms facts.now)) }
+    ensures exact { IfOk result (λ b. b ≡ refutes_with (forms facts.now) (map lemma_seen derivation.now.lemmas.items) (map line_seen derivation.now.lines.items)) }
+    ensures impossible { IfOk result (λ b. IsTrue b → are_without_products (map lemma_seen derivation.now.lemmas.items) (map line_seen derivation.now.lines.items) ≡ true → IsImpossible (forms facts.now)) }
+    ensures impossible_with_products { IfOk result (λ b. IsTrue b → IsImpossibleWithProducts (forms facts.now)) }
 {
+    let lemmas = derivation.lemmas.as_slice();
     let lines = derivation.lines.as_slice();
+    let mut known: Vec<Form> = Vec::new(alloc);
+    for lemma in lemmas {
+        let Some(denial) = denied(alloc, &lemma.form)? else {
+            return Ok(false);
+        };
+        known.push(denial)?;
+        if !are_refuted(alloc, facts, known.as_slice(), lemma.lines.as_slice())? {
+            return Ok(false);
+        }
+        let form = lemma.form.copy(alloc)?;
+        replace_last(&mut known, form)?;
+    }
+    are_refuted(alloc, facts, known.as_slice(), lines)
+}
+
+/// What denies that a form is at least 0; none where a number is too large for `i64`.
+fn denied(alloc: Global, shown: &Form) -> Result<Option<Form>, AllocError>
+    ensures { IfOk result (λ r. seen r ≡ within_i64 (denial (form shown.now))) }
+{
+    let least = Form::constant(alloc, -1);
+    match least.sub(alloc, shown) {
+        Ok(form) => Ok(Some(form)),
+        Err(LinearError::TooLarge) => Ok(None),
+        Err(LinearError::Memory) => Err(AllocError),
+    }
+}
+
+/// Puts a form in the place of the last one.
+fn replace_last(known: &mut Vec<Form>, last: Form) -> Result<(), AllocError>
+    ensures { OnOk result ((before : List Form) (f : Form) → known.old.items ≡ before ++ f ∷ [] → known.new.items ≡ before ++ last ∷ []) }
+{
+    known.pop();
+    known.push(last)?;
+    Ok(())
+}
+
+/// Whether lines refute facts, and those that are known beside them.
+fn are_refuted(
+    alloc: Global,
+    facts: &[Fact],
+    known: &[Form],
+    lines: &[Line],
+) -> Result<bool, AllocError>
+    ensures { IfOk result (λ b. b ≡ refutes_of (forms facts.now ++ forms known.now) (map line_seen lines.now)) }
+{
     let mut made: Vec<Form> = Vec::new(alloc);
     let mut refuted = false;
     for line in lines {
-        let Some(form) = make_line(alloc, facts, made.as_slice(), line)? else {
+        let Some(form) = make_line(alloc, facts, known, made.as_slice(), line)? else {
             return Ok(false);
         };
         refuted = contradicts(&form);
@@ -57,26 +119,44 @@ pub fn refutes(alloc: Global, facts: &[Fact], derivation: &Derivation) -> Result
 fn make_line(
     alloc: Global,
     facts: &[Fact],
+    known: &[Form],
     made: &[Form],
     line: &Line,
 ) -> Result<Option<Form>, AllocError>
-    ensures { IfOk result (λ r. seen r ≡ line_form (forms facts.now) (forms made.now) (line_seen line.now)) }
+    ensures { IfOk result (λ r. seen r ≡ line_form (forms facts.now ++ forms known.now) (forms made.now) (line_seen line.now)) }
 {
     match line {
-        Line::Given(number) => make_given(alloc, facts, *number),
+        Line::Given(number) => make_given(alloc, facts, known, *number),
         Line::Sum(parts) => make_sum(alloc, made, parts.as_slice()),
         Line::Div(divisor, number) => make_quotient(alloc, made, *divisor, *number),
+        Line::Product(first, second) => make_product(alloc, made, *first, *second),
     }
 }
 
-fn make_given(alloc: Global, facts: &[Fact], number: u32) -> Result<Option<Form>, AllocError>
-    ensures { IfOk result (λ r. seen r ≡ entry (forms facts.now) number) }
+fn make_given(
+    alloc: Global,
+    facts: &[Fact],
+    known: &[Form],
+    number: u32,
+) -> Result<Option<Form>, AllocError>
+    ensures { IfOk result (λ r. seen r ≡ entry (forms facts.now ++ forms known.now) number) }
 {
-    let Some(fact) = named(facts, number) else {
+    let Some(fact) = given(facts, known, number) else {
         return Ok(None);
     };
     let form = fact.copy(alloc)?;
     Ok(Some(form))
+}
+
+/// The fact of a number, counted from 1; those that are known come behind the facts.
+fn given<'a>(facts: &'a [Fact], known: &'a [Form], number: u32) -> Option<&'a Form>
+    ensures { MatchOption result (entry (forms facts.now ++ forms known.now) number ≡ None) (λ f. entry (forms facts.now ++ forms known.now) number ≡ Some (form f.now)) }
+{
+    let count = facts.len();
+    if number as usize <= count {
+        return named(facts, number);
+    }
+    named(known, number - count as u32)
 }
 
 fn make_sum(alloc: Global, made: &[Form], parts: &[(i64, u32)]) -> Result<Option<Form>, AllocError>
@@ -136,6 +216,23 @@ fn make_quotient(
         return Ok(None);
     };
     line.divided(alloc, divisor)
+}
+
+fn make_product(
+    alloc: Global,
+    made: &[Form],
+    first: u32,
+    second: u32,
+) -> Result<Option<Form>, AllocError>
+    ensures { IfOk result (λ r. seen r ≡ product_line (forms made.now) first second) }
+{
+    let Some(left) = named(made, first) else {
+        return Ok(None);
+    };
+    let Some(right) = named(made, second) else {
+        return Ok(None);
+    };
+    left.product(alloc, right)
 }
 
 /// The form of a line so many times; none where a number is too large for `i64`.

@@ -12,7 +12,7 @@ use linear::Fact;
 use std::alloc::{AllocError, Global};
 
 /// How often the tableau is solved, cuts made between.
-const ROUNDS: u32 = 40;
+pub const ROUNDS: u32 = 40;
 
 /// Facts that several lists begin with, taken in and solved.
 #[derive(Drop)]
@@ -62,7 +62,7 @@ fn decide_by_sums(alloc: Global, start: Tableau, facts: &[Fact]) -> Result<Answe
     }
     match enter_sums(alloc, &mut tableau, facts)? {
         Some(parts) => proof(alloc, &tableau, parts.as_slice()),
-        None => conclude(alloc, facts, tableau),
+        None => conclude(alloc, facts, tableau, ROUNDS),
     }
 }
 
@@ -81,7 +81,7 @@ fn decide_with_one(
             }
         }
     }
-    conclude(alloc, facts, tableau)
+    conclude(alloc, facts, tableau, ROUNDS)
 }
 
 /// Decides a list by what it says with the congruences of one modulus alone.
@@ -122,7 +122,7 @@ fn decide_from(
     let mut tableau = start;
     match enter_all(alloc, &mut tableau, facts, count)? {
         Some(number) => Ok(Answer::Proof(derive_given(alloc, number)?)),
-        None => conclude(alloc, facts, tableau),
+        None => conclude(alloc, facts, tableau, ROUNDS),
     }
 }
 
@@ -137,7 +137,7 @@ fn solved(alloc: Global, facts: &[Fact]) -> Result<Tableau, Stop> {
 }
 
 /// Takes in the facts behind the first `count`, or answers the number of one that is a constant below 0.
-fn enter_all(
+pub fn enter_all(
     alloc: Global,
     tableau: &mut Tableau,
     facts: &[Fact],
@@ -184,10 +184,15 @@ fn whole_point(alloc: Global, tableau: &Tableau, round: u32) -> Result<Option<Po
     dive(alloc, tableau)
 }
 
-/// Solves the tableau, and makes cuts while its point is not whole.
-fn conclude(alloc: Global, facts: &[Fact], start: Tableau) -> Result<Answer, Stop> {
+/// Solves the tableau, so many times at most, and makes cuts while its point is not whole.
+pub fn conclude(
+    alloc: Global,
+    facts: &[Fact],
+    start: Tableau,
+    rounds: u32,
+) -> Result<Answer, Stop> {
     let mut tableau = start;
-    for round in 0..ROUNDS {
+    for round in 0..rounds {
         if let Some(parts) = tableau.solve(alloc)? {
             return proof(alloc, &tableau, parts.as_slice());
         }

@@ -1,8 +1,8 @@
 //! Quotients for a form that a number is to divide.
 
 use crate::equalities::Equalities;
-use guesses::{is_same, new_symbol, one_of, try_difference, try_sum};
-use linear::Form;
+use guesses::{Factors, is_same, new_symbol, one_of, try_difference, try_multiple, try_sum};
+use linear::{Form, Symbol, Term};
 use std::alloc::{AllocError, Global};
 
 /// Quotients to be tried, the best first: of the form, where the modulus divides its coefficients; of the form less that of a
@@ -127,4 +127,141 @@ fn push_reduced(
         Some(reduced) => push_divided(alloc, found, &reduced, divisor),
         None => Ok(()),
     }
+}
+
+/// Quotients to be tried by a form, the best first: of the form less a multiple that is known where the path begins, and its quotient, the
+/// new symbol of its index; of the form itself; each also with the equalities of the facts put in.
+pub fn quotients_by(
+    alloc: Global,
+    facts: &[Form],
+    form: &Form,
+    of: &Form,
+    known: &[(u32, Form)],
+) -> Result<Vec<Form>, AllocError> {
+    let mut found = Vec::new(alloc);
+    let equalities = Equalities::of_facts(alloc, facts)?;
+    for multiple in known {
+        if let Some(difference) = try_difference(alloc, form, &multiple.1)? {
+            let quotient = one_of(alloc, new_symbol(multiple.0))?;
+            push_by(alloc, &mut found, &equalities, &difference, of, &quotient)?;
+        }
+    }
+    let none = Form::constant(alloc, 0);
+    push_by(alloc, &mut found, &equalities, form, of, &none)?;
+    Ok(found)
+}
+
+/// Adds a form and the quotient of another one, also of that one with equalities put in.
+fn push_by(
+    alloc: Global,
+    found: &mut Vec<Form>,
+    equalities: &Equalities,
+    form: &Form,
+    of: &Form,
+    rest: &Form,
+) -> Result<(), AllocError> {
+    push_sum(alloc, found, divided_by(alloc, form, of)?, rest)?;
+    match equalities.reduce(alloc, form)? {
+        Some(reduced) => push_sum(alloc, found, divided_by(alloc, &reduced, of)?, rest),
+        None => Ok(()),
+    }
+}
+
+/// Adds the sum of a quotient, where there is one, and another form.
+fn push_sum(
+    alloc: Global,
+    found: &mut Vec<Form>,
+    quotient: Option<Form>,
+    rest: &Form,
+) -> Result<(), AllocError> {
+    let Some(quotient) = quotient else {
+        return Ok(());
+    };
+    match try_sum(alloc, &quotient, rest)? {
+        Some(sum) => push_new(found, sum),
+        None => Ok(()),
+    }
+}
+
+/// How often a form is another one, where it is some times that or each of its terms is some times its only term.
+fn divided_by(alloc: Global, form: &Form, of: &Form) -> Result<Option<Form>, AllocError> {
+    if let Some(times) = times_of(form, of) {
+        return Ok(Some(Form::constant(alloc, times)));
+    }
+    match of.terms() {
+        [term] if of.constant_part() == 0 && form.constant_part() == 0 => {
+            divided_by_term(alloc, form, *term)
+        }
+        _ => Ok(None),
+    }
+}
+
+/// How often a form is another one in whole.
+fn times_of(form: &Form, of: &Form) -> Option<i64> {
+    let first = of.terms().first()?;
+    if form.terms().is_empty() && form.constant_part() == 0 {
+        return Some(0);
+    }
+    let times = form
+        .coefficient(first.symbol)
+        .checked_div(first.coefficient)?;
+    if form.terms().len() != of.terms().len()
+        || form.constant_part() != of.constant_part().checked_mul(times)?
+    {
+        return None;
+    }
+    for term in of.terms() {
+        if form.coefficient(term.symbol) != term.coefficient.checked_mul(times)? {
+            return None;
+        }
+    }
+    Some(times)
+}
+
+/// How often each term of a form is another term, in sum.
+fn divided_by_term(alloc: Global, form: &Form, of: Term) -> Result<Option<Form>, AllocError> {
+    let mut sum = Form::constant(alloc, 0);
+    for term in form.terms() {
+        let Some(part) = term_by(alloc, *term, of)? else {
+            return Ok(None);
+        };
+        let Some(next) = try_sum(alloc, &sum, &part)? else {
+            return Ok(None);
+        };
+        sum = next;
+    }
+    Ok(Some(sum))
+}
+
+/// How often a term is another one.
+fn term_by(alloc: Global, term: Term, of: Term) -> Result<Option<Form>, AllocError> {
+    let (Some(times), Some(0)) = (
+        term.coefficient.checked_div(of.coefficient),
+        term.coefficient.checked_rem(of.coefficient),
+    ) else {
+        return Ok(None);
+    };
+    let Some(rest) = rest_of(term.symbol, of.symbol) else {
+        return Ok(None);
+    };
+    if rest.first == 0 {
+        return Ok(Some(Form::constant(alloc, times)));
+    }
+    let one = one_of(alloc, rest.symbol())?;
+    try_multiple(alloc, &one, times)
+}
+
+/// The factors of a symbol but for those of another one, if it has them all.
+fn rest_of(symbol: Symbol, of: Symbol) -> Option<Factors> {
+    let mut rest = Factors::of(symbol);
+    let gone = Factors::of(of);
+    for factor in [gone.first, gone.second, gone.third] {
+        if factor != 0 {
+            if !rest.each().contains(&factor) {
+                return None;
+            }
+            rest = rest.without(factor);
+        }
+    }
+    Some(rest)
 }

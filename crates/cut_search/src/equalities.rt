@@ -2,7 +2,7 @@
 
 use crate::hashes::{hash_of_opposite, hashes_of};
 use facts::{Family, Side};
-use guesses::{copied, is_launch, one_of, try_multiple, try_sum};
+use guesses::{copied, is_launch, is_product, one_of, try_multiple, try_sum};
 use linear::{Form, LinearError, Symbol};
 use std::alloc::{AllocError, Global};
 
@@ -96,7 +96,7 @@ fn begins_above(form: &Form) -> bool {
 
 /// How late a symbol is solved for: what a path has of its own comes first.
 fn lateness(symbol: Symbol) -> u64 {
-    if is_launch(symbol) {
+    if is_launch(symbol) || is_product(symbol) {
         return 2;
     }
     match Family::of(symbol) {

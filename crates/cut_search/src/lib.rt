@@ -9,6 +9,10 @@
 //! fact or a cut that is at least 0, and each symbol is over the variables that have no row. A step lets one of those in for a slack that
 //! is below 0. A number that leaves `i64` ends the search. A list that is given up is tried once more in another order of steps, then with
 //! all sums of two facts that round, then with the congruences of one modulus alone.
+//!
+//! Where facts have products of symbols, a list that this does not refute is tried with products of two facts (Handelman 1988): those of
+//! which each symbol is at hand in some fact, or comes of one that is by an equality; then with lemmas, which let such a product be
+//! divided by a fact; then with products in which one symbol may be another one.
 #![tactic(auto)]
 
 mod answer;
@@ -20,9 +24,16 @@ mod divisions;
 mod equalities;
 mod found;
 mod hashes;
+mod lemmas;
 mod memory;
+mod monomials;
+mod multiplying;
 mod numbers;
 mod point;
+mod pool;
+mod proving;
+mod quest;
+mod replacing;
 mod row;
 mod searching;
 mod stop;
@@ -32,6 +43,6 @@ mod whole;
 mod writing;
 
 pub use answer::{Answer, Point};
-pub use divisions::quotients;
+pub use divisions::{quotients, quotients_by};
 pub use memory::Memory;
 pub use searching::{Start, find, search};

@@ -7,8 +7,9 @@ ghost use Rattle.cut_search.specs.Answers.{IsAnswer};
 use crate::answer::{Answer, Point};
 use crate::found::Found;
 use crate::hashes::{first_place, hash_of_list, hashes_of};
+use crate::monomials::have_products;
 use crate::point::meets;
-use crate::searching::search;
+use crate::searching::{search, search_plainly};
 use cut_proof::{Derivation, refutes};
 use guesses::copied;
 use linear::Form;
@@ -17,7 +18,8 @@ use std::alloc::{AllocError, Global};
 /// How many answers of a kind are remembered before all of them are forgotten.
 const LIMIT: usize = 4096;
 
-/// A point, and the number of the fact that was denied.
+/// A point, and the number of the fact that was denied; of a list with products, where products of facts may still refute another list,
+/// that of all of it.
 #[derive(Drop)]
 struct Seen {
     key: u64,
@@ -43,9 +45,11 @@ impl Numbers {
     }
 }
 
-/// The answers found so far: derivations, points, and the hashes of lists of which neither was found.
+/// The answers found so far: derivations, points, and the hashes of lists of which neither was found; and whether derivations may have
+/// products.
 #[derive(Drop)]
 pub struct Memory {
+    multiplies: bool,
     found: Vec<Found>,
     points: Vec<Seen>,
     undecided: Vec<u64>,
@@ -53,9 +57,10 @@ pub struct Memory {
 }
 
 impl Memory {
-    /// A memory without answers.
-    pub fn new(alloc: Global) -> Memory {
+    /// A memory without answers, of a search with products of facts or without.
+    pub fn new(alloc: Global, multiplies: bool) -> Memory {
         Memory {
+            multiplies,
             found: Vec::new(alloc),
             points: Vec::new(alloc),
             undecided: Vec::new(alloc),
@@ -112,7 +117,7 @@ impl Memory {
         if self.undecided.as_slice().contains(&numbers.whole) {
             return Ok(Some(Answer::Undecided));
         }
-        self.recall_point(facts, numbers.key)
+        self.recall_point(facts, self.point_key(facts, numbers))
     }
 
     fn recall_proof(
@@ -152,10 +157,27 @@ impl Memory {
     fn seek(&mut self, alloc: Global, facts: &[Form], numbers: &Numbers) -> Result<(), AllocError> {
         self.searches = self.searches.saturating_add(1);
         let distinct = distinct_of(alloc, facts, numbers.each.as_slice())?;
-        match search(alloc, distinct.facts.as_slice())? {
+        match self.search(alloc, distinct.facts.as_slice())? {
             Answer::Proof(derivation) => self.keep_proof(alloc, numbers.key, &distinct, derivation),
-            Answer::Model(point) => self.keep_point(numbers.key, point),
+            Answer::Model(point) => self.keep_point(self.point_key(facts, numbers), point),
             Answer::Undecided => self.keep_undecided(numbers.whole),
+        }
+    }
+
+    /// The number by which a point is found again.
+    fn point_key(&self, facts: &[Form], numbers: &Numbers) -> u64 {
+        if self.multiplies && have_products(facts) {
+            numbers.whole
+        } else {
+            numbers.key
+        }
+    }
+
+    fn search(&self, alloc: Global, facts: &[Form]) -> Result<Answer, AllocError> {
+        if self.multiplies {
+            search(alloc, facts)
+        } else {
+            search_plainly(alloc, facts)
         }
     }
 

@@ -1,14 +1,16 @@
 // The search, and its beginning with facts that several lists have in common.
 ghost use Rattle.std.specs.Prelude.{◌≡◌, true, IfOk, IfSome, map};
 ghost use Rattle.linear.specs.Linear.{IsImpossible};
+ghost use Rattle.linear.specs.Products.{IsImpossibleWithProducts};
 ghost use Rattle.linear.specs.Forms.{forms};
-ghost use Rattle.cut_proof.specs.View.{line as line_seen};
-ghost use Rattle.cut_proof.specs.Derivations.{refutes_of};
+ghost use Rattle.cut_proof.specs.View.{lemma as lemma_seen, line as line_seen};
+ghost use Rattle.cut_proof.specs.Derivations.{refutes_with, are_without_products};
 ghost use Rattle.cut_search.specs.Answers.{IsAnswer};
 
 use super::point::meets;
 use crate::answer::{Answer, Point};
 use crate::deciding::{Prepared, decide_otherwise};
+use crate::quest::with_products;
 use crate::stop::Stop;
 use cut_proof::{Derivation, refutes};
 use linear::Fact;
@@ -34,13 +36,27 @@ impl Start {
         Ok(Start { prepared })
     }
 
-    /// Searches a list that begins with the facts in common. Of a list that does not, less may be found.
+    /// Searches a list that begins with the facts in common, with products of facts where they have products of symbols. Of a list that does
+    /// not begin so, less may be found.
     pub fn search(&self, alloc: Global, facts: &[Fact]) -> Result<Answer, AllocError>
         ensures { IfOk result (λ a. IsAnswer (forms facts.now) a) }
     {
+        let outcome = self.decide(alloc, facts);
+        settled(alloc, facts, with_products(alloc, facts, outcome))
+    }
+
+    /// Searches as `search` does, without products of facts.
+    fn search_plainly(&self, alloc: Global, facts: &[Fact]) -> Result<Answer, AllocError>
+        ensures { IfOk result (λ a. IsAnswer (forms facts.now) a) }
+    {
+        settled(alloc, facts, self.decide(alloc, facts))
+    }
+
+    /// Decides a list without products of facts.
+    fn decide(&self, alloc: Global, facts: &[Fact]) -> Result<Answer, Stop> {
         match self.prepared.decide(alloc, facts) {
-            Err(Stop::GivenUp) => settled(alloc, facts, decide_otherwise(alloc, facts)),
-            outcome => settled(alloc, facts, outcome),
+            Err(Stop::GivenUp) => decide_otherwise(alloc, facts),
+            outcome => outcome,
         }
     }
 }
@@ -66,10 +82,18 @@ pub fn search(alloc: Global, facts: &[Fact]) -> Result<Answer, AllocError>
     Start::new(alloc).search(alloc, facts)
 }
 
+/// Searches for a derivation without products, or whole numbers.
+pub fn search_plainly(alloc: Global, facts: &[Fact]) -> Result<Answer, AllocError>
+    ensures { IfOk result (λ a. IsAnswer (forms facts.now) a) }
+{
+    Start::new(alloc).search_plainly(alloc, facts)
+}
+
 /// A derivation that refutes the facts, if one is found.
 pub fn find(alloc: Global, facts: &[Fact]) -> Result<Option<Derivation>, AllocError>
-    ensures refuted { IfOk result (λ r. IfSome r (λ d. refutes_of (forms facts.now) (map line_seen d.lines.items) ≡ true)) }
-    ensures impossible { IfOk result (λ r. IfSome r (λ d. IsImpossible (forms facts.now))) }
+    ensures refuted { IfOk result (λ r. IfSome r (λ d. refutes_with (forms facts.now) (map lemma_seen d.lemmas.items) (map line_seen d.lines.items) ≡ true)) }
+    ensures impossible { IfOk result (λ r. IfSome r (λ d. are_without_products (map lemma_seen d.lemmas.items) (map line_seen d.lines.items) ≡ true → IsImpossible (forms facts.now))) }
+    ensures impossible_with_products { IfOk result (λ r. IfSome r (λ d. IsImpossibleWithProducts (forms facts.now))) }
 {
     match search(alloc, facts)? {
         Answer::Proof(derivation) => Ok(Some(derivation)),

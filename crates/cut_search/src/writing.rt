@@ -78,6 +78,14 @@ fn write_slack(
     }
 }
 
+/// A derivation without lemmas.
+pub fn plain(alloc: Global, lines: Vec<Line>) -> Derivation {
+    Derivation {
+        lemmas: Vec::new(alloc),
+        lines,
+    }
+}
+
 /// The derivation of the sum of the parts.
 pub fn derive(alloc: Global, origins: &[Origin], parts: &[Part]) -> Result<Derivation, Stop> {
     let needed = needed_by(alloc, origins, parts)?;
@@ -93,12 +101,12 @@ pub fn derive(alloc: Global, origins: &[Origin], parts: &[Part]) -> Result<Deriv
     }
     let weights = weights_of(alloc, numbers.as_slice(), parts)?;
     lines.push(Line::Sum(weights))?;
-    Ok(Derivation { lines })
+    Ok(plain(alloc, lines))
 }
 
 /// The derivation that a fact alone is a contradiction.
 pub fn derive_given(alloc: Global, number: u32) -> Result<Derivation, Stop> {
     let mut lines = Vec::new(alloc);
     lines.push(Line::Given(number))?;
-    Ok(Derivation { lines })
+    Ok(plain(alloc, lines))
 }

@@ -3,7 +3,7 @@ use Rattle.std.proofs.Common.{◌≡◌, ℕ, zero, suc, ◌+◌, ◌<◌, ◌�
 use Rattle.std.specs.List.{All}
 use Rattle.std.proofs.lemmas.List.Elements.{All-from_get_or}
 use Rattle.walk_trees.specs.Trees.{Obligation}
-use Rattle.walk_trees.specs.Shown.{IsShown}
+use Rattle.walk_trees.specs.Shown.{IsShownWithProducts}
 
 latest : (i k : ℕ) → k < i + 1 → (k < i) ⊎ (k ≡ i)
 latest zero zero h = inr refl
@@ -14,5 +14,5 @@ latest (suc i) (suc k) h = elim (latest i k (omega arith)) [ inl a ↦ inl (omeg
 pub one_more : {P : ℕ → Type 0} (i : ℕ) → ((k : ℕ) → k < i → P k) → P i → (k : ℕ) → k < i + 1 → P k
 one_more {P} i f p k h = elim (latest i k h) [ inl a ↦ f k a | inr a ↦ subst P (sym a) p ]
 
-pub all_shown : (os : List Obligation) (d : Obligation) (n : ℕ) → length os ≤ n → ((k : ℕ) → k < n → IsShown (get_or os k d)) → All IsShown os
-all_shown os d n h s = All-from_get_or IsShown os d (λ i l. s i (omega (arith, h, l)))
+pub all_shown : (os : List Obligation) (d : Obligation) (n : ℕ) → length os ≤ n → ((k : ℕ) → k < n → IsShownWithProducts (get_or os k d)) → All IsShownWithProducts os
+all_shown os d n h s = All-from_get_or IsShownWithProducts os d (λ i l. s i (omega (arith, h, l)))

@@ -21,12 +21,12 @@ use Rattle.two_thread.proofs.Listing.{listed_length}
 use Rattle.walk.specs.Unfound.{HaveFewPaths, IsUnfound, IsUnlisted}
 use Rattle.walk.specs.declared.error.FindError.{FindError}
 use Rattle.walk.specs.declared.error.FindError.TheVariants as finds
-use Rattle.entry_check.specs.Entries.{has_entry}
+use Rattle.entry_check.specs.Entries.{Stating, has_entry}
 use Rattle.entry_check.specs.Lacking.{AreListed, TellsOwing, with_entries}
 use Rattle.entry_check.specs.Numbers.{show_of}
 
 abbrev with_flags : Notes → (ℕ → Bool) → Notes
-with_flags n f = record { same = n.same; facts = n.facts; congruences = n.congruences; ranking = n.ranking; visible = n.visible; quotient = n.quotient; has_entry = f; is_wide = n.is_wide }
+with_flags n f = record { same = n.same; facts = n.facts; congruences = n.congruences; multiples = n.multiples; ranking = n.ranking; visible = n.visible; quotient = n.quotient; has_entry = f; is_wide = n.is_wide }
 
 -- flags that tell which obligations have entries
 pub same_notes : (es : List Entry) (n : code.Notes) (flags : List Bool) → ((m : ℕ) → slice_index_or flags m false ≡ has_entry es m) → seen n flags ≡ with_entries es (seen n [])
@@ -47,6 +47,6 @@ module _ {E : Type 0} (g : Ghosts E) (k : Kernel) (c : Conditions) where
   unfit_unlisted n fit f walks.TooLarge u = absurd cc
   unfit_unlisted n fit f walks.Memory u = tt
 
-  pub told_unfound : (es : List Entry) (n : Notes) (e : FindError) → IsUnfound g k c (with_entries es n) e → TellsOwing g k c n es (show_of e)
-  told_unfound es n (finds.ManyPaths s) u = u
-  told_unfound es n (finds.Walk e) u = u
+  pub told_unfound : (m : Stating) (es : List Entry) (n : Notes) (e : FindError) → IsUnfound g k c (with_entries es n) e → TellsOwing g k c m n es (show_of e)
+  told_unfound m es n (finds.ManyPaths s) u = u
+  told_unfound m es n (finds.Walk e) u = u

@@ -1,13 +1,24 @@
 -- What the entries of a certificate say of obligations.
-use Rattle.std.specs.Prelude.{◌≡◌, ℕ, zero, suc, ◌-◌, ℤ, pos, negsuc, List, [], ◌∷◌, map, Bool, true, false, not, cond, ◌&&◌, ◌||◌, nat_eq, nat_le, nat_lt, Option, None, Some, slice_index_or}
+use Rattle.std.specs.Prelude.{◌≡◌, ℕ, zero, suc, ◌-◌, ℤ, pos, negsuc, List, [], ◌∷◌, map, Bool, true, false, not, cond, ◌&&◌, ◌||◌, nat_eq, nat_le, nat_lt, length, ◌+◌, Option, None, Some, slice_index_or}
+use Rattle.std.specs.Option.{option_map}
 use Rattle.std.specs.Ordering.{int_eq}
-use Rattle.linear.specs.Linear.{Weighted}
-use Rattle.certificate_text.specs.Certificate.{Entry, EntrySort, Show, Positive, Negative, Quotient, Step, Given, Sum, Divide, Scaled}
+use Rattle.linear.specs.Linear.{Weighted, Form}
+use Rattle.certificate_text.specs.Certificate.{Name, Entry, EntrySort, Show, Positive, Negative, Quotient, Lemma, Step, Given, Sum, Divide, Product, Scaled}
 use Rattle.cut_proof.specs.Derivations as derivations
-use Rattle.cut_proof.specs.Derivations.{Forms, Line, refutes_of}
+use Rattle.cut_proof.specs.Derivations.{Forms, Line, refutes_with}
 use Rattle.facts.specs.Symbols.{Fact}
 use Rattle.walk_trees.specs.Trees.{Obligation, Manner, Plainly, ByPositive, ByNegative, ByQuotient, facts_by}
 use Rattle.two_thread.specs.Quotients.{is_second_claim}
+use Rattle.certificate_notes.specs.Noted.{each}
+
+-- what a form of names is in symbols, where the kernel has all of them
+abbrev pub Stating : Type 0
+Stating = Form Name → Option Fact
+
+-- that, and the quotient that the entry of a claim names
+pub record Said : Type 0 where
+  pub quotient : (claim : ℕ) → Fact
+  pub stated : Stating
 
 -- a number of a line or a fact; one that is none, or has over 32 bits, is 0, which names nothing
 abbrev pub line_number : ℤ → ℕ
@@ -22,6 +33,27 @@ abbrev pub line_of : Step → Line
 line_of (Given fact) = derivations.Given (line_number fact)
 line_of (Sum parts) = derivations.Sum (map part_of parts)
 line_of (Divide by) = derivations.Divide by.factor (line_number by.line)
+line_of (Product first second) = derivations.Product (line_number first) (line_number second)
+
+-- a lemma of an entry as one of a derivation, where the kernel has all that it names
+abbrev pub lemma_by : List Step → Fact → derivations.Lemma
+lemma_by steps f = record { form = f; lines = map line_of steps }
+
+abbrev pub lemma_of : Stating → Lemma → Option derivations.Lemma
+lemma_of stated l = option_map (lemma_by l.steps) (stated l.form)
+
+abbrev pub lemmas_of : Stating → List Lemma → Option (List derivations.Lemma)
+lemmas_of stated ls = each (lemma_of stated) ls
+
+-- how many lines lemmas have
+abbrev pub lemma_lines : List Lemma → ℕ
+lemma_lines [] = 0
+lemma_lines (l ∷ ls) = length l.steps + lemma_lines ls
+
+-- at most 64 lemmas, and with lemmas at most 65,536 lines
+abbrev pub are_few : List Lemma → (own : ℕ) → Bool
+are_few [] own = true
+are_few (l ∷ ls) own = nat_le (length (l ∷ ls)) 64 && nat_le (own + lemma_lines (l ∷ ls)) 65536
 
 -- how an entry of a sort shows an obligation
 abbrev pub manner_of : EntrySort → Manner
@@ -34,13 +66,21 @@ manner_of (Quotient form) = ByQuotient
 abbrev pub facts_for : EntrySort → Obligation → Option Forms
 facts_for s o = facts_by (manner_of s) o
 
-abbrev pub refutes_facts : Entry → Option Forms → Bool
-refutes_facts e None = false
-refutes_facts e (Some facts) = refutes_of facts (map line_of e.steps)
+-- lemmas, each shown with those before it, and steps that refute the facts with all of them
+abbrev pub refutes_lemmas : List Step → Forms → Option (List derivations.Lemma) → Bool
+refutes_lemmas steps facts None = false
+refutes_lemmas steps facts (Some ls) = refutes_with facts ls (map line_of steps)
+
+abbrev pub refutes_all : Stating → Entry → Forms → Bool
+refutes_all stated e facts = are_few e.lemmas (length e.steps) && refutes_lemmas e.steps facts (lemmas_of stated e.lemmas)
+
+abbrev pub refutes_facts : Stating → Entry → Option Forms → Bool
+refutes_facts stated e None = false
+refutes_facts stated e (Some facts) = refutes_all stated e facts
 
 -- an entry fits an obligation, and its derivation refutes the facts
-abbrev pub refutes_by : Entry → Obligation → Bool
-refutes_by e o = refutes_facts e (facts_for e.sort o)
+abbrev pub refutes_by : Stating → Entry → Obligation → Bool
+refutes_by stated e o = refutes_facts stated e (facts_for e.sort o)
 
 -- an entry has this number; there are at most 65,536 obligations
 abbrev pub is_of : ℕ → Entry → Bool
@@ -59,9 +99,9 @@ abbrev pub is_found : Option Entry → Bool
 is_found None = false
 is_found (Some e) = true
 
-abbrev pub found_refutes : Option Entry → Obligation → Bool
-found_refutes None o = false
-found_refutes (Some e) o = refutes_by e o
+abbrev pub found_refutes : Stating → Option Entry → Obligation → Bool
+found_refutes stated None o = false
+found_refutes stated (Some e) o = refutes_by stated e o
 
 -- an obligation of this number has an entry
 abbrev pub has_entry : List Entry → ℕ → Bool
@@ -83,8 +123,8 @@ names_one q n o = not (is_second_claim o.goal) || same_form (q n) (q (n - 1))
 
 -- the entry of this number fits an obligation, and refutes its facts; where the obligation is the second claim of a congruence, it names the
 -- quotient that the first one's entry names
-abbrev pub is_refuted : (quotient : ℕ → Fact) → List Entry → (number : ℕ) → Obligation → Bool
-is_refuted q es n o = names_one q n o && found_refutes (entry_of es n) o
+abbrev pub is_refuted : Said → List Entry → (number : ℕ) → Obligation → Bool
+is_refuted s es n o = names_one s.quotient n o && found_refutes s.stated (entry_of es n) o
 
 -- an entry is past the last obligation
 abbrev pub is_past : List Entry → (last : ℕ) → Bool

@@ -1,3 +1,4 @@
 pub mod Entries
+pub mod View
 pub mod Lacking
 pub mod Numbers

@@ -1,16 +1,19 @@
 //! The derivation of an entry, and whether it refutes facts.
 
-ghost use Rattle.std.specs.Prelude.{◌≡◌, IfOk, IsTrue, map};
-ghost use Rattle.linear.specs.Linear.{IsImpossible};
-ghost use Rattle.linear.specs.Forms.{forms};
-ghost use Rattle.certificate.specs.View.{scaled as scaled_seen, step as step_seen, entry as entry_seen, sort as sort_seen};
-ghost use Rattle.cut_proof.specs.View.{line as line_seen};
-ghost use Rattle.cut_proof.specs.Derivations.{refutes_of};
+ghost use Rattle.std.specs.Prelude.{◌≡◌, ◌+◌, None, Some, IfOk, IsTrue, MatchOption, nat_le, map};
+ghost use Rattle.std.specs.Option.{option_map};
+ghost use Rattle.linear.specs.Products.{IsImpossibleWithProducts};
+ghost use Rattle.linear.specs.Forms.{form as form_seen, forms};
+ghost use Rattle.certificate.specs.View.{scaled as scaled_seen, step as step_seen, lemma as lemma_seen, entry as entry_seen, sort as sort_seen, form as names_seen};
+ghost use Rattle.cut_proof.specs.View.{line as line_seen, lemma as shown_seen};
 ghost use Rattle.two_thread.specs.Goals.{manner as manner_seen};
 ghost use Rattle.entry_check.specs.Entries as entries;
+ghost use Rattle.entry_check.specs.View.{stated as stated_seen};
 
+use certificate::tree;
 use certificate::tree::{Entry, EntrySort, Scaled, Step};
-use cut_proof::{Derivation, Line, refutes};
+use certificate_notes::{Names, NamesError};
+use cut_proof::{Derivation, Lemma, Line, refutes};
 use linear::Form;
 use std::alloc::{AllocError, Global};
 use two_thread::Manner;
@@ -49,19 +52,109 @@ fn line_of(alloc: Global, step: &Step) -> Result<Line, AllocError>
             Ok(Line::Sum(weighted))
         }
         Step::Divide(by) => Ok(Line::Div(by.factor, line_number(by.line))),
+        Step::Product(first, second) => {
+            Ok(Line::Product(line_number(*first), line_number(*second)))
+        }
     }
 }
 
 #[tactic(auto, using(crate::proofs::Entering::made))]
-/// The derivation of an entry.
-fn derivation_of(alloc: Global, steps: &[Step]) -> Result<Derivation, AllocError>
-    ensures { IfOk result (λ d. map line_seen d.lines.items ≡ map entries.line_of (map step_seen steps.now)) }
+/// The lines of a derivation.
+fn lines_of(alloc: Global, steps: &[Step]) -> Result<Vec<Line>, AllocError>
+    ensures { IfOk result (λ v. map line_seen v.items ≡ map entries.line_of (map step_seen steps.now)) }
 {
     let mut lines = Vec::new(alloc);
     for step in steps {
         lines.push(line_of(alloc, step)?)?;
     }
-    Ok(Derivation { lines })
+    Ok(lines)
+}
+
+/// What a lemma says in symbols; none where it names what the kernel lacks.
+fn form_of(alloc: Global, names: &Names<'_>, form: &tree::Form) -> Result<Option<Form>, AllocError>
+    ensures { IfOk result (λ r. option_map form_seen r ≡ stated_seen names.now (names_seen form.now)) }
+{
+    match names.form(alloc, form) {
+        Ok(form) => Ok(form),
+        Err(NamesError::Memory) => Err(AllocError),
+    }
+}
+
+/// A lemma of a derivation; none where it names what the kernel lacks.
+fn lemma_of(
+    alloc: Global,
+    names: &Names<'_>,
+    lemma: &tree::Lemma,
+) -> Result<Option<Lemma>, AllocError>
+    ensures { IfOk result (λ r. option_map shown_seen r ≡ entries.lemma_of (stated_seen names.now) (lemma_seen lemma.now)) }
+{
+    let Some(form) = form_of(alloc, names, &lemma.form)? else {
+        return Ok(None);
+    };
+    let lines = lines_of(alloc, lemma.steps.as_slice())?;
+    Ok(Some(Lemma { form, lines }))
+}
+
+#[tactic(auto, using(certificate_notes::proofs::Each::each_rows))]
+/// The lemmas of a derivation; none where one names what the kernel lacks.
+fn lemmas_of(
+    alloc: Global,
+    names: &Names<'_>,
+    lemmas: &[tree::Lemma],
+) -> Result<Option<Vec<Lemma>>, AllocError>
+    ensures { IfOk result (λ r. option_map (λ v. map shown_seen v.items) r ≡ entries.lemmas_of (stated_seen names.now) (map lemma_seen lemmas.now)) }
+{
+    let mut shown = Vec::new(alloc);
+    for lemma in lemmas {
+        let Some(one) = lemma_of(alloc, names, lemma)? else {
+            return Ok(None);
+        };
+        shown.push(one)?;
+    }
+    Ok(Some(shown))
+}
+
+/// The derivation of an entry; none where a lemma names what the kernel lacks.
+fn derivation_of(
+    alloc: Global,
+    names: &Names<'_>,
+    entry: &Entry,
+) -> Result<Option<Derivation>, AllocError>
+    ensures { IfOk result (λ r. MatchOption r (entries.lemmas_of (stated_seen names.now) (entry_seen entry.now).lemmas ≡ None) (λ d. (entries.lemmas_of (stated_seen names.now) (entry_seen entry.now).lemmas ≡ Some (map shown_seen d.lemmas.items)) × (map line_seen d.lines.items ≡ map entries.line_of (entry_seen entry.now).steps))) }
+{
+    let Some(lemmas) = lemmas_of(alloc, names, entry.lemmas.as_slice())? else {
+        return Ok(None);
+    };
+    let lines = lines_of(alloc, entry.steps.as_slice())?;
+    Ok(Some(Derivation { lemmas, lines }))
+}
+
+/// So many lines and those of lemmas are at most 65,536.
+fn fit(lemmas: &[tree::Lemma], own: usize) -> bool
+    ensures { result ≡ nat_le (own + entries.lemma_lines (map lemma_seen lemmas.now)) 65536 }
+{
+    if own > 65_536 {
+        return false;
+    }
+    let mut all = own;
+    for lemma in lemmas {
+        let count = lemma.steps.len();
+        if count > 65_536 - all {
+            return false;
+        }
+        all += count;
+    }
+    true
+}
+
+/// There are at most 64 lemmas, and with lemmas at most 65,536 lines, so many of the entry's own among them.
+fn are_few(lemmas: &[tree::Lemma], own: usize) -> bool
+    ensures { result ≡ entries.are_few (map lemma_seen lemmas.now) own }
+{
+    if lemmas.is_empty() {
+        return true;
+    }
+    lemmas.len() <= 64 && fit(lemmas, own)
 }
 
 /// How an entry of a sort shows an obligation.
@@ -77,10 +170,20 @@ pub fn manner_of(sort: &EntrySort) -> Manner
 }
 
 /// The derivation of an entry refutes the facts.
-pub fn is_refuted(alloc: Global, facts: &[Form], entry: &Entry) -> Result<bool, AllocError>
-    ensures exact { IfOk result (λ b. b ≡ refutes_of (forms facts.now) (map entries.line_of (entry_seen entry.now).steps)) }
-    ensures impossible { IfOk result (λ b. IsTrue b → IsImpossible (forms facts.now)) }
+pub fn is_refuted(
+    alloc: Global,
+    facts: &[Form],
+    names: &Names<'_>,
+    entry: &Entry,
+) -> Result<bool, AllocError>
+    ensures exact { IfOk result (λ b. b ≡ entries.refutes_all (stated_seen names.now) (entry_seen entry.now) (forms facts.now)) }
+    ensures impossible { IfOk result (λ b. IsTrue b → IsImpossibleWithProducts (forms facts.now)) }
 {
-    let derivation = derivation_of(alloc, entry.steps.as_slice())?;
+    if !are_few(entry.lemmas.as_slice(), entry.steps.len()) {
+        return Ok(false);
+    }
+    let Some(derivation) = derivation_of(alloc, names, entry)? else {
+        return Ok(false);
+    };
     refutes(alloc, facts, &derivation)
 }

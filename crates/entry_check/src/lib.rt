@@ -8,8 +8,10 @@ mod derivations;
 mod error;
 mod quotients;
 mod refuting;
+mod said;
 mod showing;
 mod table;
 
 pub use error::{Pointer, ShowError};
+pub use said::Said;
 pub use showing::show_all;

@@ -6,24 +6,25 @@ ghost use Rattle.arrivals.specs.Places as meaning;
 ghost use Rattle.core_code.specs.View.{kernel as core_seen};
 ghost use Rattle.launch.specs.View.{conditions as conditions_seen};
 ghost use Rattle.facts.specs.Launching.{are_sizes};
-ghost use Rattle.walk_trees.specs.Shown.{IsShown};
-ghost use Rattle.obligations.specs.View.{seen, quotient_of as quotient_specs};
+ghost use Rattle.walk_trees.specs.Shown.{IsShownWithProducts};
+ghost use Rattle.obligations.specs.View.{seen};
 ghost use Rattle.obligations.specs.Telling.{TellsOfItems};
 ghost use Rattle.two_thread.specs.Listed.{listed, nth_obligation, made_fit};
 ghost use Rattle.two_thread.specs.Refusals.{DoNotFit};
 ghost use Rattle.places.specs.View.{place as place_seen};
 ghost use Rattle.certificate.specs.View.{entry as entry_seen};
 ghost use Rattle.entry_check.specs.Entries.{IsTable, is_past};
+ghost use Rattle.entry_check.specs.View.{said as said_seen, stated as stated_seen};
 ghost use Rattle.entry_check.specs.Lacking.{ArePassed, IsStopped, Lacks, Passes, PassesOf, TellsBy, TellsOwing, owing};
 
 use crate::error::ShowError;
 use crate::refuting::is_refuted_by;
+use crate::said::Said;
 use crate::table::{entry_at, flags_of, places_of};
 use certificate::tree::Entry;
 use core_code::tree::Core;
 use domain::Domain;
 use launch::conditions::Conditions;
-use obligations::Notes;
 use places::Place;
 use std::alloc::Global;
 use two_thread::Obligations;
@@ -33,28 +34,27 @@ use walk::find;
 fn show_one<D: Domain>(
     alloc: Global,
     found: &Obligations<D>,
-    notes: &Notes,
+    said: &Said<'_>,
     number: usize,
-    entries: &[Entry],
     places: &[usize],
 ) -> Result<(), ShowError>
     requires first { 0 < number }
     requires last { number ≤ length (listed D.Domain found.now) }
-    requires table { IsTable (map entry_seen entries.now) places.now }
-    ensures shown { IfOk result (λ _. IsShown (nth_obligation (listed D.Domain found.now) number)) }
-    ensures passes { IfOk result (λ _. Passes (quotient_specs notes.now.quotients.items) (map entry_seen entries.now) number (nth_obligation (listed D.Domain found.now) number)) }
-    ensures lacks { IfErr result (TellsBy (IsStopped (quotient_specs notes.now.quotients.items) (map entry_seen entries.now) number (nth_obligation (listed D.Domain found.now) number)) (λ _. ⊥) (DoNotFit (made_fit found.now))) }
+    requires table { IsTable (map entry_seen said.now.entries.now) places.now }
+    ensures shown { IfOk result (λ _. IsShownWithProducts (nth_obligation (listed D.Domain found.now) number)) }
+    ensures passes { IfOk result (λ _. Passes (said_seen said.now) (map entry_seen said.now.entries.now) number (nth_obligation (listed D.Domain found.now) number)) }
+    ensures lacks { IfErr result (TellsBy (IsStopped (said_seen said.now) (map entry_seen said.now.entries.now) number (nth_obligation (listed D.Domain found.now) number)) (λ _. ⊥) (DoNotFit (made_fit found.now))) }
 {
     if found.is_settled(alloc, number)? {
         return Ok(());
     }
-    let Some(entry) = entry_at(entries, places, number) else {
+    let Some(entry) = entry_at(said.entries, places, number) else {
         if found.is_needed(number) {
             return Err(ShowError::NotShown(number as u64));
         }
         return Ok(());
     };
-    if is_refuted_by(alloc, found, notes, number, entry)? {
+    if is_refuted_by(alloc, found, said, number, entry)? {
         return Ok(());
     }
     Err(ShowError::NotShown(number as u64))
@@ -76,20 +76,19 @@ fn any_past(entries: &[Entry], last: u64) -> bool
 fn show_found<D: Domain>(
     alloc: Global,
     found: &Obligations<D>,
-    notes: &Notes,
-    entries: &[Entry],
+    said: &Said<'_>,
     places: &[usize],
 ) -> Result<(), ShowError>
-    requires { IsTable (map entry_seen entries.now) places.now }
-    ensures shown { IfOk result (λ _. All IsShown (listed D.Domain found.now)) }
-    ensures passed { IfOk result (λ _. ArePassed (quotient_specs notes.now.quotients.items) (map entry_seen entries.now) (listed D.Domain found.now)) }
-    ensures lacks { IfErr result (TellsBy (Lacks (quotient_specs notes.now.quotients.items) (map entry_seen entries.now) (listed D.Domain found.now)) (λ _. ⊥) (DoNotFit (made_fit found.now))) }
+    requires { IsTable (map entry_seen said.now.entries.now) places.now }
+    ensures shown { IfOk result (λ _. All IsShownWithProducts (listed D.Domain found.now)) }
+    ensures passed { IfOk result (λ _. ArePassed (said_seen said.now) (map entry_seen said.now.entries.now) (listed D.Domain found.now)) }
+    ensures lacks { IfErr result (TellsBy (Lacks (said_seen said.now) (map entry_seen said.now.entries.now) (listed D.Domain found.now)) (λ _. ⊥) (DoNotFit (made_fit found.now))) }
 {
     let count = found.len();
     for i in 0..count {
-        show_one(alloc, found, notes, i + 1, entries, places)?;
+        show_one(alloc, found, said, i + 1, places)?;
     }
-    if any_past(entries, count as u64) {
+    if any_past(said.entries, count as u64) {
         return Err(ShowError::NotShown(0));
     }
     Ok(())
@@ -102,19 +101,18 @@ pub fn show_all<D: Domain>(
     alloc: Global,
     core: &Core,
     conditions: &Conditions,
-    notes: &Notes,
     places: &[Place<'_>],
-    entries: &[Entry],
+    said: &Said<'_>,
 ) -> Result<(), ShowError>
     requires sizes { are_sizes (core_seen core.now).sizes ≡ true }
     requires places { map place_seen places.now ≡ meaning.places (core_seen core.now).body }
-    requires items { (flags : List Bool) → TellsOfItems (seen notes.now flags) }
-    ensures shown { IfOk result (λ _. All IsShown (owing D.Domain (core_seen core.now) (conditions_seen conditions.now) (seen notes.now []) (map entry_seen entries.now))) }
-    ensures passed { IfOk result (λ _. PassesOf D.Domain (core_seen core.now) (conditions_seen conditions.now) (seen notes.now []) (map entry_seen entries.now)) }
-    ensures lacks { IfErr result (TellsOwing D.Domain (core_seen core.now) (conditions_seen conditions.now) (seen notes.now []) (map entry_seen entries.now)) }
+    requires items { (flags : List Bool) → TellsOfItems (seen said.now.notes.now flags) }
+    ensures shown { IfOk result (λ _. All IsShownWithProducts (owing D.Domain (core_seen core.now) (conditions_seen conditions.now) (seen said.now.notes.now []) (map entry_seen said.now.entries.now))) }
+    ensures passed { IfOk result (λ _. PassesOf D.Domain (core_seen core.now) (conditions_seen conditions.now) (stated_seen said.now.names) (seen said.now.notes.now []) (map entry_seen said.now.entries.now)) }
+    ensures lacks { IfErr result (TellsOwing D.Domain (core_seen core.now) (conditions_seen conditions.now) (stated_seen said.now.names) (seen said.now.notes.now []) (map entry_seen said.now.entries.now)) }
 {
-    let rows = places_of(alloc, entries)?;
-    let flags = flags_of(alloc, entries, rows.as_slice())?;
-    let found = find::<D>(alloc, core, conditions, notes, places, flags)?;
-    show_found(alloc, &found, notes, entries, rows.as_slice())
+    let rows = places_of(alloc, said.entries)?;
+    let flags = flags_of(alloc, said.entries, rows.as_slice())?;
+    let found = find::<D>(alloc, core, conditions, said.notes, places, flags)?;
+    show_found(alloc, &found, said, rows.as_slice())
 }

@@ -11,13 +11,12 @@ use Rattle.semantics.specs.Conditions.{Range, Summand, Conditions, IsIn, IsLongE
 use Rattle.domain.specs.declared.Domain.{Ghosts}
 use Rattle.domain.specs.Members.{is_above, is_below}
 use Rattle.facts.specs.Symbols as symbols
-use Rattle.facts.specs.Symbols.{First, Second, Symbol, ArgumentOf, Length, Local, Group, New, Variable, AtAnchor, Turns}
+use Rattle.facts.specs.Symbols.{First, Second, Symbol, ArgumentOf, Length, Local, Group, New, Variable, AtAnchor, Turns, Fact}
 use Rattle.facts.specs.Elements.{nth, between, element_of}
-use Rattle.facts.specs.Launching.{sum_form, of_range, known_so_far, from_least, at_least_some, below, known}
+use Rattle.facts.specs.Launching.{sum_form, of_range, known_so_far, least_of, from_least, at_least_some, below, known}
 use Rattle.facts.proofs.Integers.{le_test}
-use Rattle.facts.proofs.Naming.{symbol_of-number}
-use Rattle.facts.proofs.Members.{Lawful, Members, by_number, between-has, element_of-has}
-use Rattle.facts.proofs.Launched.{local-below, group_id-below, sum_form-value}
+use Rattle.facts.proofs.Members.{Lawful, Members, by_number, by_number-multiplicative, numbered, between-has, element_of-has}
+use Rattle.facts.proofs.Launched.{local-below, group_id-below, IsWorth, sum_form-value}
 use Rattle.facts.proofs.Worlds.{Walked, setup_of, Root, opening_root, meaning, groups_at}
 
 -- numbers are members of elements, place by place
@@ -64,13 +63,23 @@ module _ {E : Type 0} (g : Ghosts E) (laws : Lawful g) where
   at_least_some-has e None y z h a l = h
   at_least_some-has e (Some low) y z h a l = laws.at_least e low z h (let b = le_test low y a in omega (arith, ints))
 
-  length-has : (c : Conditions) (s : List Summand) (y : ℤ) (b : List ℤ) → g.has (element_of g (known_so_far g c) (sum_form s)) y ≡ true → y ≤ℤ pos (length b) → length b ≤ 4294967295 → g.has (from_least g (known_so_far g c) s) (pos (length b)) ≡ true
-  length-has c s y b h k m =
-      let x = element_of g (known_so_far g c) (sum_form s) in
-      at_least_some-has (between g (pos 0) (pos 4294967295)) (g.bounds_of x).low y (pos (length b)) (between-has g laws (pos 0) (pos 4294967295) (pos (length b)) (omega (arith, ints)) (omega (arith, ints)))
-      (and_parts (is_above (g.bounds_of x).low y) (is_below (g.bounds_of x).high y) (laws.bounds x y h)).0 k
+  -- a form that there is has the number as a member
+  abbrev HasForm : Conditions → Option Fact → ℤ → Type 0
+  HasForm c None y = Unit {0}
+  HasForm c (Some f) y = g.has (element_of g (known_so_far g c) f) y ≡ true
 
-  lengths-has : (c : Conditions) (l : Launch) → ((s : List Summand) → g.has (element_of g (known_so_far g c) (sum_form s)) (sum_value l s) ≡ true) → (ss : List (List Summand)) (ks : List Kind) (bs : List (List ℤ)) → AllZip (IsLongEnough l) ss bs → AllZip IsBuffer ks bs → (n : ℕ) → g.has (nth g (map (from_least g (known_so_far g c)) ss) n) (pos (length (slice_index_or bs n []))) ≡ true
+  least-below : (c : Conditions) (o : Option Fact) (y : ℤ) → HasForm c o y → is_above (least_of g (known_so_far g c) o) y ≡ true
+  least-below c None y h = refl
+  least-below c (Some f) y h =
+      let x = element_of g (known_so_far g c) f in
+      (and_parts (is_above (g.bounds_of x).low y) (is_below (g.bounds_of x).high y) (laws.bounds x y h)).0
+
+  length-has : (c : Conditions) (s : List Summand) (y : ℤ) (b : List ℤ) → HasForm c (sum_form s) y → y ≤ℤ pos (length b) → length b ≤ 4294967295 → g.has (from_least g (known_so_far g c) s) (pos (length b)) ≡ true
+  length-has c s y b h k m =
+      at_least_some-has (between g (pos 0) (pos 4294967295)) (least_of g (known_so_far g c) (sum_form s)) y (pos (length b)) (between-has g laws (pos 0) (pos 4294967295) (pos (length b)) (omega (arith, ints)) (omega (arith, ints)))
+      (least-below c (sum_form s) y h) k
+
+  lengths-has : (c : Conditions) (l : Launch) → ((s : List Summand) → HasForm c (sum_form s) (sum_value l s)) → (ss : List (List Summand)) (ks : List Kind) (bs : List (List ℤ)) → AllZip (IsLongEnough l) ss bs → AllZip IsBuffer ks bs → (n : ℕ) → g.has (nth g (map (from_least g (known_so_far g c)) ss) n) (pos (length (slice_index_or bs n []))) ≡ true
   lengths-has c l s [] ks [] h k n = laws.top (pos 0)
   lengths-has c l s [] ks (b ∷ bs) h k n = elim h [ ]
   lengths-has c l s (x ∷ ss) ks [] h k n = elim h [ ]
@@ -108,11 +117,17 @@ module _ {E : Type 0} (g : Ghosts E) (laws : Lawful g) where
   so_far-has s c m (AtAnchor w x) = laws.top _
   so_far-has s c m (Turns w k) = laws.top _
 
-  sums-has : (s : Setup) (c : Conditions) → Meets c s.launch → (xs : List Summand) → g.has (element_of g (known_so_far g c) (sum_form xs)) (sum_value s.launch xs) ≡ true
+  worth-has : (s : Setup) (c : Conditions) → Meets c s.launch → (o : Option Fact) (z : ℤ) → IsWorth (by_number (meaning s 0 0 opening_root opening_root [] [])) o z → HasForm c o z
+  worth-has s c m None z h = tt
+  worth-has s c m (Some f) z h =
+      subst (λ y. g.has (element_of g (known_so_far g c) f) y ≡ true) h
+      (element_of-has g laws (known_so_far g c) (meaning s 0 0 opening_root opening_root [] []) (so_far-has s c m) f)
+
+  sums-has : (s : Setup) (c : Conditions) → Meets c s.launch → (xs : List Summand) → HasForm c (sum_form xs) (sum_value s.launch xs)
   sums-has s c m xs =
       let w = meaning s 0 0 opening_root opening_root [] [] in
-      subst (λ z. g.has (element_of g (known_so_far g c) (sum_form xs)) z ≡ true) (sum_form-value (by_number w) s.launch (λ d. ap w (symbol_of-number (symbols.Groups d))) (λ n. ap w (symbol_of-number (ArgumentOf n))) xs)
-      (element_of-has g laws (known_so_far g c) w (so_far-has s c m) (sum_form xs))
+      worth-has s c m (sum_form xs) (sum_value s.launch xs)
+      (sum_form-value (by_number w) s.launch (by_number-multiplicative w) (λ d. numbered w (symbols.Groups d)) (λ n. numbered w (ArgumentOf n)) xs)
 
 -- of two items, with the new numbers of each
 pub members : {E : Type 0} (c : Walked E) (i j : ℕ) (root other : Root) → i < item_count (setup_of c) → j < item_count (setup_of c) → (es fs : List E) (news more : List ℤ) → Fit c.domain es news → Fit c.domain fs more → Members c.domain (record { known = known c.domain c.kernel.sizes c.conditions; first = es; second = fs }) (meaning (setup_of c) i j root other news more)

@@ -1,20 +1,22 @@
 -- The facts of a launch that meets the conditions, and of an item, hold.
-use Rattle.std.proofs.Common.{◌≡◌, ℕ, zero, suc, ◌+◌, ◌<◌, ◌%◌, List, [], ◌∷◌, ◌++◌, map, length, slice_index_or, arith, refl, ap, ◌∙◌}
-use Rattle.std.specs.Prelude.{ℤ, pos, ◌+ℤ◌, ◌-ℤ◌, ◌*ℤ◌}
+use Rattle.std.proofs.Common.{◌≡◌, ℕ, zero, suc, ◌+◌, ◌<◌, ◌%◌, List, [], ◌∷◌, ◌++◌, map, length, slice_index_or, arith, refl, ap, ◌∙◌, subst, Option, Some, None}
+use Rattle.std.specs.Prelude.{ℤ, pos, ◌+ℤ◌, ◌-ℤ◌, ◌*ℤ◌, ◌≤ℤ◌}
+use Rattle.std.specs.Option.{option_map}
 use Rattle.std.specs.List.{All, AllZip}
 use Rattle.std.proofs.lemmas.Int.{ints}
 use Rattle.std.proofs.lemmas.List.Elements.{All-append, All-cons, All-nil, All-head, All-tail}
 use Rattle.semantics.specs.Word.{Kind, Word, zero_word}
 use Rattle.semantics.specs.Launch.{Three, Launch, IsBuffer}
 use Rattle.semantics.specs.Setup.{Setup, along, place, IsPlace, group_size, group_count, group_of, item_count, local_id, group_id}
-use Rattle.semantics.specs.Conditions.{Range, Summand, Constant, Argument, Groups, Requirement, Conditions, IsIn, IsLongEnough, IsRequired, Meets, summand_value, sum_value}
+use Rattle.semantics.specs.Conditions.{Range, Factor, ArgumentFactor, GroupsFactor, Summand, Constant, Argument, Groups, Product, Requirement, Conditions, IsIn, IsLongEnough, IsRequired, Meets, factor_value, summand_value, sum_value}
 use Rattle.linear.specs.Linear.{value_of, IsMet}
 use Rattle.semantics.proofs.Groups.{group_size-pos, place-below, group-below}
 use Rattle.semantics.proofs.Places.{place-is}
-use Rattle.linear.specs.Exact.{sum}
+use Rattle.linear.specs.Exact.{sum, multiple}
+use Rattle.linear.specs.Products.{times, single, and_then, IsMultiplicative}
 use Rattle.facts.specs.Symbols as symbols
 use Rattle.facts.specs.Symbols.{First, Symbol, ArgumentOf, Length, Local, Group, number, Fact, constant, once, minus}
-use Rattle.facts.specs.Launching.{each_dimension, summand_form, sum_from, sum_form, ends, argument_facts, length_facts, required, count_range, launch_facts, id_facts, item_facts}
+use Rattle.facts.specs.Launching.{each_dimension, factor_symbol, summand_form, difference, sum_from, sum_form, ends, argument_facts, length_facts, required, count_range, launch_facts, id_facts, item_facts}
 use Rattle.facts.proofs.Values.{value-sum, value-multiple, value-minus, value-constant, value-once}
 use Rattle.facts.proofs.Worlds.{View, setup, groups_at, given_at, Knows}
 
@@ -43,17 +45,45 @@ count_in c l m (suc zero) h = m.groups_y
 count_in c l m (suc (suc zero)) h = m.groups_z
 count_in c l m (suc (suc (suc d))) h = absurd (omega arith)
 
-summand-value : (v : ℕ → ℤ) (l : Launch) → ((d : ℕ) → v (number (symbols.Groups d)) ≡ groups_at l d) → ((n : ℕ) → v (number (ArgumentOf n)) ≡ given_at l n) → (x : Summand) → value_of v (summand_form x) ≡ summand_value l x
-summand-value v l g a (Constant z) = value-constant v z
-summand-value v l g a (Argument c n) = value-multiple v c (once (ArgumentOf n)) ∙ ap (λ z. c *ℤ z) (value-once v (ArgumentOf n) ∙ a n)
-summand-value v l g a (Groups c d) = value-multiple v c (once (symbols.Groups d)) ∙ ap (λ z. c *ℤ z) (value-once v (symbols.Groups d) ∙ g d)
+-- what a form that there is has to be worth
+abbrev pub IsWorth : (ℕ → ℤ) → Option Fact → ℤ → Type 0
+IsWorth v None z = Unit {0}
+IsWorth v (Some f) z = value_of v f ≡ z
 
-sum_from-value : (v : ℕ → ℤ) (l : Launch) → ((d : ℕ) → v (number (symbols.Groups d)) ≡ groups_at l d) → ((n : ℕ) → v (number (ArgumentOf n)) ≡ given_at l n) → (f : Fact) (xs : List Summand) → value_of v (sum_from f xs) ≡ value_of v f +ℤ sum_value l xs
-sum_from-value v l g a f [] = omega (arith, ints)
-sum_from-value v l g a f (x ∷ xs) = omega (arith, ints, sum_from-value v l g a (sum f (summand_form x)) xs, value-sum v f (summand_form x), summand-value v l g a x)
+factor-value : (v : ℕ → ℤ) (l : Launch) → ((d : ℕ) → v (number (symbols.Groups d)) ≡ groups_at l d) → ((n : ℕ) → v (number (ArgumentOf n)) ≡ given_at l n) → (x : Factor) → v (number (factor_symbol x)) ≡ factor_value l x
+factor-value v l g a (ArgumentFactor n) = a n
+factor-value v l g a (GroupsFactor d) = g d
 
-pub sum_form-value : (v : ℕ → ℤ) (l : Launch) → ((d : ℕ) → v (number (symbols.Groups d)) ≡ groups_at l d) → ((n : ℕ) → v (number (ArgumentOf n)) ≡ given_at l n) → (xs : List Summand) → value_of v (sum_form xs) ≡ sum_value l xs
-sum_form-value v l g a xs = omega (arith, ints, sum_from-value v l g a (constant (pos 0)) xs, value-constant v (pos 0))
+product-worth : (v : ℕ → ℤ) (c z : ℤ) (o : Option ℕ) → ((k : ℕ) → o ≡ Some k → v k ≡ z) → IsWorth v (option_map (multiple c) (option_map single o)) (c *ℤ z)
+product-worth v c z None h = tt
+product-worth v c z (Some k) h = value-multiple v c (single k) ∙ ap (λ y. c *ℤ y) (omega (arith, ints, h k refl))
+
+summand-value : (v : ℕ → ℤ) (l : Launch) → IsMultiplicative v → ((d : ℕ) → v (number (symbols.Groups d)) ≡ groups_at l d) → ((n : ℕ) → v (number (ArgumentOf n)) ≡ given_at l n) → (x : Summand) → IsWorth v (summand_form x) (summand_value l x)
+summand-value v l m g a (Constant z) = value-constant v z
+summand-value v l m g a (Argument c n) = value-multiple v c (once (ArgumentOf n)) ∙ ap (λ z. c *ℤ z) (value-once v (ArgumentOf n) ∙ a n)
+summand-value v l m g a (Groups c d) = value-multiple v c (once (symbols.Groups d)) ∙ ap (λ z. c *ℤ z) (value-once v (symbols.Groups d) ∙ g d)
+summand-value v l m g a (Product c x y) =
+    product-worth v c (factor_value l x *ℤ factor_value l y) (times (number (factor_symbol x)) (number (factor_symbol y)))
+    (λ k e. m (number (factor_symbol x)) (number (factor_symbol y)) k e ∙ (λ i. factor-value v l g a x i *ℤ factor-value v l g a y i))
+
+sum-worth : (v : ℕ → ℤ) (f : Fact) (o : Option Fact) (go : Fact → Option Fact) (x y : ℤ) → IsWorth v o x → ((h : Fact) → value_of v h ≡ value_of v f +ℤ x → IsWorth v (go h) y) → IsWorth v (and_then o (λ g. go (sum f g))) y
+sum-worth v f None go x y h k = tt
+sum-worth v f (Some g) go x y h k = k (sum f g) (value-sum v f g ∙ ap (λ z. value_of v f +ℤ z) h)
+
+sum_from-value : (v : ℕ → ℤ) (l : Launch) → IsMultiplicative v → ((d : ℕ) → v (number (symbols.Groups d)) ≡ groups_at l d) → ((n : ℕ) → v (number (ArgumentOf n)) ≡ given_at l n) → (f : Fact) (xs : List Summand) → IsWorth v (sum_from f xs) (value_of v f +ℤ sum_value l xs)
+sum_from-value v l m g a f [] = omega (arith, ints)
+sum_from-value v l m g a f (x ∷ xs) =
+    sum-worth v f (summand_form x) (λ h. sum_from h xs) (summand_value l x) (value_of v f +ℤ (summand_value l x +ℤ sum_value l xs)) (summand-value v l m g a x)
+    (λ h e. subst (IsWorth v (sum_from h xs)) (omega (arith, ints, e)) (sum_from-value v l m g a h xs))
+
+pub sum_form-value : (v : ℕ → ℤ) (l : Launch) → IsMultiplicative v → ((d : ℕ) → v (number (symbols.Groups d)) ≡ groups_at l d) → ((n : ℕ) → v (number (ArgumentOf n)) ≡ given_at l n) → (xs : List Summand) → IsWorth v (sum_form xs) (sum_value l xs)
+sum_form-value v l m g a xs = subst (IsWorth v (sum_form xs)) (omega (arith, ints, value-constant v (pos 0))) (sum_from-value v l m g a (constant (pos 0)) xs)
+
+-- a difference of two forms that are worth numbers in this order holds
+difference_holds : (v : ℕ → ℤ) (o p : Option Fact) (x y : ℤ) → IsWorth v o x → IsWorth v p y → y ≤ℤ x → IsMet v (difference o p)
+difference_holds v None p x y h k l = omega (arith, ints, value-constant v (pos 0))
+difference_holds v (Some f) None x y h k l = omega (arith, ints, value-constant v (pos 0))
+difference_holds v (Some f) (Some g) x y h k l = omega (arith, ints, value-minus v f g, h, k, l)
 
 ends_hold : (v : ℕ → ℤ) (r : Range) (s : Symbol) (z : ℤ) → v (number s) ≡ z → IsIn r z → All (IsMet v) (ends r (once s))
 ends_hold v r s z e h =
@@ -67,24 +97,24 @@ arguments_hold v n (r ∷ rs) (w ∷ ws) h e =
     let here : v (number (ArgumentOf n)) ≡ w.value = ap (λ m. v (number (ArgumentOf m))) (omega arith) ∙ e 0 in
     All-append (IsMet v) (ends r (once (ArgumentOf n))) (argument_facts (suc n) rs) (ends_hold v r (ArgumentOf n) w.value here h.0) (arguments_hold v (suc n) rs ws h.1 (λ k. let m : suc n + k ≡ n + suc k = omega arith in ap (λ x. v (number (ArgumentOf x))) m ∙ e (suc k)))
 
-lengths_hold : (v : ℕ → ℤ) (l : Launch) → ((d : ℕ) → v (number (symbols.Groups d)) ≡ groups_at l d) → ((n : ℕ) → v (number (ArgumentOf n)) ≡ given_at l n) → (n : ℕ) (ss : List (List Summand)) (ks : List Kind) (bs : List (List ℤ)) → AllZip (IsLongEnough l) ss bs → AllZip IsBuffer ks bs → ((k : ℕ) → v (number (Length (n + k))) ≡ pos (length (slice_index_or bs k []))) → All (IsMet v) (length_facts n ss)
-lengths_hold v l g a n [] ks bs h j e = All-nil (IsMet v)
-lengths_hold v l g a n (s ∷ ss) ks [] h j e = elim h [ ]
-lengths_hold v l g a n (s ∷ ss) [] (b ∷ bs) h j e = elim j [ ]
-lengths_hold v l g a n (s ∷ ss) (k ∷ ks) (b ∷ bs) h j e =
+lengths_hold : (v : ℕ → ℤ) (l : Launch) → IsMultiplicative v → ((d : ℕ) → v (number (symbols.Groups d)) ≡ groups_at l d) → ((n : ℕ) → v (number (ArgumentOf n)) ≡ given_at l n) → (n : ℕ) (ss : List (List Summand)) (ks : List Kind) (bs : List (List ℤ)) → AllZip (IsLongEnough l) ss bs → AllZip IsBuffer ks bs → ((k : ℕ) → v (number (Length (n + k))) ≡ pos (length (slice_index_or bs k []))) → All (IsMet v) (length_facts n ss)
+lengths_hold v l mv g a n [] ks bs h j e = All-nil (IsMet v)
+lengths_hold v l mv g a n (s ∷ ss) ks [] h j e = elim h [ ]
+lengths_hold v l mv g a n (s ∷ ss) [] (b ∷ bs) h j e = elim j [ ]
+lengths_hold v l mv g a n (s ∷ ss) (k ∷ ks) (b ∷ bs) h j e =
     let here : v (number (Length n)) ≡ pos (length b) = ap (λ m. v (number (Length m))) (omega arith) ∙ e 0 in
     let long : Fact = once (Length n) in
     let enough = h.0 in
     let most = j.0.0 in
-    All-cons (IsMet v) (minus long (sum_form s)) (minus (constant (pos 4294967295)) long ∷ length_facts (suc n) ss) (omega (arith, ints, value-minus v long (sum_form s), sum_form-value v l g a s, value-once v (Length n), here, enough))
+    All-cons (IsMet v) (difference (Some long) (sum_form s)) (minus (constant (pos 4294967295)) long ∷ length_facts (suc n) ss) (difference_holds v (Some long) (sum_form s) (pos (length b)) (sum_value l s) (value-once v (Length n) ∙ here) (sum_form-value v l mv g a s) enough)
     (All-cons (IsMet v) (minus (constant (pos 4294967295)) long) (length_facts (suc n) ss) (omega (arith, ints, value-minus v (constant (pos 4294967295)) long, value-constant v (pos 4294967295), value-once v (Length n), here, most))
-    (lengths_hold v l g a (suc n) ss ks bs h.1 j.1 (λ k. let m : suc n + k ≡ n + suc k = omega arith in ap (λ x. v (number (Length x))) m ∙ e (suc k))))
+    (lengths_hold v l mv g a (suc n) ss ks bs h.1 j.1 (λ k. let m : suc n + k ≡ n + suc k = omega arith in ap (λ x. v (number (Length x))) m ∙ e (suc k))))
 
-requires_hold : (v : ℕ → ℤ) (l : Launch) → ((d : ℕ) → v (number (symbols.Groups d)) ≡ groups_at l d) → ((n : ℕ) → v (number (ArgumentOf n)) ≡ given_at l n) → (rs : List Requirement) → All (IsRequired l) rs → All (IsMet v) (map required rs)
-requires_hold v l g a [] h = All-nil (IsMet v)
-requires_hold v l g a (r ∷ rs) h =
+requires_hold : (v : ℕ → ℤ) (l : Launch) → IsMultiplicative v → ((d : ℕ) → v (number (symbols.Groups d)) ≡ groups_at l d) → ((n : ℕ) → v (number (ArgumentOf n)) ≡ given_at l n) → (rs : List Requirement) → All (IsRequired l) rs → All (IsMet v) (map required rs)
+requires_hold v l mv g a [] h = All-nil (IsMet v)
+requires_hold v l mv g a (r ∷ rs) h =
     let here = All-head (IsRequired l) r rs h in
-    All-cons (IsMet v) (required r) (map required rs) (omega (arith, ints, value-minus v (sum_form r.left) (sum_form r.right), sum_form-value v l g a r.left, sum_form-value v l g a r.right, here)) (requires_hold v l g a rs (All-tail (IsRequired l) r rs h))
+    All-cons (IsMet v) (required r) (map required rs) (difference_holds v (sum_form r.left) (sum_form r.right) (sum_value l r.left) (sum_value l r.right) (sum_form-value v l mv g a r.left) (sum_form-value v l mv g a r.right) here) (requires_hold v l mv g a rs (All-tail (IsRequired l) r rs h))
 
 pub launch_known : {E : Type 0} (c : View E) (news : List ℤ) → Knows c news (launch_facts c.conditions)
 launch_known c news v a =
@@ -95,8 +125,8 @@ launch_known c news v a =
     (All-append (IsMet v) (argument_facts 0 k.arguments) (length_facts 0 k.lengths ++ map required k.requires)
     (arguments_hold v 0 k.arguments c.launch.arguments m.arguments (λ n. ap (λ x. v (number (ArgumentOf x))) (omega arith) ∙ a.given n))
     (All-append (IsMet v) (length_facts 0 k.lengths) (map required k.requires)
-    (lengths_hold v c.launch a.groups a.given 0 k.lengths c.kernel.buffers c.launch.buffers m.lengths c.fits.buffers (λ n. ap (λ x. v (number (Length x))) (omega arith) ∙ a.lengths n))
-    (requires_hold v c.launch a.groups a.given k.requires m.requires)))
+    (lengths_hold v c.launch a.products a.groups a.given 0 k.lengths c.kernel.buffers c.launch.buffers m.lengths c.fits.buffers (λ n. ap (λ x. v (number (Length x))) (omega arith) ∙ a.lengths n))
+    (requires_hold v c.launch a.products a.groups a.given k.requires m.requires)))
 
 pub item_known : {E : Type 0} (c : View E) (news : List ℤ) → Knows c news (item_facts c.kernel.sizes First)
 item_known c news v a = each_dimension-all (IsMet v) (id_facts c.kernel.sizes First) (λ d h.

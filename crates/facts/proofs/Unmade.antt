@@ -1,6 +1,6 @@
 -- Errors that are handed on, and forms that were not made.
 use Rattle.std.proofs.Common.{◌≡◌, ◌<◌, ◌^◌, false, refl, sym, subst}
-use Rattle.std.specs.Prelude.{Result, Ok, Err, IsErr, IsErrAnd, IsErrOf, IfErr, MatchResult}
+use Rattle.std.specs.Prelude.{Result, Ok, Err, IsErr, IsErrAnd, IsErrOf, IfErr, IfSome, MatchOption, MatchResult, Option, None, Some}
 use Rattle.linear.specs.Exact.{fits}
 use Rattle.linear.specs.Sizes.{size}
 use Rattle.linear.proofs.Sizes.{fits_small}
@@ -26,6 +26,15 @@ unfit_of r linear.Memory f d h = tt
 pub memory_of : (r : Result Form LinearError) (e : LinearError) (f : Fact) → r ≡ Err e → (IsErrOf r linear.TooLarge → fits f ≡ false) → size f < 2 ^ 63 → IsMemory (error_of_form e)
 memory_of r linear.TooLarge f d h l = cc (h d, fits_small f l)
 memory_of r linear.Memory f d h l = refl
+
+-- what there is, where there is something
+pub if_some : {A : Type 0} (o : Option A) (x : A) (P : A → Type 0) → o ≡ Some x → IfSome o P → P x
+if_some None x P e h = absurd cc
+if_some (Some y) x P e h = let q : y ≡ x = cc in subst P q h
+
+pub matched_some : {A : Type 0} (o : Option A) (x : A) (N : Type 0) (P : A → Type 0) → o ≡ Some x → MatchOption o N P → P x
+matched_some None x N P e h = absurd cc
+matched_some (Some y) x N P e h = let q : y ≡ x = cc in subst P q h
 
 -- of an error alone
 pub passed : {T E : Type 0} (r : Result T E) (x : E) (P : E → Type 0) → IsErrAnd r (λ e. e ≡ x) → P x → IfErr r P

@@ -4,7 +4,8 @@ use Rattle.std.specs.Prelude.{ℤ, pos, negsuc, ◌+ℤ◌, ◌*ℤ◌, ◌≤�
 use Rattle.std.specs.List.{All}
 use Rattle.std.proofs.lemmas.Int.{ints, by_lt_z}
 use Rattle.std.proofs.lemmas.List.Elements.{All-append, All-cons, All-nil}
-use Rattle.linear.specs.Linear.{terms_value, value_of, IsMet, IsImpossible}
+use Rattle.linear.specs.Linear.{terms_value, value_of, IsMet}
+use Rattle.linear.specs.Products.{IsMultiplicative, IsImpossibleWithProducts}
 use Rattle.semantics.proofs.Integers.{mul-add}
 use Rattle.linear.specs.Exact.{sum, multiple}
 use Rattle.linear.proofs.Merging.{value-merge, value-multiples}
@@ -26,12 +27,12 @@ pub value-once : (v : ℕ → ℤ) (s : Symbol) → value_of v (once s) ≡ v (n
 value-once v s = omega (arith, ints)
 
 -- at least 0, where its denial is impossible
-pub claimed : (v : ℕ → ℤ) (launch facts : List Fact) (f : Fact) → IsImpossible (launch ++ (facts ++ denial f ∷ [])) → All (IsMet v) launch → All (IsMet v) facts → pos 0 ≤ℤ value_of v f
-claimed v launch facts f h j k =
+pub claimed : (v : ℕ → ℤ) → IsMultiplicative v → (launch facts : List Fact) (f : Fact) → IsImpossibleWithProducts (launch ++ (facts ++ denial f ∷ [])) → All (IsMet v) launch → All (IsMet v) facts → pos 0 ≤ℤ value_of v f
+claimed v mv launch facts f h j k =
     let e = value-minus v (constant (negsuc 0)) f in
     let c = value-constant v (negsuc 0) in
     by_lt_z (value_of v f) (pos 0)
-    (λ l. let d : pos 0 ≤ℤ value_of v (denial f) = omega (arith, ints, e, c, l) in absurd (h v (All-append (IsMet v) launch (facts ++ denial f ∷ []) j (All-append (IsMet v) facts (denial f ∷ []) k (All-cons (IsMet v) (denial f) [] d (All-nil (IsMet v)))))))
+    (λ l. let d : pos 0 ≤ℤ value_of v (denial f) = omega (arith, ints, e, c, l) in absurd (h v mv (All-append (IsMet v) launch (facts ++ denial f ∷ []) j (All-append (IsMet v) facts (denial f ∷ []) k (All-cons (IsMet v) (denial f) [] d (All-nil (IsMet v)))))))
     (λ l. l)
 
 -- both facts of an equation hold

@@ -10,12 +10,12 @@ use Rattle.semantics.specs.Launch.{Kernel, Launch, Fits}
 use Rattle.semantics.specs.Setup.{Setup, along, item_count, local_id, group_id}
 use Rattle.semantics.specs.Conditions.{Conditions, Meets}
 use Rattle.linear.specs.Linear.{value_of, IsMet}
+use Rattle.linear.specs.Products.{IsMultiplicative}
 use Rattle.domain.specs.declared.Domain.{Ghosts}
 use Rattle.facts.specs.Symbols as symbols
 use Rattle.facts.specs.Symbols.{Side, First, Second, Symbol, ArgumentOf, Length, Local, Group, New, Variable, AtAnchor, Turns, number, Fact}
 use Rattle.facts.specs.Launching.{are_sizes}
-use Rattle.facts.proofs.Naming.{symbol_of-number}
-use Rattle.facts.proofs.Members.{Lawful, by_number}
+use Rattle.facts.proofs.Members.{Lawful, by_number, by_number-multiplicative, numbered}
 
 -- a kernel that is walked under conditions, by the wide walk or not, at a launch that meets them; its arrays are of these spaces
 pub record Walked (E : Type 0) : Type 1 where
@@ -98,6 +98,7 @@ pub record Agrees {E : Type 0} (c : View E) (news : List ℤ) (v : ℕ → ℤ) 
   pub variable : (x : ℕ) → v (number (Variable First x)) ≡ variable_at c.root.variables x
   pub at_anchor : (x : ℕ) → v (number (AtAnchor First x)) ≡ variable_at c.root.anchor x
   pub turns : (k : ℕ) → v (number (Turns First k)) ≡ c.root.ranks k
+  pub products : IsMultiplicative v
   pub new : (k : ℕ) → k < length news → v (number (New First k)) ≡ new_at news k
 
 -- the form has that value in each valuation that agrees; the facts hold in each
@@ -113,19 +114,21 @@ own c news = meaning (setup c) c.item c.item c.root c.root news []
 
 pub agrees_itself : {E : Type 0} (c : View E) (news : List ℤ) → Agrees c news (by_number (own c news))
 agrees_itself c news = record {
-  groups = λ d. ap (own c news) (symbol_of-number (symbols.Groups d));
-  given = λ n. ap (own c news) (symbol_of-number (ArgumentOf n));
-  lengths = λ b. ap (own c news) (symbol_of-number (Length b));
-  local = λ d. ap (own c news) (symbol_of-number (Local First d));
-  group = λ d. ap (own c news) (symbol_of-number (Group First d));
-  variable = λ x. ap (own c news) (symbol_of-number (Variable First x));
-  at_anchor = λ x. ap (own c news) (symbol_of-number (AtAnchor First x));
-  turns = λ k. ap (own c news) (symbol_of-number (Turns First k));
-  new = λ k h. ap (own c news) (symbol_of-number (New First k));
+  products = by_number-multiplicative (own c news);
+  groups = λ d. numbered (own c news) (symbols.Groups d);
+  given = λ n. numbered (own c news) (ArgumentOf n);
+  lengths = λ b. numbered (own c news) (Length b);
+  local = λ d. numbered (own c news) (Local First d);
+  group = λ d. numbered (own c news) (Group First d);
+  variable = λ x. numbered (own c news) (Variable First x);
+  at_anchor = λ x. numbered (own c news) (AtAnchor First x);
+  turns = λ k. numbered (own c news) (Turns First k);
+  new = λ k h. numbered (own c news) (New First k);
 }
 
 pub agrees_before : {E : Type 0} (c : View E) (news : List ℤ) (z : ℤ) (v : ℕ → ℤ) → Agrees c (news ++ z ∷ []) v → Agrees c news v
 agrees_before c news z v a = record {
+  products = a.products;
   groups = a.groups;
   given = a.given;
   lengths = a.lengths;

@@ -1,6 +1,7 @@
 -- What an abstract domain knows of symbols and forms.
 use Rattle.std.specs.Prelude.{ℕ, ℤ, pos, List, [], ◌∷◌, Bool, false, ◌||◌, not, slice_index_or, int_le, int_lt, Option, Some, None}
 use Rattle.linear.specs.Linear.{Weighted}
+use Rattle.linear.specs.Products.{factors}
 use Rattle.domain.specs.declared.Domain.{Ghosts}
 use Rattle.domain.specs.Members.{leaves}
 use Rattle.facts.specs.Symbols.{Side, First, Second, Symbol, Groups, ArgumentOf, Length, Local, Group, New, Variable, AtAnchor, Turns, symbol_of, Fact}
@@ -44,10 +45,23 @@ element g e (Variable w x) = g.top_of
 element g e (AtAnchor w x) = g.top_of
 element g e (Turns w k) = g.top_of
 
+-- of a product, from the left
+abbrev pub element_from : {E : Type 0} → Ghosts E → Elements E → E → List ℕ → E
+element_from g e so_far [] = so_far
+element_from g e so_far (n ∷ ns) = element_from g e (g.mul_of so_far (element g e (symbol_of n))) ns
+
+abbrev pub element_of_factors : {E : Type 0} → Ghosts E → Elements E → List ℕ → E
+element_of_factors g e [] = g.number_of (pos 1)
+element_of_factors g e (n ∷ ns) = element_from g e (element g e (symbol_of n)) ns
+
+-- by a symbol's number
+abbrev pub element_at : {E : Type 0} → Ghosts E → Elements E → ℕ → E
+element_at g e n = element_of_factors g e (factors n)
+
 -- the constant, then the terms in their order
 abbrev pub with_terms : {E : Type 0} → Ghosts E → Elements E → E → List (Weighted ℕ) → E
 with_terms g e so_far [] = so_far
-with_terms g e so_far (t ∷ ts) = with_terms g e (g.add_of so_far (g.mul_of (g.number_of t.coefficient) (element g e (symbol_of t.symbol)))) ts
+with_terms g e so_far (t ∷ ts) = with_terms g e (g.add_of so_far (g.mul_of (g.number_of t.coefficient) (element_at g e t.symbol))) ts
 
 abbrev pub element_of : {E : Type 0} → Ghosts E → Elements E → Fact → E
 element_of g e f = with_terms g e (g.number_of f.constant) f.terms

@@ -1,28 +1,45 @@
 -- What launch conditions say of each launch that meets them, and of its items: facts, and elements of their symbols.
 use Rattle.std.specs.Prelude.{ℕ, zero, suc, ℤ, pos, ◌-ℤ◌, List, [], ◌∷◌, ◌++◌, map, Option, Some, None, Bool, ◌&&◌, nat_le}
+use Rattle.std.specs.Option.{option_map}
 use Rattle.semantics.specs.Launch.{Three}
 use Rattle.semantics.specs.Setup.{along}
-use Rattle.semantics.specs.Conditions.{Range, Summand, Constant, Argument, Groups, Requirement, Conditions}
+use Rattle.semantics.specs.Conditions.{Range, Factor, ArgumentFactor, GroupsFactor, Summand, Constant, Argument, Groups, Product, Requirement, Conditions}
 use Rattle.linear.specs.Exact.{sum, multiple}
+use Rattle.linear.specs.Products.{times, single, and_then}
 use Rattle.domain.specs.declared.Domain.{Ghosts}
 use Rattle.facts.specs.Symbols as symbols
-use Rattle.facts.specs.Symbols.{Side, Symbol, ArgumentOf, Length, Local, Group, Fact, constant, once, minus}
+use Rattle.facts.specs.Symbols.{Side, Symbol, ArgumentOf, Length, Local, Group, number, Fact, constant, once, minus}
 use Rattle.facts.specs.Elements.{Known, Elements, between, element_of}
 
 abbrev pub each_dimension : {A : Type 0} → (ℕ → List A) → List A
 each_dimension f = f 0 ++ (f 1 ++ f 2)
 
-abbrev pub summand_form : Summand → Fact
-summand_form (Constant z) = constant z
-summand_form (Argument c n) = multiple c (once (ArgumentOf n))
-summand_form (Groups c d) = multiple c (once (symbols.Groups d))
+abbrev pub factor_symbol : Factor → Symbol
+factor_symbol (ArgumentFactor n) = ArgumentOf n
+factor_symbol (GroupsFactor d) = symbols.Groups d
 
-abbrev pub sum_from : Fact → List Summand → Fact
-sum_from f [] = f
-sum_from f (x ∷ xs) = sum_from (sum f (summand_form x)) xs
+-- the symbol of a product, once; parameters from the 65,535th on have no products
+abbrev pub product_form : (first second : Factor) → Option Fact
+product_form a b = option_map single (times (number (factor_symbol a)) (number (factor_symbol b)))
 
-abbrev pub sum_form : List Summand → Fact
+abbrev pub summand_form : Summand → Option Fact
+summand_form (Constant z) = Some (constant z)
+summand_form (Argument c n) = Some (multiple c (once (ArgumentOf n)))
+summand_form (Groups c d) = Some (multiple c (once (symbols.Groups d)))
+summand_form (Product c a b) = option_map (multiple c) (product_form a b)
+
+abbrev pub sum_from : Fact → List Summand → Option Fact
+sum_from f [] = Some f
+sum_from f (x ∷ xs) = and_then (summand_form x) (λ g. sum_from (sum f g) xs)
+
+abbrev pub sum_form : List Summand → Option Fact
 sum_form xs = sum_from (constant (pos 0)) xs
+
+-- where a sum has no form nothing is said: 0 is at least 0
+abbrev pub difference : (left right : Option Fact) → Fact
+difference None g = constant (pos 0)
+difference (Some f) None = constant (pos 0)
+difference (Some f) (Some g) = minus f g
 
 -- at least the low end, at most the high one
 abbrev pub ends : Range → Fact → List Fact
@@ -34,14 +51,14 @@ argument_facts n (r ∷ rs) = ends r (once (ArgumentOf n)) ++ argument_facts (su
 
 -- a buffer is as long as its sum, and a `uint` counts its elements
 abbrev pub length_ends : ℕ → List Summand → List Fact
-length_ends b s = minus (once (Length b)) (sum_form s) ∷ minus (constant (pos 4294967295)) (once (Length b)) ∷ []
+length_ends b s = difference (Some (once (Length b))) (sum_form s) ∷ minus (constant (pos 4294967295)) (once (Length b)) ∷ []
 
 abbrev pub length_facts : ℕ → List (List Summand) → List Fact
 length_facts b [] = []
 length_facts b (s ∷ ss) = length_ends b s ++ length_facts (suc b) ss
 
 abbrev pub required : Requirement → Fact
-required r = minus (sum_form r.left) (sum_form r.right)
+required r = difference (sum_form r.left) (sum_form r.right)
 
 -- a dimension's range of group counts
 abbrev pub count_range : Conditions → ℕ → Range
@@ -92,9 +109,14 @@ known_so_far g c = record {
   second = [];
 }
 
+-- the least value of a sum, by the elements of its symbols
+abbrev pub least_of : {E : Type 0} → Ghosts E → Elements E → Option Fact → Option ℤ
+least_of g e None = None
+least_of g e (Some f) = (g.bounds_of (element_of g e f)).low
+
 -- what a `uint` counts, from the least value of the buffer's sum on
 abbrev pub from_least : {E : Type 0} → Ghosts E → Elements E → List Summand → E
-from_least g e s = at_least_some g (between g (pos 0) (pos 4294967295)) (g.bounds_of (element_of g e (sum_form s))).low
+from_least g e s = at_least_some g (between g (pos 0) (pos 4294967295)) (least_of g e (sum_form s))
 
 -- 0 up to the number before n
 abbrev pub below : {E : Type 0} → Ghosts E → ℤ → E

@@ -3,6 +3,7 @@
 ghost use Rattle.std.specs.Prelude.{◌≡◌};
 ghost use Rattle.linear.specs.Forms.{form as form_seen};
 ghost use Rattle.linear.specs.Terms.{term as term_seen};
+ghost use Rattle.linear.specs.Products.{unpacked};
 ghost use Rattle.facts.specs.Symbols.{symbol_of};
 ghost use Rattle.facts.specs.Elements as elements;
 ghost use Rattle.facts.specs.View.{elements_seen as seen};
@@ -49,12 +50,47 @@ fn element<D: Domain>(known: &Known<D>, first: &[D], second: &[D], symbol: Symbo
     }
 }
 
+/// The element of factors, of which a number holds three at most, from the left.
+fn element_of_product<D: Domain>(known: &Known<D>, first: &[D], second: &[D], number: u64) -> D
+    ensures { result ≡ elements.element_of_factors D.Domain (seen known.now first.now second.now) (unpacked 3 number) }
+{
+    let digit = number % 1048576;
+    if digit == 0 {
+        return D::of(1);
+    }
+    let leftmost = Symbol { number: digit - 1 };
+    let mut so_far = element(known, first, second, leftmost);
+    let mut left = number / 1048576;
+    let mut most: u32 = 2;
+    while most > 0 {
+        let digit = left % 1048576;
+        if digit == 0 {
+            return so_far;
+        }
+        let factor = Symbol { number: digit - 1 };
+        so_far = so_far.mul(element(known, first, second, factor));
+        left /= 1048576;
+        most -= 1;
+    }
+    so_far
+}
+
+/// A symbol's element, also a product's.
+fn element_at<D: Domain>(known: &Known<D>, first: &[D], second: &[D], symbol: Symbol) -> D
+    ensures { result ≡ elements.element_at D.Domain (seen known.now first.now second.now) symbol.number }
+{
+    if symbol.number % 16 == 15 {
+        return element_of_product(known, first, second, symbol.number / 16);
+    }
+    element(known, first, second, symbol)
+}
+
 /// The element of a sum with one more term.
 fn with_term<D: Domain>(known: &Known<D>, first: &[D], second: &[D], so_far: D, term: Term) -> D
-    ensures { result ≡ D.add_of so_far (D.mul_of (D.number_of (term_seen term).coefficient) (elements.element D.Domain (seen known.now first.now second.now) (symbol_of (term_seen term).symbol))) }
+    ensures { result ≡ D.add_of so_far (D.mul_of (D.number_of (term_seen term).coefficient) (elements.element_at D.Domain (seen known.now first.now second.now) (term_seen term).symbol)) }
 {
     let factor = D::of(term.coefficient);
-    so_far.add(factor.mul(element(known, first, second, term.symbol)))
+    so_far.add(factor.mul(element_at(known, first, second, term.symbol)))
 }
 
 /// A form's element, by its constant and then its terms in their order.

@@ -61,8 +61,10 @@ fn of_arguments<D: Domain>(alloc: Global, ranges: &[ArgumentRange]) -> Result<Ve
 fn of_length<D: Domain>(alloc: Global, known: &Known<D>, least: &Sum) -> Result<D, WalkError>
     ensures { MatchResult result (λ e. e ≡ launching.from_least D.Domain (elements_seen known.now [] []) (sum_seen least.now)) IsMemory }
 {
-    let sum = sum_form(alloc, least)?;
     let lengths = between::<D>(0, 4_294_967_295);
+    let Some(sum) = sum_form(alloc, least)? else {
+        return Ok(lengths);
+    };
     match element_of(known, &[], &[], &sum).bounds().low {
         Some(low) => Ok(lengths.at_least(low)),
         None => Ok(lengths),

@@ -1,12 +1,13 @@
 //! What conditions say of each launch that meets them, and of its items.
 
-ghost use Rattle.std.specs.Prelude.{◌≡◌, ◌<◌, ◌++◌, ◌∷◌, [], ℕ, pos, ◌*◌, ◌^◌, ◌≤◌, ◌-ℤ◌, IfOk, MatchResult, map};
+ghost use Rattle.std.specs.Prelude.{◌≡◌, ◌<◌, ◌++◌, ◌∷◌, [], ℕ, pos, ◌*◌, ◌^◌, ◌≤◌, ◌-ℤ◌, IfOk, IfSome, None, Some, MatchOption, MatchResult, map};
 ghost use Rattle.linear.specs.Forms.{form as form_seen, forms};
 ghost use Rattle.linear.specs.Sizes.{size};
 ghost use Rattle.words.specs.View.{value_of};
 ghost use Rattle.launch.specs.Numbers.{number as number_seen};
-ghost use Rattle.launch.specs.View.{summand as summand_seen, sum as sum_seen, length_sum, requirement as requirement_seen, dimension as dimension_seen, count_range as count_range_seen, argument_range as argument_range_seen, conditions as conditions_seen};
+ghost use Rattle.launch.specs.View.{factor as factor_seen, summand as summand_seen, sum as sum_seen, length_sum, requirement as requirement_seen, dimension as dimension_seen, count_range as count_range_seen, argument_range as argument_range_seen, conditions as conditions_seen};
 ghost use Rattle.semantics.specs.Setup.{along};
+ghost use Rattle.semantics.specs.Conditions as meaning;
 ghost use Rattle.facts.specs.Symbols as symbols;
 ghost use Rattle.facts.specs.Launching as launching;
 ghost use Rattle.facts.specs.View.{side, three};
@@ -18,7 +19,7 @@ use crate::forms::{
 };
 use crate::side::Side;
 use launch::conditions::{
-    ArgumentRange, Conditions, CountRange, Dimension, Length, Requirement, Sum, Summand,
+    ArgumentRange, Conditions, CountRange, Dimension, Factor, Length, Requirement, Sum, Summand,
 };
 use launch::number::Number;
 use linear::Form;
@@ -47,35 +48,79 @@ fn index_of(dimension: Dimension) -> u32
     }
 }
 
-/// The form of a summand of a sum in conditions.
-fn summand_form(alloc: Global, summand: Summand) -> Result<Form, WalkError>
-    ensures exact { MatchResult result (λ f. form_seen f ≡ launching.summand_form (summand_seen summand)) IsMemory }
-    ensures small { IfOk result (λ f. size (form_seen f) ≤ 4294967295) }
+/// The form that is an argument or a group count, once.
+fn factor_form(alloc: Global, factor: Factor) -> Result<Form, WalkError>
+    ensures { MatchResult result (λ f. form_seen f ≡ symbols.once (launching.factor_symbol (factor_seen factor))) IsMemory }
 {
-    match summand {
-        Summand::Constant(number) => Ok(Form::constant(alloc, signed(number))),
-        Summand::Argument { factor, parameter } => {
-            let form = once_given(alloc, parameter as usize)?.times(alloc, signed(factor))?;
-            Ok(form)
-        }
-        Summand::Groups { factor, dimension } => {
-            let form = once_groups(alloc, index_of(dimension))?.times(alloc, signed(factor))?;
-            Ok(form)
-        }
+    match factor {
+        Factor::Argument(parameter) => once_given(alloc, parameter as usize),
+        Factor::Groups(dimension) => once_groups(alloc, index_of(dimension)),
     }
 }
 
-/// The form of a sum in conditions: the sum of its summands' forms.
-pub fn sum_form(alloc: Global, sum: &Sum) -> Result<Form, WalkError>
-    ensures exact { MatchResult result (λ f. form_seen f ≡ launching.sum_form (sum_seen sum.now)) IsMemory }
-    ensures small { IfOk result (λ f. size (form_seen f) ≤ 8 * 4294967295) }
+/// The form that is the product of two arguments or group counts, once, if it has a symbol.
+fn product_form(alloc: Global, first: Factor, second: Factor) -> Result<Option<Form>, WalkError>
+    ensures { MatchResult result (λ r. MatchOption r (launching.product_form (factor_seen first) (factor_seen second) ≡ None) (λ f. launching.product_form (factor_seen first) (factor_seen second) ≡ Some (form_seen f))) IsMemory }
+{
+    let left = factor_form(alloc, first)?;
+    let right = factor_form(alloc, second)?;
+    let product = left.product(alloc, &right)?;
+    Ok(product)
+}
+
+/// The form of a product in a sum of conditions, if the product has a symbol.
+fn multiple_form(
+    alloc: Global,
+    number: Number,
+    first: Factor,
+    second: Factor,
+) -> Result<Option<Form>, WalkError>
+    ensures exact { MatchResult result (λ r. MatchOption r (launching.summand_form (meaning.Product (number_seen number) (factor_seen first) (factor_seen second)) ≡ None) (λ f. launching.summand_form (meaning.Product (number_seen number) (factor_seen first) (factor_seen second)) ≡ Some (form_seen f))) IsMemory }
+    ensures small { IfOk result (λ r. IfSome r (λ f. size (form_seen f) ≤ 4294967295)) }
+{
+    let Some(product) = product_form(alloc, first, second)? else {
+        return Ok(None);
+    };
+    let form = product.times(alloc, signed(number))?;
+    Ok(Some(form))
+}
+
+/// The form of a summand of a sum in conditions, if its product has a symbol.
+fn summand_form(alloc: Global, summand: Summand) -> Result<Option<Form>, WalkError>
+    ensures exact { MatchResult result (λ r. MatchOption r (launching.summand_form (summand_seen summand) ≡ None) (λ f. launching.summand_form (summand_seen summand) ≡ Some (form_seen f))) IsMemory }
+    ensures small { IfOk result (λ r. IfSome r (λ f. size (form_seen f) ≤ 4294967295)) }
+{
+    match summand {
+        Summand::Constant(number) => Ok(Some(Form::constant(alloc, signed(number)))),
+        Summand::Argument { factor, parameter } => {
+            let form = once_given(alloc, parameter as usize)?.times(alloc, signed(factor))?;
+            Ok(Some(form))
+        }
+        Summand::Groups { factor, dimension } => {
+            let form = once_groups(alloc, index_of(dimension))?.times(alloc, signed(factor))?;
+            Ok(Some(form))
+        }
+        Summand::Product {
+            factor,
+            first,
+            second,
+        } => multiple_form(alloc, factor, first, second),
+    }
+}
+
+/// The form of a sum in conditions: the sum of its summands' forms, if all have one.
+pub fn sum_form(alloc: Global, sum: &Sum) -> Result<Option<Form>, WalkError>
+    ensures exact { MatchResult result (λ r. MatchOption r (launching.sum_form (sum_seen sum.now) ≡ None) (λ f. launching.sum_form (sum_seen sum.now) ≡ Some (form_seen f))) IsMemory }
+    ensures small { IfOk result (λ r. IfSome r (λ f. size (form_seen f) ≤ 8 * 4294967295)) }
 {
     let mut total = Form::constant(alloc, 0);
     for summand in sum.terms.as_slice() {
-        let form = summand_form(alloc, *summand)?;
+        let Some(form) = summand_form(alloc, *summand)? else {
+            return Ok(None);
+        };
         total = total.add(alloc, &form)?;
     }
-    Ok(total)
+    Ok(Some(total))
 }
 
 /// The number that a word stands for in its kind.
@@ -145,6 +190,18 @@ fn argument_facts(
     Ok(())
 }
 
+/// A buffer is as long as its sum; of a sum without a form nothing is said.
+fn least_length(alloc: Global, buffer: usize, least: &Sum) -> Result<Form, WalkError>
+    requires { buffer < 2 ^ 59 }
+    ensures { MatchResult result (λ f. form_seen f ≡ launching.difference (Some (symbols.once (symbols.Length buffer))) (launching.sum_form (sum_seen least.now))) IsMemory }
+{
+    let Some(sum) = sum_form(alloc, least)? else {
+        return Ok(Form::constant(alloc, 0));
+    };
+    let low = once_length(alloc, buffer)?.sub(alloc, &sum)?;
+    Ok(low)
+}
+
 /// A buffer is as long as its sum, and a `uint` counts its elements.
 fn length_fact(
     alloc: Global,
@@ -155,8 +212,8 @@ fn length_fact(
     requires { buffer < 2 ^ 59 }
     ensures { MatchResult result (λ _. forms facts.new.items ≡ forms facts.old.items ++ launching.length_ends buffer (length_sum length.now)) IsMemory }
 {
+    let low = least_length(alloc, buffer, &length.least)?;
     let elements = once_length(alloc, buffer)?;
-    let low = elements.sub(alloc, &sum_form(alloc, &length.least)?)?;
     let high = number_less(alloc, 4_294_967_295, &elements)?;
     push_two(facts, low, high)
 }
@@ -173,12 +230,16 @@ fn length_facts(alloc: Global, facts: &mut Vec<Form>, lengths: &[Length]) -> Res
     Ok(())
 }
 
-/// The left sum is at least the right one.
+/// The left sum is at least the right one; of a sum without a form nothing is said.
 fn required(alloc: Global, requirement: &Requirement) -> Result<Form, WalkError>
     ensures { MatchResult result (λ f. form_seen f ≡ launching.required (requirement_seen requirement.now)) IsMemory }
 {
-    let left = sum_form(alloc, &requirement.left)?;
-    let right = sum_form(alloc, &requirement.right)?;
+    let Some(left) = sum_form(alloc, &requirement.left)? else {
+        return Ok(Form::constant(alloc, 0));
+    };
+    let Some(right) = sum_form(alloc, &requirement.right)? else {
+        return Ok(Form::constant(alloc, 0));
+    };
     let form = left.sub(alloc, &right)?;
     Ok(form)
 }

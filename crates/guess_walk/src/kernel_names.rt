@@ -4,9 +4,11 @@ use std::alloc::{AllocError, Global};
 use syntax::tree::{First, Kernel, Parameter, Stmt};
 use types::typed::Typed;
 
-/// The names of a kernel's variables by their slots, those of its value parameters, which are the first of them, and those of its buffers.
+/// The names of a kernel's variables by their slots, those of its value parameters, which are the first of them, and those of its buffers;
+/// and whether products of names may be named.
 #[derive(Drop)]
 pub struct Names<'a> {
+    pub multiplies: bool,
     pub variables: Vec<&'a str>,
     pub arguments: Vec<&'a str>,
     pub buffers: Vec<&'a str>,
@@ -66,8 +68,13 @@ fn take_parameter<'a>(parameter: &'a Parameter, names: &mut Names<'a>) -> Result
 }
 
 /// The names in a kernel's tree.
-pub fn names_in<'a>(alloc: Global, kernel: &'a Kernel) -> Result<Names<'a>, AllocError> {
+fn names_in<'a>(
+    alloc: Global,
+    kernel: &'a Kernel,
+    multiplies: bool,
+) -> Result<Names<'a>, AllocError> {
     let mut names = Names {
+        multiplies,
         variables: Vec::new(alloc),
         arguments: Vec::new(alloc),
         buffers: Vec::new(alloc),
@@ -79,7 +86,11 @@ pub fn names_in<'a>(alloc: Global, kernel: &'a Kernel) -> Result<Names<'a>, Allo
     Ok(names)
 }
 
-/// The names that a certificate may use of a kernel.
-pub fn names_of<'a>(alloc: Global, typed: &'a Typed) -> Result<Names<'a>, AllocError> {
-    names_in(alloc, typed.kernel())
+/// The names that a certificate may use of a kernel, in a wide walk or a narrow one.
+pub fn names_of<'a>(
+    alloc: Global,
+    typed: &'a Typed,
+    is_wide: bool,
+) -> Result<Names<'a>, AllocError> {
+    names_in(alloc, typed.kernel(), is_wide)
 }

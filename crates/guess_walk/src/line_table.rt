@@ -3,20 +3,26 @@
 use guesses::{Candidate, Line, Sight};
 use std::alloc::{AllocError, Global};
 
-/// The guesses of one place by their numbers: those on which items agree with their slots, facts, and congruences.
+/// The guesses of one place by their numbers: those on which items agree with their slots, facts, congruences, and multiples of forms.
 #[derive(Drop)]
 pub struct PlaceLines {
     pub same: Vec<(u32, u32)>,
     pub facts: Vec<u32>,
     pub multiples: Vec<u32>,
+    pub of_forms: Vec<u32>,
 }
 
 impl PlaceLines {
-    /// The number of facts that the guesses of a place are: a congruence is two.
+    /// The number of congruences and of multiples of forms.
+    fn count_of_twos(&self) -> usize {
+        self.multiples.len().saturating_add(self.of_forms.len())
+    }
+
+    /// The number of facts that the guesses of a place are: a congruence is two, and so is a multiple of a form.
     pub fn len(&self) -> usize {
         self.facts
             .len()
-            .saturating_add(self.multiples.len().saturating_mul(2))
+            .saturating_add(self.count_of_twos().saturating_mul(2))
     }
 
     /// The guess whose fact is at that place among them.
@@ -24,8 +30,12 @@ impl PlaceLines {
         if let Some(candidate) = self.facts.get(place) {
             return Some(*candidate);
         }
-        let rest = place.checked_sub(self.facts.len())?;
-        self.multiples.get(rest / 2).copied()
+        let rest = place.checked_sub(self.facts.len())? / 2;
+        if let Some(candidate) = self.multiples.get(rest) {
+            return Some(*candidate);
+        }
+        let rest = rest.checked_sub(self.multiples.len())?;
+        self.of_forms.get(rest).copied()
     }
 
     /// The guess whose fact is at that place among those known where the place's paths begin, of which it has the last ones.
@@ -64,6 +74,7 @@ fn lines_at(
         same: Vec::new(alloc),
         facts: Vec::new(alloc),
         multiples: Vec::new(alloc),
+        of_forms: Vec::new(alloc),
     };
     let mut number: u32 = 0;
     for candidate in candidates {
@@ -72,6 +83,7 @@ fn lines_at(
                 Line::Same(slot) => lines.same.push((slot, number))?,
                 Line::Fact(_) => lines.facts.push(number)?,
                 Line::Multiple { .. } => lines.multiples.push(number)?,
+                Line::MultipleOf { .. } => lines.of_forms.push(number)?,
             }
         }
         number = number.saturating_add(1);

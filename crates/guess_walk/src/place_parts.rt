@@ -3,7 +3,7 @@
 use crate::kernel_names::Names;
 use crate::said::is_due;
 use certificate::order::spot_is_before;
-use certificate::tree::{Anchor, Congruence, Place, Spot};
+use certificate::tree::{Anchor, Congruence, Multiple, Place, Spot};
 use guesses::{Candidate, Line};
 use linear::Form;
 use std::alloc::{AllocError, Global};
@@ -47,6 +47,7 @@ fn place_at(alloc: Global, places: &mut Vec<Place>, spot: Spot) -> Result<usize,
             same: Vec::new(alloc),
             facts: Vec::new(alloc),
             congruences: Vec::new(alloc),
+            multiples: Vec::new(alloc),
         };
         places.insert(index, place)?;
     }
@@ -108,6 +109,25 @@ fn say_multiple(
     Ok(())
 }
 
+/// Adds to a place the line that a form is a multiple of another, if both have a text.
+fn say_multiple_of(
+    alloc: Global,
+    names: &Names<'_>,
+    of: &Form,
+    form: &Form,
+    spot: Spot,
+    places: &mut Vec<Place>,
+) -> Result<(), AllocError> {
+    let (Some(of), Some(form)) = (names.form(alloc, of)?, names.form(alloc, form)?) else {
+        return Ok(());
+    };
+    let index = place_at(alloc, places, spot)?;
+    if let Some(place) = places.get_mut(index) {
+        place.multiples.push(Multiple { of, form })?;
+    }
+    Ok(())
+}
+
 /// Adds a candidate that speaks of a form to what is said of its place.
 fn say_form(
     alloc: Global,
@@ -122,6 +142,7 @@ fn say_form(
         Line::Multiple { modulus, form } => {
             say_multiple(alloc, names, *modulus, form, spot, places)
         }
+        Line::MultipleOf { of, form } => say_multiple_of(alloc, names, of, form, spot, places),
     }
 }
 

@@ -2,7 +2,7 @@
 
 use crate::kernel_names::Names;
 use certificate::tree;
-use guesses::{index_of, is_at_anchor, is_variable};
+use guesses::{Factors, has_product, index_of, is_at_anchor, is_variable};
 use linear::{Form, Symbol};
 use std::alloc::{AllocError, Global};
 
@@ -30,12 +30,25 @@ fn is_plain(variables: &[&str], symbol: Symbol) -> bool {
     is_first(variables, slot)
 }
 
+/// The names of a symbol's factors mean these everywhere in the kernel.
+fn are_plain(variables: &[&str], symbol: Symbol) -> bool {
+    for factor in Factors::of(symbol).symbols() {
+        if factor.is_some_and(|one| !is_plain(variables, one)) {
+            return false;
+        }
+    }
+    true
+}
+
 impl<'a> Names<'a> {
     /// The form in names as an entry names its quotient, where a name means the first variable that is called so; none where a symbol has
     /// no such name.
     pub fn quotient(&self, alloc: Global, form: &Form) -> Result<Option<tree::Form>, AllocError> {
+        if !self.multiplies && has_product(form) {
+            return Ok(None);
+        }
         for term in form.terms() {
-            if !is_plain(self.variables.as_slice(), term.symbol) {
+            if !are_plain(self.variables.as_slice(), term.symbol) {
                 return Ok(None);
             }
         }

@@ -1,9 +1,9 @@
 //! Congruences, shown from both sides with one quotient.
 
 use cut_proof::Derivation;
-use cut_search::{Answer, Memory, Point, quotients};
+use cut_search::{Answer, Memory, Point, quotients, quotients_by};
 use facts::copy_all;
-use guesses::{plus, try_difference, try_multiple};
+use guesses::{plus, try_difference, try_multiple, try_product};
 use linear::Form;
 use std::alloc::{AllocError, Global};
 
@@ -120,6 +120,56 @@ pub fn both_sides(
     let tries = quotients(alloc, facts, form, modulus, known)?;
     for quotient in tries {
         let Some(rest) = remainder(alloc, form, modulus, &quotient)? else {
+            continue;
+        };
+        let found = tried(alloc, facts, &rest, quotient, memory, points)?;
+        if found.is_some() {
+            return Ok(found);
+        }
+    }
+    Ok(None)
+}
+
+/// Whether a form is a multiple of another one, by facts (without a denial), with the multiples of that one known where the path begins,
+/// each with the index of its quotient among new symbols.
+#[derive(Clone, Copy)]
+pub struct FormDivision<'a> {
+    pub facts: &'a [Form],
+    pub form: &'a Form,
+    pub of: &'a Form,
+    pub known: &'a [(u32, Form)],
+}
+
+/// The form less the quotient times another one.
+fn remainder_by(
+    alloc: Global,
+    form: &Form,
+    of: &Form,
+    quotient: &Form,
+) -> Result<Option<Form>, AllocError> {
+    let Some(product) = try_product(alloc, of, quotient)? else {
+        return Ok(None);
+    };
+    try_difference(alloc, form, &product)
+}
+
+/// Derivations that a form is a multiple of another one, by the given facts (without a denial) and the multiples known where the path
+/// begins; none where the search finds none.
+pub fn both_sides_by(
+    alloc: Global,
+    division: FormDivision<'_>,
+    memory: &mut Memory,
+    points: &mut Vec<Point>,
+) -> Result<Option<Shown>, AllocError> {
+    let FormDivision {
+        facts,
+        form,
+        of,
+        known,
+    } = division;
+    let tries = quotients_by(alloc, facts, form, of, known)?;
+    for quotient in tries {
+        let Some(rest) = remainder_by(alloc, form, of, &quotient)? else {
             continue;
         };
         let found = tried(alloc, facts, &rest, quotient, memory, points)?;

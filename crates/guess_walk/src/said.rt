@@ -1,12 +1,12 @@
 //! What may be said where.
 
-use guesses::{Candidate, Line, is_at_anchor, is_new};
+use guesses::{Candidate, Line, has_anchored, has_new};
 use linear::Form;
 
 /// No symbol is new, and none is of the anchor where one stands at an anchor itself or in a loop's test.
 pub fn may_stand(form: &Form, is_behind: bool) -> bool {
     for term in form.terms() {
-        if is_new(term.symbol) || (is_at_anchor(term.symbol) && !is_behind) {
+        if has_new(term.symbol) || (has_anchored(term.symbol) && !is_behind) {
             return false;
         }
     }
@@ -25,6 +25,7 @@ pub fn may_be_said(candidate: &Candidate) -> bool {
         Line::Multiple { modulus, form } => {
             (2 <= *modulus && *modulus <= i64::MAX as u64) && may_stand(form, is_behind)
         }
+        Line::MultipleOf { of, form } => may_stand(of, is_behind) && may_stand(form, is_behind),
     }
 }
 

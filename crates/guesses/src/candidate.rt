@@ -5,12 +5,13 @@ use linear::Form;
 use std::alloc::{AllocError, Global};
 
 /// A line of a place: that the items of a group have a slot alike where they come to a barrier; that a form is at least 0; that a number
-/// divides a form.
+/// divides a form; that a form is a multiple of another.
 #[derive(Drop)]
 pub enum Line {
     Same(u32),
     Fact(Form),
     Multiple { modulus: u64, form: Form },
+    MultipleOf { of: Form, form: Form },
 }
 
 impl Line {
@@ -26,6 +27,13 @@ impl Line {
                     form: other,
                 },
             ) => *modulus == *number && is_same(form, other),
+            (
+                Line::MultipleOf { of, form },
+                Line::MultipleOf {
+                    of: number,
+                    form: other,
+                },
+            ) => is_same(of, number) && is_same(form, other),
             _ => false,
         }
     }
@@ -44,6 +52,11 @@ impl Line {
                     modulus: *modulus,
                     form,
                 })
+            }
+            Line::MultipleOf { of, form } => {
+                let of = copied(alloc, of)?;
+                let form = copied(alloc, form)?;
+                Ok(Line::MultipleOf { of, form })
             }
         }
     }

@@ -1,5 +1,6 @@
 //! Forms, where a number that is too large only means that there is none.
 
+use crate::factors::{Factors, is_product, plain};
 use linear::{Form, LinearError, Symbol};
 use std::alloc::{AllocError, Global};
 
@@ -46,6 +47,26 @@ pub fn plus(alloc: Global, form: &Form, number: i64) -> Result<Option<Form>, All
     some(form.add(alloc, &number))
 }
 
+/// A form has a product of symbols.
+pub fn has_product(form: &Form) -> bool {
+    for term in form.terms() {
+        if is_product(term.symbol) {
+            return true;
+        }
+    }
+    false
+}
+
+/// A form has a symbol, or a product of it.
+pub fn speaks_of(form: &Form, symbol: Symbol) -> bool {
+    for term in form.terms() {
+        if Factors::of(term.symbol).symbols().contains(&Some(symbol)) {
+            return true;
+        }
+    }
+    false
+}
+
 /// Two forms have the same constant and the same terms, in their order.
 pub fn is_same(left: &Form, right: &Form) -> bool {
     left.constant_part() == right.constant_part() && left.terms() == right.terms()
@@ -84,6 +105,11 @@ pub fn reduced(alloc: Global, fact: &Form) -> Result<Option<Form>, AllocError> {
     fact.divided(alloc, divisor as i64)
 }
 
+/// The product of two forms, if there is one.
+pub fn try_product(alloc: Global, left: &Form, right: &Form) -> Result<Option<Form>, AllocError> {
+    left.product(alloc, right)
+}
+
 fn value_of(symbol: Symbol, values: &[(Symbol, i64)]) -> Option<i64> {
     for entry in values {
         if entry.0 == symbol {
@@ -93,11 +119,31 @@ fn value_of(symbol: Symbol, values: &[(Symbol, i64)]) -> Option<i64> {
     None
 }
 
+/// The value of a factor, 1 in the place of one that is not there.
+fn value_of_factor(factor: u64, values: &[(Symbol, i64)]) -> Option<i64> {
+    if factor == 0 {
+        return Some(1);
+    }
+    value_of(plain(factor), values)
+}
+
+/// The symbol's value, that of a product by its factors, if they have one and no number on the way leaves `i64`.
+fn value_of_symbol(symbol: Symbol, values: &[(Symbol, i64)]) -> Option<i64> {
+    if !is_product(symbol) {
+        return value_of(symbol, values);
+    }
+    let factors = Factors::of(symbol);
+    let first = value_of_factor(factors.first, values)?;
+    let second = value_of_factor(factors.second, values)?;
+    let third = value_of_factor(factors.third, values)?;
+    first.checked_mul(second)?.checked_mul(third)
+}
+
 /// The form's value, if each of its symbols has one and no number on the way leaves `i64`.
 pub fn value_in(form: &Form, values: &[(Symbol, i64)]) -> Option<i64> {
     let mut sum = form.constant_part();
     for term in form.terms() {
-        let value = value_of(term.symbol, values)?;
+        let value = value_of_symbol(term.symbol, values)?;
         let product = term.coefficient.checked_mul(value)?;
         sum = sum.checked_add(product)?;
     }

@@ -1,5 +1,8 @@
 //! The symbols of the launch and of the first item.
 
+ghost use Rattle.std.specs.Prelude.{◌<◌};
+
+use crate::factors::{Factors, is_product};
 use facts::{Family, Side};
 use linear::Symbol;
 
@@ -49,7 +52,9 @@ pub fn turns(number: u32) -> Symbol {
 }
 
 /// The index of a symbol in its family.
-pub fn index_of(symbol: Symbol) -> u64 {
+pub fn index_of(symbol: Symbol) -> u64
+    ensures { result < 1152921504606846976 }
+{
     symbol.number / 16
 }
 
@@ -70,22 +75,68 @@ pub fn is_at_anchor(symbol: Symbol) -> bool {
 
 /// The symbol is what ranked a loop when its test was last true.
 pub fn is_turns(symbol: Symbol) -> bool {
-    Family::of(symbol) == Family::Turns(Side::First)
+    !is_product(symbol) && Family::of(symbol) == Family::Turns(Side::First)
 }
 
-/// A symbol of the launch: a group count, an argument or a length.
-pub fn is_launch(symbol: Symbol) -> bool {
+/// A factor of the symbol is new on a path.
+pub fn has_new(symbol: Symbol) -> bool {
+    for factor in Factors::of(symbol).symbols() {
+        if factor.is_some_and(is_new) {
+            return true;
+        }
+    }
+    false
+}
+
+/// A factor of the symbol is a private variable at the anchor.
+pub fn has_anchored(symbol: Symbol) -> bool {
+    for factor in Factors::of(symbol).symbols() {
+        if factor.is_some_and(is_at_anchor) {
+            return true;
+        }
+    }
+    false
+}
+
+/// A symbol that is no product, of the launch: a group count, an argument or a length.
+fn is_of_launch(symbol: Symbol) -> bool {
     matches!(
         Family::of(symbol),
         Family::Groups | Family::Argument | Family::Length
     )
 }
 
-/// A symbol of the launch or of the item: it is the same wherever the item comes.
-pub fn is_global(symbol: Symbol) -> bool {
-    is_launch(symbol)
+/// A symbol of the launch, or a product of such symbols.
+pub fn is_launch(symbol: Symbol) -> bool {
+    if !is_product(symbol) {
+        return is_of_launch(symbol);
+    }
+    for factor in Factors::of(symbol).symbols() {
+        if factor.is_some_and(|one| !is_of_launch(one)) {
+            return false;
+        }
+    }
+    true
+}
+
+/// A symbol that is no product, of the launch or of the item.
+fn is_fixed(symbol: Symbol) -> bool {
+    is_of_launch(symbol)
         || matches!(
             Family::of(symbol),
             Family::Local(Side::First) | Family::Group(Side::First)
         )
+}
+
+/// A symbol of the launch or of the item, or a product of such symbols: it is the same wherever the item comes.
+pub fn is_global(symbol: Symbol) -> bool {
+    if !is_product(symbol) {
+        return is_fixed(symbol);
+    }
+    for factor in Factors::of(symbol).symbols() {
+        if factor.is_some_and(|one| !is_fixed(one)) {
+            return false;
+        }
+    }
+    true
 }

@@ -1,6 +1,6 @@
 -- The launch at the least values meets its conditions.
 use Rattle.std.proofs.Common.{◌≡◌, ℕ, zero, suc, List, [], ◌∷◌, length, map, replicate, Bool, true, false, cond, Option, Some, None, refl, ap, sym, ◌∙◌, arith}
-use Rattle.std.specs.Prelude.{ℤ, pos, negsuc, ◌+ℤ◌, ◌≤ℤ◌, nat_le, sum, IfSome}
+use Rattle.std.specs.Prelude.{ℤ, pos, negsuc, ◌+ℤ◌, ◌*ℤ◌, ◌≤ℤ◌, nat_le, sum, IfSome}
 use Rattle.std.specs.Option.{option_map}
 use Rattle.std.specs.List.{All, AllZip}
 use Rattle.std.proofs.lemmas.List.{length-replicate}
@@ -8,7 +8,7 @@ use Rattle.std.proofs.lemmas.List.Elements.{All-weaker}
 use Rattle.std.proofs.lemmas.Int.{ints}
 use Rattle.semantics.specs.Word.{Word}
 use Rattle.semantics.specs.Launch as launches
-use Rattle.semantics.specs.Conditions.{Range, Summand, Constant, Argument, Groups, Requirement, IsIn, IsLongEnough, IsRequired, Meets, summand_value, sum_value}
+use Rattle.semantics.specs.Conditions.{Range, Summand, Constant, Argument, Groups, Product, Factor, ArgumentFactor, GroupsFactor, Requirement, IsIn, IsLongEnough, IsRequired, Meets, factor_value, summand_value, sum_value}
 use Rattle.words.specs.View.{word, value_of}
 use Rattle.words.specs.declared.word.Word.{Word as Code}
 use Rattle.launch.specs.View.{argument_range, count_range, length_sum, requirement, conditions, launch}
@@ -31,10 +31,15 @@ words-replicate zero w z h = refl
 words-replicate (suc n) w z h = rw (h, words-replicate n w z h) refl
 
 -- no sum reads the buffers
+factor-same : (c : Conditions) (a b : List (List ℤ)) (x : Factor) → factor_value (least_with c a) x ≡ factor_value (least_with c b) x
+factor-same c a b (ArgumentFactor p) = refl
+factor-same c a b (GroupsFactor d) = refl
+
 summand-same : (c : Conditions) (a b : List (List ℤ)) (x : Summand) → summand_value (least_with c a) x ≡ summand_value (least_with c b) x
 summand-same c a b (Constant n) = refl
 summand-same c a b (Argument n p) = refl
 summand-same c a b (Groups n d) = refl
+summand-same c a b (Product n x y) = (λ i. n *ℤ (factor-same c a b x i *ℤ factor-same c a b y i))
 
 sum-same : (c : Conditions) (a b : List (List ℤ)) (s : List Summand) → sum_value (least_with c a) s ≡ sum_value (least_with c b) s
 sum-same c a b [] = refl

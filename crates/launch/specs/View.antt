@@ -11,6 +11,8 @@ use Rattle.launch.specs.declared.conditions.CountRange.{CountRange}
 use Rattle.launch.specs.declared.conditions.ArgumentRange.{ArgumentRange}
 use Rattle.launch.specs.declared.conditions.Dimension.{Dimension}
 use Rattle.launch.specs.declared.conditions.Dimension.TheVariants as dimensions
+use Rattle.launch.specs.declared.conditions.Factor.{Factor}
+use Rattle.launch.specs.declared.conditions.Factor.TheVariants as factors
 use Rattle.launch.specs.declared.conditions.Summand.{Summand}
 use Rattle.launch.specs.declared.conditions.Summand.TheVariants as summands
 use Rattle.launch.specs.declared.conditions.Sum.{Sum}
@@ -31,10 +33,15 @@ dimension dimensions.X = 0
 dimension dimensions.Y = 1
 dimension dimensions.Z = 2
 
+abbrev pub factor : Factor → meaning.Factor
+factor (factors.Argument p) = meaning.ArgumentFactor p
+factor (factors.Groups d) = meaning.GroupsFactor (dimension d)
+
 abbrev pub summand : Summand → meaning.Summand
 summand (summands.Constant n) = meaning.Constant (number n)
 summand (summands.Argument c p) = meaning.Argument (number c) p
 summand (summands.Groups c d) = meaning.Groups (number c) (dimension d)
+summand (summands.Product c a b) = meaning.Product (number c) (factor a) (factor b)
 
 abbrev pub sum : Sum → List meaning.Summand
 sum s = map summand s.terms.items

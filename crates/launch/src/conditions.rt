@@ -41,7 +41,14 @@ pub enum Dimension {
     Z,
 }
 
-/// A number, or a number times an argument (by its number among the value parameters) or times a group count.
+/// What a product has two of: an argument (by its number among the value parameters) or a group count.
+#[derive(Clone, Copy)]
+pub enum Factor {
+    Argument(u32),
+    Groups(Dimension),
+}
+
+/// A number, or a number times an argument, times a group count, or times a product of two of these.
 #[derive(Clone, Copy)]
 pub enum Summand {
     Constant(Number),
@@ -52,6 +59,11 @@ pub enum Summand {
     Groups {
         factor: Number,
         dimension: Dimension,
+    },
+    Product {
+        factor: Number,
+        first: Factor,
+        second: Factor,
     },
 }
 

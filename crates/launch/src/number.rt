@@ -1,6 +1,6 @@
 //! Whole numbers by sign and size.
 
-ghost use Rattle.std.specs.Prelude.{◌≡◌, ◌*◌, ◌*ℤ◌};
+ghost use Rattle.std.specs.Prelude.{◌≡◌, ◌<◌, ◌^◌, ◌*◌, ◌*ℤ◌};
 ghost use Rattle.words.specs.View.{value_of};
 ghost use Rattle.launch.specs.Numbers.{signed, number};
 
@@ -18,6 +18,14 @@ pub struct Number {
 pub struct Product {
     pub negative: bool,
     pub size: u64,
+}
+
+/// A number whose size has 96 bits.
+#[derive(Clone, Copy)]
+pub struct Whole {
+    pub negative: bool,
+    pub size: u128,
+    pub ghost fits: { size < 2 ^ 96 },
 }
 
 /// The number of a word.
@@ -51,5 +59,34 @@ pub fn times(left: Number, right: Number) -> Product
     Product {
         negative: left.negative != right.negative,
         size: sizes(left.size, right.size),
+    }
+}
+
+#[tactic(auto, using(crate::proofs::Products::products))]
+fn large(left: u32, right: u64) -> u128
+    ensures value { result ≡ left * right }
+    ensures fits { result < 2 ^ 96 }
+{
+    left as u128 * right as u128
+}
+
+/// The product of a number and a product.
+#[tactic(auto, using(crate::proofs::Products::products))]
+pub fn times_product(left: Number, right: Product) -> Whole
+    ensures { signed result.negative result.size ≡ number left *ℤ signed right.negative right.size }
+{
+    Whole {
+        negative: left.negative != right.negative,
+        size: large(left.size, right.size),
+    }
+}
+
+/// A product as it is.
+pub fn from_product(product: Product) -> Whole
+    ensures { signed result.negative result.size ≡ signed product.negative product.size }
+{
+    Whole {
+        negative: product.negative,
+        size: product.size as u128,
     }
 }

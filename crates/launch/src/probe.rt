@@ -47,7 +47,7 @@ fn without_buffers(alloc: Global, conditions: &Conditions) -> Result<Launch, All
 
 fn least_length(launch: &Launch, length: &Length) -> u128
     ensures value { result ≡ least.least_length (launch_of launch.now) length.now }
-    ensures bound { result < 2 ^ 68 }
+    ensures bound { result < 2 ^ 100 }
 {
     sum_of(launch, &length.least).above_zero()
 }

@@ -18,9 +18,9 @@ pub fn sum_of(launch: &Launch, sum: &Sum) -> Difference
     for summand in &sum.terms {
         let part = value(launch, *summand);
         if part.negative {
-            minus += part.size as u128;
+            minus += part.size;
         } else {
-            plus += part.size as u128;
+            plus += part.size;
         }
     }
     Difference { plus, minus }

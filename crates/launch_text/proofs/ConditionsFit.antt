@@ -1,5 +1,5 @@
 -- Conditions that are read are of the kernel for which they are read.
-use Rattle.std.proofs.Common.{◌≡◌, ℕ, zero, suc, nat_le, nat_lt, ◌*◌, List, [], ◌∷◌, ◌++◌, length, map, Ok, refl, ap, ◌∙◌, subst, inl, inr, ◌⊎◌}
+use Rattle.std.proofs.Common.{◌≡◌, ℕ, zero, suc, nat_le, nat_lt, ◌*◌, List, [], ◌∷◌, ◌++◌, length, map, Bool, Ok, refl, ap, ◌∙◌, subst, inl, inr, ◌⊎◌}
 use Rattle.std.specs.Prelude.{int_le, codes, bytes_eq}
 use Rattle.std.specs.List.{All, AllZip}
 use Rattle.std.proofs.lemmas.Bool.{cond_both}
@@ -11,9 +11,9 @@ use Rattle.semantics.specs.Conditions as meaning
 use Rattle.semantics.specs.Conditions.{Summand, IsNamed, ConditionsFit}
 use Rattle.texts.specs.Surface.{Parameter, Buffer, Value}
 use Rattle.texts.specs.LaunchFaults.{LimitPassed, Cursor, Step, cursor, refused, then, expect, end_line}
-use Rattle.texts.specs.LaunchWords.{natural_at, word_at, head_line, end_text, due_blank, due_parameter, first_word}
+use Rattle.texts.specs.LaunchWords.{natural_at, word_at, end_text, due_blank, due_parameter, first_word}
 use Rattle.texts.specs.LaunchSums.{sum_at}
-use Rattle.texts.specs.ConditionsReading.{CountRange, ArgumentRange, Length, Requirement, Lined, length_meant, requirement_meant, counts_at, three_counts_at, groups_line, argument_at, argument_line, argument_due, argument_lines, length_of, length_line, length_due, length_lines, requirement_line, requirement_lines, budget_line, lined, conditions_at, conditions_of}
+use Rattle.texts.specs.ConditionsReading.{CountRange, ArgumentRange, Length, Requirement, Lined, length_meant, requirement_meant, counts_at, three_counts_at, groups_line, argument_at, argument_line, argument_due, argument_lines, length_of, length_line, length_due, length_lines, requirement_line, requirement_lines, budget_line, lined, version_line, conditions_at, conditions_of}
 use Rattle.launch_text.specs.Fits.{AreCounts, IsRange, IsLength, IsOf}
 use Rattle.launch_text.proofs.Back.{then_back, same_back, when_back, unless_back, natural_back, word_back}
 use Rattle.launch_text.specs.Parameters.{kinds, value_kind, buffer_kind}
@@ -80,47 +80,47 @@ argument_one ps done (Value k site name) = inr (record { own = argument_line ps 
 abbrev IsLengthOf : Kernel → Kind → Length → Type 0
 IsLengthOf kernel k l = (l.kind ≡ k) × All (IsNamed kernel) l.least
 
-length_fits : (kernel : Kernel) (ps : List Parameter) → kernel.arguments ≡ kinds value_kind ps → (k : Kind) (name : List ℕ) (c : Cursor) (t : Length × Cursor) → length_line ps k name c ≡ Ok t → IsLengthOf kernel k t.0
+length_fits : (products : Bool) (kernel : Kernel) (ps : List Parameter) → kernel.arguments ≡ kinds value_kind ps → (k : Kind) (name : List ℕ) (c : Cursor) (t : Length × Cursor) → length_line products ps k name c ≡ Ok t → IsLengthOf kernel k t.0
 unfolding length_line
-length_fits kernel ps own k name c t e =
+length_fits products kernel ps own k name c t e =
     let a = then_back (due_parameter _ _ ps name c) _ t e in
     let b = then_back (expect _ a.0) _ t a.2 in
-    let s = then_back (sum_at ps 8 [] b.0) _ t b.2 in
+    let s = then_back (sum_at products ps 8 [] b.0) _ t b.2 in
     let d = then_back (end_line s.0.1) _ t s.2 in
     let q : (length_of k s.0.0 c.line, d.0) ≡ t = cc in
-    subst (λ (r : Length × Cursor). IsLengthOf kernel k r.0) q (refl, sum_named kernel ps own 8 [] b.0 s.0 (All-nil (IsNamed kernel)) s.1)
+    subst (λ (r : Length × Cursor). IsLengthOf kernel k r.0) q (refl, sum_named products kernel ps own 8 [] b.0 s.0 (All-nil (IsNamed kernel)) s.1)
 
-length_one : (kernel : Kernel) (ps : List Parameter) → kernel.arguments ≡ kinds value_kind ps → (done : List Length) (p : Parameter) → Skips (length_due ps) buffer_kind done p ⊎ Reads (length_due ps) buffer_kind (IsLengthOf kernel) done p
-length_one kernel ps own done (Buffer constant k site name) = inr (record { own = length_line ps k name; kind = k; is_line = refl; is_kind = refl; good = length_fits kernel ps own k name })
-length_one kernel ps own done (Value k site name) = inl (record { no_line = refl; no_kind = refl })
+length_one : (products : Bool) (kernel : Kernel) (ps : List Parameter) → kernel.arguments ≡ kinds value_kind ps → (done : List Length) (p : Parameter) → Skips (length_due products ps) buffer_kind done p ⊎ Reads (length_due products ps) buffer_kind (IsLengthOf kernel) done p
+length_one products kernel ps own done (Buffer constant k site name) = inr (record { own = length_line products ps k name; kind = k; is_line = refl; is_kind = refl; good = length_fits products kernel ps own k name })
+length_one products kernel ps own done (Value k site name) = inl (record { no_line = refl; no_kind = refl })
 
 abbrev IsRequirementOf : Kernel → meaning.Requirement → Type 0
 IsRequirementOf kernel r = All (IsNamed kernel) r.left × All (IsNamed kernel) r.right
 
-requirement_fits : (kernel : Kernel) (ps : List Parameter) → kernel.arguments ≡ kinds value_kind ps → (c : Cursor) (t : Requirement × Cursor) → requirement_line ps c ≡ Ok t → IsRequirementOf kernel (requirement_meant t.0)
+requirement_fits : (products : Bool) (kernel : Kernel) (ps : List Parameter) → kernel.arguments ≡ kinds value_kind ps → (c : Cursor) (t : Requirement × Cursor) → requirement_line products ps c ≡ Ok t → IsRequirementOf kernel (requirement_meant t.0)
 unfolding requirement_line
-requirement_fits kernel ps own c t e =
+requirement_fits products kernel ps own c t e =
     let a = then_back (due_blank _ _ c) _ t e in
-    let left = then_back (sum_at ps 8 [] a.0) _ t a.2 in
+    let left = then_back (sum_at products ps 8 [] a.0) _ t a.2 in
     let b = then_back (expect _ left.0.1) _ t left.2 in
-    let right = then_back (sum_at ps 8 [] b.0) _ t b.2 in
+    let right = then_back (sum_at products ps 8 [] b.0) _ t b.2 in
     let d = then_back (end_line right.0.1) _ t right.2 in
     let q : (record { left = left.0.0; right = right.0.0; line = c.line }, d.0) ≡ t = cc in
     subst (λ (r : Requirement × Cursor). IsRequirementOf kernel (requirement_meant r.0)) q
-    (sum_named kernel ps own 8 [] a.0 left.0 (All-nil (IsNamed kernel)) left.1, sum_named kernel ps own 8 [] b.0 right.0 (All-nil (IsNamed kernel)) right.1)
+    (sum_named products kernel ps own 8 [] a.0 left.0 (All-nil (IsNamed kernel)) left.1, sum_named products kernel ps own 8 [] b.0 right.0 (All-nil (IsNamed kernel)) right.1)
 
 kept : (kernel : Kernel) (done : List Requirement) (c : Cursor) (t : List Requirement × Cursor) → All (IsRequirementOf kernel) (map requirement_meant done) → (let s : Step (List Requirement × Cursor) = Ok (done, c) in s ≡ Ok t) → All (IsRequirementOf kernel) (map requirement_meant t.0)
 kept kernel done c t h e = let q : (done, c) ≡ t = cc in subst (λ (r : List Requirement × Cursor). All (IsRequirementOf kernel) (map requirement_meant r.0)) q h
 
-requirements_fit : (kernel : Kernel) (ps : List Parameter) → kernel.arguments ≡ kinds value_kind ps → (room : ℕ) (done : List Requirement) (c : Cursor) (t : List Requirement × Cursor) → All (IsRequirementOf kernel) (map requirement_meant done) → requirement_lines ps room done c ≡ Ok t → All (IsRequirementOf kernel) (map requirement_meant t.0)
+requirements_fit : (products : Bool) (kernel : Kernel) (ps : List Parameter) → kernel.arguments ≡ kinds value_kind ps → (room : ℕ) (done : List Requirement) (c : Cursor) (t : List Requirement × Cursor) → All (IsRequirementOf kernel) (map requirement_meant done) → requirement_lines products ps room done c ≡ Ok t → All (IsRequirementOf kernel) (map requirement_meant t.0)
 unfolding requirement_lines
-requirements_fit kernel ps own zero done c t h =
+requirements_fit products kernel ps own zero done c t h =
     cond_both (bytes_eq (first_word c.rest) (codes "require")) (refused LimitPassed c) (Ok (done, c)) (λ s. s ≡ Ok t → All (IsRequirementOf kernel) (map requirement_meant t.0))
     (λ _ e. absurd cc) (λ _ e. kept kernel done c t h e)
-requirements_fit kernel ps own (suc room) done c t h =
-    cond_both (bytes_eq (first_word c.rest) (codes "require")) (then (requirement_line ps c) (λ u. requirement_lines ps room (done ++ u.0 ∷ []) u.1)) (Ok (done, c)) (λ s. s ≡ Ok t → All (IsRequirementOf kernel) (map requirement_meant t.0))
-    (λ _ e. let one = then_back (requirement_line ps c) _ t e in
-    requirements_fit kernel ps own room (done ++ one.0.0 ∷ []) one.0.1 t (rw map_push (All-push (IsRequirementOf kernel) (map requirement_meant done) (requirement_meant one.0.0) h (requirement_fits kernel ps own c one.0 one.1))) one.2)
+requirements_fit products kernel ps own (suc room) done c t h =
+    cond_both (bytes_eq (first_word c.rest) (codes "require")) (then (requirement_line products ps c) (λ u. requirement_lines products ps room (done ++ u.0 ∷ []) u.1)) (Ok (done, c)) (λ s. s ≡ Ok t → All (IsRequirementOf kernel) (map requirement_meant t.0))
+    (λ _ e. let one = then_back (requirement_line products ps c) _ t e in
+    requirements_fit products kernel ps own room (done ++ one.0.0 ∷ []) one.0.1 t (rw map_push (All-push (IsRequirementOf kernel) (map requirement_meant done) (requirement_meant one.0.0) h (requirement_fits products kernel ps own c one.0 one.1))) one.2)
     (λ _ e. kept kernel done c t h e)
 
 zip_length : {A B : Type 0} (P : A → B → Type 0) (xs : List A) (ys : List B) → AllZip P xs ys → length ys ≡ length xs
@@ -140,17 +140,19 @@ lengths_split kernel (k ∷ ks) (l ∷ ls) h =
 lines_fit : (kernel : Kernel) (ps : List Parameter) → kernel.arguments ≡ kinds value_kind ps → kernel.buffers ≡ kinds buffer_kind ps → (c : Cursor) (x : Lined) → conditions_at ps c ≡ Ok x → IsOf kernel x
 unfolding conditions_at
 lines_fit kernel ps own shared c x e =
-    let head = then_back (head_line _ _ c) _ x e in
-    let groups = then_back (groups_line head.0) _ x head.2 in
+    let version = then_back (version_line c) _ x e in
+    let products = version.0.0 in
+    let head = version.0.1 in
+    let groups = then_back (groups_line head) _ x version.2 in
     let arguments = then_back (argument_lines ps groups.0.1) _ x groups.2 in
-    let lengths = then_back (length_lines ps arguments.0.1) _ x arguments.2 in
-    let requires = then_back (requirement_lines ps 16 [] lengths.0.1) _ x lengths.2 in
+    let lengths = then_back (length_lines products ps arguments.0.1) _ x arguments.2 in
+    let requires = then_back (requirement_lines products ps 16 [] lengths.0.1) _ x lengths.2 in
     let budget = then_back (budget_line requires.0.1) _ x requires.2 in
     let end = then_back (end_text budget.0.1) _ x budget.2 in
-    let q : lined groups.0.0 head.0.line arguments.0.0 lengths.0.0 requires.0.0 budget.0.0 ≡ x = same_back _ x end.2 in
-    let counts = groups_fit head.0 groups.0 groups.1 in
+    let q : lined groups.0.0 head.line arguments.0.0 lengths.0.0 requires.0.0 budget.0.0 ≡ x = same_back _ x end.2 in
+    let counts = groups_fit head groups.0 groups.1 in
     let ranges : AllZip IsRange kernel.arguments arguments.0.0 = rw own (each_back (argument_due ps) value_kind IsRange (argument_one ps) [] [] ps groups.0.1 arguments.0 tt arguments.1) in
-    let least : AllZip (IsLengthOf kernel) kernel.buffers lengths.0.0 = rw shared (each_back (length_due ps) buffer_kind (IsLengthOf kernel) (length_one kernel ps own) [] [] ps arguments.0.1 lengths.0 tt lengths.1) in
+    let least : AllZip (IsLengthOf kernel) kernel.buffers lengths.0.0 = rw shared (each_back (length_due products ps) buffer_kind (IsLengthOf kernel) (length_one products kernel ps own) [] [] ps arguments.0.1 lengths.0 tt lengths.1) in
     let split = lengths_split kernel kernel.buffers lengths.0.0 least in
     subst (λ (y : Lined). IsOf kernel y) q (record {
       counts_x = counts.0;
@@ -162,7 +164,7 @@ lines_fit kernel ps own shared c x e =
         arguments = length-map arguments.0.0 _ ∙ zip_length IsRange kernel.arguments arguments.0.0 ranges;
         lengths = length-map lengths.0.0 length_meant ∙ zip_length (IsLengthOf kernel) kernel.buffers lengths.0.0 least;
         sums = split.1;
-        requires = requirements_fit kernel ps own 16 [] lengths.0.1 requires.0 (All-nil (IsRequirementOf kernel)) requires.1;
+        requires = requirements_fit products kernel ps own 16 [] lengths.0.1 requires.0 (All-nil (IsRequirementOf kernel)) requires.1;
       };
     })
 

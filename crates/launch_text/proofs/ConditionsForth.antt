@@ -1,5 +1,5 @@
 -- What a conditions text says by cases is read of it.
-use Rattle.std.proofs.Common.{◌≡◌, ℕ, zero, suc, ◌+◌, ◌≤◌, true, false, nat_lt, List, [], ◌∷◌, ◌++◌, length, Ok, refl, ap, sym, ◌∙◌, append_assoc, arith}
+use Rattle.std.proofs.Common.{◌≡◌, ℕ, zero, suc, ◌+◌, ◌≤◌, Bool, true, false, nat_lt, List, [], ◌∷◌, ◌++◌, length, Ok, refl, ap, sym, ◌∙◌, append_assoc, arith}
 use Rattle.std.specs.Prelude.{codes, bytes_eq}
 use Rattle.std.specs.Fmt.{decimal}
 use Rattle.std.proofs.lemmas.Bool.{cond-false}
@@ -12,9 +12,9 @@ use Rattle.texts.specs.Identifiers.{is_identifier}
 use Rattle.texts.specs.Surface.{Parameter, Buffer, Value}
 use Rattle.texts.specs.Spelling.{SpellsParameters}
 use Rattle.texts.specs.LaunchFaults.{Cursor, cursor, then, expect, end_line}
-use Rattle.texts.specs.LaunchWords.{Conditions, due, due_blank, due_parameter, head_line, first_word, each}
-use Rattle.texts.specs.ConditionsReading.{Length, Requirement, Lined, length_meant, requirement_meant, meant, length_of, length_line, length_due, requirement_of, requirement_line, requirement_lines, budget_line, lined, conditions_at, conditions_limit, conditions_of}
-use Rattle.texts.specs.ConditionsText.{IsShortSum, groups_text, length_text, requirement_text, budget_text, AreLengthLines, no_length, past_value, a_length, AreRequirementLines, no_requirement, a_requirement, AreConditionsLines, IsConditionsText}
+use Rattle.texts.specs.LaunchWords.{Conditions, due, due_blank, due_parameter, first_word, each}
+use Rattle.texts.specs.ConditionsReading.{Length, Requirement, Lined, length_meant, requirement_meant, meant, length_of, length_line, length_due, requirement_of, requirement_line, requirement_lines, budget_line, lined, version_at, version_line, conditions_at, conditions_limit, conditions_of}
+use Rattle.texts.specs.ConditionsText.{IsShortSum, groups_text, length_text, requirement_text, budget_text, AreLengthLines, no_length, past_value, a_length, AreRequirementLines, no_requirement, a_requirement, version_text, AreConditionsLines, IsConditionsText}
 use Rattle.launch_text.specs.Parameters.{AreNamed}
 use Rattle.launch_text.proofs.Back.{same_back}
 use Rattle.launch_text.proofs.Forth.{natural_forth, parameter_forth}
@@ -36,9 +36,10 @@ budget_due : (rest : List ℕ) (n : ℕ) → due_blank Conditions (codes "budget
 unfolding due_blank due expect
 budget_due rest n = refl
 
-head_forth : (rest : List ℕ) → head_line Conditions (codes "conditions") (cursor 1 (codes "conditions 1" ++ (10 ∷ rest))) ≡ Ok (cursor 2 rest)
-unfolding head_line due expect end_line
-head_forth rest = refl
+version_forth : (products : Bool) (rest : List ℕ) → version_line (cursor 1 (version_text products ++ (10 ∷ rest))) ≡ Ok (products, cursor 2 rest)
+unfolding version_line version_at due expect end_line
+version_forth true rest = refl
+version_forth false rest = refl
 
 least_forth : (rest : List ℕ) (n : ℕ) → expect (codes ">= ") (cursor n (codes ">= " ++ rest)) ≡ Ok (cursor n rest)
 unfolding expect
@@ -48,78 +49,78 @@ least_between : (rest : List ℕ) (n : ℕ) → expect (codes " >= ") (cursor n 
 unfolding expect
 least_between rest n = refl
 
-length_forth : (ps : List Parameter) (k : Kind) (name sum : List ℕ) (ss : List Summand) (rest : List ℕ) (n : ℕ) → AreNamed ps → is_identifier name ≡ true → IsShortSum ps sum ss → length_line ps k name (cursor n (length_text name sum ++ rest)) ≡ Ok (length_of k ss n, cursor (n + 1) rest)
+length_forth : (products : Bool) (ps : List Parameter) (k : Kind) (name sum : List ℕ) (ss : List Summand) (rest : List ℕ) (n : ℕ) → AreNamed ps → is_identifier name ≡ true → IsShortSum products ps sum ss → length_line products ps k name (cursor n (length_text name sum ++ rest)) ≡ Ok (length_of k ss n, cursor (n + 1) rest)
 unfolding length_line due_parameter
-length_forth ps k name sum ss rest n all i h =
+length_forth products ps k name sum ss rest n all i h =
     rw (
       sym (length_shape name sum rest),
       length_word_due (name ++ (32 ∷ (codes ">= " ++ (sum ++ (10 ∷ rest))))) n,
       parameter_forth ps name (32 ∷ (codes ">= " ++ (sum ++ (10 ∷ rest)))) n i refl,
       blank_forth (codes ">= " ++ (sum ++ (10 ∷ rest))) n,
       least_forth (sum ++ (10 ∷ rest)) n,
-      short_sum_forth ps sum ss (10 ∷ rest) n all h (end_stops rest) refl,
+      short_sum_forth products ps sum ss (10 ∷ rest) n all h (end_stops rest) refl,
       end_forth rest n,
     ) refl
 
-lengths_forth : (all : List Parameter) (done : List Length) (ps : List Parameter) (lines : List ℕ) (sums : List (List Summand)) (rest : List ℕ) (n : ℕ) → AreNamed all → AreNamed ps → AreLengthLines all ps lines sums → ReadsLines (each (length_due all) done ps) length_meant done lines sums rest n
-lengths_forth all done ps lines sums rest n i j no_length = record { read = []; line = n; is_read = each_ends (length_due all) done (cursor n rest); is_meant = refl }
-lengths_forth all done ps lines sums rest n i j (past_value {ps = others} k site name more) =
-    let behind = lengths_forth all done others lines sums rest n i j.1 more in
+lengths_forth : (products : Bool) (all : List Parameter) (done : List Length) (ps : List Parameter) (lines : List ℕ) (sums : List (List Summand)) (rest : List ℕ) (n : ℕ) → AreNamed all → AreNamed ps → AreLengthLines products all ps lines sums → ReadsLines (each (length_due products all) done ps) length_meant done lines sums rest n
+lengths_forth products all done ps lines sums rest n i j no_length = record { read = []; line = n; is_read = each_ends (length_due products all) done (cursor n rest); is_meant = refl }
+lengths_forth products all done ps lines sums rest n i j (past_value {ps = others} k site name more) =
+    let behind = lengths_forth products all done others lines sums rest n i j.1 more in
     record {
       read = behind.read;
       line = behind.line;
-      is_read = each_skips (length_due all) done (Value k site name) others (cursor n (lines ++ rest)) refl ∙ behind.is_read;
+      is_read = each_skips (length_due products all) done (Value k site name) others (cursor n (lines ++ rest)) refl ∙ behind.is_read;
       is_meant = behind.is_meant;
     }
-lengths_forth all done ps lines sums rest n i j (a_length {ps = others} {lines = after} {sum = sum} {ss = ss} {sums = least} constant k site name h more) =
+lengths_forth products all done ps lines sums rest n i j (a_length {ps = others} {lines = after} {sum = sum} {ss = ss} {sums = least} constant k site name h more) =
     let a : Length = length_of k ss n in
-    let own = length_line all k name in
-    let behind = lengths_forth all (done ++ a ∷ []) others after least rest (n + 1) i j.1 more in
+    let own = length_line products all k name in
+    let behind = lengths_forth products all (done ++ a ∷ []) others after least rest (n + 1) i j.1 more in
     let here : own (cursor n ((length_text name sum ++ after) ++ rest)) ≡ Ok (a, cursor (n + 1) (after ++ rest)) =
-    ap (λ bytes. own (cursor n bytes)) (append_assoc (length_text name sum) after rest) ∙ length_forth all k name sum ss (after ++ rest) n i j.0 h in
+    ap (λ bytes. own (cursor n bytes)) (append_assoc (length_text name sum) after rest) ∙ length_forth products all k name sum ss (after ++ rest) n i j.0 h in
     record {
       read = a ∷ behind.read;
       line = behind.line;
-      is_read = each_goes (length_due all) done (Buffer constant k site name) others (cursor n ((length_text name sum ++ after) ++ rest)) (cursor (n + 1) (after ++ rest)) own a refl here
+      is_read = each_goes (length_due products all) done (Buffer constant k site name) others (cursor n ((length_text name sum ++ after) ++ rest)) (cursor (n + 1) (after ++ rest)) own a refl here
           ∙ behind.is_read ∙ appended done a behind.read (cursor behind.line rest);
       is_meant = ap (λ others. ss ∷ others) behind.is_meant;
     }
 
-requirement_forth : (ps : List Parameter) (left right : List ℕ) (r : meaning.Requirement) (rest : List ℕ) (n : ℕ) → AreNamed ps → IsShortSum ps left r.left → IsShortSum ps right r.right
-    → requirement_line ps (cursor n (requirement_text left right ++ rest)) ≡ Ok (requirement_of r.left r.right n, cursor (n + 1) rest)
+requirement_forth : (products : Bool) (ps : List Parameter) (left right : List ℕ) (r : meaning.Requirement) (rest : List ℕ) (n : ℕ) → AreNamed ps → IsShortSum products ps left r.left → IsShortSum products ps right r.right
+    → requirement_line products ps (cursor n (requirement_text left right ++ rest)) ≡ Ok (requirement_of r.left r.right n, cursor (n + 1) rest)
 unfolding requirement_line
-requirement_forth ps left right r rest n i a b =
+requirement_forth products ps left right r rest n i a b =
     rw (
       sym (requirement_shape left right rest),
       require_due (left ++ (codes " >= " ++ (right ++ (10 ∷ rest)))) n,
-      short_sum_forth ps left r.left (codes " >= " ++ (right ++ (10 ∷ rest))) n i a (blank_stops (62 ∷ 61 ∷ 32 ∷ (right ++ (10 ∷ rest)))) refl,
+      short_sum_forth products ps left r.left (codes " >= " ++ (right ++ (10 ∷ rest))) n i a (blank_stops (62 ∷ 61 ∷ 32 ∷ (right ++ (10 ∷ rest)))) refl,
       least_between (right ++ (10 ∷ rest)) n,
-      short_sum_forth ps right r.right (10 ∷ rest) n i b (end_stops rest) refl,
+      short_sum_forth products ps right r.right (10 ∷ rest) n i b (end_stops rest) refl,
       end_forth rest n,
     ) refl
 
-none_left : (ps : List Parameter) (room : ℕ) (done : List Requirement) (rest : List ℕ) (n : ℕ) → bytes_eq (first_word rest) (codes "require") ≡ false → requirement_lines ps room done (cursor n rest) ≡ Ok (done ++ [], cursor n rest)
+none_left : (products : Bool) (ps : List Parameter) (room : ℕ) (done : List Requirement) (rest : List ℕ) (n : ℕ) → bytes_eq (first_word rest) (codes "require") ≡ false → requirement_lines products ps room done (cursor n rest) ≡ Ok (done ++ [], cursor n rest)
 unfolding requirement_lines
-none_left ps zero done rest n h = rw (h, append-nil done) refl
-none_left ps (suc room) done rest n h = rw (h, append-nil done) refl
+none_left products ps zero done rest n h = rw (h, append-nil done) refl
+none_left products ps (suc room) done rest n h = rw (h, append-nil done) refl
 
-one_more : (ps : List Parameter) (room : ℕ) (done : List Requirement) (left right rest : List ℕ) (n : ℕ) (r : Requirement) → requirement_line ps (cursor n (requirement_text left right ++ rest)) ≡ Ok (r, cursor (n + 1) rest)
-    → requirement_lines ps (suc room) done (cursor n (requirement_text left right ++ rest)) ≡ requirement_lines ps room (done ++ r ∷ []) (cursor (n + 1) rest)
+one_more : (products : Bool) (ps : List Parameter) (room : ℕ) (done : List Requirement) (left right rest : List ℕ) (n : ℕ) (r : Requirement) → requirement_line products ps (cursor n (requirement_text left right ++ rest)) ≡ Ok (r, cursor (n + 1) rest)
+    → requirement_lines products ps (suc room) done (cursor n (requirement_text left right ++ rest)) ≡ requirement_lines products ps room (done ++ r ∷ []) (cursor (n + 1) rest)
 unfolding requirement_lines
-one_more ps room done left right rest n r e = ap (λ s. then s (λ (t : Requirement × Cursor). requirement_lines ps room (done ++ t.0 ∷ []) t.1)) e
+one_more products ps room done left right rest n r e = ap (λ s. then s (λ (t : Requirement × Cursor). requirement_lines products ps room (done ++ t.0 ∷ []) t.1)) e
 
-requirements_forth : (ps : List Parameter) (room : ℕ) (done : List Requirement) (lines : List ℕ) (rs : List meaning.Requirement) (rest : List ℕ) (n : ℕ) → AreNamed ps → AreRequirementLines ps lines rs → length rs ≤ room → bytes_eq (first_word rest) (codes "require") ≡ false
-    → ReadsLines (requirement_lines ps room done) requirement_meant done lines rs rest n
-requirements_forth ps room done lines rs rest n i no_requirement l h = record { read = []; line = n; is_read = none_left ps room done rest n h; is_meant = refl }
-requirements_forth ps zero done lines rs rest n i (a_requirement {rs = others} r a b more) l h = absurd (omega arith)
-requirements_forth ps (suc room) done lines rs rest n i (a_requirement {left = left} {right = right} {lines = after} {rs = others} r a b more) l h =
+requirements_forth : (products : Bool) (ps : List Parameter) (room : ℕ) (done : List Requirement) (lines : List ℕ) (rs : List meaning.Requirement) (rest : List ℕ) (n : ℕ) → AreNamed ps → AreRequirementLines products ps lines rs → length rs ≤ room → bytes_eq (first_word rest) (codes "require") ≡ false
+    → ReadsLines (requirement_lines products ps room done) requirement_meant done lines rs rest n
+requirements_forth products ps room done lines rs rest n i no_requirement l h = record { read = []; line = n; is_read = none_left products ps room done rest n h; is_meant = refl }
+requirements_forth products ps zero done lines rs rest n i (a_requirement {rs = others} r a b more) l h = absurd (omega arith)
+requirements_forth products ps (suc room) done lines rs rest n i (a_requirement {left = left} {right = right} {lines = after} {rs = others} r a b more) l h =
     let own : Requirement = requirement_of r.left r.right n in
-    let behind = requirements_forth ps room (done ++ own ∷ []) after others rest (n + 1) i more (omega (arith, l)) h in
+    let behind = requirements_forth products ps room (done ++ own ∷ []) after others rest (n + 1) i more (omega (arith, l)) h in
     record {
       read = own ∷ behind.read;
       line = behind.line;
-      is_read = ap (λ bytes. requirement_lines ps (suc room) done (cursor n bytes)) (append_assoc (requirement_text left right) after rest)
-          ∙ one_more ps room done left right (after ++ rest) n own (requirement_forth ps left right r (after ++ rest) n i a b)
+      is_read = ap (λ bytes. requirement_lines products ps (suc room) done (cursor n bytes)) (append_assoc (requirement_text left right) after rest)
+          ∙ one_more products ps room done left right (after ++ rest) n own (requirement_forth products ps left right r (after ++ rest) n i a b)
           ∙ behind.is_read ∙ appended done own behind.read (cursor behind.line rest);
       is_meant = ap (λ others. r ∷ others) behind.is_meant;
     }
@@ -133,21 +134,21 @@ made : (c : meaning.Conditions) (groups : Three Range) (arguments : List Range) 
     → (let d : meaning.Conditions = record { groups = groups; arguments = arguments; lengths = lengths; requires = requires; budget = c.budget } in d ≡ c)
 made c groups arguments lengths requires p q r s = rw (p, q, r, s) refl
 
-lines_forth : (ps : List Parameter) (text : List ℕ) (c : meaning.Conditions) → AreNamed ps → AreConditionsLines ps text c → (l : Lined) × (conditions_at ps (cursor 1 text) ≡ Ok l) × (meant l ≡ c)
+lines_forth : (products : Bool) (ps : List Parameter) (text : List ℕ) (c : meaning.Conditions) → AreNamed ps → AreConditionsLines products ps text c → (l : Lined) × (conditions_at ps (cursor 1 text) ≡ Ok l) × (meant l ≡ c)
 unfolding conditions_at
-lines_forth ps text c i t =
+lines_forth products ps text c i t =
     let last : List ℕ = budget_text c.budget in
     let behind_lengths : List ℕ = t.requirement_lines ++ last in
     let behind_arguments : List ℕ = t.length_lines ++ behind_lengths in
     let body : List ℕ = t.argument_lines ++ behind_arguments in
     let groups = groups_forth c.groups body 2 t.counts_x t.counts_y t.counts_z t.few_groups in
     let arguments = arguments_forth ps [] ps t.argument_lines c.arguments behind_arguments 3 i t.arguments in
-    let lengths = lengths_forth ps [] ps t.length_lines c.lengths behind_lengths arguments.line i i t.lengths in
-    let requires = requirements_forth ps 16 [] t.requirement_lines c.requires last lengths.line i t.requires t.few_requires refl in (
+    let lengths = lengths_forth products ps [] ps t.length_lines c.lengths behind_lengths arguments.line i i t.lengths in
+    let requires = requirements_forth products ps 16 [] t.requirement_lines c.requires last lengths.line i t.requires t.few_requires refl in (
       lined groups.groups 2 arguments.read lengths.read requires.read c.budget,
       rw (
         t.is_text,
-        head_forth (groups_text c.groups ++ body),
+        version_forth products (groups_text c.groups ++ body),
         groups.is_read,
         arguments.is_read,
         lengths.is_read,
@@ -166,7 +167,7 @@ spelt_names (Value k site name ∷ ps) h = (h.0, spelt_names ps h.1)
 
 pub conditions_forth : (ps : List Parameter) (text : List ℕ) (c : meaning.Conditions) → SpellsParameters ps → IsConditionsText ps text c → (l : Lined) × (conditions_of ps text ≡ Ok l) × (meant l ≡ c)
 conditions_forth ps text c i t =
-    let l = lines_forth ps text c (spelt_names ps i) t.lines in
+    let l = lines_forth t.has_products ps text c (spelt_names ps i) t.lines in
     (l.0, cond-false (nat_lt conditions_limit (length text)) _ _ (not_above conditions_limit (length text) t.within_limit) ∙ l.1, l.2)
 
 pub one_meaning : (ps : List Parameter) (text : List ℕ) (c d : meaning.Conditions) → SpellsParameters ps → IsConditionsText ps text c → IsConditionsText ps text d → c ≡ d

@@ -1,5 +1,5 @@
 -- What a line's reader took from the front is that line.
-use Rattle.std.proofs.Common.{◌≡◌, ℕ, zero, suc, ◌*◌, ◌≤◌, true, false, nat_le, nat_lt, List, [], ◌∷◌, ◌++◌, length, map, Ok, refl, ap, sym, ◌∙◌, subst, append_assoc, arith}
+use Rattle.std.proofs.Common.{◌≡◌, ℕ, zero, suc, ◌*◌, ◌≤◌, Bool, true, false, nat_le, nat_lt, List, [], ◌∷◌, ◌++◌, length, map, Ok, refl, ap, sym, ◌∙◌, subst, append_assoc, arith}
 use Rattle.std.specs.Prelude.{pos, ◌≤ℤ◌, ◌*ℤ◌, int_le, bytes_eq, codes}
 use Rattle.std.specs.Fmt.{decimal, signed_decimal}
 use Rattle.std.proofs.lemmas.Bool.{cond_both}
@@ -178,8 +178,8 @@ arguments_took all done (Value k site name ∷ ps) c t e =
     (λ lines rs more. an_argument k site name r one.1 more) (arguments_took all (done ++ u.0.0 ∷ []) ps u.0.1 t u.2)
 
 -- what the line of a length said
-abbrev TookLength : List Parameter → (name : List ℕ) → Cursor → Length × Cursor → Type 0
-TookLength ps name c t = (sum : List ℕ) × IsShortSum ps sum (length_meant t.0) × (c.rest ≡ length_text name sum ++ t.1.rest)
+abbrev TookLength : (products : Bool) → List Parameter → (name : List ℕ) → Cursor → Length × Cursor → Type 0
+TookLength products ps name c t = (sum : List ℕ) × IsShortSum products ps sum (length_meant t.0) × (c.rest ≡ length_text name sum ++ t.1.rest)
 
 pub length_shape : (name sum rest : List ℕ) → codes "length" ++ (32 ∷ (name ++ (32 ∷ (codes ">= " ++ (sum ++ (10 ∷ rest)))))) ≡ (codes "length " ++ (name ++ (codes " >= " ++ (sum ++ 10 ∷ [])))) ++ rest
 length_shape name sum rest = simp append_assoc
@@ -188,38 +188,38 @@ length_whole : (name sum rest whole a b d : List ℕ) → whole ≡ codes "lengt
 length_whole name sum rest whole a b d p q r s =
     p ∙ ap (λ x. codes "length " ++ (name ++ (32 ∷ x))) (q ∙ ap (λ x. codes ">= " ++ x) (r ∙ ap (λ x. sum ++ x) s)) ∙ length_shape name sum rest
 
-length_took : (ps : List Parameter) (k : Kind) (name : List ℕ) (c : Cursor) (t : Length × Cursor) → length_line ps k name c ≡ Ok t → TookLength ps name c t
+length_took : (products : Bool) (ps : List Parameter) (k : Kind) (name : List ℕ) (c : Cursor) (t : Length × Cursor) → length_line products ps k name c ≡ Ok t → TookLength products ps name c t
 unfolding length_line
-length_took ps k name c t e =
+length_took products ps k name c t e =
     let a = then_back (due_parameter _ _ ps name c) _ t e in
     let b = then_back (expect _ a.0) _ t a.2 in
-    let s = then_back (sum_at ps 8 [] b.0) _ t b.2 in
+    let s = then_back (sum_at products ps 8 [] b.0) _ t b.2 in
     let d = then_back (end_line s.0.1) _ t s.2 in
-    let sum = short_sum_took ps b.0 s.0 s.1 in
-    subst (λ (r : Length × Cursor). TookLength ps name c r) (same_back (length_of k s.0.0 c.line, d.0) t d.2) (
+    let sum = short_sum_took products ps b.0 s.0 s.1 in
+    subst (λ (r : Length × Cursor). TookLength products ps name c r) (same_back (length_of k s.0.0 c.line, d.0) t d.2) (
       sum.0,
       sum.1,
       length_whole name sum.0 d.0.rest c.rest a.0.rest b.0.rest s.0.1.rest (due_parameter_took Conditions (codes "length") ps name c a.0 a.1) (expect_took (codes ">= ") a.0 b.0 b.1) sum.2 (end_took s.0.1 d.0 d.1),
     )
 
-pub lengths_took : (all : List Parameter) (done : List Length) (ps : List Parameter) (c : Cursor) (t : List Length × Cursor) → each (length_due all) done ps c ≡ Ok t → TookLines (AreLengthLines all ps) length_meant done c t
+pub lengths_took : (products : Bool) (all : List Parameter) (done : List Length) (ps : List Parameter) (c : Cursor) (t : List Length × Cursor) → each (length_due products all) done ps c ≡ Ok t → TookLines (AreLengthLines products all ps) length_meant done c t
 unfolding each
-lengths_took all done [] c t e = no_line (AreLengthLines all []) length_meant done c t no_length e
-lengths_took all done (Value k site name ∷ ps) c t e =
-    let others = lengths_took all done ps c t e in
+lengths_took products all done [] c t e = no_line (AreLengthLines products all []) length_meant done c t no_length e
+lengths_took products all done (Value k site name ∷ ps) c t e =
+    let others = lengths_took products all done ps c t e in
     record { read = others.read; all = others.all; lines = others.lines; are = past_value k site name others.are; rest = others.rest }
-lengths_took all done (Buffer constant k site name ∷ ps) c t e =
-    let u = then_back (length_line all k name c) _ t e in
-    let one = length_took all k name c u.0 u.1 in
-    one_line (AreLengthLines all ps) (AreLengthLines all (Buffer constant k site name ∷ ps)) length_meant done u.0.0 (length_text name one.0) c u.0.1 t one.2
-    (λ lines sums more. a_length constant k site name one.1 more) (lengths_took all (done ++ u.0.0 ∷ []) ps u.0.1 t u.2)
+lengths_took products all done (Buffer constant k site name ∷ ps) c t e =
+    let u = then_back (length_line products all k name c) _ t e in
+    let one = length_took products all k name c u.0 u.1 in
+    one_line (AreLengthLines products all ps) (AreLengthLines products all (Buffer constant k site name ∷ ps)) length_meant done u.0.0 (length_text name one.0) c u.0.1 t one.2
+    (λ lines sums more. a_length constant k site name one.1 more) (lengths_took products all (done ++ u.0.0 ∷ []) ps u.0.1 t u.2)
 
 -- what the line of a requirement said
-pub record TookRequirement (ps : List Parameter) (c : Cursor) (t : Requirement × Cursor) : Type 0 where
+pub record TookRequirement (products : Bool) (ps : List Parameter) (c : Cursor) (t : Requirement × Cursor) : Type 0 where
   pub left : List ℕ
   pub right : List ℕ
-  pub left_sum : IsShortSum ps left (requirement_meant t.0).left
-  pub right_sum : IsShortSum ps right (requirement_meant t.0).right
+  pub left_sum : IsShortSum products ps left (requirement_meant t.0).left
+  pub right_sum : IsShortSum products ps right (requirement_meant t.0).right
   pub rest : c.rest ≡ requirement_text left right ++ t.1.rest
 
 pub requirement_shape : (left right rest : List ℕ) → codes "require" ++ (32 ∷ (left ++ (codes " >= " ++ (right ++ (10 ∷ rest))))) ≡ (codes "require " ++ (left ++ (codes " >= " ++ (right ++ 10 ∷ [])))) ++ rest
@@ -229,17 +229,17 @@ requirement_whole : (left right rest whole a b d f : List ℕ) → whole ≡ cod
 requirement_whole left right rest whole a b d f p q r s t =
     p ∙ ap (λ x. codes "require " ++ x) (q ∙ ap (λ x. left ++ x) (r ∙ ap (λ x. codes " >= " ++ x) (s ∙ ap (λ x. right ++ x) t))) ∙ requirement_shape left right rest
 
-requirement_took : (ps : List Parameter) (c : Cursor) (t : Requirement × Cursor) → requirement_line ps c ≡ Ok t → TookRequirement ps c t
+requirement_took : (products : Bool) (ps : List Parameter) (c : Cursor) (t : Requirement × Cursor) → requirement_line products ps c ≡ Ok t → TookRequirement products ps c t
 unfolding requirement_line
-requirement_took ps c t e =
+requirement_took products ps c t e =
     let a = then_back (due_blank _ _ c) _ t e in
-    let left = then_back (sum_at ps 8 [] a.0) _ t a.2 in
+    let left = then_back (sum_at products ps 8 [] a.0) _ t a.2 in
     let b = then_back (expect _ left.0.1) _ t left.2 in
-    let right = then_back (sum_at ps 8 [] b.0) _ t b.2 in
+    let right = then_back (sum_at products ps 8 [] b.0) _ t b.2 in
     let d = then_back (end_line right.0.1) _ t right.2 in
-    let l = short_sum_took ps a.0 left.0 left.1 in
-    let r = short_sum_took ps b.0 right.0 right.1 in
-    subst (λ (u : Requirement × Cursor). TookRequirement ps c u) (same_back (requirement_of left.0.0 right.0.0 c.line, d.0) t d.2) (record {
+    let l = short_sum_took products ps a.0 left.0 left.1 in
+    let r = short_sum_took products ps b.0 right.0 right.1 in
+    subst (λ (u : Requirement × Cursor). TookRequirement products ps c u) (same_back (requirement_of left.0.0 right.0.0 c.line, d.0) t d.2) (record {
       left = l.0;
       right = r.0;
       left_sum = l.1;
@@ -248,21 +248,21 @@ requirement_took ps c t e =
     })
 
 -- at most as many as there was room for
-abbrev pub AreFewRequirements : List Parameter → (room : ℕ) → List ℕ → List meaning.Requirement → Type 0
-AreFewRequirements ps room lines rs = AreRequirementLines ps lines rs × (length rs ≤ room)
+abbrev pub AreFewRequirements : (products : Bool) → List Parameter → (room : ℕ) → List ℕ → List meaning.Requirement → Type 0
+AreFewRequirements products ps room lines rs = AreRequirementLines products ps lines rs × (length rs ≤ room)
 
-pub requirements_took : (ps : List Parameter) (room : ℕ) (done : List Requirement) (c : Cursor) (t : List Requirement × Cursor) → requirement_lines ps room done c ≡ Ok t → TookLines (AreFewRequirements ps room) requirement_meant done c t
+pub requirements_took : (products : Bool) (ps : List Parameter) (room : ℕ) (done : List Requirement) (c : Cursor) (t : List Requirement × Cursor) → requirement_lines products ps room done c ≡ Ok t → TookLines (AreFewRequirements products ps room) requirement_meant done c t
 unfolding requirement_lines
-requirements_took ps zero done c t =
-    cond_both (bytes_eq (first_word c.rest) (codes "require")) (refused LimitPassed c) (Ok (done, c)) (λ s. s ≡ Ok t → TookLines (AreFewRequirements ps zero) requirement_meant done c t)
-    (λ _ e. absurd cc) (λ _ e. no_line (AreFewRequirements ps zero) requirement_meant done c t (no_requirement, omega arith) e)
-requirements_took ps (suc room) done c t =
-    cond_both (bytes_eq (first_word c.rest) (codes "require")) (then (requirement_line ps c) (λ u. requirement_lines ps room (done ++ u.0 ∷ []) u.1)) (Ok (done, c)) (λ s. s ≡ Ok t → TookLines (AreFewRequirements ps (suc room)) requirement_meant done c t)
-    (λ _ e. let u = then_back (requirement_line ps c) _ t e in
-    let one = requirement_took ps c u.0 u.1 in
-    one_line (AreFewRequirements ps room) (AreFewRequirements ps (suc room)) requirement_meant done u.0.0 (requirement_text one.left one.right) c u.0.1 t one.rest
-    (λ lines rs more. (a_requirement (requirement_meant u.0.0) one.left_sum one.right_sum more.0, omega (arith, more.1))) (requirements_took ps room (done ++ u.0.0 ∷ []) u.0.1 t u.2))
-    (λ _ e. no_line (AreFewRequirements ps (suc room)) requirement_meant done c t (no_requirement, omega arith) e)
+requirements_took products ps zero done c t =
+    cond_both (bytes_eq (first_word c.rest) (codes "require")) (refused LimitPassed c) (Ok (done, c)) (λ s. s ≡ Ok t → TookLines (AreFewRequirements products ps zero) requirement_meant done c t)
+    (λ _ e. absurd cc) (λ _ e. no_line (AreFewRequirements products ps zero) requirement_meant done c t (no_requirement, omega arith) e)
+requirements_took products ps (suc room) done c t =
+    cond_both (bytes_eq (first_word c.rest) (codes "require")) (then (requirement_line products ps c) (λ u. requirement_lines products ps room (done ++ u.0 ∷ []) u.1)) (Ok (done, c)) (λ s. s ≡ Ok t → TookLines (AreFewRequirements products ps (suc room)) requirement_meant done c t)
+    (λ _ e. let u = then_back (requirement_line products ps c) _ t e in
+    let one = requirement_took products ps c u.0 u.1 in
+    one_line (AreFewRequirements products ps room) (AreFewRequirements products ps (suc room)) requirement_meant done u.0.0 (requirement_text one.left one.right) c u.0.1 t one.rest
+    (λ lines rs more. (a_requirement (requirement_meant u.0.0) one.left_sum one.right_sum more.0, omega (arith, more.1))) (requirements_took products ps room (done ++ u.0.0 ∷ []) u.0.1 t u.2))
+    (λ _ e. no_line (AreFewRequirements products ps (suc room)) requirement_meant done c t (no_requirement, omega arith) e)
 
 abbrev TookBudget : Cursor → ℕ × Cursor → Type 0
 TookBudget c t = (c.rest ≡ budget_text t.0 ++ t.1.rest) × ((1 ≤ t.0) × (t.0 ≤ 1000000000000))

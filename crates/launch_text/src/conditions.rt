@@ -11,7 +11,7 @@ ghost use Rattle.launch_text.specs.View as view;
 use crate::cursor::Cursor;
 use crate::error::{LaunchFault, LaunchTextError};
 use crate::groups::groups_line;
-use crate::keyword::{Form, begins, due_blank, due_parameter, end_text, head_line};
+use crate::keyword::{Form, begins, due, due_blank, due_parameter, end_text};
 use crate::number::{natural, word};
 use crate::sum::sum;
 use launch::conditions::{ArgumentRange, Conditions, Length, Requirement};
@@ -85,12 +85,13 @@ fn length_line<'a>(
     parameters: &[Parameter],
     kind: Kind,
     name: &str,
+    has_products: bool,
 ) -> Result<(Length, Cursor<'a>), LaunchTextError>
     requires { length parameters.now ≤ most_names }
-    ensures { Gives (read view.length) result (meaning.length_line (map parameter_of parameters.now) (kind_of kind) name.now (cursor at.entry)) }
+    ensures { Gives (read view.length) result (meaning.length_line has_products (map parameter_of parameters.now) (kind_of kind) name.now (cursor at.entry)) }
 {
     let after = due_parameter(at, Form::Conditions, "length", parameters, name)?;
-    let (least, after) = sum(alloc, after.expect(">= ")?, parameters)?;
+    let (least, after) = sum(alloc, after.expect(">= ")?, parameters, has_products)?;
     let after = after.end_line()?;
     let length = Length {
         kind,
@@ -104,9 +105,10 @@ fn length_lines<'a>(
     alloc: Global,
     at: Cursor<'a>,
     parameters: &[Parameter],
+    has_products: bool,
 ) -> Result<(Vec<Length>, Cursor<'a>), LaunchTextError>
     requires { length parameters.now ≤ most_names }
-    ensures { Gives (read view.lengths) result (meaning.length_lines (map parameter_of parameters.now) (cursor at.entry)) }
+    ensures { Gives (read view.lengths) result (meaning.length_lines has_products (map parameter_of parameters.now) (cursor at.entry)) }
 {
     let mut lengths = Vec::new(alloc);
     let mut rest = at;
@@ -115,7 +117,7 @@ fn length_lines<'a>(
             Parameter::Buffer { kind, name, .. } => (*kind, name.as_str()),
             Parameter::Value { .. } => continue,
         };
-        let (length, after) = length_line(alloc, rest, parameters, kind, name)?;
+        let (length, after) = length_line(alloc, rest, parameters, kind, name, has_products)?;
         lengths.push(length)?;
         rest = after;
     }
@@ -127,13 +129,14 @@ fn requirement_line<'a>(
     alloc: Global,
     at: Cursor<'a>,
     parameters: &[Parameter],
+    has_products: bool,
 ) -> Result<(Requirement, Cursor<'a>), LaunchTextError>
     requires { length parameters.now ≤ most_names }
-    ensures { Gives (read view.requirement) result (meaning.requirement_line (map parameter_of parameters.now) (cursor at.entry)) }
+    ensures { Gives (read view.requirement) result (meaning.requirement_line has_products (map parameter_of parameters.now) (cursor at.entry)) }
 {
     let after = due_blank(at, Form::Conditions, "require")?;
-    let (left, after) = sum(alloc, after, parameters)?;
-    let (right, after) = sum(alloc, after.expect(" >= ")?, parameters)?;
+    let (left, after) = sum(alloc, after, parameters, has_products)?;
+    let (right, after) = sum(alloc, after.expect(" >= ")?, parameters, has_products)?;
     let after = after.end_line()?;
     let requirement = Requirement {
         left,
@@ -147,9 +150,10 @@ fn requirement_lines<'a>(
     alloc: Global,
     at: Cursor<'a>,
     parameters: &[Parameter],
+    has_products: bool,
 ) -> Result<(Vec<Requirement>, Cursor<'a>), LaunchTextError>
     requires { length parameters.now ≤ most_names }
-    ensures { Gives (read view.requirements) result (meaning.requirement_lines (map parameter_of parameters.now) 16 [] (cursor at.entry)) }
+    ensures { Gives (read view.requirements) result (meaning.requirement_lines has_products (map parameter_of parameters.now) 16 [] (cursor at.entry)) }
 {
     let mut requirements = Vec::new(alloc);
     let mut room = MOST_REQUIREMENTS;
@@ -158,7 +162,7 @@ fn requirement_lines<'a>(
         if room == 0 {
             return Err(rest.refused(LaunchFault::LimitPassed));
         }
-        let (requirement, after) = requirement_line(alloc, rest, parameters)?;
+        let (requirement, after) = requirement_line(alloc, rest, parameters, has_products)?;
         requirements.push(requirement)?;
         room -= 1;
         rest = after;
@@ -175,6 +179,29 @@ fn budget_line(at: Cursor<'_>) -> Result<(u64, Cursor<'_>), LaunchTextError>
     Ok((budget, after.end_line()?))
 }
 
+/// The version of the text: whether its sums may have products.
+#[tactic(auto, unfolding(texts::specs::ConditionsReading::version_at))]
+fn version(at: Cursor<'_>) -> Result<(bool, Cursor<'_>), LaunchTextError>
+    ensures { Gives (read same) result (meaning.version_at (cursor at.entry)) }
+{
+    if let Some(after) = at.strip(" 2") {
+        return Ok((true, after));
+    }
+    let after = at.expect(" 1")?;
+    Ok((false, after))
+}
+
+/// The first line.
+#[tactic(auto, unfolding(texts::specs::ConditionsReading::version_line))]
+fn version_line(at: Cursor<'_>) -> Result<(bool, Cursor<'_>), LaunchTextError>
+    ensures { Gives (read same) result (meaning.version_line (cursor at.entry)) }
+{
+    let after = due(at, Form::Conditions, "conditions")?;
+    let (has_products, after) = version(after)?;
+    let after = after.end_line()?;
+    Ok((has_products, after))
+}
+
 #[tactic(auto, unfolding(texts::specs::ConditionsReading::conditions_at))]
 fn conditions<'a>(
     alloc: Global,
@@ -184,11 +211,11 @@ fn conditions<'a>(
     requires { length parameters.now ≤ most_names }
     ensures { Gives view.lined result (meaning.conditions_at (map parameter_of parameters.now) (cursor at.entry)) }
 {
-    let head = head_line(at, Form::Conditions, "conditions")?;
+    let (has_products, head) = version_line(at)?;
     let (groups, after) = groups_line(head)?;
     let (arguments, after) = argument_lines(alloc, after, parameters)?;
-    let (lengths, after) = length_lines(alloc, after, parameters)?;
-    let (requirements, after) = requirement_lines(alloc, after, parameters)?;
+    let (lengths, after) = length_lines(alloc, after, parameters, has_products)?;
+    let (requirements, after) = requirement_lines(alloc, after, parameters, has_products)?;
     let (budget, after) = budget_line(after)?;
     end_text(after)?;
     Ok(Conditions {

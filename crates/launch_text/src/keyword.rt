@@ -76,7 +76,7 @@ pub fn begins(at: Cursor<'_>, keyword: &str) -> bool
 
 /// The cursor past the first word of the line that is due; a fault where that line is missing.
 #[tactic(auto, unfolding(texts::specs::LaunchWords::due))]
-fn due<'a>(at: Cursor<'a>, form: Form, keyword: &str) -> Result<Cursor<'a>, LaunchTextError>
+pub fn due<'a>(at: Cursor<'a>, form: Form, keyword: &str) -> Result<Cursor<'a>, LaunchTextError>
     ensures { Gives cursor result (meaning.due (form_of form) keyword.now (cursor at.entry)) }
 {
     if at.rest.is_empty() {

@@ -1,10 +1,11 @@
 //! Sums of a conditions text.
 
-ghost use Rattle.std.specs.Prelude.{◌≡◌, ◌≤◌, ◌∷◌, [], map, drop, length, pos, MatchOption};
+ghost use Rattle.std.specs.Prelude.{◌≡◌, ◌≤◌, ◌&&◌, [], true, false, codes, map, length, MatchOption};
 ghost use Rattle.words.specs.View.{value_of};
 ghost use Rattle.launch.specs.Numbers.{number as number_seen};
-ghost use Rattle.launch.specs.View.{summand, sum as sum_seen};
+ghost use Rattle.launch.specs.View.{factor as factor_seen, summand, sum as sum_seen};
 ghost use Rattle.texts.specs.Declarations.{most_names};
+ghost use Rattle.texts.specs.LaunchFaults.{sees, past};
 ghost use Rattle.texts.specs.LaunchSums as meaning;
 ghost use Rattle.syntax.specs.View.{parameter as parameter_of};
 ghost use Rattle.launch_text.specs.Answers.{cursor, read, Gives};
@@ -13,7 +14,7 @@ use crate::cursor::Cursor;
 use crate::error::{LaunchFault, LaunchTextError};
 use crate::name::{is_known, name};
 use crate::number::factor;
-use launch::conditions::{Dimension, Sum, Summand};
+use launch::conditions::{Dimension, Factor, Sum, Summand};
 use launch::number::Number;
 use std::alloc::Global;
 use syntax::tree::Parameter;
@@ -47,10 +48,9 @@ fn value_number(parameters: &[Parameter], word: &[u8]) -> Option<u32>
 fn argument<'a>(
     at: Cursor<'a>,
     parameters: &[Parameter],
-    factor: Number,
-) -> Result<(Summand, Cursor<'a>), LaunchTextError>
+) -> Result<(Factor, Cursor<'a>), LaunchTextError>
     requires { length parameters.now ≤ most_names }
-    ensures { Gives (read summand) result (meaning.argument_at (map parameter_of parameters.now) (number_seen factor) (cursor at.entry)) }
+    ensures { Gives (read factor_seen) result (meaning.argument_at (map parameter_of parameters.now) (cursor at.entry)) }
 {
     let (word, after) = name(at)?;
     let Some(parameter) = value_number(parameters, word) else {
@@ -59,31 +59,76 @@ fn argument<'a>(
         }
         return Err(after.refused(LaunchFault::UnknownName));
     };
-    Ok((Summand::Argument { factor, parameter }, after))
+    Ok((Factor::Argument(parameter), after))
 }
 
 #[tactic(auto, unfolding(texts::specs::LaunchSums::symbol_at))]
 fn symbol<'a>(
     at: Cursor<'a>,
     parameters: &[Parameter],
-    factor: Number,
-) -> Result<(Summand, Cursor<'a>), LaunchTextError>
+) -> Result<(Factor, Cursor<'a>), LaunchTextError>
     requires { length parameters.now ≤ most_names }
-    ensures { Gives (read summand) result (meaning.symbol_at (map parameter_of parameters.now) (number_seen factor) (cursor at.entry)) }
+    ensures { Gives (read factor_seen) result (meaning.symbol_at (map parameter_of parameters.now) (cursor at.entry)) }
 {
     if let Some(after) = at.strip("groups.0") {
-        let dimension = Dimension::X;
-        return Ok((Summand::Groups { factor, dimension }, after));
+        return Ok((Factor::Groups(Dimension::X), after));
     }
     if let Some(after) = at.strip("groups.1") {
-        let dimension = Dimension::Y;
-        return Ok((Summand::Groups { factor, dimension }, after));
+        return Ok((Factor::Groups(Dimension::Y), after));
     }
     if let Some(after) = at.strip("groups.2") {
-        let dimension = Dimension::Z;
-        return Ok((Summand::Groups { factor, dimension }, after));
+        return Ok((Factor::Groups(Dimension::Z), after));
     }
-    argument(at, parameters, factor)
+    argument(at, parameters)
+}
+
+/// A number times one argument or group count.
+fn once(number: Number, of: Factor) -> Summand
+    ensures { summand result ≡ meaning.times (number_seen number) (factor_seen of) }
+{
+    match of {
+        Factor::Argument(parameter) => Summand::Argument {
+            factor: number,
+            parameter,
+        },
+        Factor::Groups(dimension) => Summand::Groups {
+            factor: number,
+            dimension,
+        },
+    }
+}
+
+/// The cursor past the sign between two names, where products may stand.
+fn strip_times<'a>(at: Cursor<'a>, has_products: bool) -> Option<Cursor<'a>>
+    ensures { MatchOption result ((has_products && sees (codes "*") (cursor at.entry)) ≡ false) (λ after. ((has_products && sees (codes "*") (cursor at.entry)) ≡ true) × (cursor after ≡ past 1 (cursor at.entry))) }
+{
+    if has_products {
+        return at.strip("*");
+    }
+    None
+}
+
+#[tactic(auto, unfolding(texts::specs::LaunchSums::symbols_at))]
+fn symbols<'a>(
+    at: Cursor<'a>,
+    parameters: &[Parameter],
+    number: Number,
+    has_products: bool,
+) -> Result<(Summand, Cursor<'a>), LaunchTextError>
+    requires { length parameters.now ≤ most_names }
+    ensures { Gives (read summand) result (meaning.symbols_at has_products (map parameter_of parameters.now) (number_seen number) (cursor at.entry)) }
+{
+    let (first, after) = symbol(at, parameters)?;
+    let Some(behind) = strip_times(after, has_products) else {
+        return Ok((once(number, first), after));
+    };
+    let (second, after) = symbol(behind, parameters)?;
+    let product = Summand::Product {
+        factor: number,
+        first,
+        second,
+    };
+    Ok((product, after))
 }
 
 fn begins_number(bytes: &[u8]) -> bool
@@ -99,34 +144,36 @@ fn begins_number(bytes: &[u8]) -> bool
 fn term<'a>(
     at: Cursor<'a>,
     parameters: &[Parameter],
+    has_products: bool,
 ) -> Result<(Summand, Cursor<'a>), LaunchTextError>
     requires { length parameters.now ≤ most_names }
-    ensures { Gives (read summand) result (meaning.term_at (map parameter_of parameters.now) (cursor at.entry)) }
+    ensures { Gives (read summand) result (meaning.term_at has_products (map parameter_of parameters.now) (cursor at.entry)) }
 {
     if !begins_number(at.rest) {
-        return symbol(at, parameters, ONE);
+        return symbols(at, parameters, ONE, has_products);
     }
     let (factor, after) = factor(at)?;
     match after.strip("*") {
-        Some(behind) => symbol(behind, parameters, factor),
+        Some(behind) => symbols(behind, parameters, factor, has_products),
         None => Ok((Summand::Constant(factor), after)),
     }
 }
 
-/// A sum of at most 8 terms.
+/// A sum of at most 8 terms, which may be products where the text's version has them.
 pub fn sum<'a>(
     alloc: Global,
     at: Cursor<'a>,
     parameters: &[Parameter],
+    has_products: bool,
 ) -> Result<(Sum, Cursor<'a>), LaunchTextError>
     requires { length parameters.now ≤ most_names }
-    ensures { Gives (read sum_seen) result (meaning.sum_at (map parameter_of parameters.now) 8 [] (cursor at.entry)) }
+    ensures { Gives (read sum_seen) result (meaning.sum_at has_products (map parameter_of parameters.now) 8 [] (cursor at.entry)) }
 {
     let mut terms = Vec::new(alloc);
     let mut room = MOST_TERMS;
     let mut rest = at;
     while room > 0 {
-        let (term, after) = term(rest, parameters)?;
+        let (term, after) = term(rest, parameters, has_products)?;
         terms.push(term)?;
         let Some(behind) = after.strip(" + ") else {
             return Ok((Sum { terms }, after));

@@ -4,3 +4,4 @@ pub mod Terms
 pub mod Forms
 pub mod Errors
 pub mod Sizes
+pub mod Products

@@ -1,10 +1,12 @@
 // Forms, and their operations.
-ghost use Rattle.std.specs.Prelude.{◌≡◌, ℕ, ℤ, pos, negsuc, true, false, ◌+ℤ◌, ◌-ℤ◌, ◌*ℤ◌, ◌<ℤ◌, ◌&&◌, [], ◌∷◌, IfOk, OnOk, IsErrOf, IfSome, MatchOption, length, IsTrue, ◌↔◌};
+ghost use Rattle.std.specs.Prelude.{◌≡◌, ℕ, ℤ, pos, negsuc, true, false, ◌+ℤ◌, ◌-ℤ◌, ◌*ℤ◌, ◌<ℤ◌, ◌&&◌, [], ◌∷◌, None, Some, IfOk, OnOk, IsErrOf, IfSome, MatchOption, length, IsTrue, ◌↔◌};
 ghost use Rattle.linear.specs.Linear.{value_of, IsMet};
 ghost use Rattle.linear.specs.Exact.{sum, multiple, form_without, coefficient_of, substituted, with_value, quotient, all_divide, fits, fits_i64, is_rising, over, form_over};
+ghost use Rattle.linear.specs.Products.{IsMultiplicative, plus_multiple, varying, product};
 ghost use Rattle.linear.specs.Terms.{terms, numbers, are_rising, are_i64};
 
 use super::merge::{coefficient_at, combine_terms, divide_terms, with_symbols, without_symbol};
+use super::products::add_rows;
 use super::term::{Symbol, Term, combine};
 use super::term_list::TermList;
 use std::alloc::{AllocError, AllocFailed, Global};
@@ -205,6 +207,46 @@ impl Form {
         };
         let terms = combine_terms(alloc, self.terms.as_slice(), k, other.terms.as_slice())?;
         Ok(Form { terms, constant })
+    }
+
+    /// The form and a multiple of another one, where all numbers are `i64`.
+    pub(crate) fn settled(
+        &self,
+        alloc: Global,
+        k: i64,
+        other: &Form,
+    ) -> Result<Option<Form>, AllocError>
+        ensures { IfOk result (λ r. MatchOption r (plus_multiple (form self.now) k (form other.now) ≡ None) (λ f. plus_multiple (form self.now) k (form other.now) ≡ Some (form f))) }
+    {
+        match self.plus_multiple(alloc, k, other) {
+            Ok(form) => Ok(Some(form)),
+            Err(LinearError::TooLarge) => Ok(None),
+            Err(LinearError::Memory) => Err(AllocError),
+        }
+    }
+
+    /// The form less its constant.
+    fn varying(&self, alloc: Global) -> Result<Form, AllocError>
+        ensures { IfOk result (λ f. form f ≡ varying (form self.now)) }
+    {
+        let terms = TermList::from_slice(alloc, self.terms.as_slice())?;
+        Ok(Form { terms, constant: 0 })
+    }
+
+    /// The product of two forms, where all products of their symbols are, and each number of a sum on the way is an `i64`.
+    pub fn product(&self, alloc: Global, other: &Form) -> Result<Option<Form>, AllocError>
+        ensures exact { IfOk result (λ r. MatchOption r (product (form self.now) (form other.now) ≡ None) (λ f. product (form self.now) (form other.now) ≡ Some (form f))) }
+        ensures value { IfOk result (λ r. IfSome r (λ f. (v : ℕ → ℤ) → IsMultiplicative v → value_of v (form f) ≡ value_of v (form self.now) *ℤ value_of v (form other.now))) }
+    {
+        let none = Form::constant(alloc, 0);
+        let Some(constants) = none.settled(alloc, other.constant, self)? else {
+            return Ok(None);
+        };
+        let varying = other.varying(alloc)?;
+        let Some(start) = constants.settled(alloc, self.constant, &varying)? else {
+            return Ok(None);
+        };
+        add_rows(alloc, start, self.terms.as_slice(), other.terms.as_slice())
     }
 
     /// The form with each coefficient divided and the constant rounded down, where each coefficient divides.

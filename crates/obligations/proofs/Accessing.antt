@@ -22,7 +22,7 @@ use Rattle.arrivals.specs.Faults.{FaultsShown}
 use Rattle.semantics.specs.Item.{Status, Running, Stopped}
 use Rattle.semantics.specs.Word.{Fault}
 use Rattle.semantics.specs.Core.{Site}
-use Rattle.walk_trees.specs.Shown.{IsShown}
+use Rattle.walk_trees.specs.Shown.{IsShownWithProducts}
 use Rattle.walk_trees.proofs.QuotientSound.{DividesLawfully}
 use Rattle.walk_trees.proofs.Fronts.{IsFine}
 use Rattle.semantics.specs.Ask.{act}
@@ -54,8 +54,8 @@ array-below [] b k h = absurd (omega (arith, h))
 array-below (x ∷ bs) zero k h = omega arith
 array-below (x ∷ bs) (suc b) k h = let l = array-below bs b k h in omega (arith, l)
 
-module _ {E : Type 0} (w : Walked E) (n : Notes) (tell : TellsOfItems n) (laws : DividesLawfully w.domain) (shown : All IsShown (claims_of w.conditions (all_trees w.domain w.kernel w.conditions n)))
-    (apart : All IsShown (map (crossing_obligation w.domain (known w.domain w.kernel.sizes w.conditions) (launch_facts w.conditions) n) (crossings w.kernel w.conditions (accesses_of (all_trees w.domain w.kernel w.conditions n)))))
+module _ {E : Type 0} (w : Walked E) (n : Notes) (tell : TellsOfItems n) (laws : DividesLawfully w.domain) (shown : All IsShownWithProducts (claims_of w.conditions (all_trees w.domain w.kernel w.conditions n)))
+    (apart : All IsShownWithProducts (map (crossing_obligation w.domain (known w.domain w.kernel.sizes w.conditions) (launch_facts w.conditions) n) (crossings w.kernel w.conditions (accesses_of (all_trees w.domain w.kernel w.conditions n)))))
   where
     abbrev s : Setup
     s = setup_of w

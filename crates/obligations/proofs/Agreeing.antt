@@ -9,6 +9,8 @@ use Rattle.semantics.specs.Word.{Word, zero_word}
 use Rattle.semantics.specs.Setup.{group_of}
 use Rattle.linear.specs.Linear.{value_of, IsMet}
 use Rattle.domain.specs.Members.{is_above, is_below}
+use Rattle.linear.specs.Products.{IsMultiplicative}
+use Rattle.facts.proofs.Members.{by_number-multiplicative}
 use Rattle.facts.specs.Symbols.{Fact, minus}
 use Rattle.facts.specs.Elements.{Known, is_from_zero}
 use Rattle.facts.specs.Launching.{each_dimension, launch_facts, known}
@@ -21,7 +23,7 @@ use Rattle.walk_trees.specs.Held.{element_with}
 use Rattle.walk_trees.specs.Trees.{AtLeastZero, Ended, Manner, Plainly, ByPositive, ByNegative, ByQuotient, added, with_facts}
 use Rattle.walk_trees.specs.Seconds.{second_forms, element_of_two}
 use Rattle.walk_trees.specs.Pairs.{same_group}
-use Rattle.walk_trees.specs.Shown.{IsShown, IsRefuted}
+use Rattle.walk_trees.specs.Shown.{IsShownWithProducts, IsRefutedWithProducts}
 use Rattle.walk_trees.proofs.Each.{Each}
 use Rattle.walk_trees.proofs.Made.{IsFit}
 use Rattle.walk_trees.proofs.TwoElements.{two-has}
@@ -29,7 +31,7 @@ use Rattle.obligations.specs.Notes.{Notes}
 use Rattle.obligations.specs.Listing.{Of}
 use Rattle.obligations.specs.Meetings.{same_at, same_facts, group_facts, value_form, first_form, other_form, is_settled_of_two, agreement, agreements, owed_obligations}
 use Rattle.obligations.proofs.Nodes.{at_anchor}
-use Rattle.obligations.proofs.Couples.{Couple, one, two, numbers, first-agrees, copy-means, copies-met, launch-met, group-met, same-met}
+use Rattle.obligations.proofs.Couples.{meant, Couple, one, two, numbers, first-agrees, copy-means, copies-met, launch-met, group-met, same-met}
 use Rattle.obligations.proofs.Orders.{refuted}
 
 -- what is owed of two lists of variables
@@ -43,11 +45,11 @@ from_zero None z h a = cc
 from_zero (Some n) z h a = omega (arith, ints, le_test (pos 0) n h, le_test n z a)
 
 -- a form that is shown by its facts is at least 0
-by_facts : (v : ℕ → ℤ) (facts : List Fact) (f : Fact) (o : Manner) → All (IsMet v) facts → IsRefuted (with_facts facts (added o (Some (AtLeastZero f)))) → pos 0 ≤ℤ value_of v f
-by_facts v facts f Plainly h e = claimed v [] facts f e (All-nil (IsMet v)) h
-by_facts v facts f ByPositive h e = absurd e
-by_facts v facts f ByNegative h e = absurd e
-by_facts v facts f ByQuotient h e = absurd e
+by_facts : (v : ℕ → ℤ) → IsMultiplicative v → (facts : List Fact) (f : Fact) (o : Manner) → All (IsMet v) facts → IsRefutedWithProducts (with_facts facts (added o (Some (AtLeastZero f)))) → pos 0 ≤ℤ value_of v f
+by_facts v products facts f Plainly h e = claimed v products [] facts f e (All-nil (IsMet v)) h
+by_facts v products facts f ByPositive h e = absurd e
+by_facts v products facts f ByNegative h e = absurd e
+by_facts v products facts f ByQuotient h e = absurd e
 
 -- two nodes of the items, at which they have come with these variables
 pub record Stopped {E : Type 0} (c : Couple E) (vars others : List Word) : Type 0 where
@@ -92,10 +94,10 @@ module _ {E : Type 0} (c : Couple E) (n : Notes) (vars others : List Word) (t : 
       from_zero b.low z h (and_parts (is_above b.low z) (is_below b.high z) (w.lawful.bounds e z (two-has w c.i c.j c.first c.second c.root c.other t.here.it.arrived.held t.there.it.arrived.held c.news c.more t.fit t.other_fit f))).0
 
   -- of a form of both that is shown
-  at-least : (f : Fact) → IsShown (agreement c.walked.domain k launch n t.here t.there f) → pos 0 ≤ℤ value_of v f
-  at-least f h = elim (h refl) [ inl e ↦ settled-holds f e | inr e ↦ by_facts v facts f e.0 facts-met e.1 ]
+  at-least : (f : Fact) → IsShownWithProducts (agreement c.walked.domain k launch n t.here t.there f) → pos 0 ≤ℤ value_of v f
+  at-least f h = elim (h refl) [ inl e ↦ settled-holds f e | inr e ↦ by_facts v (by_number-multiplicative (meant c)) facts f e.0 facts-met e.1 ]
 
-  equal-values : (x : ℕ) → IsShown (agreement c.walked.domain k launch n t.here t.there (minus (first_form t.here x) (other_form t.there x))) → IsShown (agreement c.walked.domain k launch n t.here t.there (minus (other_form t.there x) (first_form t.here x))) → variable_at vars x ≡ variable_at others x
+  equal-values : (x : ℕ) → IsShownWithProducts (agreement c.walked.domain k launch n t.here t.there (minus (first_form t.here x) (other_form t.there x))) → IsShownWithProducts (agreement c.walked.domain k launch n t.here t.there (minus (other_form t.there x) (first_form t.here x))) → variable_at vars x ≡ variable_at others x
   equal-values x h h' =
       let f = first_form t.here x in
       let g = other_form t.there x in
@@ -106,12 +108,12 @@ module _ {E : Type 0} (c : Couple E) (n : Notes) (vars others : List Word) (t : 
   same-words : (a b : Word) → a.kind ≡ b.kind → a.value ≡ b.value → a ≡ b
   same-words a b p q = λ i. record { kind = p i; value = q i }
 
-  agree : ((x : ℕ) → (slice_index_or vars x zero_word).kind ≡ (slice_index_or others x zero_word).kind) → (xs : List ℕ) → Each IsShown (agreements c.walked.domain k launch n t.here t.there xs) → Same xs vars others
+  agree : ((x : ℕ) → (slice_index_or vars x zero_word).kind ≡ (slice_index_or others x zero_word).kind) → (xs : List ℕ) → Each IsShownWithProducts (agreements c.walked.domain k launch n t.here t.there xs) → Same xs vars others
   agree kinds [] h = tt
   agree kinds (x ∷ xs) h = (same-words (slice_index_or vars x zero_word) (slice_index_or others x zero_word) (kinds x) (equal-values x h.0 h.1.0), agree kinds xs h.1.1)
 
   -- of variables that agree the kinds are to be equal
-  pub as-owed : (o : Owed) → ((b : ℕ) → o ≡ Agreement b → (x : ℕ) → (slice_index_or vars x zero_word).kind ≡ (slice_index_or others x zero_word).kind) → Each IsShown (owed_obligations c.walked.domain k launch n t.here t.there o) → IsOwed n vars others o
+  pub as-owed : (o : Owed) → ((b : ℕ) → o ≡ Agreement b → (x : ℕ) → (slice_index_or vars x zero_word).kind ≡ (slice_index_or others x zero_word).kind) → Each IsShownWithProducts (owed_obligations c.walked.domain k launch n t.here t.there o) → IsOwed n vars others o
   as-owed Nothing kinds h = tt
   as-owed (Agreement b) kinds h = agree (kinds b refl) (n.same b) h
-  as-owed Never kinds h = elim (h.0 refl) [ inl e ↦ cc | inr e ↦ refuted v facts facts-met e.0 e.1 ]
+  as-owed Never kinds h = elim (h.0 refl) [ inl e ↦ cc | inr e ↦ refuted v (by_number-multiplicative (meant c)) facts facts-met e.0 e.1 ]

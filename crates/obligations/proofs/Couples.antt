@@ -6,18 +6,18 @@ use Rattle.std.proofs.lemmas.List.Elements.{All-append, All-nil}
 use Rattle.semantics.specs.Word.{Word}
 use Rattle.semantics.specs.Setup.{along, group_of, item_count, place}
 use Rattle.linear.specs.Linear.{value_of, IsMet}
+use Rattle.linear.proofs.Relabelling.{relabelled-multiplicative}
 use Rattle.facts.specs.Symbols as symbols
-use Rattle.facts.specs.Symbols.{First, Second, Symbol, ArgumentOf, Length, Local, Group, New, Variable, AtAnchor, Turns, number, Fact, once, equals}
+use Rattle.facts.specs.Symbols.{First, Second, Symbol, ArgumentOf, Length, Local, Group, New, Variable, AtAnchor, Turns, number, symbol_of, Fact, once, equals}
 use Rattle.facts.specs.Launching.{each_dimension, launch_facts}
-use Rattle.facts.proofs.Naming.{symbol_of-number}
 use Rattle.facts.proofs.Values.{value-once, met_equals}
-use Rattle.facts.proofs.Members.{by_number}
+use Rattle.facts.proofs.Members.{by_number, by_number-multiplicative, numbered}
 use Rattle.facts.proofs.Worlds.{Walked, Root, setup_of, View, meaning, Agrees, Means, Knows, variable_at}
 use Rattle.facts.proofs.Launched.{each_dimension-all, launch_known}
 use Rattle.arrivals.specs.Paths.{Same}
 use Rattle.walk_trees.specs.Pairs.{same_group}
-use Rattle.walk_trees.specs.Seconds.{second, second_form, second_forms}
-use Rattle.walk_trees.proofs.Seconds.{second-groups, second-given, second-length, second-local, second-group, second-new, second-variable, second-at_anchor, second-turns, second-value, second-met}
+use Rattle.walk_trees.specs.Seconds.{shifted, second, second_form, second_forms}
+use Rattle.walk_trees.proofs.Seconds.{is_relabelling, second-groups, second-given, second-length, second-local, second-group, second-new, second-variable, second-at_anchor, second-turns, second-value, second-met}
 use Rattle.obligations.specs.Meetings.{anchor_symbol, same_facts}
 use Rattle.obligations.proofs.Nodes.{at_anchor}
 
@@ -58,22 +58,24 @@ module _ {E : Type 0} (c : Couple E) where
 
   pub first-agrees : Agrees (one c) c.news v
   first-agrees = record {
-    groups = λ d. ap m (symbol_of-number (symbols.Groups d));
-    given = λ n. ap m (symbol_of-number (ArgumentOf n));
-    lengths = λ n. ap m (symbol_of-number (Length n));
-    local = λ d. ap m (symbol_of-number (Local First d));
-    group = λ d. ap m (symbol_of-number (Group First d));
-    variable = λ x. ap m (symbol_of-number (Variable First x));
-    at_anchor = λ x. ap m (symbol_of-number (AtAnchor First x));
-    turns = λ k. ap m (symbol_of-number (Turns First k));
-    new = λ k h. ap m (symbol_of-number (New First k));
+    products = by_number-multiplicative m;
+    groups = λ d. numbered m (symbols.Groups d);
+    given = λ n. numbered m (ArgumentOf n);
+    lengths = λ n. numbered m (Length n);
+    local = λ d. numbered m (Local First d);
+    group = λ d. numbered m (Group First d);
+    variable = λ x. numbered m (Variable First x);
+    at_anchor = λ x. numbered m (AtAnchor First x);
+    turns = λ k. numbered m (Turns First k);
+    new = λ k h. numbered m (New First k);
   }
 
   copy-is : (r : ℕ) (a : Symbol) → second r ≡ number a → v (second r) ≡ m a
-  copy-is r a k = ap v k ∙ ap m (symbol_of-number a)
+  copy-is r a k = ap v k ∙ numbered m a
 
   pub second-agrees : Agrees (two c) c.more (second_numbers c)
   second-agrees = record {
+    products = relabelled-multiplicative shifted is_relabelling (λ n. m (symbol_of n));
     groups = λ d. copy-is (number (symbols.Groups d)) (symbols.Groups d) (second-groups d);
     given = λ n. copy-is (number (ArgumentOf n)) (ArgumentOf n) (second-given n);
     lengths = λ n. copy-is (number (Length n)) (Length n) (second-length n);
@@ -98,15 +100,15 @@ module _ {E : Type 0} (c : Couple E) where
   -- items of one group have the same group ids
   pub group-met : group_of (setup_of c.walked) c.i ≡ group_of (setup_of c.walked) c.j → All (IsMet v) (each_dimension same_group)
   group-met g = each_dimension-all (IsMet v) same_group (λ d l. met_equals v (once (Group First d)) (once (Group Second d))
-      (value-once v (Group First d) ∙ ap m (symbol_of-number (Group First d)) ∙ ap (λ a. pos (along (place c.walked.launch.groups a) d 0)) g ∙ sym (value-once v (Group Second d) ∙ ap m (symbol_of-number (Group Second d)))))
+      (value-once v (Group First d) ∙ numbered m (Group First d) ∙ ap (λ a. pos (along (place c.walked.launch.groups a) d 0)) g ∙ sym (value-once v (Group Second d) ∙ numbered m (Group Second d))))
 
   anchor-first : (h : Bool) (x : ℕ) → value_of v (once (anchor_symbol h First x)) ≡ variable_at (at_anchor h c.root) x
-  anchor-first false x = value-once v (Variable First x) ∙ ap m (symbol_of-number (Variable First x))
-  anchor-first true x = value-once v (AtAnchor First x) ∙ ap m (symbol_of-number (AtAnchor First x))
+  anchor-first false x = value-once v (Variable First x) ∙ numbered m (Variable First x)
+  anchor-first true x = value-once v (AtAnchor First x) ∙ numbered m (AtAnchor First x)
 
   anchor-second : (h : Bool) (x : ℕ) → value_of v (once (anchor_symbol h Second x)) ≡ variable_at (at_anchor h c.other) x
-  anchor-second false x = value-once v (Variable Second x) ∙ ap m (symbol_of-number (Variable Second x))
-  anchor-second true x = value-once v (AtAnchor Second x) ∙ ap m (symbol_of-number (AtAnchor Second x))
+  anchor-second false x = value-once v (Variable Second x) ∙ numbered m (Variable Second x)
+  anchor-second true x = value-once v (AtAnchor Second x) ∙ numbered m (AtAnchor Second x)
 
   -- what is alike at their anchor has the same values
   pub same-met : (h k : Bool) (xs : List ℕ) → Same xs (at_anchor h c.root) (at_anchor k c.other) → All (IsMet v) (same_facts h k xs)

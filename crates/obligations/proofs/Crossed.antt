@@ -12,7 +12,7 @@ use Rattle.arrivals.specs.Paths.{Same}
 use Rattle.arrivals.proofs.Meetings.{same-sym}
 use Rattle.walk_trees.specs.Trees.{Target, Access, Obligation}
 use Rattle.walk_trees.specs.Pairs.{Scope, Within, Across}
-use Rattle.walk_trees.specs.Shown.{IsShown}
+use Rattle.walk_trees.specs.Shown.{IsShownWithProducts}
 use Rattle.walk_trees.proofs.Each.{Each, each-all, each-map, each-where}
 use Rattle.walk_trees.proofs.Distinct.{locals-differ, groups-differ}
 use Rattle.obligations.specs.Notes.{Notes}
@@ -77,7 +77,7 @@ module _ {E : Type 0} (w : Walked E) (n : Notes) (i j : ℕ) (hi : i < item_coun
   twin = record { here = p.node; there = o.node; fit = p.fit; other_fit = o.fit; known = p.known; other_known = o.known; index = p.index; other_index = o.index }
 
   abbrev IsOneShown : Crossing E → Type 0
-  IsOneShown c = IsShown (crossing_obligation w.domain (known w.domain w.kernel.sizes w.conditions) (launch_facts w.conditions) n c)
+  IsOneShown c = IsShownWithProducts (crossing_obligation w.domain (known w.domain w.kernel.sizes w.conditions) (launch_facts w.conditions) n c)
 
   conflicts : conflict a p.node o.node ≡ true
   conflicts =
@@ -104,16 +104,16 @@ module _ {E : Type 0} (w : Walked E) (n : Notes) (i j : ℕ) (hi : i < item_coun
       let d = groups-differ s i j hi hj ne in
       across-fail couple n x twin fenced d.0 d.1 d.2 (orders Across (may-across fenced p.node.anchor o.node.anchor) l)
 
-module _ {E : Type 0} (w : Walked E) (n : Notes) (i j : ℕ) (hi : i < item_count (setup_of w)) (hj : j < item_count (setup_of w)) (r q : Root) (all : List (Of (Access E))) (shown : All IsShown (map (crossing_obligation w.domain (known w.domain w.kernel.sizes w.conditions) (launch_facts w.conditions) n) (crossings w.kernel w.conditions all))) (a : Array) (x : ℕ) where
+module _ {E : Type 0} (w : Walked E) (n : Notes) (i j : ℕ) (hi : i < item_count (setup_of w)) (hj : j < item_count (setup_of w)) (r q : Root) (all : List (Of (Access E))) (shown : All IsShownWithProducts (map (crossing_obligation w.domain (known w.domain w.kernel.sizes w.conditions) (launch_facts w.conditions) n) (crossings w.kernel w.conditions all))) (a : Array) (x : ℕ) where
   abbrev make : Crossing E → Obligation
   make = crossing_obligation w.domain (known w.domain w.kernel.sizes w.conditions) (launch_facts w.conditions) n
 
-  each : Each (λ c. IsShown (make c)) (crossings w.kernel w.conditions all)
-  each = each-map IsShown make (crossings w.kernel w.conditions all) (each-all IsShown (map make (crossings w.kernel w.conditions all)) shown)
+  each : Each (λ c. IsShownWithProducts (make c)) (crossings w.kernel w.conditions all)
+  each = each-map IsShownWithProducts make (crossings w.kernel w.conditions all) (each-all IsShownWithProducts (map make (crossings w.kernel w.conditions all)) shown)
 
   -- two items of one group; where every barrier fences the array's space, in one visit of one anchor
   pub not-within : IsOf w.kernel a → (t u : Bool) (A B : Option ℕ) (h k : Bool) → Made (record { walked = w; item = i; place = hi; root = r }) all A h t a x → Made (record { walked = w; item = j; place = hj; root = q }) all B k u a x → (t ≡ true) ⊎ (u ≡ true) → i ≢ j → group_of (setup_of w) i ≡ group_of (setup_of w) j → (is_fenced w.kernel.body a.space ≡ true → (A ≡ B) × Same (same_at n A) (at_anchor h r) (at_anchor k q)) → ⊥
-  not-within is t u A B h k p o stored ne g alike = elim (within-has (λ c. IsShown (make c)) w.kernel w.conditions all each a is p.node o.node p.here o.here) [
+  not-within is t u A B h k p o stored ne g alike = elim (within-has (λ c. IsShownWithProducts (make c)) w.kernel w.conditions all each a is p.node o.node p.here o.here) [
     | inl l ↦ within-listed w n i j hi hj r q all a x t u A B h k p o stored ne g alike l
     | inr l ↦ within-listed w n j i hj hi q r all a x u t B A k h o p (other_way stored) (λ e. ne (sym e)) (sym g) back l
   ]
@@ -123,7 +123,7 @@ module _ {E : Type 0} (w : Walked E) (n : Notes) (i j : ℕ) (hi : i < item_coun
 
   -- two items of two groups, which have buffers in common
   pub not-across : IsOf w.kernel a → (t u : Bool) (A B : Option ℕ) (h k : Bool) → Made (record { walked = w; item = i; place = hi; root = r }) all A h t a x → Made (record { walked = w; item = j; place = hj; root = q }) all B k u a x → (t ≡ true) ⊎ (u ≡ true) → a.space ≡ Global → group_of (setup_of w) i ≢ group_of (setup_of w) j → ⊥
-  not-across is t u A B h k p o stored global ne = elim (across-has (λ c. IsShown (make c)) w.kernel w.conditions all each a global is p.node o.node p.here o.here) [
+  not-across is t u A B h k p o stored global ne = elim (across-has (λ c. IsShownWithProducts (make c)) w.kernel w.conditions all each a global is p.node o.node p.here o.here) [
     | inl l ↦ across-listed w n i j hi hj r q all a x t u A B h k p o stored ne l
     | inr l ↦ across-listed w n j i hj hi q r all a x u t B A k h o p (other_way stored) (λ e. ne (sym e)) l
   ]

@@ -22,6 +22,7 @@ use Rattle.walk_trees.specs.Covered.{covers_term}
 use Rattle.walk_trees.specs.Statements.{spot_of}
 use Rattle.walk_trees.proofs.Each.{Has}
 use Rattle.walk_trees.proofs.QuotientSound.{DividesLawfully}
+use Rattle.walk_trees.proofs.Shares.{keeping}
 use Rattle.walk_trees.proofs.Standing.{walks, seen_in, Stands, told}
 use Rattle.walk_trees.proofs.Ranges.{IsForm, form_kept, form_constant}
 use Rattle.walk_trees.proofs.Accesses.{within-at, inside}
@@ -54,7 +55,7 @@ module _ {E : Type 0} (c : View E) (launch : List Fact) (laws : DividesLawfully 
 
     -- the value of a store, then its access
     second_part : (a : Array) (site : Site) (e : Term) (k : ℕ) (it : Item) (rest : List Entry) (f : Value) (z : ℤ) (later : List Word) (go : State E → Tree E) {facts : List Fact} {count : ℕ} {news : List ℤ} (st : State E) → AreForms c news it.variables st.variables → IsForm c news f.form z →
-        (b : Bool) → is_lawful e ≡ b → Stands c launch facts count (cond b ((walk (walks c) e).value (stand (spot_of k) st) (λ v st2. access (walks c) true a site f.form st2 go)) (refused st)) news st.held →
+        (b : Bool) → is_lawful e ≡ b → Stands c launch facts count (cond b ((walk (walks c) e).value (stand (spot_of k) st) (λ v st2. access (walks c) true a site f.form st2 go)) (refused st)) news (keeping st) →
         ((x : Access E) → Has x (accesses facts count (cond b ((walk (walks c) e).value (stand (spot_of k) st) (λ v st2. access (walks c) true a site f.form st2 go)) (refused st))) → Has x all) →
         IsFine c all it (on_value (setup c) c.item it (evaluate (setup c) c.item e it.variables later) (λ v left. stores (setup c) c.item it a site (within (extent (setup c) a) z) v.value rest))
     second_part a site e k it rest f z later go {facts = facts} {count = count} {news = news} st forms m true h s touched =

@@ -19,6 +19,7 @@ pub mod OwnPlaces
 pub mod OwnRoots
 pub mod OwnSteps
 pub mod Planting
+pub mod Quotients
 pub mod Ranks
 pub mod Replaced
 pub mod Rooted

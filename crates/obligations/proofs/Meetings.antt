@@ -13,7 +13,7 @@ use Rattle.arrivals.specs.Paths.{Same}
 use Rattle.arrivals.specs.Shown.{Owed, Nothing, Agreement, Never, same_turns, owed}
 use Rattle.arrivals.proofs.Meetings.{same-sym}
 use Rattle.walk_trees.specs.Trees.{Ended}
-use Rattle.walk_trees.specs.Shown.{IsShown}
+use Rattle.walk_trees.specs.Shown.{IsShownWithProducts}
 use Rattle.walk_trees.proofs.Each.{each-all}
 use Rattle.obligations.specs.Notes.{Notes}
 use Rattle.obligations.specs.Listing.{Of}
@@ -71,7 +71,7 @@ module _ {E : Type 0} (w : Walked E) (n : Notes) (i j : ℕ) (hi : i < item_coun
   abbrev stopped : Stopped couple here there
   stopped = record { here = p.node; there = o.node; fit = p.fit; other_fit = o.fit; known = p.known; other_known = o.known; forms = p.forms; other_forms = o.forms }
 
-  listed : is_rest stop' ≡ true → group_of (setup_of w) i ≡ group_of (setup_of w) j → Same (same_at n A) (at_anchor h r) (at_anchor k q) → ((b : ℕ) → owed stop stop' (same_turns turns turns') ≡ Agreement b → (x : ℕ) → (slice_index_or here x zero_word).kind ≡ (slice_index_or there x zero_word).kind) → Owes IsShown w.domain (known w.domain w.kernel.sizes w.conditions) (launch_facts w.conditions) n p.node o.node → IsOwed n here there (owed stop stop' (same_turns turns turns'))
+  listed : is_rest stop' ≡ true → group_of (setup_of w) i ≡ group_of (setup_of w) j → Same (same_at n A) (at_anchor h r) (at_anchor k q) → ((b : ℕ) → owed stop stop' (same_turns turns turns') ≡ Agreement b → (x : ℕ) → (slice_index_or here x zero_word).kind ≡ (slice_index_or there x zero_word).kind) → Owes IsShownWithProducts w.domain (known w.domain w.kernel.sizes w.conditions) (launch_facts w.conditions) n p.node o.node → IsOwed n here there (owed stop stop' (same_turns turns turns'))
   listed rest group alike kinds shown =
       let own = owed p.node.it.arrived.stop o.node.it.arrived.stop (same_turns p.node.it.arrived.turns o.node.it.arrived.turns) in
       let both = owed_obligations w.domain (known w.domain w.kernel.sizes w.conditions) (launch_facts w.conditions) n p.node o.node own in
@@ -79,11 +79,11 @@ module _ {E : Type 0} (w : Walked E) (n : Notes) (i j : ℕ) (hi : i < item_coun
       let may = and_from (same_anchor p.node.anchor o.node.anchor) (is_rest o.node.it.arrived.stop) (same_anchor-equal p.node.anchor o.node.anchor (p.anchor ∙ sym o.anchor)) (ap is_rest o.stopped ∙ rest) in
       let same = owed-at p.node.it.arrived.stop stop o.node.it.arrived.stop stop' p.node.it.arrived.turns turns o.node.it.arrived.turns turns' p.stopped o.stopped p.turned o.turned in
       subst (IsOwed n here there) (owed-at p.node.it.arrived.stop stop o.node.it.arrived.stop stop' p.node.it.arrived.turns turns o.node.it.arrived.turns turns' p.stopped o.stopped p.turned o.turned)
-      (as-owed couple n here there stopped group alike_there own (λ b e. kinds b (sym same ∙ e)) (where-true IsShown w.domain (known w.domain w.kernel.sizes w.conditions) (launch_facts w.conditions) n (same_anchor p.node.anchor o.node.anchor && is_rest o.node.it.arrived.stop) both may shown))
+      (as-owed couple n here there stopped group alike_there own (λ b e. kinds b (sym same ∙ e)) (where-true IsShownWithProducts w.domain (known w.domain w.kernel.sizes w.conditions) (launch_facts w.conditions) n (same_anchor p.node.anchor o.node.anchor && is_rest o.node.it.arrived.stop) both may shown))
 
 -- where variables are to be alike, with equal kinds
-pub met : {E : Type 0} (w : Walked E) (n : Notes) (i j : ℕ) (hi : i < item_count (setup_of w)) (hj : j < item_count (setup_of w)) (r q : Root) (all : List (Of (Ended E))) → All IsShown (meetings w.domain (known w.domain w.kernel.sizes w.conditions) (launch_facts w.conditions) n all) → (A : Option ℕ) (h k : Bool) (stop stop' : Stop) (turns turns' : Turns) (here there : List Word) → Reached (record { walked = w; item = i; place = hi; root = r }) all A h stop turns here → Reached (record { walked = w; item = j; place = hj; root = q }) all A k stop' turns' there → is_rest stop ≡ true → is_rest stop' ≡ true → group_of (setup_of w) i ≡ group_of (setup_of w) j → Same (same_at n A) (at_anchor h r) (at_anchor k q) → ((b : ℕ) → owed stop stop' (same_turns turns turns') ≡ Agreement b → (x : ℕ) → (slice_index_or here x zero_word).kind ≡ (slice_index_or there x zero_word).kind) → IsOwed n here there (owed stop stop' (same_turns turns turns'))
-met w n i j hi hj r q all shown A h k stop stop' turns turns' here there p o rest rest' group alike kinds = elim (meetings-has IsShown w.domain (known w.domain w.kernel.sizes w.conditions) (launch_facts w.conditions) n all (each-all IsShown (meetings w.domain (known w.domain w.kernel.sizes w.conditions) (launch_facts w.conditions) n all) shown) p.node o.node (ap is_rest p.stopped ∙ rest) (ap is_rest o.stopped ∙ rest') p.here o.here) [
+pub met : {E : Type 0} (w : Walked E) (n : Notes) (i j : ℕ) (hi : i < item_count (setup_of w)) (hj : j < item_count (setup_of w)) (r q : Root) (all : List (Of (Ended E))) → All IsShownWithProducts (meetings w.domain (known w.domain w.kernel.sizes w.conditions) (launch_facts w.conditions) n all) → (A : Option ℕ) (h k : Bool) (stop stop' : Stop) (turns turns' : Turns) (here there : List Word) → Reached (record { walked = w; item = i; place = hi; root = r }) all A h stop turns here → Reached (record { walked = w; item = j; place = hj; root = q }) all A k stop' turns' there → is_rest stop ≡ true → is_rest stop' ≡ true → group_of (setup_of w) i ≡ group_of (setup_of w) j → Same (same_at n A) (at_anchor h r) (at_anchor k q) → ((b : ℕ) → owed stop stop' (same_turns turns turns') ≡ Agreement b → (x : ℕ) → (slice_index_or here x zero_word).kind ≡ (slice_index_or there x zero_word).kind) → IsOwed n here there (owed stop stop' (same_turns turns turns'))
+met w n i j hi hj r q all shown A h k stop stop' turns turns' here there p o rest rest' group alike kinds = elim (meetings-has IsShownWithProducts w.domain (known w.domain w.kernel.sizes w.conditions) (launch_facts w.conditions) n all (each-all IsShownWithProducts (meetings w.domain (known w.domain w.kernel.sizes w.conditions) (launch_facts w.conditions) n all) shown) p.node o.node (ap is_rest p.stopped ∙ rest) (ap is_rest o.stopped ∙ rest') p.here o.here) [
   | inl l ↦ listed w n i j hi hj r q all A h k stop stop' turns turns' here there p o rest' group alike kinds l
   | inr l ↦
       is_owed-sym n there here (owed stop stop' (same_turns turns turns'))

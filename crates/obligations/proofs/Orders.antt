@@ -1,17 +1,17 @@
 -- Two items that differ in an id, and two nodes whose facts hold of them with one index: what is shown of their crossings is not so.
-use Rattle.std.proofs.Common.{◌≡◌, ◌≢◌, ℕ, ◌<◌, Bool, true, false, List, [], ◌∷◌, ◌++◌, None, arith, refl, sym, ap, subst, ◌∙◌, inl, inr, lt-ltb}
+use Rattle.std.proofs.Common.{◌≡◌, ◌≢◌, ℕ, ◌<◌, Bool, true, false, List, [], ◌∷◌, ◌++◌, None, arith, refl, sym, subst, ◌∙◌, inl, inr, lt-ltb}
 use Rattle.std.specs.Prelude.{ℤ, pos, ◌<ℤ◌}
 use Rattle.std.specs.List.{All}
 use Rattle.std.proofs.lemmas.Int.{ints, by_lt_z}
 use Rattle.std.proofs.lemmas.List.Elements.{All-append, All-cons, All-nil}
 use Rattle.semantics.specs.Setup.{Setup, along, group_of, local_id, group_id}
 use Rattle.linear.specs.Linear.{value_of, IsMet}
+use Rattle.linear.specs.Products.{IsMultiplicative}
+use Rattle.facts.proofs.Members.{by_number-multiplicative, numbered, zero_lacks}
 use Rattle.facts.specs.Symbols.{First, Second, Symbol, Local, Group, number, Fact, constant, once, minus, equals}
 use Rattle.facts.specs.Launching.{each_dimension, launch_facts, known, count_range}
 use Rattle.facts.proofs.Integers.{lt_true}
-use Rattle.facts.proofs.Naming.{symbol_of-number}
 use Rattle.facts.proofs.Values.{value-minus, value-constant, value-once, met_equals}
-use Rattle.facts.proofs.Members.{zero_lacks}
 use Rattle.facts.proofs.Worlds.{setup_of, Means, Knows}
 use Rattle.facts.proofs.Launched.{local-below, group_id-below, count_in}
 use Rattle.arrivals.specs.Paths.{Same}
@@ -20,7 +20,7 @@ use Rattle.walk_trees.specs.Trees.{Access, Manner, Plainly, ByPositive, ByNegati
 use Rattle.walk_trees.specs.Tests.{below}
 use Rattle.walk_trees.specs.Seconds.{second_form, second_forms, element_of_two}
 use Rattle.walk_trees.specs.Pairs.{Scope, Within, Across, Order, Below, Above, id, order_fact, same_group, differs}
-use Rattle.walk_trees.specs.Shown.{IsShown, IsRefuted}
+use Rattle.walk_trees.specs.Shown.{IsShownWithProducts, IsRefutedWithProducts}
 use Rattle.walk_trees.proofs.Each.{Each, each-dimension}
 use Rattle.walk_trees.proofs.Made.{IsFit}
 use Rattle.walk_trees.proofs.TwoElements.{two-has}
@@ -32,11 +32,11 @@ use Rattle.obligations.proofs.Nodes.{at_anchor}
 use Rattle.obligations.proofs.Couples.{Couple, one, two, meant, numbers, first-agrees, copy-means, copies-met, launch-met, group-met, same-met}
 
 -- facts that hold refute nothing that has no goal
-pub refuted : (v : ℕ → ℤ) (facts : List Fact) → All (IsMet v) facts → (o : Manner) → IsRefuted (with_facts facts (added o None)) → ⊥
-refuted v facts h Plainly e = e v (All-append (IsMet v) facts [] h (All-nil (IsMet v)))
-refuted v facts h ByPositive e = e
-refuted v facts h ByNegative e = e
-refuted v facts h ByQuotient e = e
+pub refuted : (v : ℕ → ℤ) → IsMultiplicative v → (facts : List Fact) → All (IsMet v) facts → (o : Manner) → IsRefutedWithProducts (with_facts facts (added o None)) → ⊥
+refuted v products facts h Plainly e = e v products (All-append (IsMet v) facts [] h (All-nil (IsMet v)))
+refuted v products facts h ByPositive e = e
+refuted v products facts h ByNegative e = e
+refuted v products facts h ByQuotient e = e
 
 below-met : (v : ℕ → ℤ) (s r : Symbol) → v (number s) <ℤ v (number r) → IsMet v (below (once s) (once r))
 below-met v s r h = omega (arith, ints, h, value-minus v (minus (once r) (once s)) (constant (pos 1)), value-minus v (once r) (once s), value-constant v (pos 1), value-once v s, value-once v r)
@@ -108,10 +108,10 @@ module _ {E : Type 0} (c : Couple E) (n : Notes) (x : ℕ) (t : Twin c x) where
       zero_lacks w.domain w.lawful e h (subst (λ y. w.domain.has e y ≡ true) z (two-has w c.i c.j c.first c.second c.root c.other t.here.it.held t.there.it.held c.news c.more t.fit t.other_fit f))
 
   abbrev pub IsCrossingShown : Crossing E → Type 0
-  IsCrossingShown r = IsShown (crossing_obligation c.walked.domain (known c.walked.domain c.walked.kernel.sizes c.walked.conditions) (launch_facts c.walked.conditions) n r)
+  IsCrossingShown r = IsShownWithProducts (crossing_obligation c.walked.domain (known c.walked.domain c.walked.kernel.sizes c.walked.conditions) (launch_facts c.walked.conditions) n r)
 
   fails : (sc : Scope) (alike : Bool) (d : ℕ) (o : Order) → IsCrossingShown (crossing sc alike d o) → All (IsMet v) (scope_facts n sc (crossing sc alike d o)) → IsMet v (order_fact o (once (id sc First d)) (once (id sc Second d))) → ⊥
-  fails sc alike d o h hs ho = elim (h refl) [ inl e ↦ not-apart sc alike d o e | inr e ↦ refuted v (crossing_facts (launch_facts c.walked.conditions) n (crossing sc alike d o)) (crossing-met sc alike d o hs ho) e.0 e.1 ]
+  fails sc alike d o h hs ho = elim (h refl) [ inl e ↦ not-apart sc alike d o e | inr e ↦ refuted v (by_number-multiplicative m) (crossing_facts (launch_facts c.walked.conditions) n (crossing sc alike d o)) (crossing-met sc alike d o hs ho) e.0 e.1 ]
 
   two-fail : (sc : Scope) (alike : Bool) (d : ℕ) (k : Bool) → k ≡ true → Each IsCrossingShown (two_orders k t.here t.there sc alike d) → ((o : Order) → All (IsMet v) (scope_facts n sc (crossing sc alike d o))) → v (number (id sc First d)) ≢ v (number (id sc Second d)) → ⊥
   two-fail sc alike d false e h hs ne = cc
@@ -131,8 +131,8 @@ module _ {E : Type 0} (c : Couple E) (n : Notes) (x : ℕ) (t : Twin c x) where
   within-fail alike g same d l ne h =
       let li = local-below s c.i c.first d l in
       let lj = local-below s c.j c.second d l in
-      let first = ap m (symbol_of-number (Local First d)) in
-      let second = ap m (symbol_of-number (Local Second d)) in
+      let first = numbered m (Local First d) in
+      let second = numbered m (Local Second d) in
       orders-fail Within alike d l (lt-ltb 1 (along c.walked.kernel.sizes d 1) (omega (arith, li, lj, ne))) h (λ o. within-met alike d o g same)
       (λ e. ne (let f : pos (local_id s c.i d) ≡ pos (local_id s c.j d) = sym first ∙ e ∙ second in omega (arith, ints, f)))
 
@@ -142,7 +142,7 @@ module _ {E : Type 0} (c : Couple E) (n : Notes) (x : ℕ) (t : Twin c x) where
       let gi = group_id-below s c.i c.first d l in
       let gj = group_id-below s c.j c.second d l in
       let most = (count_in c.walked.conditions c.walked.launch c.walked.meets d l).1 in
-      let first = ap m (symbol_of-number (Group First d)) in
-      let second = ap m (symbol_of-number (Group Second d)) in
+      let first = numbered m (Group First d) in
+      let second = numbered m (Group Second d) in
       orders-fail Across alike d l (lt_true (pos 1) (count_range c.walked.conditions d).high (omega (arith, ints, gi, gj, ne, most))) h (λ o. All-nil (IsMet v))
       (λ e. ne (let f : pos (group_id s c.i d) ≡ pos (group_id s c.j d) = sym first ∙ e ∙ second in omega (arith, ints, f)))

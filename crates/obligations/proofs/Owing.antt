@@ -16,7 +16,7 @@ use Rattle.arrivals.specs.Paths.{Held, Same}
 use Rattle.arrivals.specs.Shown as arrivals
 use Rattle.arrivals.specs.Shown.{Came, Both, IsHead, Owed, Nothing, Agreement, Never, owed, same_turns, Shows, PairShown, alike_at}
 use Rattle.walk_trees.specs.Walks.{State}
-use Rattle.walk_trees.specs.Shown.{IsShown}
+use Rattle.walk_trees.specs.Shown.{IsShownWithProducts}
 use Rattle.walk_trees.proofs.QuotientSound.{DividesLawfully}
 use Rattle.obligations.specs.Notes.{Notes, number_at}
 use Rattle.obligations.specs.Telling.{TellsOfItems}
@@ -68,8 +68,8 @@ pub at_anchor-is : (b : Option ℕ) (from root : Held) → (b ≡ None → root 
 at_anchor-is None from root h = ap (λ (l : Held). l.variables) (h refl)
 at_anchor-is (Some m) from root h = refl
 
-module _ {E : Type 0} (w : Walked E) (n : Notes) (tell : TellsOfItems n) (laws : DividesLawfully w.domain) (shown : All IsShown (claims_of w.conditions (all_trees w.domain w.kernel w.conditions n)))
-    (together : All IsShown (meetings w.domain (known w.domain w.kernel.sizes w.conditions) (launch_facts w.conditions) n (ends_in (all_trees w.domain w.kernel w.conditions n))))
+module _ {E : Type 0} (w : Walked E) (n : Notes) (tell : TellsOfItems n) (laws : DividesLawfully w.domain) (shown : All IsShownWithProducts (claims_of w.conditions (all_trees w.domain w.kernel w.conditions n)))
+    (together : All IsShownWithProducts (meetings w.domain (known w.domain w.kernel.sizes w.conditions) (launch_facts w.conditions) n (ends_in (all_trees w.domain w.kernel w.conditions n))))
   where
     abbrev s : Setup
     s = setup_of w

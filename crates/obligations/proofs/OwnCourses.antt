@@ -40,7 +40,7 @@ module _ {E : Type 0} (w : Placed E) where
 
   mutual
     draws_one : (again : Bool) (s : Statement) (c : Courses (Tree E) (State E)) → Owns c → Runs (draw_one (course w) again s c)
-    draws_one a (Set n x e) c g t st o = own-value w n e st _ o (λ v st1 i o1. g.go t (assigned x v st1) (own-set w.setting st1.variables x v o1 i))
+    draws_one a (Set n x e) c g t st o = own-value w n e st _ o (λ v st1 i o1. g.go t (assigned x v st1) (own-set w.setting st1.variables x v o1.0 i, o1.1))
     draws_one a (Store n y site i e) c g t st o =
         own-value w n i st _ o (λ x st1 p o1. own-value w n e st1 _ o1 (λ v st2 q o2. own-store w (Store n y site i e) x st2 _ p o2 (λ st3 o3. g.go t st3 o3)))
     draws_one a (If n e yeses noes) c g t st o = own-test w n e st _ _ o (λ st1 o1. draws yeses c g t st1 o1) (λ st1 o1. draws noes c g t st1 o1)

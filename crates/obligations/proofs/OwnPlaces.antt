@@ -74,7 +74,7 @@ module _ {E : Type 0} (g : Ghosts E) (k : Kernel) (c : Conditions) (n : Notes) (
       let s = setting g k c n.is_wide n.has_entry in
       let a = number_at p.anchor in
       let h = number_at p.head in
-      record { facts = own-root k n tell a h; tree = own-sketch (placed g k c n p) k.body p (root_state g (known g k.sizes c) k n claims a h) (own-values s k a h) }
+      record { facts = own-root k n tell a h; tree = own-sketch (placed g k c n p) k.body p (root_state g (known g k.sizes c) k n claims a h) (own-values s k a h, tt) }
 
   own-from : (claims : ℕ) (ps : List Place) → Each IsOwnPlanted (planted_from g k c n claims ps)
   own-from claims [] = tt

@@ -1,17 +1,19 @@
 -- The steps of a place's walk: what an own state goes on to is an own tree.
-use Rattle.std.proofs.Common.{ℕ, Bool, true, false, cond, List, [], ◌∷◌, Option, Some, None}
+use Rattle.std.proofs.Common.{ℕ, ◌+◌, ◌&&◌, Bool, true, false, cond, List, [], ◌∷◌, Option, Some, None}
 use Rattle.semantics.specs.Core.{Term, Statement, Set, Store, If, Loop, Barrier, Return, Break, Continue}
 use Rattle.facts.specs.Symbols.{Fact}
 use Rattle.arrivals.specs.Trees.{Stop, AtBarrier, AtHead, AtEnd, Turns}
-use Rattle.walk_trees.specs.Trees.{Tree, Leaf}
+use Rattle.walk_trees.specs.Trees.{Sort, Goal, Tree, Leaf}
 use Rattle.walk_trees.specs.Values.{Value}
-use Rattle.walk_trees.specs.Walks.{State, Onward, claimed_once, stand, with_rank, arrived}
+use Rattle.walk_trees.specs.Walks.{State, Onward, claim, claimed_once, stand, with_rank, arrived}
 use Rattle.walk_trees.specs.Statements.{spot_of}
 use Rattle.walk_trees.proofs.OwnQuotients.{IsOwnValue, HasOwn, IsOwnTree, GoesOnBy}
 use Rattle.walk_trees.proofs.OwnTrees.{accesses_on, selects, own}
-use Rattle.obligations.specs.Notes.{Congruence}
-use Rattle.obligations.specs.Roots.{kinds, are_slots, facts_at, congruences_at}
-use Rattle.obligations.specs.Walking.{Placed, claim_facts, claim_congruences, is_lawful, refused, arrive_at, stops, rank_on, arrive, enter, store, course}
+use Rattle.walk_trees.specs.Operators.{small_product}
+use Rattle.obligations.specs.Notes.{Congruence, Multiple}
+use Rattle.obligations.specs.Replacing.{replaced}
+use Rattle.obligations.specs.Roots.{kinds, are_slots, facts_at, congruences_at, multiples_at}
+use Rattle.obligations.specs.Walking.{Placed, on_path, if_replaced, has_form, claim_facts, claim_congruences, claim_product, claim_multiples, is_lawful, refused, arrive_at, stops, rank_on, arrive, enter, store, course}
 
 module _ {E : Type 0} (w : Placed E) where
   -- from an own state
@@ -22,28 +24,50 @@ module _ {E : Type 0} (w : Placed E) where
   either_tree true t u h k = h
   either_tree false t u h k = k
 
-  own-facts : (fs : List Fact) (st : State E) (go : State E → Tree E) → HasOwn st → GoesOwn go → IsOwnTree (claim_facts w fs st go)
-  unfolding IsOwnTree
-  own-facts [] st go h g = g st h
-  own-facts (f ∷ fs) st go h g = own-facts fs (claimed_once st) go h g
-
-  own-congruences : (cs : List Congruence) (st : State E) (go : State E → Tree E) → HasOwn st → GoesOwn go → IsOwnTree (claim_congruences w cs st go)
-  unfolding IsOwnTree
-  own-congruences [] st go h g = g st h
-  own-congruences (c ∷ cs) st go h g = own-congruences cs (claimed_once (claimed_once st)) go h g
-
   own-refused : (st : State E) → IsOwnTree (refused st)
   unfolding IsOwnTree
   own-refused st = tt
 
+  own-replaced : (b : Bool) (claims : State E → (State E → Tree E) → Tree E) (st : State E) (go : State E → Tree E) → HasOwn st → GoesOwn go → IsOwnTree (claims st go) → IsOwnTree (if_replaced b claims st go)
+  unfolding IsOwnTree
+  own-replaced true claims st go h g k = k
+  own-replaced false claims st go h g k = g (claimed_once st) h
+
+  own-once : (o : Sort) (g : Goal) (settled : Bool) (st : State E) (go : State E → Tree E) → HasOwn st → GoesOwn go → IsOwnTree (claim o true settled g st go)
+  unfolding IsOwnTree
+  own-once o g settled st go h k = k (claimed_once st) h
+
+  own-twice : (o : Sort) (g g' : Goal) (settled : Bool) (st : State E) (go : State E → Tree E) → HasOwn st → GoesOwn go → IsOwnTree (claim o true settled g st (λ st'. claim o true settled g' st' go))
+  unfolding IsOwnTree
+  own-twice o g g' settled st go h k = k (claimed_once (claimed_once st)) h
+
+  own-facts : (fs : List Fact) (st : State E) (go : State E → Tree E) → HasOwn st → GoesOwn go → IsOwnTree (claim_facts w fs st go)
+  own-facts [] st go h g = g st h
+  own-facts (f ∷ fs) st go h g = own-replaced (has_form w st f) _ st _ h (λ st' h'. own-facts fs st' go h' g) (own-once _ _ _ st _ h (λ st' h'. own-facts fs st' go h' g))
+
+  own-congruences : (cs : List Congruence) (st : State E) (go : State E → Tree E) → HasOwn st → GoesOwn go → IsOwnTree (claim_congruences w cs st go)
+  own-congruences [] st go h g = g st h
+  own-congruences (c ∷ cs) st go h g = own-replaced (has_form w st c.form) _ st _ h (λ st' h'. own-congruences cs st' go h' g) (own-twice _ _ _ _ st _ h (λ st' h'. own-congruences cs st' go h' g))
+
+  own-product : (made : List Fact) (f : Fact) (o : Option Fact) (st : State E) (go : State E → Tree E) → HasOwn st → GoesOwn go → IsOwnTree (claim_product made f o st go)
+  unfolding IsOwnTree
+  own-product made f None st go h g = g (claimed_once st) h
+  own-product made f (Some p) st go h g = g (claimed_once (claimed_once st)) h
+
+  own-multiples : (ms : List Multiple) (st : State E) (go : State E → Tree E) → HasOwn st → GoesOwn go → IsOwnTree (claim_multiples w ms st go)
+  own-multiples [] st go h g = g st h
+  own-multiples (m ∷ ms) st go h g =
+      own-replaced (has_form w st m.form && has_form w st m.of) _ st _ h (λ st' h'. own-multiples ms st' go h' g)
+      (own-product _ _ (small_product (replaced (on_path w st) m.of) (w.notes.quotient (st.claims + 1))) st (λ st'. claim_multiples w ms st' go) h (λ st' h'. own-multiples ms st' go h' g))
+
   own-leaf : (stop : Stop) (turns : Turns) (st : State E) → HasOwn st → IsOwnTree (Leaf (arrived stop turns st))
   unfolding IsOwnTree
-  own-leaf stop turns st h = h
+  own-leaf stop turns st h = h.0
 
   own-arrive_at : (a h : Option ℕ) (stop : Stop) (turns : Turns) (st : State E) → HasOwn st → IsOwnTree (arrive_at w a h stop turns st)
   own-arrive_at a h stop turns st o =
       either_tree (are_slots w.kernel 0 (kinds w.kernel) st.variables) _ _
-      (own-facts (facts_at w.notes a h) st _ o (λ st1 o1. own-congruences (congruences_at w.notes a h) st1 _ o1 (λ st2 o2. own-leaf stop turns st2 o2))) (own-refused st)
+      (own-facts (facts_at w.notes a h) st _ o (λ st1 o1. own-congruences (congruences_at w.notes a h) st1 _ o1 (λ st2 o2. own-multiples (multiples_at w.notes a h) st2 _ o2 (λ st3 o3. own-leaf stop turns st3 o3)))) (own-refused st)
 
   pub own-stops : (stop : Stop) (turns : Turns) (st : State E) → HasOwn st → IsOwnTree (stops w stop turns st)
   own-stops (AtBarrier n) turns st h = own-arrive_at (Some n) None (AtBarrier n) turns st h
@@ -51,13 +75,13 @@ module _ {E : Type 0} (w : Placed E) where
   own-stops AtEnd turns st h = own-leaf AtEnd turns st h
 
   pub own-arrive : (n : ℕ) (again : Bool) (st : State E) (go : State E → Tree E) → HasOwn st → GoesOwn go → IsOwnTree (arrive w n again st go)
-  unfolding IsOwnTree
-  own-arrive n false st go h g = g (claimed_once (stand (spot_of n) st)) h
-  own-arrive n true st go h g = g (claimed_once (stand (spot_of n) st)) h
+  own-arrive n false st go h g = own-replaced (has_form w st (w.notes.ranking n).form) _ (stand (spot_of n) st) _ h g (own-once _ _ _ (stand (spot_of n) st) _ h g)
+  own-arrive n true st go h g = own-replaced (has_form w st (w.notes.ranking n).form) _ (stand (spot_of n) st) _ h g (own-once _ _ _ (stand (spot_of n) st) _ h g)
 
   pub own-enter : (n : ℕ) (st : State E) (go : State E → Tree E) → HasOwn st → GoesOwn go → IsOwnTree (enter w n st go)
-  unfolding IsOwnTree
-  own-enter n st go h g = g (with_rank n (rank_on w n st) (claimed_once (stand (spot_of n) st))) h
+  own-enter n st go h g =
+      let on : GoesOwn (λ st'. go (with_rank n (rank_on w n st) st')) = λ st' h'. g (with_rank n (rank_on w n st) st') h' in
+      own-replaced (has_form w st (w.notes.ranking n).form) _ (stand (spot_of n) st) _ h on (own-once _ _ _ (stand (spot_of n) st) _ h on)
 
   pub own-store : (a : Statement) (x : Value) (st : State E) (go : State E → Tree E) → IsOwnValue x → HasOwn st → GoesOwn go → IsOwnTree (store w a x st go)
   own-store (Store n a site i e) x st go p h g = accesses_on w.setting true a site x.form st go p h g

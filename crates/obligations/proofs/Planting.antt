@@ -8,7 +8,7 @@ use Rattle.facts.specs.Launching.{launch_facts}
 use Rattle.arrivals.specs.Points as points
 use Rattle.arrivals.specs.Places.{Place}
 use Rattle.walk_trees.specs.Trees.{Access, Ended, after, claims, accesses, ends}
-use Rattle.walk_trees.specs.Shown.{IsShown}
+use Rattle.walk_trees.specs.Shown.{IsShownWithProducts}
 use Rattle.walk_trees.proofs.Each.{Has}
 use Rattle.walk_trees.proofs.Standing.{has_left, has_right, all_left, all_right}
 use Rattle.obligations.specs.Notes.{Notes}
@@ -25,10 +25,10 @@ planted-has g k c n count [] p h = absurd h
 planted-has g k c n count (q ∷ ps) p (inl e) = (count, inl (ap (planted g k c n count) e))
 planted-has g k c n count (q ∷ ps) p (inr h) = let r = planted-has g k c n (after count (tree_of g k c n count q)) ps p h in (r.0, inr r.1)
 
-pub claims-shown : {E : Type 0} (c : Conditions) (ps : List (Planted E)) (p : Planted E) → All IsShown (claims_of c ps) → Has p ps → All IsShown (claims (launch_facts c) p.facts p.claims p.tree)
+pub claims-shown : {E : Type 0} (c : Conditions) (ps : List (Planted E)) (p : Planted E) → All IsShownWithProducts (claims_of c ps) → Has p ps → All IsShownWithProducts (claims (launch_facts c) p.facts p.claims p.tree)
 claims-shown c [] p s h = absurd h
-claims-shown c (q ∷ ps) p s (inl e) = subst (λ (r : Planted _). All IsShown (claims (launch_facts c) r.facts r.claims r.tree)) (sym e) (all_left IsShown (claims (launch_facts c) q.facts q.claims q.tree) (claims_of c ps) s)
-claims-shown c (q ∷ ps) p s (inr h) = claims-shown c ps p (all_right IsShown (claims (launch_facts c) q.facts q.claims q.tree) (claims_of c ps) s) h
+claims-shown c (q ∷ ps) p s (inl e) = subst (λ (r : Planted _). All IsShownWithProducts (claims (launch_facts c) r.facts r.claims r.tree)) (sym e) (all_left IsShownWithProducts (claims (launch_facts c) q.facts q.claims q.tree) (claims_of c ps) s)
+claims-shown c (q ∷ ps) p s (inr h) = claims-shown c ps p (all_right IsShownWithProducts (claims (launch_facts c) q.facts q.claims q.tree) (claims_of c ps) s) h
 
 pub access-has : {E : Type 0} (ps : List (Planted E)) (p : Planted E) (a : Access E) → Has p ps → Has a (accesses p.facts p.claims p.tree) → Has (of_place p a) (accesses_of ps)
 access-has [] p a h i = absurd h

@@ -1,5 +1,5 @@
 -- Where all is shown, each loop's ranking is as it is said: where it opens, with each turn, and inside.
-use Rattle.std.proofs.Common.{ℕ, ◌<◌, Bool, true, false, List, arith, refl}
+use Rattle.std.proofs.Common.{ℕ, ◌<◌, Bool, true, false, List, [], ◌∷◌, arith, refl}
 use Rattle.std.specs.Prelude.{ℤ, pos, ◌-ℤ◌, ◌*ℤ◌, ◌≤ℤ◌}
 use Rattle.std.specs.List.{All}
 use Rattle.std.proofs.lemmas.Int.{ints}
@@ -17,22 +17,23 @@ use Rattle.arrivals.specs.Shown.{Came}
 use Rattle.arrivals.specs.Symbolic.{AtArrival, AtEntering}
 use Rattle.rankings.specs.Limits.{Opens, Holds, Falls}
 use Rattle.rankings.specs.Ranked.{Owes, RanksShown}
-use Rattle.walk_trees.specs.Walks.{rank_form}
-use Rattle.walk_trees.specs.Shown.{IsShown}
+use Rattle.walk_trees.specs.Walks.{stand, rank_form}
+use Rattle.walk_trees.specs.Statements.{spot_of}
+use Rattle.walk_trees.specs.Shown.{IsShownWithProducts}
 use Rattle.walk_trees.proofs.QuotientSound.{DividesLawfully}
 use Rattle.walk_trees.proofs.Holding.{held_settles}
 use Rattle.walk_trees.proofs.Standing.{told_replaced}
 use Rattle.walk_trees.proofs.Ranges.{IsForm, form_constant, form-minus, form-multiple}
-use Rattle.obligations.specs.Notes.{Bound, Down, Halving, Doubling, Notes, opens, holds, fallen}
+use Rattle.obligations.specs.Notes.{Bound, Down, Halving, Doubling, Notes, opens, holds, fallen, fallen_by}
 use Rattle.obligations.specs.Telling.{TellsOfItems}
 use Rattle.obligations.specs.Limits.{limit, limit_at, AreLimits}
 use Rattle.obligations.specs.Listing.{all_trees, claims_of}
 use Rattle.obligations.specs.Walking.{course, rank_on}
 use Rattle.obligations.proofs.PlaceLines.{notes_of}
-use Rattle.obligations.proofs.Faithfully.{rank-is}
+use Rattle.obligations.proofs.Faithfully.{told_rank, rank-is}
 use Rattle.obligations.proofs.Stationed as stationed
 
-module _ {E : Type 0} (w : Walked E) (n : Notes) (tell : TellsOfItems n) (laws : DividesLawfully w.domain) (shown : All IsShown (claims_of w.conditions (all_trees w.domain w.kernel w.conditions n))) where
+module _ {E : Type 0} (w : Walked E) (n : Notes) (tell : TellsOfItems n) (laws : DividesLawfully w.domain) (shown : All IsShownWithProducts (claims_of w.conditions (all_trees w.domain w.kernel w.conditions n))) where
   abbrev s : Setup
   s = setup_of w
 
@@ -69,16 +70,18 @@ module _ {E : Type 0} (w : Walked E) (n : Notes) (tell : TellsOfItems n) (laws :
     arrived : (m : ℕ) (again : Bool) → AtArrival (course (stationed.pl w n tell laws shown p is i h path from here came)) (stationed.At w n tell laws shown p is i h path from here came) m again here → Owes k (limit_at n) m i again here
     arrived m false x =
         let st = x.0 in
-        let y = x.1.1 in
-        let r = rank-is c launch laws (stationed.all w n tell laws shown p is i h path from here came) (stationed.last w n tell laws shown p is i h path from here came) n (stationed.a w n tell laws shown p is i h path from here came) (stationed.b w n tell laws shown p is i h path from here came) (λ e q. q) tell.rankings m st here y in
+        let t = told_rank c launch laws (stationed.all w n tell laws shown p is i h path from here came) (stationed.last w n tell laws shown p is i h path from here came) n (stationed.a w n tell laws shown p is i h path from here came) (stationed.b w n tell laws shown p is i h path from here came) (λ e q. q) tell.rankings m [] (opens (n.ranking m).bound (rank_on (stationed.pl w n tell laws shown p is i h path from here came) m st)) st here _ x.1.1 in
+        let y = t.1 in
+        let r = rank-is c launch laws (stationed.all w n tell laws shown p is i h path from here came) (stationed.last w n tell laws shown p is i h path from here came) n (stationed.a w n tell laws shown p is i h path from here came) (stationed.b w n tell laws shown p is i h path from here came) (λ e q. q) tell.rankings m (stand (spot_of m) st) here y t.0 in
         let now = rank_on (stationed.pl w n tell laws shown p is i h path from here came) m st in
         let g = opened (n.ranking m).bound y.news now (k.rank m i here) r in
         let f = opens (n.ranking m).bound now in
         g.1.1 (told_replaced c launch f g.0 y.stands g.1.0.means (held_settles c y.news st.held f g.0 y.stands.fit g.1.0.means))
     arrived m true x =
         let st = x.0 in
-        let y = x.1.1 in
-        let r = rank-is c launch laws (stationed.all w n tell laws shown p is i h path from here came) (stationed.last w n tell laws shown p is i h path from here came) n (stationed.a w n tell laws shown p is i h path from here came) (stationed.b w n tell laws shown p is i h path from here came) (λ e q. q) tell.rankings m st here y in
+        let t = told_rank c launch laws (stationed.all w n tell laws shown p is i h path from here came) (stationed.last w n tell laws shown p is i h path from here came) n (stationed.a w n tell laws shown p is i h path from here came) (stationed.b w n tell laws shown p is i h path from here came) (λ e q. q) tell.rankings m (fallen_by (n.ranking m).bound (rank_form st.ranks m) (rank_on (stationed.pl w n tell laws shown p is i h path from here came) m st) ∷ []) (fallen (n.ranking m).bound (rank_form st.ranks m) (rank_on (stationed.pl w n tell laws shown p is i h path from here came) m st)) st here _ x.1.1 in
+        let y = t.1 in
+        let r = rank-is c launch laws (stationed.all w n tell laws shown p is i h path from here came) (stationed.last w n tell laws shown p is i h path from here came) n (stationed.a w n tell laws shown p is i h path from here came) (stationed.b w n tell laws shown p is i h path from here came) (λ e q. q) tell.rankings m (stand (spot_of m) st) here y t.0 in
         let now = rank_on (stationed.pl w n tell laws shown p is i h path from here came) m st in
         let g = fell (n.ranking m).bound y.news (rank_form st.ranks m) now (here.ranks m) (k.rank m i here) (y.ranked m) r in
         let f = fallen (n.ranking m).bound (rank_form st.ranks m) now in
@@ -87,8 +90,9 @@ module _ {E : Type 0} (w : Walked E) (n : Notes) (tell : TellsOfItems n) (laws :
     entered : (m : ℕ) → AtEntering (course (stationed.pl w n tell laws shown p is i h path from here came)) (stationed.At w n tell laws shown p is i h path from here came) m here → Holds (limit_at n m) (k.rank m i here)
     entered m x =
         let st = x.0 in
-        let y = x.1.1 in
-        let r = rank-is c launch laws (stationed.all w n tell laws shown p is i h path from here came) (stationed.last w n tell laws shown p is i h path from here came) n (stationed.a w n tell laws shown p is i h path from here came) (stationed.b w n tell laws shown p is i h path from here came) (λ e q. q) tell.rankings m st here y in
+        let t = told_rank c launch laws (stationed.all w n tell laws shown p is i h path from here came) (stationed.last w n tell laws shown p is i h path from here came) n (stationed.a w n tell laws shown p is i h path from here came) (stationed.b w n tell laws shown p is i h path from here came) (λ e q. q) tell.rankings m [] (holds (n.ranking m).bound (rank_on (stationed.pl w n tell laws shown p is i h path from here came) m st)) st here _ x.1.1 in
+        let y = t.1 in
+        let r = rank-is c launch laws (stationed.all w n tell laws shown p is i h path from here came) (stationed.last w n tell laws shown p is i h path from here came) n (stationed.a w n tell laws shown p is i h path from here came) (stationed.b w n tell laws shown p is i h path from here came) (λ e q. q) tell.rankings m (stand (spot_of m) st) here y t.0 in
         let now = rank_on (stationed.pl w n tell laws shown p is i h path from here came) m st in
         let g = held (n.ranking m).bound y.news now (k.rank m i here) r in
         let f = holds (n.ranking m).bound now in

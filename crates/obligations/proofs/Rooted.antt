@@ -1,5 +1,5 @@
 -- An item of which a place's lines hold stands before the place's tree.
-use Rattle.std.proofs.Common.{◌≡◌, ℕ, zero, suc, ◌+◌, ◌<◌, ◌≤◌, Bool, true, false, cond, List, [], ◌∷◌, ◌++◌, length, slice_index_or, arith, refl, sym, ap, ◌∙◌, subst, inl, inr}
+use Rattle.std.proofs.Common.{◌≡◌, ℕ, zero, suc, ◌+◌, ◌<◌, ◌≤◌, Bool, true, false, cond, List, [], ◌∷◌, ◌++◌, length, length-append, slice_index_or, arith, refl, sym, ap, ◌∙◌, subst, inl, inr}
 use Rattle.std.specs.Prelude.{ℤ, pos, ◌≤ℤ◌, ◌*ℤ◌, ◌⊎◌, int_le}
 use Rattle.std.specs.List.{All}
 use Rattle.std.proofs.lemmas.Int.{ints}
@@ -25,14 +25,15 @@ use Rattle.walk_trees.proofs.KindEnds.{in_kind-ends}
 use Rattle.walk_trees.proofs.Ranges.{IsForm, IsValue, form_constant, form_once}
 use Rattle.walk_trees.proofs.TermSound.{AreForms}
 use Rattle.domain.specs.Multiples.{from-test}
-use Rattle.obligations.specs.Notes.{Congruence}
-use Rattle.obligations.specs.Telling.{tells, all_tell, congruences_tell}
-use Rattle.obligations.specs.Roots.{is_kept, kinds, kind_of, root_form, values_from, narrowed_from, tops, ends_of, all_ends, congruence_facts}
+use Rattle.obligations.specs.Notes.{Congruence, Multiple}
+use Rattle.obligations.specs.Telling.{tells, all_tell, congruences_tell, multiples_tell}
+use Rattle.obligations.specs.Roots.{is_kept, kinds, kind_of, root_form, values_from, narrowed_from, tops, ends_of, all_ends, congruence_facts, multiple_facts, quotient_facts}
 use Rattle.obligations.specs.Walking.{divides}
 use Rattle.obligations.proofs.Words.{are_words, Fit, words-each, fits-length}
-use Rattle.obligations.proofs.PlaceLines.{facts_hold, congruences_hold}
+use Rattle.obligations.proofs.PlaceLines.{facts_hold, congruences_hold, multiples_hold}
 use Rattle.obligations.proofs.Replaced.{value_at}
 use Rattle.obligations.proofs.Told.{told-value}
+use Rattle.obligations.proofs.Quotients.{new-left, new-right, multiple_quotients, multiple_quotients-length, multiples-met}
 
 pub past-each : {A : Type 0} (xs : List A) (d : A) (x : ℕ) → length xs < suc x → slice_index_or xs x d ≡ d
 past-each [] d x h = refl
@@ -51,28 +52,26 @@ word-right c ws h x = elim (cases_lt x (length (kinds c.kernel))) [
 
 module _ {E : Type 0} (c : View E) where
   -- quotients are new symbols of which nothing is known
-  nth-tops : {A : Type 0} (xs : List A) (k : ℕ) → nth c.domain (tops c.domain xs) k ≡ c.domain.top_of
-  nth-tops [] k = refl
-  nth-tops (x ∷ xs) zero = refl
-  nth-tops (x ∷ xs) (suc k) = nth-tops xs k
+  abbrev pub AreTops : List E → Type 0
+  AreTops es = (k : ℕ) → nth c.domain es k ≡ c.domain.top_of
 
-  element-tops : {A : Type 0} (xs : List A) (s : Symbol) → element c.domain (record { known = known_of c; first = []; second = [] }) s ≡ element c.domain (record { known = known_of c; first = tops c.domain xs; second = [] }) s
-  element-tops xs (symbols.Groups d) = refl
-  element-tops xs (ArgumentOf n) = refl
-  element-tops xs (Length b) = refl
-  element-tops xs (Local w d) = refl
-  element-tops xs (Group w d) = refl
-  element-tops xs (New First k) = sym (nth-tops xs k)
-  element-tops xs (New Second k) = refl
-  element-tops xs (Variable w x) = refl
-  element-tops xs (AtAnchor w x) = refl
-  element-tops xs (Turns w k) = refl
+  element-tops : (es : List E) → AreTops es → (s : Symbol) → element c.domain (record { known = known_of c; first = []; second = [] }) s ≡ element c.domain (record { known = known_of c; first = es; second = [] }) s
+  element-tops es t (symbols.Groups d) = refl
+  element-tops es t (ArgumentOf n) = refl
+  element-tops es t (Length b) = refl
+  element-tops es t (Local w d) = refl
+  element-tops es t (Group w d) = refl
+  element-tops es t (New First k) = sym (t k)
+  element-tops es t (New Second k) = refl
+  element-tops es t (Variable w x) = refl
+  element-tops es t (AtAnchor w x) = refl
+  element-tops es t (Turns w k) = refl
 
   pub fewer : (news : List ℤ) (v : ℕ → ℤ) → Agrees c news v → Agrees c [] v
-  fewer news v a = record { groups = a.groups; given = a.given; lengths = a.lengths; local = a.local; group = a.group; variable = a.variable; at_anchor = a.at_anchor; turns = a.turns; new = λ k h. absurd (omega (arith, h)) }
+  fewer news v a = record { products = a.products; groups = a.groups; given = a.given; lengths = a.lengths; local = a.local; group = a.group; variable = a.variable; at_anchor = a.at_anchor; turns = a.turns; new = λ k h. absurd (omega (arith, h)) }
 
-  pub held_tops : {A : Type 0} (xs : List A) (news : List ℤ) → IsHeld c news (record { news = tops c.domain xs; narrowed = [] })
-  held_tops xs news m u n = subst (λ e. c.domain.has e (by_number m n) ≡ true) (element-tops xs (symbol_of n)) (held_opening c m (record { agrees = fewer news (by_number m) u.agrees; local = u.local; group = u.group }) n)
+  pub held_tops : (es : List E) → AreTops es → (news : List ℤ) → IsHeld c news (record { news = es; narrowed = [] })
+  held_tops es t news m u n = subst (λ e. c.domain.has e (by_number m n) ≡ true) (element-tops es t (symbol_of n)) (held_opening c m (record { agrees = fewer news (by_number m) u.agrees; local = u.local; group = u.group }) n)
 
   append-one : {A : Type 0} (xs : List A) (y : A) (ys : List A) → (xs ++ y ∷ []) ++ ys ≡ xs ++ y ∷ ys
   append-one [] y ys = refl
@@ -126,7 +125,7 @@ module _ {E : Type 0} (c : View E) where
   quotients-length [] h = refl
   quotients-length (x ∷ cs) h = ap suc (quotients-length cs _)
 
-  congruence-facts : (b : Bool) (news : List ℤ) (v : ℕ → ℤ) → Agrees c news v → (y : ℕ) (cs : List Congruence) → congruences_tell b cs ≡ true → (h : congruences_hold (value_at c c.root) cs ≡ true) →
+  pub congruence-facts : (b : Bool) (news : List ℤ) (v : ℕ → ℤ) → Agrees c news v → (y : ℕ) (cs : List Congruence) → congruences_tell b cs ≡ true → (h : congruences_hold (value_at c c.root) cs ≡ true) →
       ((k : ℕ) → k < length (quotients cs h) → v (number (New First (y + k))) ≡ new_at (quotients cs h) k) → All (IsMet v) (congruence_facts y cs)
   unfolding quotients
   congruence-facts b news v a y [] t h n = All-nil (IsMet v)
@@ -142,8 +141,30 @@ module _ {E : Type 0} (c : View E) where
       All-append (IsMet v) (equals x.form (multiple (pos x.modulus) o)) (congruence_facts (suc y) cs) (met_equals v x.form (multiple (pos x.modulus) o) same)
       (congruence-facts b news v a (suc y) cs p.1 q.1 (λ k l. let g : y + suc k ≡ suc y + k = omega arith in subst (λ j. v (number (New First j)) ≡ new_at (quotients cs q.1) k) g (n (suc k) (omega (arith, l)))))
 
-  pub congruences-met : (b : Bool) (v : ℕ → ℤ) (cs : List Congruence) → congruences_tell b cs ≡ true → (h : congruences_hold (value_at c c.root) cs ≡ true) → Agrees c (quotients cs h) v → All (IsMet v) (congruence_facts 0 cs)
-  congruences-met b v cs t h a = congruence-facts b (quotients cs h) v a 0 cs t h (λ k l. let e : 0 + k ≡ k = omega arith in subst (λ j. v (number (New First j)) ≡ new_at (quotients cs h) k) (sym e) (a.new k l))
+  -- the new symbols of a place: the quotients of its congruences, then those of its multiples
+  pub root_news : (cs : List Congruence) (ms : List Multiple) → congruences_hold (value_at c c.root) cs ≡ true → multiples_hold (value_at c c.root) ms ≡ true → List ℤ
+  root_news cs ms h g = quotients cs h ++ multiple_quotients c ms g
+
+  pub root_news-length : (cs : List Congruence) (ms : List Multiple) (h : congruences_hold (value_at c c.root) cs ≡ true) (g : multiples_hold (value_at c c.root) ms ≡ true) → length (root_news cs ms h g) ≡ length (tops c.domain cs ++ tops c.domain ms)
+  unfolding root_news
+  root_news-length cs ms h g =
+      length-append (quotients cs h) (multiple_quotients c ms g) ∙ (λ i. quotients-length cs h i + multiple_quotients-length c ms g i) ∙ sym (length-append (tops c.domain cs) (tops c.domain ms))
+
+  tops-length : {A : Type 0} (xs : List A) → length (tops c.domain xs) ≡ length xs
+  tops-length [] = refl
+  tops-length (x ∷ xs) = ap suc (tops-length xs)
+
+  pub quotients-met : (b : Bool) (v : ℕ → ℤ) (cs : List Congruence) (ms : List Multiple) → congruences_tell b cs ≡ true → multiples_tell b ms ≡ true → (h : congruences_hold (value_at c c.root) cs ≡ true) (g : multiples_hold (value_at c c.root) ms ≡ true) →
+      Agrees c (root_news cs ms h g) v → All (IsMet v) (quotient_facts cs ms)
+  unfolding root_news
+  quotients-met b v cs ms t u h g a =
+      let qs = quotients cs h in
+      let rs = multiple_quotients c ms g in
+      let n = length-append qs rs in
+      let m : length qs ≡ length cs = quotients-length cs h ∙ tops-length cs in
+      All-append (IsMet v) (congruence_facts 0 cs) (multiple_facts (length cs) ms)
+      (congruence-facts b (qs ++ rs) v a 0 cs t h (λ k l. let e : 0 + k ≡ k = omega arith in subst (λ j. v (number (New First j)) ≡ new_at qs k) (sym e) (a.new k (omega (arith, l, n)) ∙ new-left qs rs k l)))
+      (multiples-met c b (qs ++ rs) v a (length cs) ms u g (λ k l. subst (λ j. v (number (New First (j + k))) ≡ new_at rs k) m (a.new (length qs + k) (omega (arith, l, n)) ∙ new-right qs rs k)))
 
   -- variables are symbols, but for parameters that nothing assigns
   root_value : (news : List ℤ) (x : ℕ) (w : Word) → w.value ≡ variable_at c.root.variables x → Fit c.kernel c.launch x w.kind w → (b : Bool) → is_kept c.kernel x ≡ b → IsForm c news (cond b (once (ArgumentOf x)) (once (Variable First x))) w.value

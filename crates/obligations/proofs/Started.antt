@@ -18,19 +18,20 @@ use Rattle.facts.proofs.Worlds.{Walked, View, setup_of, Agrees, variable_at}
 use Rattle.arrivals.specs.Paths.{Held}
 use Rattle.walk_trees.specs.Held as held
 use Rattle.walk_trees.specs.Trees.{Tree, accesses, ends, claims}
-use Rattle.walk_trees.specs.Shown.{IsShown}
+use Rattle.walk_trees.specs.Shown.{IsShownWithProducts}
 use Rattle.walk_trees.proofs.SameWords.{same_words-is}
 use Rattle.walk_trees.proofs.Holding.{known_of, IsHeld, held_narrow, news-narrow}
 use Rattle.walk_trees.proofs.Opening.{opening_forms}
 use Rattle.walk_trees.proofs.Ranges.{form_once}
 use Rattle.walk_trees.proofs.TermSound.{AreForms, forms_kept}
 use Rattle.walk_trees.proofs.Fronts.{Stood}
-use Rattle.obligations.specs.Notes.{Notes}
+use Rattle.obligations.specs.Notes.{Multiple, Notes}
 use Rattle.obligations.specs.Listing.{is_some}
-use Rattle.obligations.specs.Telling.{TellsOfItems, all_tell, congruences_tell}
-use Rattle.obligations.specs.Roots.{kinds, kind_of, tops, narrowed_from, facts_at, congruences_at, congruence_facts, range_facts, root_facts, narrow_where, narrow_all, root_held, root_values, root_state}
+use Rattle.obligations.specs.Telling.{TellsOfItems, all_tell, congruences_tell, multiples_tell}
+use Rattle.obligations.specs.Roots.{kinds, kind_of, tops, narrowed_from, facts_at, congruences_at, multiples_at, quotient_facts, range_facts, root_facts, narrow_where, narrow_all, root_held, root_values, root_state}
 use Rattle.obligations.proofs.PlaceLines.{root_at, Holds}
-use Rattle.obligations.proofs.Rooted.{word-right, held_tops, held_from, all_ends-met, facts-met, fewer, quotients, quotients-length, congruences-met, root_forms}
+use Rattle.obligations.proofs.Rooted.{AreTops, word-right, held_tops, held_from, all_ends-met, facts-met, fewer, root_news, root_news-length, quotients-met, root_forms}
+use Rattle.obligations.proofs.Quotients.{both-tops}
 
 -- with what is said of its places; its arrays are of both spaces
 abbrev pub over : {E : Type 0} → Walked E → Notes → Walked E
@@ -68,6 +69,23 @@ module _ {E : Type 0} (w : Walked E) (n : Notes) (tell : TellsOfItems n) (i : �
   told-congruences None (Some m) = tell.congruences None (Some m)
   told-congruences (Some b) m = tell.congruences (Some b) m
 
+  told-where : (t b : Bool) (ms : List Multiple) → multiples_tell b ms ≡ true → multiples_tell b (cond t ms []) ≡ true
+  told-where true b ms h = h
+  told-where false b ms h = refl
+
+  told-multiples : (a b : Option ℕ) → multiples_tell (is_some b) (multiples_at n a b) ≡ true
+  told-multiples None None = refl
+  told-multiples None (Some m) = told-where n.is_wide true (n.multiples None (Some m)) (tell.multiples None (Some m))
+  told-multiples (Some b) m = told-where n.is_wide (is_some m) (n.multiples (Some b) m) (tell.multiples (Some b) m)
+
+  -- the elements of the quotients
+  tops_at : (a b : Option ℕ) → List E
+  tops_at a b = tops w.domain (congruences_at n a b) ++ tops w.domain (multiples_at n a b)
+
+  are-tops : (a b : Option ℕ) → AreTops c (tops_at a b)
+  unfolding tops_at
+  are-tops a b = both-tops c (congruences_at n a b) (multiples_at n a b)
+
   module _ (words : (x : ℕ) → in_kind (kind_of k x) (variable_at here.variables x) ≡ true) (before : (x : ℕ) → in_kind (kind_of k x) (variable_at from.variables x) ≡ true) where
     here-right : (news : List ℤ) (v : ℕ → ℤ) → Agrees c news v → (x : ℕ) → in_kind (kind_of k x) (v (number (Variable First x))) ≡ true
     here-right news v a x = subst (λ z. in_kind (kind_of k x) z ≡ true) (sym (a.variable x)) (words x)
@@ -82,17 +100,18 @@ module _ {E : Type 0} (w : Walked E) (n : Notes) (tell : TellsOfItems n) (i : �
     ranges-met (Some m) (Some l) news v g = All-append (IsMet v) _ _ (all_ends-met c v (Variable First) (here-right news v g) (n.visible (Some l))) (all_ends-met c v (AtAnchor First) (from-right news v g) (n.visible (Some m)))
 
     -- the domain knows the kinds of variables
-    first_held : {A : Type 0} (xs : List A) (news : List ℤ) → IsHeld c news (record { news = tops w.domain xs; narrowed = narrowed_from w.domain (Variable First) 0 (kinds k) })
-    first_held xs news = held_from c (Variable First) news (tops w.domain xs) [] 0 (kinds k) (λ m u x l. let e : x ≡ 0 + x = omega arith in subst (λ j. in_kind (kind_of k x) (by_number m (number (Variable First j))) ≡ true) e (here-right news (by_number m) u.agrees x)) (held_tops c xs news)
+    first_held : (es : List E) → AreTops c es → (news : List ℤ) → IsHeld c news (record { news = es; narrowed = narrowed_from w.domain (Variable First) 0 (kinds k) })
+    first_held es t news = held_from c (Variable First) news es [] 0 (kinds k) (λ m u x l. let e : x ≡ 0 + x = omega arith in subst (λ j. in_kind (kind_of k x) (by_number m (number (Variable First j))) ≡ true) e (here-right news (by_number m) u.agrees x)) (held_tops c es t news)
 
-    both_held : {A : Type 0} (xs : List A) (news : List ℤ) → IsHeld c news (record { news = tops w.domain xs; narrowed = narrowed_from w.domain (Variable First) 0 (kinds k) ++ narrowed_from w.domain (AtAnchor First) 0 (kinds k) })
-    both_held xs news = held_from c (AtAnchor First) news (tops w.domain xs) (narrowed_from w.domain (Variable First) 0 (kinds k)) 0 (kinds k) (λ m u x l. let e : x ≡ 0 + x = omega arith in subst (λ j. in_kind (kind_of k x) (by_number m (number (AtAnchor First j))) ≡ true) e (from-right news (by_number m) u.agrees x)) (first_held xs news)
+    both_held : (es : List E) → AreTops c es → (news : List ℤ) → IsHeld c news (record { news = es; narrowed = narrowed_from w.domain (Variable First) 0 (kinds k) ++ narrowed_from w.domain (AtAnchor First) 0 (kinds k) })
+    both_held es t news = held_from c (AtAnchor First) news es (narrowed_from w.domain (Variable First) 0 (kinds k)) 0 (kinds k) (λ m u x l. let e : x ≡ 0 + x = omega arith in subst (λ j. in_kind (kind_of k x) (by_number m (number (AtAnchor First j))) ≡ true) e (from-right news (by_number m) u.agrees x)) (first_held es t news)
 
     root-fits : (a b : Option ℕ) (news : List ℤ) → IsHeld c news (root_held w.domain k n a b)
-    root-fits None None news = held_tops c (congruences_at n None None) news
-    root-fits (Some m) None news = first_held (congruences_at n (Some m) None) news
-    root-fits None (Some l) news = both_held (congruences_at n None (Some l)) news
-    root-fits (Some m) (Some l) news = both_held (congruences_at n (Some m) (Some l)) news
+    unfolding tops_at
+    root-fits None None news = held_tops c (tops_at None None) (are-tops None None) news
+    root-fits (Some m) None news = first_held (tops_at (Some m) None) (are-tops (Some m) None) news
+    root-fits None (Some l) news = both_held (tops_at None (Some l)) (are-tops None (Some l)) news
+    root-fits (Some m) (Some l) news = both_held (tops_at (Some m) (Some l)) (are-tops (Some m) (Some l)) news
 
   -- facts that hold at the place narrow
   where_held : (b : Bool) (news : List ℤ) (f : Fact) (h : held.Held E) → is_rising 0 f.terms ≡ b → ((v : ℕ → ℤ) → Agrees c news v → IsMet v f) → IsHeld c news h → IsHeld c news (narrow_where w.domain (known_of c) b f h)
@@ -127,11 +146,12 @@ module _ {E : Type 0} (w : Walked E) (n : Notes) (tell : TellsOfItems n) (i : �
   forms None (Some l) o news = root_forms c news o.words
   forms (Some m) b o news = root_forms c news o.words
 
-  pub started : (a b : Option ℕ) → Holds (setup_of w) n a b i from here → (count : ℕ) (tree : Tree E) → All IsShown (claims (launch_facts w.conditions) (root_facts k n a b) count tree) →
+  pub started : (a b : Option ℕ) → Holds (setup_of w) n a b i from here → (count : ℕ) (tree : Tree E) → All IsShownWithProducts (claims (launch_facts w.conditions) (root_facts k n a b) count tree) →
       Stood c (launch_facts w.conditions) (accesses (root_facts k n a b) count tree) (ends (root_facts k n a b) count tree) tree (root_state w.domain (known w.domain k.sizes w.conditions) k n count a b) here.variables here.ranks
   started a b o count tree shown =
       let cs = congruences_at n a b in
-      let news = quotients c cs o.congruences in
+      let ms = multiples_at n a b in
+      let news = root_news c cs ms o.congruences o.multiples in
       let words = word-right c here.variables o.words in
       let before = word-right c from.variables o.before in
       let said : (v : ℕ → ℤ) → Agrees c news v → All (IsMet v) (facts_at n a b) = λ v g. facts-met c (is_some b) news v g (facts_at n a b) (told-facts a b) o.facts in
@@ -141,12 +161,13 @@ module _ {E : Type 0} (w : Walked E) (n : Notes) (tell : TellsOfItems n) (i : �
         news = news;
         stands = record {
           fit = known_held n.is_wide news (facts_at n a b) (root_held w.domain k n a b) said (root-fits words before a b news);
-          counted = quotients-length c cs o.congruences ∙ ap length (sym (known_news n.is_wide (facts_at n a b) (root_held w.domain k n a b)));
+          shared = tt;
+          counted = root_news-length c cs ms o.congruences o.multiples ∙ ap length (sym (known_news n.is_wide (facts_at n a b) (root_held w.domain k n a b)));
           launched = launch_known c news;
           known = λ v g. All-append (IsMet v) (item_facts k.sizes First) _ (item_known c news v g)
               (All-append (IsMet v) (range_facts k n a b) _ (ranges-met words before a b news v g)
-              (All-append (IsMet v) (facts_at n a b) (congruence_facts 0 cs) (said v g)
-              (congruences-met c (is_some b) v cs (told-congruences a b) o.congruences g)));
+              (All-append (IsMet v) (facts_at n a b) (quotient_facts cs ms) (said v g)
+              (quotients-met c (is_some b) v cs ms (told-congruences a b) (told-multiples a b) o.congruences o.multiples g)));
           shown = shown;
         };
         forms = forms a b o news;

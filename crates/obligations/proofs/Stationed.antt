@@ -19,7 +19,7 @@ use Rattle.arrivals.proofs.Drawing.{stands_at_leaf, stands_in_front, stands_at_a
 use Rattle.walk_trees.specs.Trees.{Tree, Access, Ended, accesses, ends}
 use Rattle.walk_trees.specs.Values.{Value}
 use Rattle.walk_trees.specs.Walks.{State}
-use Rattle.walk_trees.specs.Shown.{IsShown}
+use Rattle.walk_trees.specs.Shown.{IsShownWithProducts}
 use Rattle.walk_trees.proofs.QuotientSound.{DividesLawfully}
 use Rattle.walk_trees.proofs.Each.{Has}
 use Rattle.obligations.specs.Notes.{Notes, number_at}
@@ -36,7 +36,7 @@ head-none : (h : Option Point) → number_at h ≡ None → h ≡ None
 head-none None e = refl
 head-none (Some p) e = cc
 
-module _ {E : Type 0} (w : Walked E) (n : Notes) (tell : TellsOfItems n) (laws : DividesLawfully w.domain) (shown : All IsShown (claims_of w.conditions (all_trees w.domain w.kernel w.conditions n)))
+module _ {E : Type 0} (w : Walked E) (n : Notes) (tell : TellsOfItems n) (laws : DividesLawfully w.domain) (shown : All IsShownWithProducts (claims_of w.conditions (all_trees w.domain w.kernel w.conditions n)))
     (p : Place) (is : points.Has p (places w.kernel.body)) (i : ℕ) (h : i < item_count (setup_of w)) (path : List arrivals.Step) (from here : Held) (came : Came (setup_of w) (notes_of (setup_of w) n) p i path from here)
   where
     abbrev s : Setup

@@ -19,7 +19,7 @@ use Rattle.arrivals.proofs.Alike.{waits-alike, ends-last}
 use Rattle.arrivals.proofs.Apart.{no_clash}
 use Rattle.arrivals.proofs.Quiet.{quiet}
 use Rattle.walk_trees.specs.Trees.{Obligation}
-use Rattle.walk_trees.specs.Shown.{IsShown}
+use Rattle.walk_trees.specs.Shown.{IsShownWithProducts}
 use Rattle.walk_trees.proofs.QuotientSound.{DividesLawfully}
 use Rattle.walk_trees.proofs.SameWords.{same_words-refl}
 use Rattle.walk_trees.proofs.Standing.{all_left, all_right}
@@ -42,7 +42,7 @@ use Rattle.obligations.specs.Limits.{limit_at, turns_at, AreLimits}
 use Rattle.obligations.proofs.Ranks.{ranks}
 use Rattle.obligations.proofs.Stationed as stationed
 
-module _ {E : Type 0} (w : Walked E) (n : Notes) (tell : TellsOfItems n) (laws : DividesLawfully w.domain) (shown : All IsShown (obligations w.domain w.kernel w.conditions n)) where
+module _ {E : Type 0} (w : Walked E) (n : Notes) (tell : TellsOfItems n) (laws : DividesLawfully w.domain) (shown : All IsShownWithProducts (obligations w.domain w.kernel w.conditions n)) where
   abbrev s : Setup
   s = setup_of w
 
@@ -55,16 +55,16 @@ module _ {E : Type 0} (w : Walked E) (n : Notes) (tell : TellsOfItems n) (laws :
   abbrev apart : List Obligation
   apart = map (crossing_obligation w.domain (known w.domain w.kernel.sizes w.conditions) (launch_facts w.conditions) n) (crossings w.kernel w.conditions (accesses_of (all_trees w.domain w.kernel w.conditions n)))
 
-  claims : All IsShown (claims_of w.conditions (all_trees w.domain w.kernel w.conditions n))
-  claims = all_left IsShown (claims_of w.conditions (all_trees w.domain w.kernel w.conditions n)) (together ++ apart) shown
+  claims : All IsShownWithProducts (claims_of w.conditions (all_trees w.domain w.kernel w.conditions n))
+  claims = all_left IsShownWithProducts (claims_of w.conditions (all_trees w.domain w.kernel w.conditions n)) (together ++ apart) shown
 
-  pairs : All IsShown (together ++ apart)
-  pairs = all_right IsShown (claims_of w.conditions (all_trees w.domain w.kernel w.conditions n)) (together ++ apart) shown
+  pairs : All IsShownWithProducts (together ++ apart)
+  pairs = all_right IsShownWithProducts (claims_of w.conditions (all_trees w.domain w.kernel w.conditions n)) (together ++ apart) shown
 
   opens : (i : ℕ) → i < item_count s → Line k (own_place None) i (at_opening s i) (at_opening s i)
   opens i h =
       let words = opening-words (view w n i h (at_opening s i) (at_opening s i)) in
-      of_holds s n None None i (at_opening s i) (at_opening s i) (record { words = words; before = words; opens = same_words-refl (opening s i).variables; facts = refl; congruences = refl })
+      of_holds s n None None i (at_opening s i) (at_opening s i) (record { words = words; before = words; opens = same_words-refl (opening s i).variables; facts = refl; congruences = refl; multiples = refl })
 
   -- the lines of a place where a path comes
   head-is : (m : ℕ) (h : Option Point) → HasHead m h → number_at h ≡ Some m
@@ -95,14 +95,14 @@ module _ {E : Type 0} (w : Walked E) (n : Notes) (tell : TellsOfItems n) (laws :
     opens = opens;
     at_heads = at_heads;
     at_barriers = at_barriers;
-    pairs = λ p q u v is so anchor end other no nor. inl (pair_shown w n tell laws claims (all_left IsShown together apart pairs) p q u v is so anchor end other no nor);
+    pairs = λ p q u v is so anchor end other no nor. inl (pair_shown w n tell laws claims (all_left IsShownWithProducts together apart pairs) p q u v is so anchor end other no nor);
   }
 
   pub whole_pair_safe : (bound : ℕ) → IsSound s → IsShort s bound → IsPairSafe s bound
   whole_pair_safe bound sure short = record {
-    quiet = quiet s k sure leaves (accessing.faults w n tell laws claims (all_right IsShown together apart pairs));
+    quiet = quiet s k sure leaves (accessing.faults w n tell laws claims (all_right IsShownWithProducts together apart pairs));
     short = short;
-    apart = no_clash s k sure leaves (accessing.accesses w n tell laws claims (all_right IsShown together apart pairs));
+    apart = no_clash s k sure leaves (accessing.accesses w n tell laws claims (all_right IsShownWithProducts together apart pairs));
     agree = λ i j a b ne g. waits-alike s k sure leaves i j (record { first = a; second = b; distinct = ne; group = g });
     ends = λ i j a b ne g. ends-last s k sure leaves i j (record { first = a; second = b; distinct = ne; group = g });
   }

@@ -10,6 +10,11 @@ pub record Congruence : Type 0 where
   pub modulus : ℕ
   pub form : Fact
 
+-- a form is a multiple of another one
+pub record Multiple : Type 0 where
+  pub of : Fact
+  pub form : Fact
+
 -- where a loop opens its ranking is at most a number, and above 0 where its test is true; a turn makes it less by a step at least, or at
 -- most half. Or it is at least the least where the loop opens, at most a number where its test is true, and a turn at least doubles it
 pub data Bound : Type 0 where
@@ -22,12 +27,13 @@ pub record Ranking : Type 0 where
   pub bound : Bound
 
 -- of a barrier the slots that two items of a group have alike there; of a place, by the numbers of its barrier and of its loop, facts and
--- congruences; of a loop its ranking; the slots whose ranges are known at a barrier or loop; of a claim, by its number, the quotient
+-- congruences, and, in the wide walk, multiples of forms; of a loop its ranking; the slots whose ranges are known at a barrier or loop; of a claim, by its number, the quotient
 -- that its entry names, and whether it has an entry; and whether the walk is the wide one
 pub record Notes : Type 0 where
   pub same : (barrier : ℕ) → List ℕ
   pub facts : (anchor head : Option ℕ) → List Fact
   pub congruences : (anchor head : Option ℕ) → List Congruence
+  pub multiples : (anchor head : Option ℕ) → List Multiple
   pub ranking : (loop : ℕ) → Ranking
   pub visible : (statement : Option ℕ) → List ℕ
   pub quotient : (claim : ℕ) → Fact

@@ -15,7 +15,8 @@ use Rattle.walk_trees.specs.Values.{Value, value}
 use Rattle.walk_trees.specs.Terms.{no_value}
 use Rattle.walk_trees.specs.Walks.{State, any_of, least, greatest}
 use Rattle.walk_trees.specs.Statements.{spot_of, opening_values}
-use Rattle.obligations.specs.Notes.{Congruence, Notes}
+use Rattle.walk_trees.specs.Operators.{small_product}
+use Rattle.obligations.specs.Notes.{Congruence, Multiple, Notes}
 
 abbrev pub same_kind : Kind → Kind → Bool
 same_kind Int Int = true
@@ -114,6 +115,12 @@ congruences_at n None None = []
 congruences_at n None (Some h) = n.congruences None (Some h)
 congruences_at n (Some b) h = n.congruences (Some b) h
 
+-- multiples of forms are of the wide walk
+abbrev pub multiples_at : Notes → (anchor head : Option ℕ) → List Multiple
+multiples_at n None None = []
+multiples_at n None (Some h) = cond n.is_wide (n.multiples None (Some h)) []
+multiples_at n (Some b) h = cond n.is_wide (n.multiples (Some b) h) []
+
 -- a fact whose terms are in the order of a form's narrows as that of a test
 abbrev pub narrow_where : {E : Type 0} → Ghosts E → Known E → Bool → Fact → Held E → Held E
 narrow_where g k true f h = narrow g k f h
@@ -124,7 +131,7 @@ narrow_all g k [] h = h
 narrow_all g k (f ∷ fs) h = narrow_all g k fs (narrow_where g k (is_rising 0 f.terms) f h)
 
 abbrev pub root_held : {E : Type 0} → Ghosts E → Kernel → Notes → (anchor head : Option ℕ) → Held E
-root_held g k n a h = record { news = tops g (congruences_at n a h); narrowed = root_narrowed g k a h }
+root_held g k n a h = record { news = tops g (congruences_at n a h) ++ tops g (multiples_at n a h); narrowed = root_narrowed g k a h }
 
 -- in the wide walk what is said of the place narrows
 abbrev pub root_known : {E : Type 0} → Ghosts E → Known E → Kernel → Notes → (anchor head : Option ℕ) → Held E
@@ -132,7 +139,7 @@ root_known g e k n a h = cond n.is_wide (narrow_all g e (facts_at n a h) (root_h
 
 -- a state with so many claims before it
 abbrev pub root_state : {E : Type 0} → Ghosts E → Known E → Kernel → Notes → (claims : ℕ) → (anchor head : Option ℕ) → State E
-root_state g e k n c a h = record { claims = c; variables = root_values k a h; ranks = []; held = root_known g e k n a h; at = spot_of 0 }
+root_state g e k n c a h = record { claims = c; variables = root_values k a h; ranks = []; quotients = []; held = root_known g e k n a h; at = spot_of 0 }
 
 -- the two ends of a variable's kind
 abbrev pub ends_of : Kernel → (ℕ → Symbol) → ℕ → List Fact
@@ -147,6 +154,19 @@ abbrev pub congruence_facts : ℕ → List Congruence → List Fact
 congruence_facts i [] = []
 congruence_facts i (c ∷ cs) = equals c.form (multiple (pos c.modulus) (once (New First i))) ++ congruence_facts (suc i) cs
 
+-- so has each multiple, where the product of its quotient is
+abbrev pub multiple_fact : Fact → Option Fact → List Fact
+multiple_fact f None = []
+multiple_fact f (Some h) = equals f h
+
+abbrev pub multiple_facts : ℕ → List Multiple → List Fact
+multiple_facts i [] = []
+multiple_facts i (m ∷ ms) = multiple_fact m.form (small_product m.of (once (New First i))) ++ multiple_facts (suc i) ms
+
+-- the facts of congruences, then those of multiples
+abbrev pub quotient_facts : List Congruence → List Multiple → List Fact
+quotient_facts cs ms = congruence_facts 0 cs ++ multiple_facts (length cs) ms
+
 -- the variables that are visible at the place, and at a loop those of the anchor
 abbrev pub range_facts : Kernel → Notes → (anchor head : Option ℕ) → List Fact
 range_facts k n None None = []
@@ -154,4 +174,4 @@ range_facts k n (Some b) None = all_ends k (Variable First) (n.visible (Some b))
 range_facts k n a (Some h) = all_ends k (Variable First) (n.visible (Some h)) ++ all_ends k (AtAnchor First) (n.visible a)
 
 abbrev pub root_facts : Kernel → Notes → (anchor head : Option ℕ) → List Fact
-root_facts k n a h = item_facts k.sizes First ++ (range_facts k n a h ++ (facts_at n a h ++ congruence_facts 0 (congruences_at n a h)))
+root_facts k n a h = item_facts k.sizes First ++ (range_facts k n a h ++ (facts_at n a h ++ quotient_facts (congruences_at n a h) (multiples_at n a h)))

@@ -7,6 +7,7 @@ use Rattle.loop_bounds.specs.declared.bound.Bound.TheVariants as bounds
 use Rattle.loop_bounds.specs.declared.bound.LoopBound.{LoopBound}
 use Rattle.obligations.specs.Notes as notes
 use Rattle.obligations.specs.declared.notes.Congruence.{Congruence}
+use Rattle.obligations.specs.declared.notes.Multiple.{Multiple}
 use Rattle.obligations.specs.declared.notes.Lines.{Lines}
 use Rattle.obligations.specs.declared.notes.Visible.{Visible}
 use Rattle.obligations.specs.declared.notes.Quotient.{Quotient}
@@ -21,6 +22,9 @@ same_number (Some n) (Some m) = nat_eq n m
 abbrev pub congruence : Congruence → notes.Congruence
 congruence c = record { modulus = c.modulus; form = form c.form }
 
+abbrev pub multiple : Multiple → notes.Multiple
+multiple m = record { of = form m.of; form = form m.form }
+
 abbrev pub is_of : (anchor head : Option ℕ) → Lines → Bool
 is_of a h l = same_number l.anchor a && same_number l.head h
 
@@ -32,6 +36,10 @@ facts_of (l ∷ ls) a h = cond (is_of a h l) (forms l.facts.items) (facts_of ls 
 abbrev pub congruences_of : List Lines → (anchor head : Option ℕ) → List notes.Congruence
 congruences_of [] a h = []
 congruences_of (l ∷ ls) a h = cond (is_of a h l) (map congruence l.congruences.items) (congruences_of ls a h)
+
+abbrev pub multiples_of : List Lines → (anchor head : Option ℕ) → List notes.Multiple
+multiples_of [] a h = []
+multiples_of (l ∷ ls) a h = cond (is_of a h l) (map multiple l.multiples.items) (multiples_of ls a h)
 
 abbrev pub same_of : List Lines → (barrier : ℕ) → List ℕ
 same_of [] b = []
@@ -64,6 +72,7 @@ seen n entries = record {
   same = same_of n.places.items;
   facts = facts_of n.places.items;
   congruences = congruences_of n.places.items;
+  multiples = multiples_of n.places.items;
   ranking = ranking_of n.rankings.items;
   visible = visible_of n.visible.items;
   quotient = quotient_of n.quotients.items;

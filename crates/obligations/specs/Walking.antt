@@ -17,10 +17,11 @@ use Rattle.walk_trees.specs.Trees.{OfRanking, OfFact, OfCongruence, AtLeastZero,
 use Rattle.walk_trees.specs.Values.{Value}
 use Rattle.walk_trees.specs.Walks.{Setting, State, settles, claim, stand, with_rank, rank_form, arrived}
 use Rattle.walk_trees.specs.Terms.{walk, access, chosen}
+use Rattle.walk_trees.specs.Operators.{small_product}
 use Rattle.walk_trees.specs.Statements.{spot_of, setting, assigned}
-use Rattle.obligations.specs.Notes.{Congruence, Notes, number_at, opens, holds, fallen, fallen_by}
-use Rattle.obligations.specs.Replacing.{Replacement, replaced, made, replacement}
-use Rattle.obligations.specs.Roots.{kinds, are_slots, facts_at, congruences_at, anchor_forms, root_state}
+use Rattle.obligations.specs.Notes.{Congruence, Multiple, Notes, number_at, opens, holds, fallen, fallen_by}
+use Rattle.obligations.specs.Replacing.{Replacement, replaced, made, is_replaceable, replacement}
+use Rattle.obligations.specs.Roots.{kinds, are_slots, facts_at, congruences_at, multiples_at, anchor_forms, root_state}
 
 -- the walk of a kernel's terms, what is said of its places, and the place it is of
 pub record Placed (E : Type 0) : Type 1 where
@@ -38,9 +39,24 @@ on_path w st = replacement st.variables (anchor_forms w.kernel w.anchor w.head) 
 abbrev pub claim_replaced : {E : Type 0} → Placed E → (made : List Fact) → Fact → State E → (State E → Tree E) → Tree E
 claim_replaced w made f st go = claim OfFact true (settles w.setting st f) (Replaced made f) st go
 
+-- a claim that is shown only where no item comes there
+abbrev pub never : {E : Type 0} → State E → (State E → Tree E) → Tree E
+never st go = claim OfFact true false (AtLeastZero (constant (negsuc 0))) st go
+
+-- claims of forms that were put in the path's terms; where a product has no form there, nothing is shown
+abbrev pub if_replaced : {E : Type 0} → Bool → (claims : State E → (State E → Tree E) → Tree E) → State E → (State E → Tree E) → Tree E
+if_replaced true claims st go = claims st go
+if_replaced false claims st go = never st go
+
+abbrev pub has_form : {E : Type 0} → Placed E → State E → Fact → Bool
+has_form w st f = is_replaceable (on_path w st) f
+
+abbrev pub claim_fact : {E : Type 0} → Placed E → Fact → State E → (State E → Tree E) → Tree E
+claim_fact w f st go = if_replaced (has_form w st f) (claim_replaced w (made (on_path w st) f) (replaced (on_path w st) f)) st go
+
 abbrev pub claim_facts : {E : Type 0} → Placed E → List Fact → State E → (State E → Tree E) → Tree E
 claim_facts w [] st go = go st
-claim_facts w (f ∷ fs) st go = claim_replaced w (made (on_path w st) f) (replaced (on_path w st) f) st (λ st'. claim_facts w fs st' go)
+claim_facts w (f ∷ fs) st go = claim_fact w f st (λ st'. claim_facts w fs st' go)
 
 -- a number divides a form term by term
 abbrev pub divides : ℕ → ℤ → Bool
@@ -59,10 +75,29 @@ claim_quotient w made m f q st go =
     claim OfCongruence true (divides_form m f) (Divided (made ++ multiple (pos m) q ∷ []) (minus f (multiple (pos m) q))) st (λ st1.
     claim OfCongruence true (divides_form m f) (Divided [] (minus (multiple (pos m) q) f)) st1 go)
 
+abbrev pub claim_congruence : {E : Type 0} → Placed E → Congruence → State E → (State E → Tree E) → Tree E
+claim_congruence w c st go =
+    if_replaced (has_form w st c.form) (claim_quotient w (made (on_path w st) c.form) c.modulus (replaced (on_path w st) c.form) (w.notes.quotient (st.claims + 1))) st go
+
 abbrev pub claim_congruences : {E : Type 0} → Placed E → List Congruence → State E → (State E → Tree E) → Tree E
 claim_congruences w [] st go = go st
-claim_congruences w (c ∷ cs) st go =
-    claim_quotient w (made (on_path w st) c.form) c.modulus (replaced (on_path w st) c.form) (w.notes.quotient (st.claims + 1)) st (λ st'. claim_congruences w cs st' go)
+claim_congruences w (c ∷ cs) st go = claim_congruence w c st (λ st'. claim_congruences w cs st' go)
+
+-- likewise of a form that is a multiple of another one: it is that form times the quotient. Where that product is none, nothing is shown
+abbrev pub claim_product : {E : Type 0} → (made : List Fact) → Fact → (product : Option Fact) → State E → (State E → Tree E) → Tree E
+claim_product made f None st go = claim OfCongruence true false (Divided made (constant (negsuc 0))) st go
+claim_product made f (Some h) st go =
+    claim OfCongruence true false (Divided (made ++ h ∷ []) (minus f h)) st (λ st1.
+    claim OfCongruence true false (Divided [] (minus h f)) st1 go)
+
+abbrev pub claim_multiple : {E : Type 0} → Placed E → Multiple → State E → (State E → Tree E) → Tree E
+claim_multiple w m st go =
+    if_replaced (has_form w st m.form && has_form w st m.of)
+    (claim_product (made (on_path w st) m.form ++ made (on_path w st) m.of) (replaced (on_path w st) m.form) (small_product (replaced (on_path w st) m.of) (w.notes.quotient (st.claims + 1)))) st go
+
+abbrev pub claim_multiples : {E : Type 0} → Placed E → List Multiple → State E → (State E → Tree E) → Tree E
+claim_multiples w [] st go = go st
+claim_multiples w (m ∷ ms) st go = claim_multiple w m st (λ st'. claim_multiples w ms st' go)
 
 -- what is walked on from a term has numbers of its kind and shifts of at most 31, and where a place is reached variables have their kinds
 -- and parameters that nothing assigns their arguments. Elaborated kernels are so; of others nothing is shown
@@ -70,24 +105,30 @@ abbrev pub is_lawful : Term → Bool
 is_lawful e = covers_term (λ sp. true) e
 
 abbrev pub refused : {E : Type 0} → State E → Tree E
-refused st = claim OfFact true false (AtLeastZero (constant (negsuc 0))) st (λ st'. Dead)
+refused st = never st (λ st'. Dead)
+
+-- what is said of a place
+abbrev pub claim_lines : {E : Type 0} → Placed E → (anchor head : Option ℕ) → State E → (State E → Tree E) → Tree E
+claim_lines w a h st go =
+    claim_facts w (facts_at w.notes a h) st (λ st1. claim_congruences w (congruences_at w.notes a h) st1 (λ st2. claim_multiples w (multiples_at w.notes a h) st2 go))
 
 -- a place is reached
 abbrev pub arrive_at : {E : Type 0} → Placed E → (anchor head : Option ℕ) → Stop → Turns → State E → Tree E
 arrive_at w a h stop turns st =
-    cond (are_slots w.kernel 0 (kinds w.kernel) st.variables) (claim_facts w (facts_at w.notes a h) st (λ st1. claim_congruences w (congruences_at w.notes a h) st1 (λ st2. Leaf (arrived stop turns st2)))) (refused st)
+    cond (are_slots w.kernel 0 (kinds w.kernel) st.variables) (claim_lines w a h st (λ st'. Leaf (arrived stop turns st'))) (refused st)
 
 abbrev pub stops : {E : Type 0} → Placed E → Stop → Turns → State E → Tree E
 stops w (AtBarrier n) turns st = arrive_at w (Some n) None (AtBarrier n) turns st
 stops w (AtHead n again) turns st = arrive_at w w.anchor (Some n) (AtHead n again) turns st
 stops w AtEnd turns st = Leaf (arrived AtEnd turns st)
 
--- a loop's ranking on the path
+-- a loop's ranking on the path, where it is
 abbrev pub rank_on : {E : Type 0} → Placed E → ℕ → State E → Fact
-rank_on w n st = replaced (on_path w st) (w.notes.ranking n).form
+rank_on w n st = cond (has_form w st (w.notes.ranking n).form) (replaced (on_path w st) (w.notes.ranking n).form) (constant (pos 0))
 
 abbrev pub claim_rank : {E : Type 0} → Placed E → ℕ → (extra : List Fact) → Fact → State E → (State E → Tree E) → Tree E
-claim_rank w n extra f st go = claim OfRanking true (settles w.setting st f) (Replaced (made (on_path w st) (w.notes.ranking n).form ++ extra) f) st go
+claim_rank w n extra f st go =
+    if_replaced (has_form w st (w.notes.ranking n).form) (claim OfRanking true (settles w.setting st f) (Replaced (made (on_path w st) (w.notes.ranking n).form ++ extra) f)) st go
 
 -- where a loop opens its ranking is as its bound says; after a turn it has fallen, or grown
 abbrev pub arrive : {E : Type 0} → Placed E → ℕ → (again : Bool) → State E → (State E → Tree E) → Tree E

@@ -8,4 +8,4 @@
 pub mod laws;
 mod notes;
 
-pub use notes::{Congruence, Lines, Notes, Quotient, Visible};
+pub use notes::{Congruence, Lines, Multiple, Notes, Quotient, Visible};

@@ -13,8 +13,15 @@ pub struct Congruence {
     pub ghost small: { modulus < 2 ^ 63 },
 }
 
-/// The lines of a place, with the numbers of its barrier and of its loop: the slots that two items of a group have alike there, facts and
-/// congruences.
+/// A form is a multiple of another one.
+#[derive(Drop)]
+pub struct Multiple {
+    pub of: Form,
+    pub form: Form,
+}
+
+/// The lines of a place, with the numbers of its barrier and of its loop: the slots that two items of a group have alike there, facts,
+/// congruences and multiples.
 #[derive(Drop)]
 pub struct Lines {
     pub anchor: Option<u32>,
@@ -22,6 +29,7 @@ pub struct Lines {
     pub same: Vec<u32>,
     pub facts: Vec<Form>,
     pub congruences: Vec<Congruence>,
+    pub multiples: Vec<Multiple>,
 }
 
 /// The slots whose ranges are known at a barrier or a loop, by its number; at the entry where there is none.

@@ -9,11 +9,12 @@ use Rattle.linear.specs.declared.form.Form.{Form}
 use Rattle.linear.proofs.FormLists.{length-forms, forms_more}
 use Rattle.facts.specs.Symbols.{Fact}
 use Rattle.path_steps.specs.Before.{EndHasAll}
-use Rattle.path_steps.specs.View.{ended_seen, held_seen, stop, turns, value, ranked}
+use Rattle.path_steps.specs.View.{ended_seen, held_seen, stop, turns, value, ranked, shared_seen}
 use Rattle.path_steps.specs.declared.path.Arrived.{Arrived}
 use Rattle.path_steps.specs.declared.path.Invented.{Invented}
 use Rattle.path_steps.specs.declared.path.Narrowed.{Narrowed}
 use Rattle.path_steps.specs.declared.path.Ranked.{Ranked}
+use Rattle.path_steps.specs.declared.path.Shared.{Shared}
 use Rattle.path_steps.proofs.Moves.{whole, all_of}
 
 pub ends_more : {E : Type 0} (fs : List Form) (es : List (Invented E)) (ns : List (Narrowed E)) (cs ds : List Arrived) (c : Arrived) → ds ≡ cs ++ c ∷ [] → c.facts ≡ length fs → c.news ≡ length es → c.narrowed ≡ length ns → map (ended_seen (forms fs) es ns) ds ≡ map (ended_seen (forms fs) es ns) cs ++ record { arrived = record { stop = stop c.stop; turns = turns c.turns; variables = map value c.variables.items; held = held_seen es ns }; facts = forms fs } ∷ []
@@ -42,3 +43,6 @@ ends_narrowed fs es ns ms x cs e h =
 -- the latest one stands first
 pub ranks_more : (rs ss : List Ranked) (r : Ranked) → ss ≡ rs ++ r ∷ [] → reverse (map ranked ss) ≡ ranked r ∷ reverse (map ranked rs)
 ranks_more rs ss r e = ap (λ l. reverse (map ranked l)) e ∙ ap reverse (map-append ranked rs (r ∷ [])) ∙ reverse-append (map ranked rs) (ranked r ∷ [])
+
+pub quotients_more : (qs rs : List Shared) (q : Shared) → rs ≡ qs ++ q ∷ [] → reverse (map shared_seen rs) ≡ shared_seen q ∷ reverse (map shared_seen qs)
+quotients_more qs rs q e = ap (λ l. reverse (map shared_seen l)) e ∙ ap reverse (map-append shared_seen qs (q ∷ [])) ∙ reverse-append (map shared_seen qs) (shared_seen q ∷ [])

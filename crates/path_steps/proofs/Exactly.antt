@@ -1,10 +1,13 @@
 -- Exact results in the range of their kind.
-use Rattle.std.proofs.Common.{◌≡◌, ◌⊎◌, inl, inr, Bool, true, false, List, [], ◌∷◌, refl, sym, ap, subst, ◌∙◌}
-use Rattle.std.specs.Prelude.{Result, Ok, Err, MatchResult}
+use Rattle.std.proofs.Common.{◌≡◌, ◌⊎◌, inl, inr, ℕ, suc, Bool, true, false, List, [], ◌∷◌, refl, sym, ap, subst, ◌∙◌, length}
+use Rattle.std.specs.Prelude.{Result, Ok, Err, MatchResult, MatchOption, Option, None, Some, cond, nat_le}
 use Rattle.semantics.specs.Word.{Kind, Int, Uint, Multiply}
 use Rattle.linear.specs.Linear.{Weighted}
 use Rattle.linear.specs.Exact.{fits_i64, fits_terms, fits, multiple}
 use Rattle.linear.specs.Forms.{form}
+use Rattle.linear.specs.Products.{and_then, product}
+use Rattle.linear.specs.Terms.{terms}
+use Rattle.linear.specs.declared.term.Term.{Term}
 use Rattle.linear.specs.declared.form.Form.{Form}
 use Rattle.facts.specs.Symbols.{Fact}
 use Rattle.facts.specs.Refusals.{IsUnfit}
@@ -61,12 +64,25 @@ left_stops s [] (u ∷ us) f g m e p d h = λ k. ranged_unfit s k (multiple f.co
 left_stops s (t ∷ ts) (u ∷ us) f g m e p d h = absurd cc
 
 pub new_product : {E : Type 0} (s : Setting E) (ts us : List (Weighted _)) (f g : Fact) (m n : Followed E) (x : E) (r : Result Form WalkError) → is_none us ≡ false → is_none ts ≡ false → x ≡ s.domain.mul_of (element_of s m.state f) (element_of s m.state g) →
-    MatchResult r (λ h. Leads m n (walks.invent s x) (form h)) (λ e. Stops m e (walks.invent s x)) →
+    MatchResult r (λ h. Leads m n (operators.product_in s s.is_wide f g x) (form h)) (λ e. Stops m e (operators.product_in s s.is_wide f g x)) →
     MatchResult r (λ h. Leads m n (operators.product s ts us f g) (form h)) (λ e. StopsAtForm s m e (operators.product s ts us f g))
 new_product s ts [] f g m n x r p q d h = absurd cc
 new_product s [] (u ∷ us) f g m n x r p q d h = absurd cc
-new_product s (t ∷ ts) (u ∷ us) f g m n x (Ok y) p q d h = λ go. subst (λ z. collect m.found (walks.invent s z m.state go) ≡ collect n.found (go (form y) n.state)) d (h go)
-new_product s (t ∷ ts) (u ∷ us) f g m n x (Err e) p q d h = λ k go. subst (λ z. Refused e (collect m.found (walks.invent s z m.state (λ y st. walks.ranged s k y st go)))) d (h (λ y st. walks.ranged s k y st go))
+new_product s (t ∷ ts) (u ∷ us) f g m n x (Ok y) p q d h = λ go. subst (λ z. collect m.found (operators.product_in s s.is_wide f g z m.state go) ≡ collect n.found (go (form y) n.state)) d (h go)
+new_product s (t ∷ ts) (u ∷ us) f g m n x (Err e) p q d h = λ k go. subst (λ z. Refused e (collect m.found (operators.product_in s s.is_wide f g z m.state (λ y st. walks.ranged s k y st go)))) d (h (λ y st. walks.ranged s k y st go))
+
+-- how many terms a product has
+length-terms : (ts : List Term) → length (terms ts) ≡ length ts
+length-terms [] = refl
+length-terms (t ∷ ts) = ap suc (length-terms ts)
+
+pub counted : (ts us : List Term) → terms ts ≡ terms us → length ts ≡ length (terms us)
+counted ts us d = sym (length-terms ts) ∙ ap length d
+
+pub as_made : (f g : Fact) (b : Bool) (o : Option Form) (y : Form) → o ≡ Some y → MatchOption o (product f g ≡ None) (λ z. product f g ≡ Some (form z)) → nat_le (length (form y).terms) 24 ≡ b → operators.small_product f g ≡ cond b (Some (form y)) None
+as_made f g b o y d m l =
+    let e : product f g ≡ Some (form y) = subst (λ p. MatchOption p (product f g ≡ None) (λ z. product f g ≡ Some (form z))) d m in
+    ap (λ p. and_then p (λ h. cond (nat_le (length h.terms) 24) (Some h) None)) e ∙ ap (λ c. cond c (Some (form y)) None) l
 
 pub ranged_product : {E : Type 0} (s : Setting E) (k : Kind) (x y f : Fact) (l m n : Followed E) (view : Value → values.Value) (r : Result Value WalkError) → Leads l m (operators.product s x.terms y.terms x y) f →
     MatchResult r (λ v. Leads m n (walks.ranged s k f) (view v)) (λ e. Stops m e (walks.ranged s k f)) →

@@ -6,6 +6,9 @@ pub mod Testing
 pub mod Told
 pub mod PastEnds
 pub mod Exactly
+pub mod Digits
+pub mod Alike
+pub mod SharedParts
 pub mod Quotients
 pub mod Accessing
 pub mod Turning

@@ -68,37 +68,40 @@ module _ {E : Type 0} (s : Setting E) (k : Kind) (x : Fact) (c : ℤ) where
       (unfit_fact e n.found (minus (constant (c -ℤ pos 1)) (left_over x c q)) (go q (left_over x c q) m.state) (subst (λ y. IsUnfit e (minus (constant (c -ℤ pos 1)) y)) d u))
 
 -- what a quotient leaves, as a new symbol
-module _ {E : Type 0} (s : Setting E) (c : ℤ) (left : Fact) where
+module _ {E : Type 0} (s : Setting E) (element : E) (left : Fact) where
   named_on : (Fact → State E → Tree E) → Fact → State E → Tree E
   named_on go r st = Know (minus left r) (Know (minus r left) (go r st))
 
-  named_from : (element : E) (l : Followed E) → element ≡ between s.domain (pos 0) (c -ℤ pos 1) → (go : Fact → State E → Tree E) → collect l.found (quotients.named s c left l.state go) ≡ collect l.found (walks.invent s element l.state (named_on go))
+  named_second : (r : Fact) (l m n : Followed E) → Leads l m (walks.invent s element) r → n ≡ with_fact m (minus left r) →
+      (go : Fact → State E → Tree E) → collect l.found (quotients.named_by s element left l.state go) ≡ collect n.found (Know (minus r left) (go r m.state))
   unfolding named_on
-  named_from element l a go = ap (λ y. collect l.found (walks.invent s y l.state (named_on go))) (sym a)
+  named_second r l m n h d go = h (named_on go) ∙ knows (minus left r) m n d (Know (minus r left) (go r m.state))
 
-  named_second : (element : E) (r : Fact) (l m n : Followed E) → element ≡ between s.domain (pos 0) (c -ℤ pos 1) → Leads l m (walks.invent s element) r → n ≡ with_fact m (minus left r) →
-      (go : Fact → State E → Tree E) → collect l.found (quotients.named s c left l.state go) ≡ collect n.found (Know (minus r left) (go r m.state))
-  unfolding named_on
-  named_second element r l m n a h d go = named_from element l a go ∙ h (named_on go) ∙ knows (minus left r) m n d (Know (minus r left) (go r m.state))
-
-  pub named_leads : (element : E) (r : Fact) (l m n o : Followed E) → element ≡ between s.domain (pos 0) (c -ℤ pos 1) → Leads l m (walks.invent s element) r → n ≡ with_fact m (minus left r) → o ≡ with_fact n (minus r left) → Leads l o (quotients.named s c left) r
-  named_leads element r l m n o a h d e go =
-      named_second element r l m n a h d go ∙ knows (minus r left) n o e (go r m.state) ∙ ap (λ st. collect o.found (go r st)) same
+  pub named_leads : (r : Fact) (l m n o : Followed E) → Leads l m (walks.invent s element) r → n ≡ with_fact m (minus left r) → o ≡ with_fact n (minus r left) → Leads l o (quotients.named_by s element left) r
+  named_leads r l m n o h d e go =
+      named_second r l m n h d go ∙ knows (minus r left) n o e (go r m.state) ∙ ap (λ st. collect o.found (go r st)) same
     where
       same : m.state ≡ o.state
       same = ap (λ (u : Followed E). u.state) (sym d) ∙ ap (λ (u : Followed E). u.state) (sym e)
 
-  pub named_new_stops : (element : E) (l : Followed E) (e : WalkError) → element ≡ between s.domain (pos 0) (c -ℤ pos 1) → Stops l e (walks.invent s element) → Stops l e (quotients.named s c left)
-  named_new_stops element l e a h go = refused_from e _ _ (named_from element l a go) (h (named_on go))
-
-  pub named_first_stops : (element : E) (r : Fact) (l m : Followed E) (e : WalkError) → element ≡ between s.domain (pos 0) (c -ℤ pos 1) → Leads l m (walks.invent s element) r → IsUnfit e (minus left r) → Stops l e (quotients.named s c left)
+  pub named_new_stops : (l : Followed E) (e : WalkError) → Stops l e (walks.invent s element) → Stops l e (quotients.named_by s element left)
   unfolding named_on
-  named_first_stops element r l m e a h u go =
-      refused_from e _ _ (named_from element l a go ∙ h (named_on go)) (unfit_fact e m.found (minus left r) (Know (minus r left) (go r m.state)) u)
+  named_new_stops l e h go = h (named_on go)
 
-  pub named_second_stops : (element : E) (r : Fact) (l m n : Followed E) (e : WalkError) → element ≡ between s.domain (pos 0) (c -ℤ pos 1) → Leads l m (walks.invent s element) r → n ≡ with_fact m (minus left r) → IsUnfit e (minus r left) → Stops l e (quotients.named s c left)
-  named_second_stops element r l m n e a h d u go =
-      refused_from e _ _ (named_second element r l m n a h d go) (unfit_fact e n.found (minus r left) (go r m.state) u)
+  pub named_first_stops : (r : Fact) (l m : Followed E) (e : WalkError) → Leads l m (walks.invent s element) r → IsUnfit e (minus left r) → Stops l e (quotients.named_by s element left)
+  unfolding named_on
+  named_first_stops r l m e h u go =
+      refused_from e _ _ (h (named_on go)) (unfit_fact e m.found (minus left r) (Know (minus r left) (go r m.state)) u)
+
+  pub named_second_stops : (r : Fact) (l m n : Followed E) (e : WalkError) → Leads l m (walks.invent s element) r → n ≡ with_fact m (minus left r) → IsUnfit e (minus r left) → Stops l e (quotients.named_by s element left)
+  named_second_stops r l m n e h d u go =
+      refused_from e _ _ (named_second r l m n h d go) (unfit_fact e n.found (minus r left) (go r m.state) u)
+
+-- from 0 up to below a number
+pub named_as : {E : Type 0} (s : Setting E) (c : ℤ) (left : Fact) (element : E) (l m : Followed E) (r : Result Form WalkError) → element ≡ between s.domain (pos 0) (c -ℤ pos 1) →
+    MatchResult r (λ f. Leads l m (quotients.named_by s element left) (form f)) (λ e. Stops l e (quotients.named_by s element left)) →
+    MatchResult r (λ f. Leads l m (quotients.named s c left) (form f)) (λ e. Stops l e (quotients.named s c left))
+named_as s c left element l m r d h = subst (λ x. MatchResult r (λ f. Leads l m (quotients.named_by s x left) (form f)) (λ e. Stops l e (quotients.named_by s x left))) d h
 
 -- what is left, named or not
 module _ {E : Type 0} (s : Setting E) (k : Kind) (x : Fact) (c : ℤ) where

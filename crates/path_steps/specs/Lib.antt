@@ -8,3 +8,4 @@ pub mod Refusals
 pub mod Halts
 pub mod Sides
 pub mod Divisors
+pub mod Sharing

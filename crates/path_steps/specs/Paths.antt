@@ -8,7 +8,8 @@ use Rattle.walk_trees.specs.Fitting.{goal_fits}
 use Rattle.walk_trees.specs.Trees.{Sort, Spot, Demand, Goal, Target, Tree, Leaf, Dead, Claim, Know, Touch, Fork, Access, Ended}
 use Rattle.arrivals.specs.Trees.{Stop, Turns}
 use Rattle.walk_trees.specs.Values.{Value, Arrived}
-use Rattle.walk_trees.specs.Walks.{State, claimed_once, counted, holding, with_rank, arrived, stand, demand, fork}
+use Rattle.walk_trees.specs.Shares.{Shared}
+use Rattle.walk_trees.specs.Walks.{State, claimed_once, counted, holding, with_rank, with_quotient, arrived, stand, demand, fork}
 use Rattle.walk_trees.specs.Statements.{spot_of}
 
 -- the way that is taken at a fork: the first one, or the other one, with the number of claims before it
@@ -97,7 +98,7 @@ pub record Followed (E : Type 0) : Type 0 where
 abbrev pub opening : {E : Type 0} → List Fact → List Value → List Choice → Followed E
 opening facts values cs = record {
   found = record { facts = facts; claims = []; accesses = []; ends = []; count = 0; taken = []; left = cs; is_fit = true; is_few = true };
-  state = record { claims = 0; variables = values; ranks = []; held = no_held; at = spot_of 0 };
+  state = record { claims = 0; variables = values; ranks = []; quotients = []; held = no_held; at = spot_of 0 };
 }
 
 abbrev pub with_claim : {E : Type 0} → Followed E → Sort → (needed settled : Bool) → Goal → Followed E
@@ -124,6 +125,9 @@ stopped m stop turns = add_leaf m.found (arrived stop turns m.state)
 
 abbrev pub with_ranked : {E : Type 0} → Followed E → ℕ → Fact → Followed E
 with_ranked m n f = record { found = m.found; state = with_rank n f m.state }
+
+abbrev pub with_shared : {E : Type 0} → Followed E → Shared → Followed E
+with_shared m q = record { found = m.found; state = with_quotient q m.state }
 
 abbrev pub with_spot : {E : Type 0} → Followed E → Spot → Followed E
 with_spot m p = record { found = m.found; state = stand p m.state }

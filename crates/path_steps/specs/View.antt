@@ -8,7 +8,9 @@ use Rattle.core_code.specs.View.{array, site, local_array}
 use Rattle.facts.specs.View.{known_seen, three}
 use Rattle.linear.specs.Forms.{form, forms}
 use Rattle.facts.specs.Symbols.{Fact}
+use Rattle.linear.specs.declared.form.Form.{Form}
 use Rattle.walk_trees.specs.Held as held
+use Rattle.walk_trees.specs.Shares as shares
 use Rattle.walk_trees.specs.Trees as trees
 use Rattle.walk_trees.specs.Values as values
 use Rattle.walk_trees.specs.Walks as walks
@@ -28,6 +30,7 @@ use Rattle.path_steps.specs.declared.path.Choice.{Choice}
 use Rattle.path_steps.specs.declared.path.Choice.TheVariants as choices
 use Rattle.path_steps.specs.declared.path.Value.{Value}
 use Rattle.path_steps.specs.declared.path.Ranked.{Ranked}
+use Rattle.path_steps.specs.declared.path.Shared.{Shared}
 use Rattle.path_steps.specs.declared.path.Stop.{Stop}
 use Rattle.path_steps.specs.declared.path.Stop.TheVariants as stops
 use Rattle.path_steps.specs.declared.path.Arrived.{Arrived}
@@ -97,6 +100,18 @@ ended_seen facts news narrowed a = record { arrived = record { stop = stop a.sto
 abbrev pub ranked : Ranked → walks.Ranked
 ranked r = record { loop = r.number; form = form r.form }
 
+-- the code has the oldest first
+abbrev pub shared_seen : Shared → shares.Shared
+shared_seen q = record { dividend = form q.dividend; divisor = form q.divisor; quotient = form q.quotient; left = form q.left }
+
+abbrev pub maybe_shared : Option Shared → Option shares.Shared
+maybe_shared None = None
+maybe_shared (Some q) = Some (shared_seen q)
+
+abbrev pub maybe_form : Option Form → Option Fact
+maybe_form None = None
+maybe_form (Some f) = Some (form f)
+
 unfoldable pub followed : {E : Type 0} → Path E → Followed E
 followed p = record {
   found = record {
@@ -114,6 +129,7 @@ followed p = record {
     claims = p.count;
     variables = map value p.variables.items;
     ranks = reverse (map ranked p.ranks.items);
+    quotients = reverse (map shared_seen p.quotients.items);
     held = held_seen p.news.items p.narrowed.items;
     at = spot p.at;
   };

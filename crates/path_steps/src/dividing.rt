@@ -132,6 +132,23 @@ fn up_to<D: Domain>(number: i64) -> D
     between(0, number - 1)
 }
 
+/// What a quotient leaves, as a new symbol of this element.
+pub fn named_by<D: Domain>(
+    setting: &Setting<D>,
+    path: &mut Path<D>,
+    element: D,
+    left: &Form,
+) -> Result<Form, WalkError>
+    ensures leads { MatchResult result (λ f. Leads (followed path.old) (followed path.new) (quotients.named_by (seen D.Domain setting.now) element (form_seen left.now)) (form_seen f)) (λ e. Stops (followed path.old) e (quotients.named_by (seen D.Domain setting.now) element (form_seen left.now))) }
+    ensures small { IfOk result (λ f. size (form_seen f) ≡ 1) }
+    ensures bare { IfOk result (λ f. (form_seen f).constant ≡ pos 0) }
+{
+    let name = invent(setting, path, element)?;
+    know_order(setting.alloc, path, left, &name)?;
+    know_order(setting.alloc, path, &name, left)?;
+    Ok(name)
+}
+
 /// What a quotient leaves, as a new symbol: from 0 up to below the number.
 fn named<D: Domain>(
     setting: &Setting<D>,
@@ -144,10 +161,7 @@ fn named<D: Domain>(
     ensures small { IfOk result (λ f. size (form_seen f) ≡ 1) }
     ensures bare { IfOk result (λ f. (form_seen f).constant ≡ pos 0) }
 {
-    let name = invent(setting, path, up_to(number))?;
-    know_order(setting.alloc, path, left, &name)?;
-    know_order(setting.alloc, path, &name, left)?;
-    Ok(name)
+    named_by(setting, path, up_to(number), left)
 }
 
 /// What a form that is at least 0 leaves by a number above 0, as a new symbol.

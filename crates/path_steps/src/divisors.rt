@@ -1,8 +1,10 @@
 //! What is to be shown of divisors.
 
-ghost use Rattle.std.specs.Prelude.{◌≡◌, ◌||◌, pos, negsuc, MatchResult};
+ghost use Rattle.std.specs.Prelude.{◌≡◌, ◌||◌, pos, negsuc, true, IfOk, MatchResult};
+ghost use Rattle.linear.specs.Exact.{fits};
 ghost use Rattle.linear.specs.Forms.{form as form_seen};
 ghost use Rattle.words.specs.View.{kind as kind_seen};
+ghost use Rattle.facts.specs.Symbols.{constant, minus};
 ghost use Rattle.walk_trees.specs.Walks as walks;
 ghost use Rattle.walk_trees.specs.Operators as operators;
 ghost use Rattle.path_steps.specs.Divisors.{claim_nonzero, claim_overflow};
@@ -37,7 +39,8 @@ fn lacks_zero(bounds: Bounds) -> bool
 
 /// A divisor is at least 1, or at most -1.
 fn divisor_goal(alloc: Global, divisor: &Form) -> Result<Goal, WalkError>
-    ensures { MatchResult result (λ g. goal_seen g ≡ operators.divisor_goal (form_seen divisor.now)) (λ e. IsGoalUnfit e (operators.divisor_goal (form_seen divisor.now))) }
+    ensures fit { IfOk result (λ _. fits (minus (form_seen divisor.now) (constant (pos 1))) ≡ true) }
+    ensures goal { MatchResult result (λ g. goal_seen g ≡ operators.divisor_goal (form_seen divisor.now)) (λ e. IsGoalUnfit e (operators.divisor_goal (form_seen divisor.now))) }
 {
     let positive = less_number(alloc, divisor, 1)?;
     let negative = number_less(alloc, -1, divisor)?;
@@ -50,7 +53,8 @@ fn claim_nonzero<D: Domain>(
     path: &mut Path<D>,
     divisor: &Form,
 ) -> Result<(), WalkError>
-    ensures { MatchResult result (λ _. Steps (followed path.old) (followed path.new) (claim_nonzero (seen D.Domain setting.now) (form_seen divisor.now))) (λ e. StopsAtStep (followed path.old) e (claim_nonzero (seen D.Domain setting.now) (form_seen divisor.now))) }
+    ensures fit { IfOk result (λ _. fits (minus (form_seen divisor.now) (constant (pos 1))) ≡ true) }
+    ensures steps { MatchResult result (λ _. Steps (followed path.old) (followed path.new) (claim_nonzero (seen D.Domain setting.now) (form_seen divisor.now))) (λ e. StopsAtStep (followed path.old) e (claim_nonzero (seen D.Domain setting.now) (form_seen divisor.now))) }
 {
     let settled = lacks_zero(bounds_of(setting, path, divisor));
     let goal = divisor_goal(setting.alloc, divisor)?;
@@ -141,7 +145,7 @@ fn claim_quotient<D: Domain>(
     }
 }
 
-/// The claims of a division: that of its divisor, then that of its quotient.
+/// The claims of a division: that of its divisor, then that of its quotient. The first was of `i64`.
 pub fn claim_divisor<D: Domain>(
     setting: &Setting<D>,
     path: &mut Path<D>,
@@ -149,7 +153,8 @@ pub fn claim_divisor<D: Domain>(
     dividend: &Form,
     divisor: &Form,
 ) -> Result<(), WalkError>
-    ensures { MatchResult result (λ _. Steps (followed path.old) (followed path.new) (operators.claim_divisor (seen D.Domain setting.now) (kind_seen kind) (form_seen dividend.now) (form_seen divisor.now))) (λ e. StopsAtStep (followed path.old) e (operators.claim_divisor (seen D.Domain setting.now) (kind_seen kind) (form_seen dividend.now) (form_seen divisor.now))) }
+    ensures fit { IfOk result (λ _. fits (minus (form_seen divisor.now) (constant (pos 1))) ≡ true) }
+    ensures steps { MatchResult result (λ _. Steps (followed path.old) (followed path.new) (operators.claim_divisor (seen D.Domain setting.now) (kind_seen kind) (form_seen dividend.now) (form_seen divisor.now))) (λ e. StopsAtStep (followed path.old) e (operators.claim_divisor (seen D.Domain setting.now) (kind_seen kind) (form_seen dividend.now) (form_seen divisor.now))) }
 {
     claim_nonzero(setting, path, divisor)?;
     claim_quotient(setting, path, kind, dividend, divisor)

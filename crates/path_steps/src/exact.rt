@@ -1,12 +1,12 @@
 //! Sums, differences, products and multiples: exact, and then in the range of their kind.
 
-ghost use Rattle.std.specs.Prelude.{◌≡◌, pos, negsuc, MatchResult};
+ghost use Rattle.std.specs.Prelude.{◌≡◌, pos, negsuc, None, Some, MatchOption, MatchResult};
 ghost use Rattle.linear.specs.Exact.{sum, multiple};
 ghost use Rattle.linear.specs.Forms.{form as form_seen};
 ghost use Rattle.semantics.specs.Word.{Multiply};
 ghost use Rattle.words.specs.View.{kind as kind_seen};
 ghost use Rattle.facts.specs.Symbols.{minus};
-ghost use Rattle.facts.specs.Refusals.{IsUnfit};
+ghost use Rattle.facts.specs.Refusals.{IsMemory, IsUnfit};
 ghost use Rattle.walk_trees.specs.Walks as walks;
 ghost use Rattle.walk_trees.specs.Operators as operators;
 ghost use Rattle.path_steps.specs.Leads.{Leads};
@@ -15,7 +15,7 @@ ghost use Rattle.path_steps.specs.View.{followed, setting as seen, value as valu
 
 use crate::held::element_at;
 use crate::path::{Path, Value};
-use crate::ranges::{invent, ranged};
+use crate::ranges::{bounded, invent, ranged};
 use crate::setting::Setting;
 use crate::tests::{difference, is_number, negated};
 use domain::Domain;
@@ -96,7 +96,52 @@ pub fn ranged_complement<D: Domain>(
     ranged(setting, path, kind, form)
 }
 
-/// The product of two forms: exact where one of them is a number, else a new symbol.
+/// The product of two forms, where it is and has at most 24 terms.
+pub fn small_product(alloc: Global, left: &Form, right: &Form) -> Result<Option<Form>, WalkError>
+    ensures { MatchResult result (λ r. MatchOption r (operators.small_product (form_seen left.now) (form_seen right.now) ≡ None) (λ f. operators.small_product (form_seen left.now) (form_seen right.now) ≡ Some (form_seen f))) IsMemory }
+{
+    let Some(form) = left.product(alloc, right)? else {
+        return Ok(None);
+    };
+    if form.terms().len() <= 24 {
+        return Ok(Some(form));
+    }
+    Ok(None)
+}
+
+/// The product of two forms with what an element knows of it as facts, else a new symbol of that element.
+fn multiplied<D: Domain>(
+    setting: &Setting<D>,
+    path: &mut Path<D>,
+    left: &Form,
+    right: &Form,
+    element: D,
+) -> Result<Form, WalkError>
+    ensures { MatchResult result (λ f. Leads (followed path.old) (followed path.new) (operators.multiplied (seen D.Domain setting.now) (operators.small_product (form_seen left.now) (form_seen right.now)) element) (form_seen f)) (λ e. Stops (followed path.old) e (operators.multiplied (seen D.Domain setting.now) (operators.small_product (form_seen left.now) (form_seen right.now)) element)) }
+{
+    match small_product(setting.alloc, left, right)? {
+        Some(form) => bounded(setting, path, form, element),
+        None => invent(setting, path, element),
+    }
+}
+
+/// The product of two forms with terms: in the wide walk the product of the forms where it is small, else a new symbol.
+fn product_in<D: Domain>(
+    setting: &Setting<D>,
+    path: &mut Path<D>,
+    left: &Form,
+    right: &Form,
+    element: D,
+) -> Result<Form, WalkError>
+    ensures { MatchResult result (λ f. Leads (followed path.old) (followed path.new) (operators.product_in (seen D.Domain setting.now) setting.now.is_wide (form_seen left.now) (form_seen right.now) element) (form_seen f)) (λ e. Stops (followed path.old) e (operators.product_in (seen D.Domain setting.now) setting.now.is_wide (form_seen left.now) (form_seen right.now) element)) }
+{
+    if setting.is_wide {
+        return multiplied(setting, path, left, right, element);
+    }
+    invent(setting, path, element)
+}
+
+/// The product of two forms: exact where one of them is a number, and in the wide walk where it is small, else a new symbol.
 fn product<D: Domain>(
     setting: &Setting<D>,
     path: &mut Path<D>,
@@ -114,7 +159,7 @@ fn product<D: Domain>(
         return Ok(form);
     }
     let element = element_at(setting, path, left).mul(element_at(setting, path, right));
-    invent(setting, path, element)
+    product_in(setting, path, left, right, element)
 }
 
 /// The product of two operands, claimed to be in the range of its kind or, of a `uint`, a new symbol.

@@ -4,6 +4,7 @@ ghost use Rattle.std.specs.Prelude.{◌≡◌, ◌&&◌, [], map, MatchResult};
 ghost use Rattle.std.specs.Prelude.{neg_ℤ, pos};
 ghost use Rattle.linear.specs.Forms.{form as form_seen};
 ghost use Rattle.linear.specs.Terms.{term as term_seen};
+ghost use Rattle.linear.specs.Products.{unpacked};
 ghost use Rattle.facts.specs.Symbols.{symbol_of};
 ghost use Rattle.facts.specs.Elements as elements;
 ghost use Rattle.facts.specs.Refusals.{IsMemory};
@@ -70,20 +71,67 @@ fn latest<D: Domain>(found: D, narrowed: &[Narrowed<D>], symbol: Symbol) -> D
 }
 
 #[tactic(auto, unfolding(crate::specs::View::followed))]
-/// A symbol's element on the path.
-pub fn element_held<D: Domain>(setting: &Setting<D>, path: &Path<D>, symbol: Symbol) -> D
+/// The element on the path of a symbol that is no product.
+fn element_held<D: Domain>(setting: &Setting<D>, path: &Path<D>, symbol: Symbol) -> D
     ensures { result ≡ held.element_held D.Domain (known_seen setting.now.known) (followed path.now).state.held symbol.number }
 {
     let found = known_element(&setting.known, path.news.as_slice(), symbol);
     latest(found, path.narrowed.as_slice(), symbol)
 }
 
+/// The element of a factor, which is no product itself.
+fn element_of_own<D: Domain>(setting: &Setting<D>, path: &Path<D>, symbol: Symbol) -> D
+    ensures { result ≡ held.element_of_own D.Domain (known_seen setting.now.known) (followed path.now).state.held symbol.number }
+{
+    if symbol.number % 16 == 15 {
+        return D::top();
+    }
+    element_held(setting, path, symbol)
+}
+
+/// The element of factors, of which a number holds three at most, from the left.
+fn element_of_product<D: Domain>(setting: &Setting<D>, path: &Path<D>, number: u64) -> D
+    ensures { result ≡ held.elements_of_factors D.Domain (held.element_of_own D.Domain (known_seen setting.now.known) (followed path.now).state.held) (unpacked 3 number) }
+{
+    let digit = number % 1048576;
+    if digit == 0 {
+        return D::of(1);
+    }
+    let leftmost = Symbol { number: digit - 1 };
+    let mut so_far = element_of_own(setting, path, leftmost);
+    let mut left = number / 1048576;
+    let mut most: u32 = 2;
+    while most > 0 {
+        let digit = left % 1048576;
+        if digit == 0 {
+            return so_far;
+        }
+        let factor = Symbol { number: digit - 1 };
+        so_far = so_far.mul(element_of_own(setting, path, factor));
+        left /= 1048576;
+        most -= 1;
+    }
+    so_far
+}
+
+#[tactic(auto, unfolding(crate::specs::View::followed))]
+/// A symbol's element on the path, also a product's: the latest, or that of its factors.
+pub fn element_number<D: Domain>(setting: &Setting<D>, path: &Path<D>, symbol: Symbol) -> D
+    ensures { result ≡ held.element_number D.Domain (known_seen setting.now.known) (followed path.now).state.held symbol.number }
+{
+    if symbol.number % 16 == 15 {
+        let found = element_of_product(setting, path, symbol.number / 16);
+        return latest(found, path.narrowed.as_slice(), symbol);
+    }
+    element_held(setting, path, symbol)
+}
+
 /// The element of a sum with one more term.
 fn with_term<D: Domain>(setting: &Setting<D>, path: &Path<D>, so_far: D, term: Term) -> D
-    ensures { result ≡ D.add_of so_far (D.mul_of (D.number_of (term_seen term).coefficient) (held.element_held D.Domain (known_seen setting.now.known) (followed path.now).state.held (term_seen term).symbol)) }
+    ensures { result ≡ D.add_of so_far (D.mul_of (D.number_of (term_seen term).coefficient) (held.element_number D.Domain (known_seen setting.now.known) (followed path.now).state.held (term_seen term).symbol)) }
 {
     let factor = D::of(term.coefficient);
-    so_far.add(factor.mul(element_held(setting, path, term.symbol)))
+    so_far.add(factor.mul(element_number(setting, path, term.symbol)))
 }
 
 /// A form's element on the path, by its constant and then its terms in their order.

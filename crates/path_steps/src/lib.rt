@@ -21,6 +21,8 @@ mod narrowing;
 mod path;
 mod ranges;
 mod setting;
+mod shares;
+mod sharing;
 mod steps;
 mod telling;
 mod tests;
@@ -32,16 +34,18 @@ pub use dividing::{left_by, name_left, quotient, sized_quotient, times};
 pub use divisors::claim_divisor;
 pub use exact::{
     ranged_complement, ranged_difference, ranged_negation, ranged_product, ranged_sum,
+    small_product,
 };
 pub use halt::Halt;
 pub use held::{element_at, element_from, settles};
 pub use ids::id_form;
 pub use narrowing::narrow;
 pub use path::{
-    Access, Arrived, Choice, Claim, Goal, Invented, Narrowed, Path, Ranked, Sort, Spot, Stop,
-    Target, Value,
+    Access, Arrived, Choice, Claim, Goal, Invented, Narrowed, Path, Ranked, Shared, Sort, Spot,
+    Stop, Target, Value,
 };
 pub use ranges::{any_of, both_brought, brought, invent, unknown};
 pub use setting::Setting;
+pub use sharing::share;
 pub use telling::{tell, tell_order_where};
 pub use tests::{copied, difference, is_number, split, split_number};

@@ -10,7 +10,7 @@ ghost use Rattle.walk_trees.specs.Held as held;
 ghost use Rattle.path_steps.specs.Paths.{with_held};
 ghost use Rattle.path_steps.specs.View.{followed};
 
-use crate::held::{element_held, element_without};
+use crate::held::{element_number, element_without};
 use crate::path::Path;
 use crate::setting::Setting;
 use domain::Domain;
@@ -60,7 +60,7 @@ fn narrow_one<D: Domain>(
 ) -> Result<(), WalkError>
     ensures { MatchResult result (λ _. followed path.new ≡ with_held (followed path.old) (held.narrow_one D.Domain (known_seen setting.now.known) (form_seen form.now) (term_seen term) (followed path.old).state.held)) IsMemory }
 {
-    let element = element_held(setting, path, term.symbol);
+    let element = element_number(setting, path, term.symbol);
     let rest = element_without(setting, path, form, term.symbol);
     match rest.bounds().high {
         Some(high) => narrow_by(path, term, element, high),

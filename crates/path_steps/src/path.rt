@@ -101,6 +101,15 @@ pub struct Value {
     pub form: Form,
 }
 
+/// A quotient by a form that is no number, and what it leaves.
+#[derive(Drop)]
+pub struct Shared {
+    pub dividend: Form,
+    pub divisor: Form,
+    pub quotient: Form,
+    pub left: Form,
+}
+
 /// The value of a loop's ranking when its test was last true, with the loop's number.
 #[derive(Drop)]
 pub struct Ranked {
@@ -143,6 +152,7 @@ pub struct Path<D> {
     pub narrowed: Vec<Narrowed<D>>,
     pub variables: Vec<Value>,
     pub ranks: Vec<Ranked>,
+    pub quotients: Vec<Shared>,
     pub at: Spot,
     pub ghost claims_in: { All (HasFacts (length facts.items)) claims.items },
     pub ghost accesses_in: { All (HasAll (length facts.items) (length news.items) (length narrowed.items)) accesses.items },

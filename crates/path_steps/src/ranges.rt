@@ -1,11 +1,12 @@
 //! Claims, new symbols, and the ranges of kinds.
 
-ghost use Rattle.std.specs.Prelude.{◌≡◌, ◌<◌, ◌^◌, ◌⊎◌, pos, List, length, IfOk, IfErr, MatchResult};
+ghost use Rattle.std.specs.Prelude.{◌≡◌, ◌<◌, ◌^◌, ◌⊎◌, pos, Some, List, length, IfOk, IfErr, MatchResult};
 ghost use Rattle.linear.specs.Forms.{form as form_seen};
 ghost use Rattle.linear.specs.Sizes.{size};
 ghost use Rattle.words.specs.View.{kind as kind_seen};
 ghost use Rattle.semantics.specs.Word.{Uint};
 ghost use Rattle.walk_trees.specs.Walks as walks;
+ghost use Rattle.walk_trees.specs.Operators as operators;
 ghost use Rattle.facts.specs.Symbols.{Fact};
 ghost use Rattle.walk_trees.specs.Trees.{Tree};
 ghost use Rattle.path_steps.specs.Paths.{collect};
@@ -40,7 +41,7 @@ pub fn claim_form<D: Domain>(
 
 #[tactic(auto, unfolding(crate::specs::View::followed))]
 /// The number of new symbols on a path.
-fn count_of_news<D: Copy>(path: &Path<D>) -> usize
+pub fn count_of_news<D: Copy>(path: &Path<D>) -> usize
     ensures exact { result ≡ length (followed path.now).state.held.news }
     ensures small { result < 2 ^ 60 }
 {
@@ -122,6 +123,36 @@ fn know_high<D: Copy>(
         path.know(fact)?;
     }
     Ok(())
+}
+
+/// What an element knows of a form: its ends, where it has them.
+fn know_bounds<D: Domain>(
+    alloc: Global,
+    path: &mut Path<D>,
+    of: &Form,
+    element: D,
+) -> Result<(), WalkError>
+    ensures leads { IfOk result (λ _. (rest : Tree D) → collect (followed path.old).found (walks.know_all (walks.bound_facts (form_seen of.now) (D.bounds_of element)) rest) ≡ collect (followed path.new).found rest) }
+    ensures state { IfOk result (λ _. (followed path.new).state ≡ (followed path.old).state) }
+    ensures refused { IfErr result (λ e. (rest : Tree D) → Refused e (collect (followed path.old).found (walks.know_all (walks.bound_facts (form_seen of.now) (D.bounds_of element)) rest))) }
+{
+    let bounds = element.bounds();
+    know_low(alloc, path, of, bounds.low)?;
+    know_high(alloc, path, of, bounds.high)?;
+    Ok(())
+}
+
+/// A product with what an element knows of it as facts.
+pub fn bounded<D: Domain>(
+    setting: &Setting<D>,
+    path: &mut Path<D>,
+    form: Form,
+    element: D,
+) -> Result<Form, WalkError>
+    ensures { MatchResult result (λ f. Leads (followed path.old) (followed path.new) (operators.multiplied (seen D.Domain setting.now) (Some (form_seen form)) element) (form_seen f)) (λ e. Stops (followed path.old) e (operators.multiplied (seen D.Domain setting.now) (Some (form_seen form)) element)) }
+{
+    know_bounds(setting.alloc, path, &form, element)?;
+    Ok(form)
 }
 
 /// The obligation of this number has an entry.

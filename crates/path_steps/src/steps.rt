@@ -5,13 +5,13 @@ ghost use Rattle.linear.specs.Forms.{form as form_seen, forms};
 ghost use Rattle.core_code.specs.View.{site as site_seen};
 ghost use Rattle.facts.specs.Refusals.{IsMemory};
 ghost use Rattle.walk_trees.specs.Walks.{spot_at, is_none};
-ghost use Rattle.path_steps.specs.Paths.{opening, with_claim, with_fact, with_element, with_narrowed, with_access, with_spot, with_choice, front, choosing};
+ghost use Rattle.path_steps.specs.Paths.{opening, with_claim, with_fact, with_element, with_narrowed, with_access, with_shared, with_spot, with_choice, front, choosing};
 ghost use Rattle.path_steps.specs.Refusals.{Refused};
 ghost use Rattle.path_steps.specs.Leads.{Leads};
-ghost use Rattle.path_steps.specs.View.{followed, sort as sort_seen, spot as spot_seen, target as target_seen, goal_seen, choice as choice_seen, value as value_seen};
+ghost use Rattle.path_steps.specs.View.{followed, sort as sort_seen, spot as spot_seen, target as target_seen, goal_seen, shared_seen, choice as choice_seen, value as value_seen};
 
 use crate::path::{
-    Access, Choice, Claim, Goal, Invented, Narrowed, Path, Sort, Spot, Target, Value,
+    Access, Choice, Claim, Goal, Invented, Narrowed, Path, Shared, Sort, Spot, Target, Value,
 };
 use core_code::tree::Site;
 use facts::WalkError;
@@ -41,6 +41,7 @@ impl<D: Copy> Path<D> {
             narrowed: Vec::new(alloc),
             variables,
             ranks: Vec::new(alloc),
+            quotients: Vec::new(alloc),
             at: Spot {
                 statement: 0,
                 site: Site { line: 0, column: 0 },
@@ -128,6 +129,14 @@ impl<D: Copy> Path<D> {
         ensures { MatchResult result (λ _. followed self.new ≡ with_narrowed (followed self.old) symbol.number element) IsMemory }
     {
         self.narrowed.push(Narrowed { symbol, element })?;
+        Ok(())
+    }
+
+    /// Keeps a quotient, so that an equal one is the same.
+    pub fn keep(&mut self, shared: Shared) -> Result<(), WalkError>
+        ensures { MatchResult result (λ _. followed self.new ≡ with_shared (followed self.old) (shared_seen shared)) IsMemory }
+    {
+        self.quotients.push(shared)?;
         Ok(())
     }
 

@@ -15,3 +15,4 @@ pub mod SetSlots
 pub mod Then
 pub mod Turned
 pub mod Unrooted
+pub mod QuotientFacts

@@ -89,6 +89,13 @@ module _ {E A B : Type 0} (one : State E → (A → State E → Tree E) → Tree
   pub turn_stops_behind : (a : A) (l m : Followed E) (e : WalkError) → Leads l m one a → Stops m e (two a) → Stops l e in_turn
   turn_stops_behind a l m e p h go = refused_from e _ _ (p (λ x st'. two x st' go)) (h go)
 
+-- what follows of it as an answer or a refusal
+pub turned : {E A B T : Type 0} (one : State E → (A → State E → Tree E) → Tree E) (two : A → State E → (B → State E → Tree E) → Tree E) (a : A) (l m n : Followed E) (view : T → B) (r : Result T WalkError) → Leads l m one a →
+    MatchResult r (λ t. Leads m n (two a) (view t)) (λ e. Stops m e (two a)) →
+    MatchResult r (λ t. Leads l n (in_turn one two) (view t)) (λ e. Stops l e (in_turn one two))
+turned one two a l m n view (Ok t) p h = turn_leads one two a (view t) l m n p h
+turned one two a l m n view (Err e) p h = turn_stops_behind one two a l m e p h
+
 -- operands that were looked up
 pub looked_up : {E : Type 0} (s : Setting E) (op : Operator) (k : Kind) (x y x' y' : Fact) (m n : Followed E) (view : Value → values.Value) (r : Result Value WalkError) →
     x' ≡ walks.known_form s m.state x → y' ≡ walks.known_form s m.state y →

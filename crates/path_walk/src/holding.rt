@@ -6,7 +6,7 @@ ghost use Rattle.facts.specs.Refusals.{IsMemory};
 ghost use Rattle.facts.specs.Symbols.{number};
 ghost use Rattle.walk_trees.specs.Walks.{any_of};
 ghost use Rattle.path_steps.specs.View.{invented_seen, narrowed_seen};
-ghost use Rattle.obligations.specs.View.{congruence as congruence_seen};
+ghost use Rattle.obligations.specs.View.{congruence as congruence_seen, multiple as multiple_seen};
 ghost use Rattle.obligations.specs.Roots as roots;
 ghost use Rattle.facts.specs.Families.{symbol_in};
 ghost use Rattle.path_walk.specs.Slots.{HasSlots};
@@ -16,7 +16,7 @@ use arrival_claims::kind_at;
 use core_code::tree::{Core, Site};
 use domain::Domain;
 use facts::{Family, Side, WalkError};
-use obligations::Congruence;
+use obligations::{Congruence, Multiple};
 use path_steps::{Invented, Narrowed, Spot, Value, any_of};
 use std::alloc::Global;
 
@@ -34,16 +34,39 @@ fn invented_at_root<D: Domain>(element: D) -> Invented<D>
 }
 
 /// The elements of the quotients of congruences, of which nothing is known.
-pub fn tops<D: Domain>(
-    alloc: Global,
-    congruences: &[Congruence],
-) -> Result<Vec<Invented<D>>, WalkError>
+fn tops<D: Domain>(alloc: Global, congruences: &[Congruence]) -> Result<Vec<Invented<D>>, WalkError>
     ensures { MatchResult result (λ v. map invented_seen v.items ≡ roots.tops D.Domain (map congruence_seen congruences.now)) IsMemory }
 {
     let mut elements = Vec::new(alloc);
     for _ in congruences {
         elements.push(invented_at_root(D::top()))?;
     }
+    Ok(elements)
+}
+
+/// Adds those of the quotients of multiples.
+fn push_tops<D: Domain>(
+    elements: &mut Vec<Invented<D>>,
+    multiples: &[Multiple],
+) -> Result<(), WalkError>
+    ensures { MatchResult result (λ _. map invented_seen elements.new.items ≡ map invented_seen elements.old.items ++ roots.tops D.Domain (map multiple_seen multiples.now)) IsMemory }
+{
+    for _ in multiples {
+        elements.push(invented_at_root(D::top()))?;
+    }
+    Ok(())
+}
+
+/// The elements of the quotients of congruences, then those of multiples.
+pub fn root_news<D: Domain>(
+    alloc: Global,
+    congruences: &[Congruence],
+    multiples: &[Multiple],
+) -> Result<Vec<Invented<D>>, WalkError>
+    ensures { MatchResult result (λ v. map invented_seen v.items ≡ roots.tops D.Domain (map congruence_seen congruences.now) ++ roots.tops D.Domain (map multiple_seen multiples.now)) IsMemory }
+{
+    let mut elements = tops(alloc, congruences)?;
+    push_tops(&mut elements, multiples)?;
     Ok(elements)
 }
 

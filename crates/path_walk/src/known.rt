@@ -8,8 +8,8 @@ ghost use Rattle.obligations.specs.Roots as roots;
 ghost use Rattle.path_walk.specs.Rooted.{IsUnrooted};
 
 use crate::ends::push_ranges;
-use crate::products::push_congruences;
-use crate::said::{congruences_at, facts_at};
+use crate::multiples::push_quotients;
+use crate::said::{congruences_at, facts_at, multiples_at};
 use core_code::tree::Core;
 use facts::{Side, WalkError, copy_all, item_facts};
 use linear::Form;
@@ -29,6 +29,8 @@ pub fn root_facts(
     let mut known = item_facts(alloc, core.sizes, Side::First)?;
     push_ranges(alloc, &mut known, core, notes, anchor, head)?;
     copy_all(alloc, &mut known, facts_at(notes, anchor, head))?;
-    push_congruences(alloc, &mut known, congruences_at(notes, anchor, head))?;
+    let congruences = congruences_at(notes, anchor, head);
+    let multiples = multiples_at(notes, anchor, head);
+    push_quotients(alloc, &mut known, congruences, multiples)?;
     Ok(known)
 }

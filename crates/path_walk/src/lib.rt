@@ -26,6 +26,7 @@ mod lawful;
 mod loops;
 mod masks;
 mod meeting;
+mod multiples;
 mod narrowing;
 mod operands;
 mod operators;

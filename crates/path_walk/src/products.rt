@@ -17,7 +17,7 @@ use obligations::Congruence;
 use std::alloc::Global;
 
 /// The number of quotients of congruences. A congruence takes more than 16 bytes.
-fn quotients(congruences: &[Congruence]) -> usize
+pub fn quotients(congruences: &[Congruence]) -> usize
     ensures exact { result ≡ length congruences.now }
     ensures small { result < 576460752303423488 }
 {
@@ -36,7 +36,7 @@ fn product(alloc: Global, modulus: u64, index: usize) -> Result<Form, WalkError>
 }
 
 /// Adds the two facts that two forms are equal.
-fn push_equal(
+pub fn push_equal(
     alloc: Global,
     into: &mut Vec<Form>,
     form: &Form,

@@ -11,10 +11,10 @@ ghost use Rattle.obligations.specs.View.{seen};
 ghost use Rattle.obligations.specs.Roots.{root_facts};
 ghost use Rattle.path_walk.specs.Rooted.{rooted, IsUnrooted};
 
-use crate::holding::{root_narrowed, tops};
+use crate::holding::{root_narrowed, root_news};
 use crate::known::root_facts;
 use crate::narrowing::narrow_by_notes;
-use crate::said::congruences_at;
+use crate::said::{congruences_at, multiples_at};
 use crate::variables::root_values;
 use arrival_claims::Placing;
 use core_code::tree::Site;
@@ -36,7 +36,7 @@ pub struct Root<D> {
 #[tactic(auto, unfolding(path_steps::specs::View::followed))]
 /// A path before its first step, with so many claims before it.
 fn planted<D: Domain>(alloc: Global, root: Root<D>, claims: u32, given: Vec<Choice>) -> Path<D>
-    ensures { followed result ≡ record { found = record { facts = forms root.known.items; claims = []; accesses = []; ends = []; count = claims; taken = []; left = map choice_seen given.items; is_fit = true; is_few = true }; state = record { claims = claims; variables = map value_seen root.variables.items; ranks = []; held = held_seen root.news.items root.narrowed.items; at = spot_of 0 } } }
+    ensures { followed result ≡ record { found = record { facts = forms root.known.items; claims = []; accesses = []; ends = []; count = claims; taken = []; left = map choice_seen given.items; is_fit = true; is_few = true }; state = record { claims = claims; variables = map value_seen root.variables.items; ranks = []; quotients = []; held = held_seen root.news.items root.narrowed.items; at = spot_of 0 } } }
 {
     Path {
         facts: root.known,
@@ -50,6 +50,7 @@ fn planted<D: Domain>(alloc: Global, root: Root<D>, claims: u32, given: Vec<Choi
         narrowed: root.narrowed,
         variables: root.variables,
         ranks: Vec::new(alloc),
+        quotients: Vec::new(alloc),
         at: Spot {
             statement: 0,
             site: Site { line: 0, column: 0 },
@@ -72,7 +73,9 @@ pub fn root_of<D: Domain>(
     let head = placing.head;
     let known = root_facts(alloc, core, placing.notes, anchor, head)?;
     let variables = root_values(alloc, core, anchor, head)?;
-    let news = tops(alloc, congruences_at(placing.notes, anchor, head))?;
+    let congruences = congruences_at(placing.notes, anchor, head);
+    let multiples = multiples_at(placing.notes, anchor, head);
+    let news = root_news(alloc, congruences, multiples)?;
     let narrowed = root_narrowed(alloc, core, variables.as_slice(), anchor, head)?;
     let root = Root {
         known,

@@ -1,16 +1,16 @@
 -- Where all accesses are small, so are the forms that are made of two of them.
-use Rattle.std.proofs.Common.{◌≡◌, ℕ, suc, ◌+◌, ◌&&◌, Bool, true, false, List, [], ◌∷◌, ◌++◌, map, arith, refl, ap}
-use Rattle.std.specs.Prelude.{unsigned_abs}
+use Rattle.std.proofs.Common.{◌≡◌, ℕ, suc, ◌≤◌, ◌&&◌, Bool, true, false, List, [], ◌∷◌, ◌++◌, map, arith, refl}
+use Rattle.std.specs.Prelude.{pos}
 use Rattle.semantics.specs.Core.{Space, Global, Local, Array}
 use Rattle.linear.specs.Linear.{Weighted}
 use Rattle.semantics.specs.Launch.{Three, Kernel}
 use Rattle.semantics.specs.Conditions.{Conditions}
 use Rattle.linear.specs.Exact.{fits}
 use Rattle.linear.specs.Sizes.{terms_size}
-use Rattle.linear.proofs.Sizes.{size_difference, fits_small}
+use Rattle.linear.proofs.Sizes.{size_sum, size_difference, fits_small}
 use Rattle.facts.specs.Symbols.{Fact, minus}
 use Rattle.walk_trees.specs.Trees.{Access}
-use Rattle.walk_trees.specs.Seconds.{second_terms, second_form}
+use Rattle.walk_trees.specs.Seconds.{second, second_terms, second_form}
 use Rattle.walk_trees.specs.Pairs.{Scope, Within, Across, differs, where_so}
 use Rattle.walk_trees.proofs.Each.{Each}
 use Rattle.obligations.specs.Listing.{Of, Planted, of_place}
@@ -22,10 +22,12 @@ use Rattle.plain_kernels.proofs.Fitting.{IsSmallAccess, two}
 difference-fits : (f g : Fact) → IsSmall f → IsSmall g → fits (minus f g) ≡ true
 difference-fits f g h i = fits_small (minus f g) (omega (arith, h, i, size_difference f g))
 
--- a copy is as large as its form
-terms-size-second : (ts : List (Weighted ℕ)) → terms_size (second_terms ts) ≡ terms_size ts
-terms-size-second [] = refl
-terms-size-second (t ∷ ts) = ap (λ n. unsigned_abs t.coefficient + n) (terms-size-second ts)
+-- a copy is no larger than its form
+terms-size-second : (ts : List (Weighted ℕ)) → terms_size (second_terms ts) ≤ terms_size ts
+terms-size-second [] = omega arith
+terms-size-second (t ∷ ts) =
+    let m = size_sum (record { terms = record { coefficient = t.coefficient; symbol = second t.symbol } ∷ []; constant = pos 0 }) (record { terms = second_terms ts; constant = pos 0 }) in
+    omega (arith, m, terms-size-second ts)
 
 small-second : (f : Fact) → IsSmall f → IsSmall (second_form f)
 small-second f h = omega (arith, h, terms-size-second f.terms)

@@ -12,7 +12,7 @@ use Rattle.facts.specs.Symbols.{First, Symbol, Local, Group, number, symbol_of, 
 use Rattle.facts.specs.Elements.{Known, Elements, element}
 use Rattle.facts.specs.Launching.{known, below}
 use Rattle.facts.proofs.Naming.{symbol_of-number}
-use Rattle.walk_trees.specs.Held.{Held, latest, element_held}
+use Rattle.walk_trees.specs.Held.{Held, latest, element_held, element_number}
 use Rattle.walk_trees.specs.Walks.{Setting, State, element_of, settles, low_end, known_form}
 use Rattle.walk_trees.specs.Terms.{id_form}
 use Rattle.walk_trees.specs.Statements.{setting, opening_values}
@@ -68,7 +68,7 @@ module _ (k : Kernel) (c : Conditions) (w : Bool) (h : ℕ → Bool) (m n : ℕ)
   s = setting domain k c w h
 
   abbrev element_now : State Both → ℕ → Both
-  element_now st i = element_held domain s.known st.held i
+  element_now st i = element_number domain s.known st.held i
 
   local-in : (st : State Both) → IsPlainState k st → FirstIn (pos 0) (pos m) (element_now st local)
   local-in st o =

@@ -10,11 +10,17 @@ pub record Range : Type 0 where
   pub low : ℤ
   pub high : ℤ
 
--- a number, or a number times an argument (by its number among the value parameters) or times a group count
+-- what a product has two of: an argument (by its number among the value parameters) or a group count
+pub data Factor : Type 0 where
+  ArgumentFactor : (parameter : ℕ) → Factor
+  GroupsFactor : (dimension : ℕ) → Factor
+
+-- a number, or a number times an argument, times a group count, or times a product of two of these
 pub data Summand : Type 0 where
   Constant : (number : ℤ) → Summand
   Argument : (factor : ℤ) (parameter : ℕ) → Summand
   Groups : (factor : ℤ) (dimension : ℕ) → Summand
+  Product : (factor : ℤ) (first second : Factor) → Summand
 
 -- the left sum is at least the right one
 pub record Requirement : Type 0 where
@@ -28,10 +34,15 @@ pub record Conditions : Type 0 where
   pub requires : List Requirement
   pub budget : ℕ
 
+abbrev pub factor_value : Launch → Factor → ℤ
+factor_value l (ArgumentFactor n) = (slice_index_or l.arguments n zero_word).value
+factor_value l (GroupsFactor d) = pos (along l.groups d 1)
+
 abbrev pub summand_value : Launch → Summand → ℤ
 summand_value l (Constant n) = n
 summand_value l (Argument c n) = c *ℤ (slice_index_or l.arguments n zero_word).value
 summand_value l (Groups c d) = c *ℤ pos (along l.groups d 1)
+summand_value l (Product c a b) = c *ℤ (factor_value l a *ℤ factor_value l b)
 
 abbrev pub sum_value : Launch → List Summand → ℤ
 sum_value l [] = pos 0
@@ -56,10 +67,15 @@ pub record Meets (c : Conditions) (l : Launch) : Type 0 where
   pub requires : All (IsRequired l) c.requires
 
 -- the conditions are of this kernel: a range for each value parameter, a sum for each buffer parameter, and no other names
+abbrev pub IsNamedFactor : Kernel → Factor → Type 0
+IsNamedFactor k (ArgumentFactor p) = p < length k.arguments
+IsNamedFactor k (GroupsFactor d) = d < 3
+
 abbrev pub IsNamed : Kernel → Summand → Type 0
 IsNamed k (Constant n) = Unit {0}
 IsNamed k (Argument c p) = p < length k.arguments
 IsNamed k (Groups c d) = d < 3
+IsNamed k (Product c a b) = IsNamedFactor k a × IsNamedFactor k b
 
 pub record ConditionsFit (kernel : Kernel) (c : Conditions) : Type 0 where
   pub arguments : length c.arguments ≡ length kernel.arguments

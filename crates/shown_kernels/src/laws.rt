@@ -8,7 +8,7 @@ ghost use Rattle.semantics.specs.Headline.{Headline};
 ghost use Rattle.semantics.specs.Safety.{IsPairSafe};
 ghost use Rattle.arrivals.specs.Loops.{unmet};
 ghost use Rattle.loop_bounds.specs.Costs.{cost};
-ghost use Rattle.walk_trees.specs.Shown.{IsShown};
+ghost use Rattle.walk_trees.specs.Shown.{IsShownWithProducts};
 ghost use Rattle.obligations.specs.Notes.{Notes};
 ghost use Rattle.obligations.specs.Telling.{TellsOfItems};
 ghost use Rattle.obligations.specs.Limits.{turns_at, AreLimits};
@@ -25,7 +25,7 @@ use reduction::headline;
 /// A kernel that is read of bytes, each of whose loops with a barrier meets one on each way through, and of which all is shown under
 /// conditions, whatever is said of its places and loops, has the headline at each launch that meets the conditions, within its cost.
 pub fn what_is_read_and_shown_has_the_headline<D: Domain>()
-    ensures { (bytes : List ℕ) (k : Kernel) (c : Conditions) (n : Notes) (l : Launch) → read bytes ≡ Ok k → unmet k.core.body ≡ None → TellsOfItems n → AreLimits n → All IsShown (obligations D.Domain k.core c n) → Fits k.core l → Meets c l → Headline (record { kernel = k.core; launch = l }) (cost (turns_at n) k.core.body) }
+    ensures { (bytes : List ℕ) (k : Kernel) (c : Conditions) (n : Notes) (l : Launch) → read bytes ≡ Ok k → unmet k.core.body ≡ None → TellsOfItems n → AreLimits n → All IsShownWithProducts (obligations D.Domain k.core c n) → Fits k.core l → Meets c l → Headline (record { kernel = k.core; launch = l }) (cost (turns_at n) k.core.body) }
 {
     headline();
     what_is_read_is_proper();
@@ -36,7 +36,7 @@ pub fn what_is_read_and_shown_has_the_headline<D: Domain>()
 /// A kernel which is read and of which all is shown is pair-safe at each launch that meets the conditions, within each budget that its cost
 /// does not pass.
 pub fn what_is_read_and_shown_is_pair_safe<D: Domain>()
-    ensures { (bytes : List ℕ) (k : Kernel) (c : Conditions) (n : Notes) (l : Launch) (budget : ℕ) → read bytes ≡ Ok k → unmet k.core.body ≡ None → TellsOfItems n → AreLimits n → All IsShown (obligations D.Domain k.core c n) → cost (turns_at n) k.core.body ≤ budget → Fits k.core l → Meets c l → IsPairSafe (record { kernel = k.core; launch = l }) budget }
+    ensures { (bytes : List ℕ) (k : Kernel) (c : Conditions) (n : Notes) (l : Launch) (budget : ℕ) → read bytes ≡ Ok k → unmet k.core.body ≡ None → TellsOfItems n → AreLimits n → All IsShownWithProducts (obligations D.Domain k.core c n) → cost (turns_at n) k.core.body ≤ budget → Fits k.core l → Meets c l → IsPairSafe (record { kernel = k.core; launch = l }) budget }
 {
     what_is_read_is_proper();
     what_is_read_is_sound_where_barriers_are_met();

@@ -1,7 +1,9 @@
 //! What was seen of places and of tests, and what that refutes.
 
 use certificate::tree::Descent;
-use guesses::{Candidate, Line, Ranking, Sight, index_of, is_variable, value_in};
+use guesses::{
+    Candidate, Factors, Line, Ranking, Sight, index_of, is_product, is_variable, plain, value_in,
+};
 use linear::{Form, Symbol};
 use std::alloc::{AllocError, Global};
 
@@ -101,8 +103,24 @@ fn mark_of(values: &[(Symbol, i64)]) -> u64 {
     mark
 }
 
-/// The value of a symbol at a loop's test.
+/// The value of a symbol at a loop's test, that of a product by its factors.
 fn symbol_at(symbol: Symbol, globals: &[(Symbol, i64)], slots: &[i64]) -> Option<i64> {
+    if !is_product(symbol) {
+        return plain_at(symbol, globals, slots);
+    }
+    let mut product: i64 = 1;
+    let factors = Factors::of(symbol);
+    for factor in [factors.first, factors.second, factors.third] {
+        if factor != 0 {
+            let value = plain_at(plain(factor), globals, slots)?;
+            product = product.checked_mul(value)?;
+        }
+    }
+    Some(product)
+}
+
+/// The value of a symbol that is no product at a loop's test.
+fn plain_at(symbol: Symbol, globals: &[(Symbol, i64)], slots: &[i64]) -> Option<i64> {
     if is_variable(symbol) {
         return slots.get(index_of(symbol) as usize).copied();
     }
@@ -134,7 +152,19 @@ fn is_false(line: &Line, values: &[(Symbol, i64)]) -> bool {
             None => false,
             Some(value) => value.unsigned_abs().checked_rem(*modulus).unwrap_or(0) != 0,
         },
+        Line::MultipleOf { of, form } => match (value_in(of, values), value_in(form, values)) {
+            (Some(of), Some(value)) => is_no_multiple(value, of),
+            _ => false,
+        },
     }
+}
+
+/// A number is no multiple of another one.
+fn is_no_multiple(value: i64, of: i64) -> bool {
+    if of == 0 {
+        return value != 0;
+    }
+    value.unsigned_abs().checked_rem(of.unsigned_abs()) != Some(0)
 }
 
 /// A rank falls from one to the other; one that doubles has at least doubled.

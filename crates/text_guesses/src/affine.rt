@@ -2,7 +2,7 @@
 
 use crate::frame::Frame;
 use core_code::tree::{Function, Operator, Term, UnaryOperator};
-use guesses::{group, groups, local, one_of, try_difference, try_multiple, try_sum};
+use guesses::{group, groups, local, one_of, try_difference, try_multiple, try_product, try_sum};
 use linear::Form;
 use std::alloc::{AllocError, Global};
 use words::Kind;
@@ -77,16 +77,23 @@ pub fn number_of(form: &Form) -> Option<i64> {
     }
 }
 
-fn product(alloc: Global, left: &Form, right: &Form) -> Result<Option<Form>, AllocError> {
+fn product(
+    alloc: Global,
+    frame: &Frame,
+    left: &Form,
+    right: &Form,
+) -> Result<Option<Form>, AllocError> {
     match (number_of(left), number_of(right)) {
         (Some(number), _) => try_multiple(alloc, right, number),
         (None, Some(number)) => try_multiple(alloc, left, number),
+        (None, None) if frame.has_products() => try_product(alloc, left, right),
         (None, None) => Ok(None),
     }
 }
 
 fn joined(
     alloc: Global,
+    frame: &Frame,
     operator: Operator,
     left: &Form,
     right: &Form,
@@ -94,7 +101,7 @@ fn joined(
     match operator {
         Operator::Add => try_sum(alloc, left, right),
         Operator::Subtract => try_difference(alloc, left, right),
-        Operator::Multiply => product(alloc, left, right),
+        Operator::Multiply => product(alloc, frame, left, right),
         Operator::Divide
         | Operator::Remainder
         | Operator::BitAnd
@@ -125,6 +132,7 @@ fn changed(
 
 fn of_both(
     alloc: Global,
+    frame: &Frame,
     operator: Operator,
     left: Option<Form>,
     right: Option<Form>,
@@ -132,7 +140,7 @@ fn of_both(
     let (Some(left), Some(right)) = (left, right) else {
         return Ok(None);
     };
-    joined(alloc, operator, &left, &right)
+    joined(alloc, frame, operator, &left, &right)
 }
 
 /// The term's value as a form, if it is linear.
@@ -156,7 +164,7 @@ pub fn affine(alloc: Global, frame: &Frame, term: &Term) -> Result<Option<Form>,
             ..
         } => {
             let left = affine(alloc, frame, left)?;
-            of_both(alloc, *operator, left, affine(alloc, frame, right)?)
+            of_both(alloc, frame, *operator, left, affine(alloc, frame, right)?)
         }
         Term::Load { .. }
         | Term::Compare { .. }

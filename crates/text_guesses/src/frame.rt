@@ -5,24 +5,31 @@ use guesses::{argument, variable};
 use linear::Symbol;
 use std::alloc::{AllocError, Global};
 
-/// Local sizes, how many slots are parameters, and the slots that some statement assigns.
+/// Local sizes, how many slots are parameters, and the slots that some statement assigns; and whether forms may have products.
 #[derive(Drop)]
 pub struct Frame {
+    is_wide: bool,
     sizes: [u32; 3],
     parameters: usize,
     assigned: Vec<u32>,
 }
 
 impl Frame {
-    /// The local sizes, the parameters and the assigned slots of a kernel.
-    pub fn of(alloc: Global, core: &Core) -> Result<Frame, AllocError> {
+    /// The local sizes, the parameters and the assigned slots of a kernel, for a wide walk or a narrow one.
+    pub fn of(alloc: Global, core: &Core, is_wide: bool) -> Result<Frame, AllocError> {
         let mut assigned = Vec::new(alloc);
         enter_all(core.body.as_slice(), &mut assigned)?;
         Ok(Frame {
+            is_wide,
             sizes: core.sizes,
             parameters: core.arguments.len(),
             assigned,
         })
+    }
+
+    /// Forms may have products of symbols.
+    pub fn has_products(&self) -> bool {
+        self.is_wide
     }
 
     /// How many slots are parameters.

@@ -98,7 +98,7 @@ fn arguments_of(alloc: Global, core: &Core) -> Result<Vec<Form>, AllocError> {
 
 impl AtHand {
     fn of(alloc: Global, core: &Core) -> Result<AtHand, AllocError> {
-        let frame = Frame::of(alloc, core)?;
+        let frame = Frame::of(alloc, core, false)?;
         let found = found_in(alloc, core)?;
         let ids = ids_of(alloc, &frame, &found)?;
         let numbers = numbers_at_hand(alloc, &found)?;

@@ -223,19 +223,19 @@ fn visit_all(
     Ok(())
 }
 
-/// The options of each loop of the kernel, in the order of their numbers, that its tests and its steps tell; by doubling, too, where loops
-/// may end so. `strides` has steps of slots that are known beside those of the text.
+/// The options of each loop of the kernel, in the order of their numbers, that its tests and its steps tell; for a wide walk, in which loops
+/// may double and forms have products, or a narrow one. `strides` has steps of slots that are known beside those of the text.
 pub fn guess_rankings(
     alloc: Global,
     core: &Core,
-    may_double: bool,
+    is_wide: bool,
     strides: &[(u32, i64)],
 ) -> Result<Vec<Options>, AllocError> {
     let given = Given {
-        frame: Frame::of(alloc, core)?,
+        frame: Frame::of(alloc, core, is_wide)?,
         numbers: numbers_of(alloc, core)?,
         strides,
-        may_double,
+        may_double: is_wide,
     };
     let mut walk = Walk {
         seen: Vec::new(alloc),

@@ -6,8 +6,8 @@ use crate::test_forms::TestForm;
 use crate::turning::Turning;
 use certificate::tree::Descent;
 use guesses::{
-    Ranking, copied, index_of, is_same, is_variable, one_of, plus, try_difference, try_multiple,
-    try_sum, variable,
+    Factors, Ranking, copied, index_of, is_same, is_variable, one_of, plus, try_difference,
+    try_multiple, try_sum, variable,
 };
 use linear::{Form, Symbol};
 use std::alloc::{AllocError, Global};
@@ -293,7 +293,17 @@ fn is_seen(frame: &Frame, seen: &[u32], symbol: Symbol) -> bool {
 /// Each variable of the form was assigned before, or is a parameter.
 pub fn are_seen(frame: &Frame, seen: &[u32], form: &Form) -> bool {
     for term in form.terms() {
-        if is_variable(term.symbol) && !is_seen(frame, seen, term.symbol) {
+        if !are_factors_seen(frame, seen, term.symbol) {
+            return false;
+        }
+    }
+    true
+}
+
+/// Each variable among the factors of a symbol was assigned before, or is a parameter.
+fn are_factors_seen(frame: &Frame, seen: &[u32], symbol: Symbol) -> bool {
+    for factor in Factors::of(symbol).symbols() {
+        if factor.is_some_and(|one| is_variable(one) && !is_seen(frame, seen, one)) {
             return false;
         }
     }

@@ -1,12 +1,12 @@
 -- Reading a conditions text: its lines in order, each condition with its line, or the first fault.
-use Rattle.std.specs.Prelude.{ℕ, zero, suc, ◌*◌, pos, List, [], ◌∷◌, ◌++◌, map, length, cond, nat_le, nat_lt, int_le, Option, None, Some, Ok, Err, bytes_eq, codes}
+use Rattle.std.specs.Prelude.{ℕ, zero, suc, ◌*◌, pos, List, [], ◌∷◌, ◌++◌, map, length, Bool, true, false, cond, nat_le, nat_lt, int_le, Option, None, Some, Ok, Err, bytes_eq, codes}
 use Rattle.semantics.specs.Word.{Kind, Word}
 use Rattle.semantics.specs.Launch.{Three}
 use Rattle.semantics.specs.Conditions as meaning
 use Rattle.semantics.specs.Conditions.{Summand}
 use Rattle.texts.specs.Surface.{Parameter, Buffer, Value}
-use Rattle.texts.specs.LaunchFaults.{EmptyRange, LimitPassed, Cursor, cursor, Step, refused, then, expect, end_line}
-use Rattle.texts.specs.LaunchWords.{Conditions, natural_at, word_at, first_word, due_blank, due_parameter, head_line, each, end_text}
+use Rattle.texts.specs.LaunchFaults.{EmptyRange, LimitPassed, Cursor, cursor, Step, refused, then, sees, past, expect, end_line}
+use Rattle.texts.specs.LaunchWords.{Conditions, natural_at, word_at, first_word, due, due_blank, due_parameter, each, end_text}
 use Rattle.texts.specs.LaunchSums.{sum_at}
 
 -- both ends belong to a range
@@ -108,32 +108,32 @@ abbrev pub length_of : Kind → List Summand → (line : ℕ) → Length
 length_of k least line = record { kind = k; least = least; line = line }
 
 -- a sum has at most 8 terms
-unfoldable pub length_line : List Parameter → Kind → (name : List ℕ) → Cursor → Step (Length × Cursor)
-length_line ps k name c =
-    then (due_parameter Conditions (codes "length") ps name c) (λ a. then (expect (codes ">= ") a) (λ b. then (sum_at ps 8 [] b) (λ t.
+unfoldable pub length_line : (has_products : Bool) → List Parameter → Kind → (name : List ℕ) → Cursor → Step (Length × Cursor)
+length_line has_products ps k name c =
+    then (due_parameter Conditions (codes "length") ps name c) (λ a. then (expect (codes ">= ") a) (λ b. then (sum_at has_products ps 8 [] b) (λ t.
     then (end_line t.1) (λ d. Ok (length_of k t.0 c.line, d)))))
 
 -- one line a buffer parameter
-abbrev pub length_due : List Parameter → List Length → Parameter → Option (Cursor → Step (Length × Cursor))
-length_due ps lengths (Buffer constant k site name) = Some (length_line ps k name)
-length_due ps lengths (Value k site name) = None
+abbrev pub length_due : (has_products : Bool) → List Parameter → List Length → Parameter → Option (Cursor → Step (Length × Cursor))
+length_due has_products ps lengths (Buffer constant k site name) = Some (length_line has_products ps k name)
+length_due has_products ps lengths (Value k site name) = None
 
-abbrev pub length_lines : List Parameter → Cursor → Step (List Length × Cursor)
-length_lines ps c = each (length_due ps) [] ps c
+abbrev pub length_lines : (has_products : Bool) → List Parameter → Cursor → Step (List Length × Cursor)
+length_lines has_products ps c = each (length_due has_products ps) [] ps c
 
 abbrev pub requirement_of : (left right : List Summand) (line : ℕ) → Requirement
 requirement_of left right line = record { left = left; right = right; line = line }
 
-unfoldable pub requirement_line : List Parameter → Cursor → Step (Requirement × Cursor)
-requirement_line ps c =
-    then (due_blank Conditions (codes "require") c) (λ a. then (sum_at ps 8 [] a) (λ left. then (expect (codes " >= ") left.1) (λ b.
-    then (sum_at ps 8 [] b) (λ right. then (end_line right.1) (λ d. Ok (requirement_of left.0 right.0 c.line, d))))))
+unfoldable pub requirement_line : (has_products : Bool) → List Parameter → Cursor → Step (Requirement × Cursor)
+requirement_line has_products ps c =
+    then (due_blank Conditions (codes "require") c) (λ a. then (sum_at has_products ps 8 [] a) (λ left. then (expect (codes " >= ") left.1) (λ b.
+    then (sum_at has_products ps 8 [] b) (λ right. then (end_line right.1) (λ d. Ok (requirement_of left.0 right.0 c.line, d))))))
 
 -- as many as there are, at most as many as there is room for
-unfoldable pub requirement_lines : List Parameter → (room : ℕ) → List Requirement → Cursor → Step (List Requirement × Cursor)
-requirement_lines ps zero requires c = cond (bytes_eq (first_word c.rest) (codes "require")) (refused LimitPassed c) (Ok (requires, c))
-requirement_lines ps (suc room) requires c =
-    cond (bytes_eq (first_word c.rest) (codes "require")) (then (requirement_line ps c) (λ t. requirement_lines ps room (requires ++ t.0 ∷ []) t.1)) (Ok (requires, c))
+unfoldable pub requirement_lines : (has_products : Bool) → List Parameter → (room : ℕ) → List Requirement → Cursor → Step (List Requirement × Cursor)
+requirement_lines has_products ps zero requires c = cond (bytes_eq (first_word c.rest) (codes "require")) (refused LimitPassed c) (Ok (requires, c))
+requirement_lines has_products ps (suc room) requires c =
+    cond (bytes_eq (first_word c.rest) (codes "require")) (then (requirement_line has_products ps c) (λ t. requirement_lines has_products ps room (requires ++ t.0 ∷ []) t.1)) (Ok (requires, c))
 
 unfoldable pub budget_line : Cursor → Step (ℕ × Cursor)
 budget_line c =
@@ -143,12 +143,21 @@ abbrev pub lined : Three CountRange → (groups_line : ℕ) → List ArgumentRan
 lined groups groups_line arguments lengths requires budget =
     record { groups = groups; groups_line = groups_line; arguments = arguments; lengths = lengths; requires = requires; budget = budget }
 
+-- in texts of version 2 sums may have products
+unfoldable pub version_at : Cursor → Step (Bool × Cursor)
+version_at c = cond (sees (codes " 2") c) (Ok (true, past 2 c)) (then (expect (codes " 1") c) (λ d. Ok (false, d)))
+
+-- the first line
+unfoldable pub version_line : Cursor → Step (Bool × Cursor)
+version_line c =
+    then (due Conditions (codes "conditions") c) (λ a. then (version_at a) (λ v. then (end_line v.1) (λ d. Ok (v.0, d))))
+
 -- all lines
 unfoldable pub conditions_at : List Parameter → Cursor → Step Lined
 conditions_at ps c =
-    then (head_line Conditions (codes "conditions") c) (λ a. then (groups_line a) (λ groups. then (argument_lines ps groups.1) (λ arguments.
-    then (length_lines ps arguments.1) (λ lengths. then (requirement_lines ps 16 [] lengths.1) (λ requires. then (budget_line requires.1) (λ budget.
-    then (end_text budget.1) (λ _. Ok (lined groups.0 a.line arguments.0 lengths.0 requires.0 budget.0))))))))
+    then (version_line c) (λ v. then (groups_line v.1) (λ groups. then (argument_lines ps groups.1) (λ arguments.
+    then (length_lines v.0 ps arguments.1) (λ lengths. then (requirement_lines v.0 ps 16 [] lengths.1) (λ requires. then (budget_line requires.1) (λ budget.
+    then (end_text budget.1) (λ _. Ok (lined groups.0 v.1.line arguments.0 lengths.0 requires.0 budget.0))))))))
 
 -- the longest conditions text, in bytes
 abbrev pub conditions_limit : ℕ

@@ -1,46 +1,53 @@
 -- Which conditions a text says of a kernel with these parameters, by cases.
-use Rattle.std.specs.Prelude.{◌≡◌, ◌≤◌, ℕ, ℤ, pos, negsuc, ◌≤ℤ◌, ◌*ℤ◌, List, [], ◌∷◌, ◌++◌, length, Bool, true, Some, codes}
+use Rattle.std.specs.Prelude.{◌≡◌, ◌≤◌, ℕ, ℤ, pos, negsuc, ◌≤ℤ◌, ◌*ℤ◌, List, [], ◌∷◌, ◌++◌, length, Bool, true, false, Some, codes}
 use Rattle.std.specs.Fmt.{decimal, signed_decimal}
 use Rattle.semantics.specs.Core.{Site}
 use Rattle.semantics.specs.Word.{Kind, in_kind}
 use Rattle.semantics.specs.Launch.{Three}
-use Rattle.semantics.specs.Conditions.{Range, Summand, Constant, Argument, Groups, Requirement, Conditions}
+use Rattle.semantics.specs.Conditions.{Range, Factor, ArgumentFactor, GroupsFactor, Summand, Constant, Product, Requirement, Conditions}
 use Rattle.texts.specs.Lines.{line_feed}
 use Rattle.texts.specs.Surface.{Parameter, Buffer, Value}
-use Rattle.texts.specs.LaunchSums.{value_number}
+use Rattle.texts.specs.LaunchSums.{value_number, times}
 
 -- a number of a sum: at most 4,294,967,295 in size
 abbrev pub IsFactor : ℤ → Type 0
 IsFactor z = (negsuc 4294967294 ≤ℤ z) × (z ≤ℤ pos 4294967295)
 
--- a name, which stands for this summand where it has this factor
-pub data IsSymbol (ps : List Parameter) (factor : ℤ) : List ℕ → Summand → Type 0 where
+pub data IsSymbol (ps : List Parameter) : List ℕ → Factor → Type 0 where
   -- a group count
-  groups_x : IsSymbol ps factor (codes "groups.0") (Groups factor 0)
-  groups_y : IsSymbol ps factor (codes "groups.1") (Groups factor 1)
-  groups_z : IsSymbol ps factor (codes "groups.2") (Groups factor 2)
+  groups_x : IsSymbol ps (codes "groups.0") (GroupsFactor 0)
+  groups_y : IsSymbol ps (codes "groups.1") (GroupsFactor 1)
+  groups_z : IsSymbol ps (codes "groups.2") (GroupsFactor 2)
   -- the n-th of the value parameters has this name
-  argument : (name : List ℕ) (n : ℕ) → value_number 0 ps name ≡ Some n → IsSymbol ps factor name (Argument factor n)
+  argument : (name : List ℕ) (n : ℕ) → value_number 0 ps name ≡ Some n → IsSymbol ps name (ArgumentFactor n)
 
-pub data IsTerm (ps : List Parameter) : List ℕ → Summand → Type 0 where
-  -- `NAME`, once
-  alone : {bytes : List ℕ} {s : Summand} → IsSymbol ps (pos 1) bytes s → IsTerm ps bytes s
+-- what stands for this summand where it is multiplied by this number
+pub data IsMultiple (has_products : Bool) (ps : List Parameter) (z : ℤ) : List ℕ → Summand → Type 0 where
+  -- `NAME`
+  one_name : {bytes : List ℕ} {a : Factor} → IsSymbol ps bytes a → IsMultiple has_products ps z bytes (times z a)
+  -- `NAME*NAME`, in texts of version 2
+  two_names : {first second : List ℕ} {a b : Factor} → has_products ≡ true → IsSymbol ps first a → IsSymbol ps second b →
+      IsMultiple has_products ps z (first ++ (codes "*" ++ second)) (Product z a b)
+
+pub data IsTerm (has_products : Bool) (ps : List Parameter) : List ℕ → Summand → Type 0 where
+  -- the names, once
+  alone : {bytes : List ℕ} {s : Summand} → IsMultiple has_products ps (pos 1) bytes s → IsTerm has_products ps bytes s
   -- `C`
-  number : (z : ℤ) → IsFactor z → IsTerm ps (signed_decimal z) (Constant z)
-  -- `C*NAME`
-  product : {bytes : List ℕ} {s : Summand} (z : ℤ) → IsFactor z → IsSymbol ps z bytes s →
-      IsTerm ps (signed_decimal z ++ (codes "*" ++ bytes)) s
+  number : (z : ℤ) → IsFactor z → IsTerm has_products ps (signed_decimal z) (Constant z)
+  -- `C*` and the names
+  product : {bytes : List ℕ} {s : Summand} (z : ℤ) → IsFactor z → IsMultiple has_products ps z bytes s →
+      IsTerm has_products ps (signed_decimal z ++ (codes "*" ++ bytes)) s
 
-pub data IsSum (ps : List Parameter) : List ℕ → List Summand → Type 0 where
+pub data IsSum (has_products : Bool) (ps : List Parameter) : List ℕ → List Summand → Type 0 where
   -- `TERM`
-  last : {bytes : List ℕ} {s : Summand} → IsTerm ps bytes s → IsSum ps bytes (s ∷ [])
+  last : {bytes : List ℕ} {s : Summand} → IsTerm has_products ps bytes s → IsSum has_products ps bytes (s ∷ [])
   -- `TERM + SUM`
   more : {bytes others : List ℕ} {s : Summand} {ss : List Summand} →
-      IsTerm ps bytes s → IsSum ps others ss → IsSum ps (bytes ++ (codes " + " ++ others)) (s ∷ ss)
+      IsTerm has_products ps bytes s → IsSum has_products ps others ss → IsSum has_products ps (bytes ++ (codes " + " ++ others)) (s ∷ ss)
 
 -- a sum of at most 8 terms
-abbrev pub IsShortSum : List Parameter → List ℕ → List Summand → Type 0
-IsShortSum ps bytes ss = IsSum ps bytes ss × (length ss ≤ 8)
+abbrev pub IsShortSum : (has_products : Bool) → List Parameter → List ℕ → List Summand → Type 0
+IsShortSum has_products ps bytes ss = IsSum has_products ps bytes ss × (length ss ≤ 8)
 
 -- `L..H`
 abbrev pub range_text : Range → List ℕ
@@ -83,38 +90,44 @@ pub data AreArgumentLines : List Parameter → List ℕ → List Range → Type 
       AreOfKind k r → AreArgumentLines ps lines rs → AreArgumentLines (Value k site name ∷ ps) (argument_text name r ++ lines) (r ∷ rs)
 
 -- one line a buffer parameter, in order; sums are of all parameters
-pub data AreLengthLines (all : List Parameter) : List Parameter → List ℕ → List (List Summand) → Type 0 where
-  no_length : AreLengthLines all [] [] []
+pub data AreLengthLines (has_products : Bool) (all : List Parameter) : List Parameter → List ℕ → List (List Summand) → Type 0 where
+  no_length : AreLengthLines has_products all [] [] []
   past_value : {ps : List Parameter} {lines : List ℕ} {sums : List (List Summand)} (k : Kind) (site : Site) (name : List ℕ) →
-      AreLengthLines all ps lines sums → AreLengthLines all (Value k site name ∷ ps) lines sums
+      AreLengthLines has_products all ps lines sums → AreLengthLines has_products all (Value k site name ∷ ps) lines sums
   a_length : {ps : List Parameter} {lines sum : List ℕ} {ss : List Summand} {sums : List (List Summand)}
-      (constant : Bool) (k : Kind) (site : Site) (name : List ℕ) → IsShortSum all sum ss → AreLengthLines all ps lines sums →
-      AreLengthLines all (Buffer constant k site name ∷ ps) (length_text name sum ++ lines) (ss ∷ sums)
+      (constant : Bool) (k : Kind) (site : Site) (name : List ℕ) → IsShortSum has_products all sum ss → AreLengthLines has_products all ps lines sums →
+      AreLengthLines has_products all (Buffer constant k site name ∷ ps) (length_text name sum ++ lines) (ss ∷ sums)
 
-pub data AreRequirementLines (ps : List Parameter) : List ℕ → List Requirement → Type 0 where
-  no_requirement : AreRequirementLines ps [] []
+pub data AreRequirementLines (has_products : Bool) (ps : List Parameter) : List ℕ → List Requirement → Type 0 where
+  no_requirement : AreRequirementLines has_products ps [] []
   a_requirement : {left right lines : List ℕ} {rs : List Requirement} (r : Requirement) →
-      IsShortSum ps left r.left → IsShortSum ps right r.right → AreRequirementLines ps lines rs →
-      AreRequirementLines ps (requirement_text left right ++ lines) (r ∷ rs)
+      IsShortSum has_products ps left r.left → IsShortSum has_products ps right r.right → AreRequirementLines has_products ps lines rs →
+      AreRequirementLines has_products ps (requirement_text left right ++ lines) (r ∷ rs)
+
+-- the first line of a text whose sums may have products, and of one whose sums have none
+abbrev pub version_text : (has_products : Bool) → List ℕ
+version_text true = codes "conditions 2"
+version_text false = codes "conditions 1"
 
 -- these lines, one after another, and nothing else
-pub record AreConditionsLines (ps : List Parameter) (text : List ℕ) (c : Conditions) : Type 0 where
+pub record AreConditionsLines (has_products : Bool) (ps : List Parameter) (text : List ℕ) (c : Conditions) : Type 0 where
   pub argument_lines : List ℕ
   pub length_lines : List ℕ
   pub requirement_lines : List ℕ
-  pub is_text : text ≡ codes "conditions 1" ++ (line_feed ∷
+  pub is_text : text ≡ version_text has_products ++ (line_feed ∷
       (groups_text c.groups ++ (argument_lines ++ (length_lines ++ (requirement_lines ++ budget_text c.budget)))))
   pub counts_x : AreCounts c.groups.x
   pub counts_y : AreCounts c.groups.y
   pub counts_z : AreCounts c.groups.z
   pub few_groups : (c.groups.x.high *ℤ c.groups.y.high *ℤ c.groups.z.high) ≤ℤ pos 1048576
   pub arguments : AreArgumentLines ps argument_lines c.arguments
-  pub lengths : AreLengthLines ps ps length_lines c.lengths
-  pub requires : AreRequirementLines ps requirement_lines c.requires
+  pub lengths : AreLengthLines has_products ps ps length_lines c.lengths
+  pub requires : AreRequirementLines has_products ps requirement_lines c.requires
   pub few_requires : length c.requires ≤ 16
   pub budget : (1 ≤ c.budget) × (c.budget ≤ 1000000000000)
 
 -- in at most 65,536 bytes
 pub record IsConditionsText (ps : List Parameter) (text : List ℕ) (c : Conditions) : Type 0 where
-  pub lines : AreConditionsLines ps text c
+  pub has_products : Bool
+  pub lines : AreConditionsLines has_products ps text c
   pub within_limit : length text ≤ 65536

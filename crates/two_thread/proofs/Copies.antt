@@ -1,10 +1,8 @@
 -- Forms of the first item, and the second one's copies of them.
-use Rattle.std.proofs.Common.{◌≡◌, ℕ, zero, suc, ◌+◌, ◌*◌, ◌/◌, ◌%◌, ◌<◌, ◌≤◌, ◌&&◌, Bool, true, false, cond, not, nat_lt, nat_le, List, ◌++◌, [], ◌∷◌, length, drop, get_or, drop-cons, add-one, append-nil, append_assoc, arith, refl, sym, ap, ◌∙◌, subst, lt-ltb, ltb-true}
-use Rattle.std.specs.Prelude.{pos}
-use Rattle.std.specs.Ordering.{int_eq}
+use Rattle.std.proofs.Common.{◌≡◌, ℕ, zero, suc, ◌+◌, ◌<◌, ◌≤◌, true, List, ◌++◌, [], ◌∷◌, length, drop, get_or, drop-cons, add-one, append-nil, arith, refl, sym, ap, ◌∙◌}
 use Rattle.std.proofs.Math.ListN.{drop_of_length-le}
-use Rattle.std.proofs.lemmas.Bool.{and_parts, and_from, le-ltb, leb-true, le-leb}
-use Rattle.linear.specs.Exact.{Terms, is_rising, over}
+use Rattle.std.proofs.lemmas.Bool.{and_parts}
+use Rattle.linear.specs.Exact.{Terms}
 use Rattle.linear.specs.Forms.{form, forms}
 use Rattle.linear.specs.Terms.{terms, numbers}
 use Rattle.linear.specs.declared.form.Form.{Form}
@@ -15,7 +13,7 @@ use Rattle.walk_trees.specs.Trees.{Access, Ended}
 use Rattle.walk_trees.specs.Values.{Value}
 use Rattle.obligations.specs.Listing.{Of}
 use Rattle.obligations.specs.Owning.{are_own_values, is_own_end, all_own_accesses, all_own_ends}
-use Rattle.walk_trees.specs.Seconds.{second, second_terms, second_form, second_forms, is_own_symbol, are_own_terms, is_own, are_own, is_own_access}
+use Rattle.walk_trees.specs.Seconds.{second, second_form, second_forms, is_own_symbol, are_own_terms, is_own, are_own, is_own_access}
 use Rattle.two_thread.specs.Seconds.{seconds}
 
 -- lengths
@@ -30,50 +28,6 @@ length-seconds (t ∷ ts) = ap suc (length-seconds ts)
 pub length-terms : (ts : List Term) → length (terms ts) ≡ length ts
 length-terms [] = refl
 length-terms (t ∷ ts) = ap suc (length-terms ts)
-
--- the same coefficients with copied symbols
-over-seconds : (ts : Terms) → over (seconds ts) ts ≡ second_terms ts
-over-seconds [] = refl
-over-seconds (t ∷ ts) = ap (λ us. record { coefficient = t.coefficient; symbol = second t.symbol } ∷ us) (over-seconds ts)
-
-pub over_is : (ns : List ℕ) (ts : Terms) → ns ≡ seconds ts → over ns ts ≡ second_terms ts
-over_is ns ts e = ap (λ l. over l ts) e ∙ over-seconds ts
-
--- copies rise as their symbols do
-second-low : (x : ℕ) → x % 16 < 3 → second x ≡ x
-second-low x h = ap (λ b. cond b x (x + 6)) (lt-ltb (x % 16) 3 h)
-
-second-high : (x : ℕ) → 3 ≤ x % 16 → second x ≡ x + 6
-second-high x h = ap (λ b. cond b x (x + 6)) (le-ltb (x % 16) 3 h)
-
-shift : ℕ → ℕ
-shift x = x + 6 * ((x % 16 + 13) / 16)
-
-second-shift : (x : ℕ) → x % 16 < 9 → second x ≡ shift x
-unfolding shift
-second-shift x h = by (nat_lt (x % 16) 3) refl
-  where
-    by : (b : Bool) → nat_lt (x % 16) 3 ≡ b → second x ≡ x + 6 * ((x % 16 + 13) / 16)
-    by true e = let l = ltb-true (x % 16) 3 e in second-low x l ∙ omega (arith, l)
-    by false e = let l : 3 ≤ x % 16 = Rattle.std.proofs.Common.ltb-false (x % 16) 3 e in second-high x l ∙ omega (arith, l, h)
-
-rises : (x y : ℕ) → x % 16 < 9 → y % 16 < 9 → x < y → second x < second y
-unfolding shift
-rises x y p q h = let a = second-shift x p in let b = second-shift y q in omega (arith, a, b, p, q, h)
-
-rising-from : (m n : ℕ) (ts : Terms) → ((s : ℕ) → s % 16 < 9 → m ≤ s → n ≤ second s) → is_rising m ts ≡ true → are_own_terms ts ≡ true → is_rising n (second_terms ts) ≡ true
-rising-from m n [] f r o = refl
-rising-from m n (t ∷ ts) f r o =
-    let p = and_parts (nat_le m t.symbol) (not (int_eq t.coefficient (pos 0)) && is_rising (suc t.symbol) ts) r in
-    let q = and_parts (not (int_eq t.coefficient (pos 0))) (is_rising (suc t.symbol) ts) p.1 in
-    let w = and_parts (is_own_symbol t.symbol) (are_own_terms ts) o in
-    let i = ltb-true (t.symbol % 16) 9 w.0 in
-    and_from (nat_le n (second t.symbol)) (not (int_eq t.coefficient (pos 0)) && is_rising (suc (second t.symbol)) (second_terms ts)) (le-leb n (second t.symbol) (f t.symbol i (leb-true m t.symbol p.0)))
-    (and_from (not (int_eq t.coefficient (pos 0))) (is_rising (suc (second t.symbol)) (second_terms ts)) q.0
-    (rising-from (suc t.symbol) (suc (second t.symbol)) ts (λ s j l. let k = rises t.symbol s i j (omega (arith, l)) in omega (arith, k)) q.1 w.1))
-
-pub rising-seconds : (ns : List ℕ) (ts : Terms) → ns ≡ seconds ts → is_rising 0 ts ≡ true → are_own_terms ts ≡ true → is_rising 0 (over ns ts) ≡ true
-rising-seconds ns ts e r o = ap (is_rising 0) (over_is ns ts e) ∙ rising-from 0 0 ts (λ s i l. omega arith) r o
 
 -- where it is inside, no default is asked
 pub any-default : {A : Type 0} (xs : List A) (i : ℕ) (d e : A) → i < length xs → get_or xs i d ≡ get_or xs i e

@@ -3,6 +3,9 @@ pub mod Located
 pub mod Nth
 pub mod NthEnd
 pub mod Copies
+pub mod Shifting
+pub mod Ordering
+pub mod Elements
 pub mod Manners
 pub mod Limits
 pub mod Copied

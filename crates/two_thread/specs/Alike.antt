@@ -16,6 +16,7 @@ notes_of as' = record {
   same = alike_of as';
   facts = λ a h. [];
   congruences = λ a h. [];
+  multiples = λ a h. [];
   ranking = λ n. no_ranking;
   visible = λ s. [];
   quotient = λ n. constant (pos 0);

@@ -11,7 +11,6 @@ use Rattle.walk_trees.specs.Fitting.{denials_fit}
 use Rattle.walk_trees.specs.Statements.{spot_of}
 use Rattle.walk_trees.specs.Trees.{OfIndex, Obligation, Access, Ended}
 use Rattle.path_steps.specs.Paths.{Claimed}
-use Rattle.path_steps.specs.View.{spot}
 use Rattle.obligations.specs.Listing.{Of}
 use Rattle.obligations.specs.Crossings as crossings
 use Rattle.obligations.specs.Crossings.{crossing_obligation}

@@ -1,4 +1,4 @@
-//! The claims of a congruence.
+//! The claims of congruences and multiples.
 
 ghost use Rattle.std.specs.Prelude.{◌≡◌, ◌<◌, Some, length};
 ghost use Rattle.path_steps.specs.View.{goal_seen};
@@ -11,7 +11,7 @@ use crate::numbered::{Obligations, Which};
 use domain::Domain;
 use path_steps::Goal;
 
-/// A goal is the second one of a congruence.
+/// A goal is the second one of a congruence or a multiple.
 fn is_second(goal: &Goal) -> bool
     ensures { result ≡ is_second_claim (Some (goal_seen goal.now)) }
 {
@@ -21,7 +21,7 @@ fn is_second(goal: &Goal) -> bool
     }
 }
 
-/// A claim, given by its number, is the second one of a congruence.
+/// A claim, given by its number, is the second one of a congruence or a multiple.
 fn claims_second<D: Copy>(met: &Met<D>, i: usize) -> bool
     requires { i < length met.now.claims.items }
     ensures { result ≡ is_second_claim (Some (nth_claim met.now i).goal) }
@@ -37,7 +37,8 @@ impl<D: Domain> Obligations<D> {
     ghost use Rattle.two_thread.specs.Listed.{listed, nth_obligation};
     ghost use Rattle.two_thread.specs.Quotients.{is_second_claim};
 
-    /// An obligation is the second claim of a congruence, whose first one has the number before; an entry names the quotient for both.
+    /// An obligation is the second claim of a congruence or a multiple, whose first one has the number before; an entry names the quotient for
+    /// both.
     pub fn is_second_claim(&self, number: usize) -> bool
         requires first { 0 < number }
         requires last { number ≤ length (listed D.Domain self.now) }

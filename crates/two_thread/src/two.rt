@@ -5,10 +5,11 @@ ghost use Rattle.domain.specs.Members.{leaves};
 ghost use Rattle.std.specs.Prelude.{pos};
 ghost use Rattle.linear.specs.Forms.{form as form_seen};
 ghost use Rattle.linear.specs.Terms.{term as term_seen};
+ghost use Rattle.linear.specs.Products.{unpacked};
 ghost use Rattle.facts.specs.Elements as elements;
 ghost use Rattle.facts.specs.View.{known_seen};
-ghost use Rattle.walk_trees.specs.Held.{element_with};
-ghost use Rattle.walk_trees.specs.Seconds.{element_of_two};
+ghost use Rattle.walk_trees.specs.Held.{element_with, elements_of_factors};
+ghost use Rattle.walk_trees.specs.Seconds as copies;
 ghost use Rattle.path_steps.specs.View.{held_seen};
 
 use domain::{Domain, Residue};
@@ -24,13 +25,13 @@ pub struct Here<'a, D> {
 }
 
 /// A symbol's element: the second item's by its like on the second item's path, all others by the first one's.
-fn element_of_symbol<D: Domain>(
+fn element_alone<D: Domain>(
     known: &Known<D>,
     first: Here<'_, D>,
     second: Here<'_, D>,
     symbol: Symbol,
 ) -> D
-    ensures { result ≡ element_of_two D.Domain (known_seen known.now) (held_seen first.entry.news.now first.entry.narrowed.now) (held_seen second.entry.news.now second.entry.narrowed.now) symbol.number }
+    ensures { result ≡ copies.element_alone D.Domain (known_seen known.now) (held_seen first.entry.news.now first.entry.narrowed.now) (held_seen second.entry.news.now second.entry.narrowed.now) symbol.number }
 {
     let family = symbol.number % 16;
     if family < 9 || family == 15 {
@@ -42,6 +43,64 @@ fn element_of_symbol<D: Domain>(
     element_from(known, second.news, second.narrowed, like)
 }
 
+/// The element of a product's factor, which is no product itself.
+fn element_of_factor<D: Domain>(
+    known: &Known<D>,
+    first: Here<'_, D>,
+    second: Here<'_, D>,
+    factor: u64,
+) -> D
+    ensures { result ≡ copies.element_of_factor D.Domain (known_seen known.now) (held_seen first.entry.news.now first.entry.narrowed.now) (held_seen second.entry.news.now second.entry.narrowed.now) factor }
+{
+    if factor % 16 == 15 {
+        return D::top();
+    }
+    element_alone(known, first, second, Symbol { number: factor })
+}
+
+/// The element of factors, of which a number holds three at most, from the left.
+fn element_of_product<D: Domain>(
+    known: &Known<D>,
+    first: Here<'_, D>,
+    second: Here<'_, D>,
+    packed: u64,
+) -> D
+    ensures { result ≡ elements_of_factors D.Domain (copies.element_of_factor D.Domain (known_seen known.now) (held_seen first.entry.news.now first.entry.narrowed.now) (held_seen second.entry.news.now second.entry.narrowed.now)) (unpacked 3 packed) }
+{
+    let digit = packed % 1048576;
+    if digit == 0 {
+        return D::of(1);
+    }
+    let mut so_far = element_of_factor(known, first, second, digit - 1);
+    let mut left = packed / 1048576;
+    let mut most: u32 = 2;
+    while most > 0 {
+        let digit = left % 1048576;
+        if digit == 0 {
+            return so_far;
+        }
+        so_far = so_far.mul(element_of_factor(known, first, second, digit - 1));
+        left /= 1048576;
+        most -= 1;
+    }
+    so_far
+}
+
+/// A symbol's element, a product's by its factors.
+fn element_of_symbol<D: Domain>(
+    known: &Known<D>,
+    first: Here<'_, D>,
+    second: Here<'_, D>,
+    symbol: Symbol,
+) -> D
+    ensures { result ≡ copies.element_of_two D.Domain (known_seen known.now) (held_seen first.entry.news.now first.entry.narrowed.now) (held_seen second.entry.news.now second.entry.narrowed.now) symbol.number }
+{
+    if symbol.number % 16 == 15 {
+        return element_of_product(known, first, second, symbol.number / 16);
+    }
+    element_alone(known, first, second, symbol)
+}
+
 /// The element of a sum with one more term.
 fn with_term<D: Domain>(
     known: &Known<D>,
@@ -50,7 +109,7 @@ fn with_term<D: Domain>(
     so_far: D,
     term: Term,
 ) -> D
-    ensures { result ≡ D.add_of so_far (D.mul_of (D.number_of (term_seen term).coefficient) (element_of_two D.Domain (known_seen known.now) (held_seen first.entry.news.now first.entry.narrowed.now) (held_seen second.entry.news.now second.entry.narrowed.now) (term_seen term).symbol)) }
+    ensures { result ≡ D.add_of so_far (D.mul_of (D.number_of (term_seen term).coefficient) (copies.element_of_two D.Domain (known_seen known.now) (held_seen first.entry.news.now first.entry.narrowed.now) (held_seen second.entry.news.now second.entry.narrowed.now) (term_seen term).symbol)) }
 {
     let factor = D::of(term.coefficient);
     so_far.add(factor.mul(element_of_symbol(known, first, second, term.symbol)))
@@ -63,7 +122,7 @@ pub fn element_of<D: Domain>(
     second: Here<'_, D>,
     form: &Form,
 ) -> D
-    ensures { result ≡ element_with D.Domain (element_of_two D.Domain (known_seen known.now) (held_seen first.entry.news.now first.entry.narrowed.now) (held_seen second.entry.news.now second.entry.narrowed.now)) (form_seen form.now) }
+    ensures { result ≡ element_with D.Domain (copies.element_of_two D.Domain (known_seen known.now) (held_seen first.entry.news.now first.entry.narrowed.now) (held_seen second.entry.news.now second.entry.narrowed.now)) (form_seen form.now) }
 {
     let mut so_far = D::of(form.constant_part());
     for term in form.terms() {

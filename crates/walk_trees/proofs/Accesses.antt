@@ -13,6 +13,7 @@ use Rattle.walk_trees.specs.Trees.{OfIndex, Tree, Touch, accesses}
 use Rattle.walk_trees.specs.Walks.{State, Onward, claimed_once, at_site, claim_form, unknown}
 use Rattle.walk_trees.specs.Terms.{target_at, length_in, length_form, kind_in, array_kind, access, load}
 use Rattle.walk_trees.proofs.Holding.{fits_itself}
+use Rattle.walk_trees.proofs.Shares.{keeping}
 use Rattle.walk_trees.proofs.Standing.{walks, Seen, Stands, Comes, Goes, gives, asks, way_then, over_claim, over_access, past_claim, past_access, at_once, comes_from, onward, Owns, owns}
 use Rattle.walk_trees.proofs.Ranges.{IsForm, IsValue, form_once, form_constant, form-minus, unknown_sound, told_by}
 
@@ -39,7 +40,7 @@ module _ {E : Type 0} (c : View E) (launch : List Fact) where
     pub seen : Seen c (accesses facts n tree) stored a index
     pub comes : Comes c launch facts n tree (λ (u : Unit {0}) st. go st) news variables (λ more u. Unit {0})
 
-  pub inside : (stored : Bool) (a : Array) (site : Site) {facts : List Fact} {n : ℕ} {news : List ℤ} (f : Fact) (x : ℤ) (st : State E) (go : State E → Tree E) → c.spaces a.space ≡ true → IsForm c news f x → Stands c launch facts n (access (walks c) stored a site f st go) news st.held → Inside facts n (access (walks c) stored a site f st go) go news (owns st) stored a x
+  pub inside : (stored : Bool) (a : Array) (site : Site) {facts : List Fact} {n : ℕ} {news : List ℤ} (f : Fact) (x : ℤ) (st : State E) (go : State E → Tree E) → c.spaces a.space ≡ true → IsForm c news f x → Stands c launch facts n (access (walks c) stored a site f st go) news (keeping st) → Inside facts n (access (walks c) stored a site f st go) go news (owns st) stored a x
   inside stored a site {facts = facts} {n = n} {news = news} f x st go there m s =
       let at = at_site site st in
       let long : Fact = minus (length_form (walks c) a) (constant (pos 1)) in
@@ -79,7 +80,7 @@ module _ {E : Type 0} (c : View E) (launch : List Fact) where
       by (negsuc k) low left m p = absurd (omega (arith, ints))
 
   -- a load
-  pub load_sound : (answers : List Word) (a : Array) (site : Site) {facts : List Fact} {n : ℕ} {news : List ℤ} (f : Fact) (x : ℤ) (st : State E) (go : Onward E) → c.spaces a.space ≡ true → IsForm c news f x → Stands c launch facts n (load (walks c) a site f st go) news st.held → Goes c launch facts n (load (walks c) a site f st go) go news (owns st) (λ w more v. IsValue c more w v) (loaded (setup c) a site x answers)
+  pub load_sound : (answers : List Word) (a : Array) (site : Site) {facts : List Fact} {n : ℕ} {news : List ℤ} (f : Fact) (x : ℤ) (st : State E) (go : Onward E) → c.spaces a.space ≡ true → IsForm c news f x → Stands c launch facts n (load (walks c) a site f st go) news (keeping st) → Goes c launch facts n (load (walks c) a site f st go) go news (owns st) (λ w more v. IsValue c more w v) (loaded (setup c) a site x answers)
   load_sound [] a site f x st go there m s =
       let i = inside false a site f x st (λ st'. unknown (walks c) (array_kind (walks c) a) st' go) there m s in
       asks a i.index site (ap (λ p. asked a p site) (within-at (extent (setup c) a) i.index x i.same i.below)) i.seen

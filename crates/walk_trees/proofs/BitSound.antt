@@ -19,6 +19,7 @@ use Rattle.walk_trees.specs.Quotients.{left_by}
 use Rattle.walk_trees.specs.Bits.{is_natural, tell_where, bits_from, is_upper, is_run, run_of, in_run, met, meet_any, meet_by, run_in, meet, bit_of, bit_in, with_bit, upper, widest_of, joined, join_any, join_by, joins, join, differ}
 use Rattle.walk_trees.proofs.KindEnds.{in_kind-ends}
 use Rattle.walk_trees.proofs.Holding.{form-has, held_settles}
+use Rattle.walk_trees.proofs.Shares.{keeping}
 use Rattle.walk_trees.proofs.Standing.{walks, Stands, Comes, at_once, onward, arriving, owns}
 use Rattle.walk_trees.proofs.Ranges.{IsForm, form_kept, form-is, form_constant, form-sum, form-multiple, form-minus, invent_sound}
 use Rattle.walk_trees.proofs.Splits.{value-known}
@@ -63,12 +64,12 @@ or-right true m n e = let l = le_or_r m n in omega (arith, ints, l)
 or-right false m n e = cc
 
 module _ {E : Type 0} (c : View E) (launch : List Fact) where
-  natural : {facts : List Fact} {n : ℕ} {tree : Tree E} {news : List ℤ} (k : Kind) (f : Fact) (x : ℤ) (st : State E) → in_kind k x ≡ true → IsForm c news f x → Stands c launch facts n tree news st.held → is_natural (walks c) st k f ≡ true → pos 0 ≤ℤ x
+  natural : {facts : List Fact} {n : ℕ} {tree : Tree E} {news : List ℤ} (k : Kind) (f : Fact) (x : ℤ) (st : State E) → in_kind k x ≡ true → IsForm c news f x → Stands c launch facts n tree news (keeping st) → is_natural (walks c) st k f ≡ true → pos 0 ≤ℤ x
   natural Uint f x st h m s e = (in_kind-ends Uint x h).0
   natural {news = news} Int f x st h m s e = held_settles c news st.held f x s.fit m.means e
 
   -- the bits from a place on
-  bits_from_sound : (b : ℕ) (k : Kind) {facts : List Fact} {n : ℕ} {news : List ℤ} (f : Fact) (x : ℤ) (st : State E) (go : Fact → State E → Tree E) → in_kind k x ≡ true → IsForm c news f x → Stands c launch facts n (bits_from (walks c) k f b st go) news st.held →
+  bits_from_sound : (b : ℕ) (k : Kind) {facts : List Fact} {n : ℕ} {news : List ℤ} (f : Fact) (x : ℤ) (st : State E) (go : Fact → State E → Tree E) → in_kind k x ≡ true → IsForm c news f x → Stands c launch facts n (bits_from (walks c) k f b st go) news (keeping st) →
       Comes c launch facts n (bits_from (walks c) k f b st go) go news (owns st) (λ more h. IsForm c more h (int_div_euclid x (pos (2 ^ b))))
   bits_from_sound zero k f x st go h m s = at_once c launch go (λ more h. IsForm c more h (int_div_euclid x (pos 1))) f st (form-is c (int_div_euclid x (pos 1)) (sym (floor-one x)) m) s
   bits_from_sound (suc b) k f x st go h m s =
@@ -79,7 +80,7 @@ module _ {E : Type 0} (c : View E) (launch : List Fact) where
 
   -- bits in a run
   run_sound : (u : Bool) (k : Kind) {facts : List Fact} {n : ℕ} {news : List ℤ} (b : ℕ) (x y : ℤ) (q : Fact) (st : State E) (go : Fact → State E → Tree E) → is_upper k b y ≡ u → is_run k b y ≡ true → b ≤ 31 → in_kind k x ≡ true → in_kind k y ≡ true → IsForm c news q (int_div_euclid x (pos (2 ^ b))) →
-      Stands c launch facts n (cond u (go (multiple (pos (2 ^ b)) q) st) (left_by (walks c) k q (int_div (y +ℤ pos (2 ^ b)) (pos (2 ^ b))) st (λ r st2. go (multiple (pos (2 ^ b)) r) st2))) news st.held →
+      Stands c launch facts n (cond u (go (multiple (pos (2 ^ b)) q) st) (left_by (walks c) k q (int_div (y +ℤ pos (2 ^ b)) (pos (2 ^ b))) st (λ r st2. go (multiple (pos (2 ^ b)) r) st2))) news (keeping st) →
       Comes c launch facts n (cond u (go (multiple (pos (2 ^ b)) q) st) (left_by (walks c) k q (int_div (y +ℤ pos (2 ^ b)) (pos (2 ^ b))) st (λ r st2. go (multiple (pos (2 ^ b)) r) st2))) go news (owns st) (λ more h. IsForm c more h (both k x y))
   run_sound true k b x y q st go e r l hx hy m s =
       let same : both k x y ≡ pos (2 ^ b) *ℤ int_div_euclid x (pos (2 ^ b)) = ap (λ n. read_bits k (bit_and (bits_of x) n)) (upper-is k y b hy e) ∙ upper-bits k x (31 - b) b hx (omega (arith, l)) in
@@ -95,7 +96,7 @@ module _ {E : Type 0} (c : View E) (launch : List Fact) where
       arriving c launch go (multiple (pos (2 ^ b))) (λ more h. IsForm c more h (both k x y)) (λ more r kept m. form-is c (both k x y) (sym (middle-bits k x y b p hx)) (form-multiple c (pos (2 ^ b)) r (int_rem_euclid v (pos w)) m))
       (left_of c launch k q v d (int_div_euclid v (pos w)) (int_rem_euclid v (pos w)) st (λ r st2. go (multiple (pos (2 ^ b)) r) st2) m is (floor-low v w) top (floor-in k v w i) s)
 
-  in_run_sound : (k : Kind) {facts : List Fact} {n : ℕ} {news : List ℤ} (b : ℕ) (f : Fact) (x y : ℤ) (st : State E) (go : Fact → State E → Tree E) → is_run k b y ≡ true → b ≤ 31 → in_kind k x ≡ true → in_kind k y ≡ true → IsForm c news f x → Stands c launch facts n (in_run (walks c) k f b y st go) news st.held →
+  in_run_sound : (k : Kind) {facts : List Fact} {n : ℕ} {news : List ℤ} (b : ℕ) (f : Fact) (x y : ℤ) (st : State E) (go : Fact → State E → Tree E) → is_run k b y ≡ true → b ≤ 31 → in_kind k x ≡ true → in_kind k y ≡ true → IsForm c news f x → Stands c launch facts n (in_run (walks c) k f b y st go) news (keeping st) →
       Comes c launch facts n (in_run (walks c) k f b y st go) go news (owns st) (λ more h. IsForm c more h (both k x y))
   in_run_sound k b f x y st go r l hx hy m s =
       let p = bits_from_sound b k f x st (λ q st1. cond (is_upper k b y) (go (multiple (pos (2 ^ b)) q) st1) (left_by (walks c) k q (int_div (y +ℤ pos (2 ^ b)) (pos (2 ^ b))) st1 (λ r st2. go (multiple (pos (2 ^ b)) r) st2))) hx m s in
@@ -120,7 +121,7 @@ module _ {E : Type 0} (c : View E) (launch : List Fact) where
   natural_has true k x y h = between-has c.domain c.lawful (pos 0) (greatest k) (both k x y) (h refl) (in_kind-ends k (both k x y) (both-in k x y)).1
   natural_has false k x y h = any_has k (both k x y) (both-in k x y)
 
-  met_has : (b : Bool) (laws : DividesLawfully c.domain) (k : Kind) {facts : List Fact} {n : ℕ} {tree : Tree E} {news : List ℤ} (f g : Fact) (x y : ℤ) (st : State E) → (is_from_zero (bounds_of (walks c) st f).low && is_from_zero (bounds_of (walks c) st g).low) ≡ b → in_kind k x ≡ true → in_kind k y ≡ true → IsForm c news f x → IsForm c news g y → Stands c launch facts n tree news st.held →
+  met_has : (b : Bool) (laws : DividesLawfully c.domain) (k : Kind) {facts : List Fact} {n : ℕ} {tree : Tree E} {news : List ℤ} (f g : Fact) (x y : ℤ) (st : State E) → (is_from_zero (bounds_of (walks c) st f).low && is_from_zero (bounds_of (walks c) st g).low) ≡ b → in_kind k x ≡ true → in_kind k y ≡ true → IsForm c news f x → IsForm c news g y → Stands c launch facts n tree news (keeping st) →
       c.domain.has (cond b (c.domain.mask_of (element_of (walks c) st f) (element_of (walks c) st g)) (cond (is_natural (walks c) st k f || is_natural (walks c) st k g) (between c.domain (pos 0) (greatest k)) (any_of c.domain k))) (both k x y) ≡ true
   met_has true laws k {news = news} f g x y st e hx hy mf mg s =
       let p = and_parts (is_from_zero (bounds_of (walks c) st f).low) (is_from_zero (bounds_of (walks c) st g).low) e in
@@ -132,7 +133,7 @@ module _ {E : Type 0} (c : View E) (launch : List Fact) where
       ])
 
   -- at most each operand that is not negative
-  meet_any_sound : (laws : DividesLawfully c.domain) (k : Kind) {facts : List Fact} {n : ℕ} {news : List ℤ} (f g : Fact) (x y : ℤ) (st : State E) (go : Fact → State E → Tree E) → in_kind k x ≡ true → in_kind k y ≡ true → IsForm c news f x → IsForm c news g y → Stands c launch facts n (meet_any (walks c) k f g st go) news st.held →
+  meet_any_sound : (laws : DividesLawfully c.domain) (k : Kind) {facts : List Fact} {n : ℕ} {news : List ℤ} (f g : Fact) (x y : ℤ) (st : State E) (go : Fact → State E → Tree E) → in_kind k x ≡ true → in_kind k y ≡ true → IsForm c news f x → IsForm c news g y → Stands c launch facts n (meet_any (walks c) k f g st go) news (keeping st) →
       Comes c launch facts n (meet_any (walks c) k f g st go) go news (owns st) (λ more h. IsForm c more h (both k x y))
   meet_any_sound laws k f g x y st go hx hy mf mg s =
       let z = both k x y in
@@ -150,7 +151,7 @@ module _ {E : Type 0} (c : View E) (launch : List Fact) where
   run_of_number true k g b e h = let p = run_of-is 31 k g.constant b h in (e, p.0, p.1)
   run_of_number false k g b e h = cc
 
-  meet_by_sound : (o : Option ℕ) (laws : DividesLawfully c.domain) (k : Kind) {facts : List Fact} {n : ℕ} {news : List ℤ} (f g : Fact) (x y : ℤ) (st : State E) (go : Fact → State E → Tree E) → run_in k g ≡ o → in_kind k x ≡ true → in_kind k y ≡ true → IsForm c news f x → IsForm c news g y → Stands c launch facts n (meet_by (walks c) o k f g st go) news st.held →
+  meet_by_sound : (o : Option ℕ) (laws : DividesLawfully c.domain) (k : Kind) {facts : List Fact} {n : ℕ} {news : List ℤ} (f g : Fact) (x y : ℤ) (st : State E) (go : Fact → State E → Tree E) → run_in k g ≡ o → in_kind k x ≡ true → in_kind k y ≡ true → IsForm c news f x → IsForm c news g y → Stands c launch facts n (meet_by (walks c) o k f g st go) news (keeping st) →
       Comes c launch facts n (meet_by (walks c) o k f g st go) go news (owns st) (λ more h. IsForm c more h (both k x y))
   meet_by_sound None laws k f g x y st go e hx hy mf mg s = meet_any_sound laws k f g x y st go hx hy mf mg s
   meet_by_sound (Some b) laws k {facts = facts} {n = n} {news = news} f g x y st go e hx hy mf mg s =
@@ -160,12 +161,12 @@ module _ {E : Type 0} (c : View E) (launch : List Fact) where
       (in_run_sound k b f x g.constant st go p.1 p.2 hx (subst (λ z. in_kind k z ≡ true) (sym same) hy) mf s)
 
   -- `x & y`
-  pub meet_sound : (laws : DividesLawfully c.domain) (k : Kind) {facts : List Fact} {n : ℕ} {news : List ℤ} (f g : Fact) (x y : ℤ) (st : State E) (go : Fact → State E → Tree E) → in_kind k x ≡ true → in_kind k y ≡ true → IsForm c news f x → IsForm c news g y → Stands c launch facts n (meet (walks c) k f g st go) news st.held →
+  pub meet_sound : (laws : DividesLawfully c.domain) (k : Kind) {facts : List Fact} {n : ℕ} {news : List ℤ} (f g : Fact) (x y : ℤ) (st : State E) (go : Fact → State E → Tree E) → in_kind k x ≡ true → in_kind k y ≡ true → IsForm c news f x → IsForm c news g y → Stands c launch facts n (meet (walks c) k f g st go) news (keeping st) →
       Comes c launch facts n (meet (walks c) k f g st go) go news (owns st) (λ more h. IsForm c more h (read_bits k (bit_and (bits_of x) (bits_of y))))
   meet_sound laws k f g x y st go hx hy mf mg s = meet_by_sound (run_in k g) laws k f g x y st go refl hx hy mf mg s
 
   -- with one bit more, or without it
-  with_bit_sound : (k : Kind) {facts : List Fact} {n : ℕ} {news : List ℤ} (b : ℕ) (f : Fact) (x t z : ℤ) (st : State E) (go : Fact → State E → Tree E) → z +ℤ t *ℤ int_rem_euclid (int_div_euclid x (pos (2 ^ b))) (pos 2) ≡ x +ℤ pos (2 ^ b) → pos 0 ≤ℤ z → in_kind k x ≡ true → IsForm c news f x → Stands c launch facts n (with_bit (walks c) k f b t st go) news st.held →
+  with_bit_sound : (k : Kind) {facts : List Fact} {n : ℕ} {news : List ℤ} (b : ℕ) (f : Fact) (x t z : ℤ) (st : State E) (go : Fact → State E → Tree E) → z +ℤ t *ℤ int_rem_euclid (int_div_euclid x (pos (2 ^ b))) (pos 2) ≡ x +ℤ pos (2 ^ b) → pos 0 ≤ℤ z → in_kind k x ≡ true → IsForm c news f x → Stands c launch facts n (with_bit (walks c) k f b t st go) news (keeping st) →
       Comes c launch facts n (with_bit (walks c) k f b t st go) go news (owns st) (λ more h. IsForm c more h z)
   with_bit_sound k b f x t z st go e l hx m s =
       let v = int_div_euclid x (pos (2 ^ b)) in
@@ -182,7 +183,7 @@ module _ {E : Type 0} (c : View E) (launch : List Fact) where
       onward c launch p (onward c launch q (onward c launch u (at_once c launch go (λ more h. IsForm c more h z) (more r) u.state (form_kept c u.way.kept is) u.stands)))
 
   -- each bit is one of an operand's
-  joined_has : (o : Bool) (k : Kind) {facts : List Fact} {n : ℕ} {tree : Tree E} {news : List ℤ} (f g : Fact) (x y : ℕ) (st : State E) → in_kind k (pos x) ≡ true → in_kind k (pos y) ≡ true → IsForm c news f (pos x) → IsForm c news g (pos y) → Stands c launch facts n tree news st.held → c.domain.has (joined (walks c) st k f g) (pos (of_bits o x y)) ≡ true
+  joined_has : (o : Bool) (k : Kind) {facts : List Fact} {n : ℕ} {tree : Tree E} {news : List ℤ} (f g : Fact) (x y : ℕ) (st : State E) → in_kind k (pos x) ≡ true → in_kind k (pos y) ≡ true → IsForm c news f (pos x) → IsForm c news g (pos y) → Stands c launch facts n tree news (keeping st) → c.domain.has (joined (walks c) st k f g) (pos (of_bits o x y)) ≡ true
   joined_has o k {news = news} f g x y st hx hy mf mg s =
       let a = bounds_of (walks c) st f in
       let b = bounds_of (walks c) st g in
@@ -192,7 +193,7 @@ module _ {E : Type 0} (c : View E) (launch : List Fact) where
       let m = joined-below x y (upper k a.high) (upper k b.high) (upper-above k a.high (pos x) i (in_kind-ends k (pos x) hx).1) (upper-above k b.high (pos y) j (in_kind-ends k (pos y) hy).1) (upper-below k a.high) (upper-below k b.high) in
       between-has c.domain c.lawful (pos 0) z (pos (of_bits o x y)) (omega (arith, ints)) (either-joined o x y z m)
 
-  join_any_sound : (o : Bool) (k : Kind) {facts : List Fact} {n : ℕ} {news : List ℤ} (f g : Fact) (x y : ℕ) (st : State E) (go : Fact → State E → Tree E) → in_kind k (pos x) ≡ true → in_kind k (pos y) ≡ true → IsForm c news f (pos x) → IsForm c news g (pos y) → Stands c launch facts n (join_any (walks c) o k f g st go) news st.held →
+  join_any_sound : (o : Bool) (k : Kind) {facts : List Fact} {n : ℕ} {news : List ℤ} (f g : Fact) (x y : ℕ) (st : State E) (go : Fact → State E → Tree E) → in_kind k (pos x) ≡ true → in_kind k (pos y) ≡ true → IsForm c news f (pos x) → IsForm c news g (pos y) → Stands c launch facts n (join_any (walks c) o k f g st go) news (keeping st) →
       Comes c launch facts n (join_any (walks c) o k f g st go) go news (owns st) (λ more h. IsForm c more h (pos (of_bits o x y)))
   join_any_sound o k f g x y st go hx hy mf mg s =
       let z = pos (of_bits o x y) in
@@ -218,12 +219,12 @@ module _ {E : Type 0} (c : View E) (launch : List Fact) where
   bit_of_number true g b e h = (e, bit_of-is 30 g.constant b h)
   bit_of_number false g b e h = cc
 
-  bit_sound : (o : Bool) (k : Kind) {facts : List Fact} {n : ℕ} {news : List ℤ} (b : ℕ) (f g : Fact) (x y : ℕ) (st : State E) (go : Fact → State E → Tree E) → y ≡ 2 ^ b → in_kind k (pos x) ≡ true → IsForm c news f (pos x) → Stands c launch facts n (join_by (walks c) (Some b) o k f g st go) news st.held →
+  bit_sound : (o : Bool) (k : Kind) {facts : List Fact} {n : ℕ} {news : List ℤ} (b : ℕ) (f g : Fact) (x y : ℕ) (st : State E) (go : Fact → State E → Tree E) → y ≡ 2 ^ b → in_kind k (pos x) ≡ true → IsForm c news f (pos x) → Stands c launch facts n (join_by (walks c) (Some b) o k f g st go) news (keeping st) →
       Comes c launch facts n (join_by (walks c) (Some b) o k f g st go) go news (owns st) (λ more h. IsForm c more h (pos (of_bits o x y)))
   bit_sound true k b f g x y st go e hx mf s = with_bit_sound k b f (pos x) (pos (2 ^ b)) (pos (bit_or x y)) st go (ap (λ z. pos (bit_or x z) +ℤ pos (2 ^ b) *ℤ pos (x / 2 ^ b % 2)) e ∙ or-bit x b) (omega (arith, ints)) hx mf s
   bit_sound false k b f g x y st go e hx mf s = with_bit_sound k b f (pos x) (pos (2 ^ suc b)) (pos (bit_xor x y)) st go (ap (λ z. pos (bit_xor x z) +ℤ pos (2 ^ suc b) *ℤ pos (x / 2 ^ b % 2)) e ∙ xor-bit x b) (omega (arith, ints)) hx mf s
 
-  join_by_sound : (i : Option ℕ) (o : Bool) (k : Kind) {facts : List Fact} {n : ℕ} {news : List ℤ} (f g : Fact) (x y : ℕ) (st : State E) (go : Fact → State E → Tree E) → bit_in g ≡ i → in_kind k (pos x) ≡ true → in_kind k (pos y) ≡ true → IsForm c news f (pos x) → IsForm c news g (pos y) → Stands c launch facts n (join_by (walks c) i o k f g st go) news st.held →
+  join_by_sound : (i : Option ℕ) (o : Bool) (k : Kind) {facts : List Fact} {n : ℕ} {news : List ℤ} (f g : Fact) (x y : ℕ) (st : State E) (go : Fact → State E → Tree E) → bit_in g ≡ i → in_kind k (pos x) ≡ true → in_kind k (pos y) ≡ true → IsForm c news f (pos x) → IsForm c news g (pos y) → Stands c launch facts n (join_by (walks c) i o k f g st go) news (keeping st) →
       Comes c launch facts n (join_by (walks c) i o k f g st go) go news (owns st) (λ more h. IsForm c more h (pos (of_bits o x y)))
   join_by_sound None o k f g x y st go e hx hy mf mg s = join_any_sound o k f g x y st go hx hy mf mg s
   join_by_sound (Some b) o k f g x y st go e hx hy mf mg s =
@@ -231,14 +232,14 @@ module _ {E : Type 0} (c : View E) (launch : List Fact) where
       let same : g.constant ≡ pos y = value-known c launch g (pos y) mg p.0 in
       bit_sound o k b f g x y st go (omega (arith, ints, sym same ∙ p.1)) hx mf s
 
-  natural_sound : (o : Bool) (k : Kind) {facts : List Fact} {n : ℕ} {news : List ℤ} (f g : Fact) (x y : ℤ) (st : State E) (go : Fact → State E → Tree E) → pos 0 ≤ℤ x → pos 0 ≤ℤ y → in_kind k x ≡ true → in_kind k y ≡ true → IsForm c news f x → IsForm c news g y → Stands c launch facts n (join_by (walks c) (bit_in g) o k f g st go) news st.held →
+  natural_sound : (o : Bool) (k : Kind) {facts : List Fact} {n : ℕ} {news : List ℤ} (f g : Fact) (x y : ℤ) (st : State E) (go : Fact → State E → Tree E) → pos 0 ≤ℤ x → pos 0 ≤ℤ y → in_kind k x ≡ true → in_kind k y ≡ true → IsForm c news f x → IsForm c news g y → Stands c launch facts n (join_by (walks c) (bit_in g) o k f g st go) news (keeping st) →
       Comes c launch facts n (join_by (walks c) (bit_in g) o k f g st go) go news (owns st) (λ more h. IsForm c more h (either o k x y))
   natural_sound o k {facts = facts} {n = n} {news = news} f g (pos x) (pos y) st go lx ly hx hy mf mg s =
       subst (λ z. Comes c launch facts n (join_by (walks c) (bit_in g) o k f g st go) go news (owns st) (λ more h. IsForm c more h z)) (sym (either-plain o k x y hx hy)) (join_by_sound (bit_in g) o k f g x y st go refl hx hy mf mg s)
   natural_sound o k f g (pos x) (negsuc y) st go lx ly hx hy mf mg s = absurd (omega (arith, ints))
   natural_sound o k f g (negsuc x) y st go lx ly hx hy mf mg s = absurd (omega (arith, ints))
 
-  joins_sound : (b o : Bool) (k : Kind) {facts : List Fact} {n : ℕ} {news : List ℤ} (f g : Fact) (x y : ℤ) (st : State E) (go : Fact → State E → Tree E) → (is_natural (walks c) st k f && is_natural (walks c) st k g) ≡ b → in_kind k x ≡ true → in_kind k y ≡ true → IsForm c news f x → IsForm c news g y → Stands c launch facts n (joins (walks c) b o k f g st go) news st.held →
+  joins_sound : (b o : Bool) (k : Kind) {facts : List Fact} {n : ℕ} {news : List ℤ} (f g : Fact) (x y : ℤ) (st : State E) (go : Fact → State E → Tree E) → (is_natural (walks c) st k f && is_natural (walks c) st k g) ≡ b → in_kind k x ≡ true → in_kind k y ≡ true → IsForm c news f x → IsForm c news g y → Stands c launch facts n (joins (walks c) b o k f g st go) news (keeping st) →
       Comes c launch facts n (joins (walks c) b o k f g st go) go news (owns st) (λ more h. IsForm c more h (either o k x y))
   joins_sound true o k f g x y st go e hx hy mf mg s =
       let p = and_parts (is_natural (walks c) st k f) (is_natural (walks c) st k g) e in
@@ -246,11 +247,11 @@ module _ {E : Type 0} (c : View E) (launch : List Fact) where
   joins_sound false o k f g x y st go e hx hy mf mg s = invent_sound c launch (any_of c.domain k) st go (either o k x y) (any_has k (either o k x y) (either-in o k x y)) s
 
   -- `x | y`
-  pub join_sound : (k : Kind) {facts : List Fact} {n : ℕ} {news : List ℤ} (f g : Fact) (x y : ℤ) (st : State E) (go : Fact → State E → Tree E) → in_kind k x ≡ true → in_kind k y ≡ true → IsForm c news f x → IsForm c news g y → Stands c launch facts n (join (walks c) k f g st go) news st.held →
+  pub join_sound : (k : Kind) {facts : List Fact} {n : ℕ} {news : List ℤ} (f g : Fact) (x y : ℤ) (st : State E) (go : Fact → State E → Tree E) → in_kind k x ≡ true → in_kind k y ≡ true → IsForm c news f x → IsForm c news g y → Stands c launch facts n (join (walks c) k f g st go) news (keeping st) →
       Comes c launch facts n (join (walks c) k f g st go) go news (owns st) (λ more h. IsForm c more h (read_bits k (bit_or (bits_of x) (bits_of y))))
   join_sound k f g x y st go hx hy mf mg s = joins_sound (is_natural (walks c) st k f && is_natural (walks c) st k g) true k f g x y st go refl hx hy mf mg s
 
   -- `x ^ y`
-  pub differ_sound : (k : Kind) {facts : List Fact} {n : ℕ} {news : List ℤ} (f g : Fact) (x y : ℤ) (st : State E) (go : Fact → State E → Tree E) → in_kind k x ≡ true → in_kind k y ≡ true → IsForm c news f x → IsForm c news g y → Stands c launch facts n (differ (walks c) k f g st go) news st.held →
+  pub differ_sound : (k : Kind) {facts : List Fact} {n : ℕ} {news : List ℤ} (f g : Fact) (x y : ℤ) (st : State E) (go : Fact → State E → Tree E) → in_kind k x ≡ true → in_kind k y ≡ true → IsForm c news f x → IsForm c news g y → Stands c launch facts n (differ (walks c) k f g st go) news (keeping st) →
       Comes c launch facts n (differ (walks c) k f g st go) go news (owns st) (λ more h. IsForm c more h (read_bits k (bit_xor (bits_of x) (bits_of y))))
   differ_sound k f g x y st go hx hy mf mg s = joins_sound (is_natural (walks c) st k f && is_natural (walks c) st k g) false k f g x y st go refl hx hy mf mg s

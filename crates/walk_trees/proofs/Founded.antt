@@ -13,7 +13,7 @@ use Rattle.facts.proofs.Members.{by_number}
 use Rattle.facts.proofs.Worlds.{View, setup, own, agrees_itself}
 use Rattle.walk_trees.specs.Trees.{Ended, claims, accesses, ends}
 use Rattle.walk_trees.specs.Covered.{covers_term}
-use Rattle.walk_trees.specs.Shown.{IsShown}
+use Rattle.walk_trees.specs.Shown.{IsShownWithProducts}
 use Rattle.walk_trees.specs.Sound.{beginning, with_value, tree_of, IsFound, IsFoundIn}
 use Rattle.walk_trees.proofs.Each.{Has}
 use Rattle.walk_trees.proofs.Holding.{held_opening}
@@ -60,5 +60,5 @@ module _ {E : Type 0} (c : View E) (laws : DividesLawfully c.domain) (e : Term) 
     inside = s.inside;
   })
 
-  pub founded : (answers : List Word) → All IsShown (claims launch facts 0 (tree_of (walks c) c.kernel e)) → IsFoundIn (tree_of (walks c) c.kernel e) (setup c) (evaluate (setup c) c.item e (opening (setup c) c.item).variables answers)
-  founded answers shown = found ((term_sound c launch laws e covered).value facts 0 [] (beginning c.kernel) with_value (opening (setup c) c.item).variables answers (opening_forms c) (record { fit = held_opening c; counted = refl; launched = launch_known c []; known = item_known c []; shown = shown }))
+  pub founded : (answers : List Word) → All IsShownWithProducts (claims launch facts 0 (tree_of (walks c) c.kernel e)) → IsFoundIn (tree_of (walks c) c.kernel e) (setup c) (evaluate (setup c) c.item e (opening (setup c) c.item).variables answers)
+  founded answers shown = found ((term_sound c launch laws e covered).value facts 0 [] (beginning c.kernel) with_value (opening (setup c) c.item).variables answers (opening_forms c) (record { fit = held_opening c; counted = refl; shared = tt; launched = launch_known c []; known = item_known c []; shown = shown }))

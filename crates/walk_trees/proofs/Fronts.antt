@@ -21,6 +21,7 @@ use Rattle.walk_trees.specs.Terms.{no_value, access, walk}
 use Rattle.walk_trees.specs.Statements.{assigned}
 use Rattle.walk_trees.specs.Covered.{covers_term}
 use Rattle.walk_trees.proofs.Each.{Has}
+use Rattle.walk_trees.proofs.Shares.{keeping}
 use Rattle.walk_trees.proofs.Standing.{walks, Noted, noted, Seen, seen_in, Stands, Comes, Goes, gives, asks, past_claim, past_access, Owns, owns}
 use Rattle.walk_trees.proofs.Ranges.{IsForm, IsValue, form_kept}
 use Rattle.walk_trees.proofs.QuotientSound.{DividesLawfully}
@@ -31,7 +32,7 @@ pub record Stood {E : Type 0} (c : View E) (launch : List Fact) (all : List (Acc
   pub facts : List Fact
   pub count : ℕ
   pub news : List ℤ
-  pub stands : Stands c launch facts count tree news st.held
+  pub stands : Stands c launch facts count tree news (keeping st)
   pub forms : AreForms c news vars st.variables
   pub ranked : (n : ℕ) → IsForm c news (rank_form st.ranks n) (ranks n)
   pub touched : (a : Access E) → Has a (accesses facts count tree) → Has a all

@@ -1,5 +1,5 @@
 -- What a domain holds on an item's path is so: the element of each symbol has its number.
-use Rattle.std.proofs.Common.{◌≡◌, ℕ, zero, suc, ◌<◌, ◌≤◌, Bool, true, false, cond, nat_eq, ◌&&◌, List, [], ◌∷◌, ◌++◌, length, slice_index_or, Option, Some, None, arith, refl, sym, ap, ◌∙◌, subst, inl, inr}
+use Rattle.std.proofs.Common.{◌≡◌, ◌%◌, ◌/◌, ◌≢◌, ℕ, zero, suc, ◌<◌, ◌≤◌, Bool, true, false, cond, nat_eq, ◌&&◌, List, [], ◌∷◌, ◌++◌, length, slice_index_or, Option, Some, None, arith, refl, sym, ap, ◌∙◌, subst, inl, inr}
 use Rattle.std.specs.Prelude.{ℤ, pos, negsuc, ◌+ℤ◌, ◌*ℤ◌, neg_ℤ, ◌≤ℤ◌, ◌⊎◌, int_le}
 use Rattle.std.specs.Ordering.{int_eq}
 use Rattle.std.proofs.lemmas.Int.{ints}
@@ -12,17 +12,18 @@ use Rattle.linear.specs.Exact.{Terms, without, form_without, fits_i64}
 use Rattle.linear.proofs.Merging.{IsRising}
 use Rattle.domain.specs.declared.Domain.{Ghosts}
 use Rattle.domain.specs.Members.{is_above, is_below}
+use Rattle.linear.specs.Products.{factors, value_of_factors}
+use Rattle.semantics.proofs.Integers.{mul_assoc}
 use Rattle.facts.specs.Symbols as symbols
-use Rattle.facts.specs.Symbols.{First, Second, Symbol, ArgumentOf, Length, Local, Group, New, Variable, AtAnchor, Turns, number, symbol_of, Fact}
-use Rattle.facts.specs.Elements.{Known, element, is_from_zero}
+use Rattle.facts.specs.Symbols.{First, Second, Symbol, ArgumentOf, Length, Local, Group, New, Variable, AtAnchor, Turns, number, of_family, symbol_of, Fact}
+use Rattle.facts.specs.Elements.{Known, Elements, element, is_from_zero}
 use Rattle.facts.specs.Launching.{known}
 use Rattle.facts.proofs.Integers.{le_test}
-use Rattle.facts.proofs.Naming.{symbol_of-number}
-use Rattle.facts.proofs.Members.{Lawful, by_number}
+use Rattle.facts.proofs.Members.{Lawful, by_number, plain_number, numbered}
 use Rattle.facts.proofs.Fitting.{members}
 use Rattle.facts.proofs.Worlds.{View, setup, Agrees, Means, own, agrees_itself, agrees_before, agrees_new}
 use Rattle.walk_trees.proofs.Each.{Has}
-use Rattle.walk_trees.specs.Held.{Narrowed, Held, no_held, with_new, with_narrowed, latest, element_held, terms_with, element_with, element_at, from_below, from_above, narrowed_by, narrow_one, narrow_terms, narrow, is_settled_at}
+use Rattle.walk_trees.specs.Held.{Narrowed, Held, no_held, with_new, with_narrowed, latest, element_held, terms_with, element_with, element_at, from_below, from_above, narrowed_by, narrow_one, narrow_terms, narrow, is_settled_at, element_of_own, element_number, elements_from, elements_of_factors}
 
 -- a form with rising symbols is one of its terms and the form without its symbol
 same_number : (a b : ℕ) → a ≡ b → nat_eq a b ≡ true
@@ -115,9 +116,14 @@ suits_itself c news = record { agrees = agrees_itself c news; local = λ d. refl
 pub fits_itself : {E : Type 0} (c : View E) (news : List ℤ) (h : Held E) → IsHeld c news h → Fits c news h
 fits_itself c news h k = k (own c news) (suits_itself c news)
 
+-- of the number of a product nothing is known by itself
+of_product : {E : Type 0} (g : Ghosts E) (e : Elements E) (n : ℕ) → n % 16 ≡ 15 → element g e (symbol_of n) ≡ g.top_of
+unfolding symbol_of
+of_product g e n h = ap (λ f. element g e (of_family f (n / 16))) h
+
 module _ {E : Type 0} (c : View E) where
   by_symbol : (m : Symbol → ℤ) (s : Symbol) (z : ℤ) (e : E) → by_number m (number s) ≡ z → c.domain.has e z ≡ true → c.domain.has e (m s) ≡ true
-  by_symbol m s z e same h = subst (λ y. c.domain.has e y ≡ true) (sym same ∙ ap m (symbol_of-number s)) h
+  by_symbol m s z e same h = subst (λ y. c.domain.has e y ≡ true) (sym same ∙ numbered m s) h
 
   abbrev at : Symbol → E
   at s = element c.domain (record { known = known_of c; first = []; second = [] }) s
@@ -143,7 +149,15 @@ module _ {E : Type 0} (c : View E) where
       by (Turns w k) = c.lawful.top (m (Turns w k))
 
   pub held_opening : IsHeld c [] no_held
-  held_opening m u n = opening-has m u (symbol_of n)
+  held_opening m u n = opened m u n (nat_eq (n % 16) 15) refl
+    where
+      opened : (m : Symbol → ℤ) → Suits c [] m → (n : ℕ) (b : Bool) → nat_eq (n % 16) 15 ≡ b → c.domain.has (at (symbol_of n)) (by_number m n) ≡ true
+      opened m u n true t =
+          let l : n % 16 ≡ 15 = grind (arith, nat_tests) in
+          subst (λ x. c.domain.has x (by_number m n) ≡ true) (sym (of_product c.domain (record { known = known_of c; first = []; second = [] }) n l)) (c.lawful.top (by_number m n))
+      opened m u n false t =
+          let l : n % 16 ≢ 15 = grind (arith, nat_tests) in
+          subst (λ y. c.domain.has (at (symbol_of n)) y ≡ true) (sym (plain_number m n l)) (opening-has m u (symbol_of n))
 
   -- one more new symbol, whose number is a member of its element
   grown : (es : List E) (e : E) (m : Symbol → ℤ) (s : Symbol) → c.domain.has e (m (New First (length es))) ≡ true →
@@ -166,18 +180,60 @@ module _ {E : Type 0} (c : View E) where
   suits_before : (news : List ℤ) (z : ℤ) (m : Symbol → ℤ) → Suits c (news ++ z ∷ []) m → Suits c news m
   suits_before news z m u = record { agrees = agrees_before c news z (by_number m) u.agrees; local = u.local; group = u.group }
 
+  abbrev found : List E → ℕ → E
+  found es n = element c.domain (record { known = known_of c; first = es; second = [] }) (symbol_of n)
+
+  abbrev IsIn : Held E → (Symbol → ℤ) → ℕ → E → Type 0
+  IsIn h m n x = c.domain.has (latest x h.narrowed n) (by_number m n) ≡ true
+
+  anew : (h : Held E) (e : E) (m : Symbol → ℤ) (n : ℕ) (b : Bool) → nat_eq (n % 16) 15 ≡ b → c.domain.has e (m (New First (length h.news))) ≡ true → IsIn h m n (found h.news n) → IsIn h m n (found (h.news ++ e ∷ []) n)
+  anew h e m n true t i before =
+      let l : n % 16 ≡ 15 = grind (arith, nat_tests) in
+      subst (IsIn h m n) (of_product c.domain (record { known = known_of c; first = h.news; second = [] }) n l ∙ sym (of_product c.domain (record { known = known_of c; first = h.news ++ e ∷ []; second = [] }) n l)) before
+  anew h e m n false t i before =
+      let l : n % 16 ≢ 15 = grind (arith, nat_tests) in
+      elim (grown h.news e m (symbol_of n) i) [
+        | inl p ↦ subst (IsIn h m n) (sym p) before
+        | inr p ↦ latest-has c.domain (found h.news n) (found (h.news ++ e ∷ []) n) h.narrowed n (by_number m n) (subst (λ y. c.domain.has (found (h.news ++ e ∷ []) n) y ≡ true) (sym (plain_number m n l)) p) before
+      ]
+
   pub held_anew : (news : List ℤ) (h : Held E) (z : ℤ) (e : E) → length news ≡ length h.news → c.domain.has e z ≡ true → IsHeld c news h → IsHeld c (news ++ z ∷ []) (with_new e h)
   held_anew news h z e l i k m u n =
-      let new : m (New First (length h.news)) ≡ z = sym (ap m (symbol_of-number (New First (length h.news)))) ∙ ap (λ j. by_number m (number (New First j))) (sym l) ∙ agrees_new c news z (by_number m) u.agrees in
+      let new : m (New First (length h.news)) ≡ z = sym (numbered m (New First (length h.news))) ∙ ap (λ j. by_number m (number (New First j))) (sym l) ∙ agrees_new c news z (by_number m) u.agrees in
       let before = k m (suits_before news z m u) n in
-      elim (grown h.news e m (symbol_of n) (subst (λ y. c.domain.has e y ≡ true) (sym new) i)) [
-        | inl p ↦ subst (λ x. c.domain.has (latest x h.narrowed n) (by_number m n) ≡ true) (sym p) before
-        | inr p ↦ latest-has c.domain (element c.domain (record { known = known_of c; first = h.news; second = [] }) (symbol_of n)) (element c.domain (record { known = known_of c; first = h.news ++ e ∷ []; second = [] }) (symbol_of n)) h.narrowed n (by_number m n) p before
-      ]
+      anew h e m n (nat_eq (n % 16) 15) refl (subst (λ y. c.domain.has e y ≡ true) (sym new) i) before
+
+  module _ (h : Held E) (m : Symbol → ℤ) (held : (n : ℕ) → c.domain.has (element_held c.domain (known_of c) h n) (by_number m n) ≡ true) where
+    abbrev own_number : ℕ → ℤ
+    own_number n = m (symbol_of n)
+
+    abbrev of_own : ℕ → E
+    of_own = element_of_own c.domain (known_of c) h
+
+    own-has : (n : ℕ) (b : Bool) → nat_eq (n % 16) 15 ≡ b → c.domain.has (cond b c.domain.top_of (element_held c.domain (known_of c) h n)) (own_number n) ≡ true
+    own-has n true e = c.lawful.top (own_number n)
+    own-has n false e = (let o : n % 16 ≢ 15 = grind (arith, nat_tests) in subst (λ z. c.domain.has (element_held c.domain (known_of c) h n) z ≡ true) (plain_number m n o) (held n))
+
+    from-has : (so_far : E) (z : ℤ) (ns : List ℕ) → c.domain.has so_far z ≡ true → c.domain.has (elements_from c.domain of_own so_far ns) (z *ℤ value_of_factors own_number ns) ≡ true
+    from-has so_far z [] i = subst (λ y. c.domain.has so_far y ≡ true) (omega (arith, ints)) i
+    from-has so_far z (n ∷ ns) i =
+        let next = c.domain.mul_of so_far (of_own n) in
+        subst (λ y. c.domain.has (elements_from c.domain of_own next ns) y ≡ true) (mul_assoc z (own_number n) (value_of_factors own_number ns)) (from-has next (z *ℤ own_number n) ns (c.lawful.mul so_far (of_own n) z (own_number n) i (own-has n (nat_eq (n % 16) 15) refl)))
+
+    factors-has : (ns : List ℕ) → c.domain.has (elements_of_factors c.domain of_own ns) (value_of_factors own_number ns) ≡ true
+    factors-has [] = c.lawful.number (pos 1)
+    factors-has (n ∷ ns) = from-has (of_own n) (own_number n) ns (own-has n (nat_eq (n % 16) 15) refl)
+
+    number-chosen : (n : ℕ) (b : Bool) → c.domain.has (cond b (latest (elements_of_factors c.domain of_own (factors n)) h.narrowed n) (element_held c.domain (known_of c) h n)) (by_number m n) ≡ true
+    number-chosen n true = latest-has c.domain (found h.news n) (elements_of_factors c.domain of_own (factors n)) h.narrowed n (by_number m n) (factors-has (factors n)) (held n)
+    number-chosen n false = held n
+
+    number-has : (n : ℕ) → c.domain.has (element_number c.domain (known_of c) h n) (by_number m n) ≡ true
+    number-has n = number-chosen n (nat_eq (n % 16) 15)
 
   -- the value of a form is a member of its element
   value-has : (news : List ℤ) (h : Held E) (m : Symbol → ℤ) → Suits c news m → IsHeld c news h → (f : Fact) → c.domain.has (element_at c.domain (known_of c) h f) (value_of (by_number m) f) ≡ true
-  value-has news h m u k f = element_with-has c.domain c.lawful (element_held c.domain (known_of c) h) (by_number m) (k m u) f
+  value-has news h m u k f = element_with-has c.domain c.lawful (element_number c.domain (known_of c) h) (by_number m) (number-has h m (k m u)) f
 
   pub form-has : (news : List ℤ) (h : Held E) (f : Fact) (z : ℤ) → IsHeld c news h → Means c news f z → c.domain.has (element_at c.domain (known_of c) h f) z ≡ true
   form-has news h f z k means = subst (λ y. c.domain.has (element_at c.domain (known_of c) h f) y ≡ true) (means (by_number (own c news)) (agrees_itself c news)) (value-has news h (own c news) (suits_itself c news) k f)
@@ -226,7 +282,7 @@ module _ {E : Type 0} (c : View E) where
   one-held news f t h r here met k =
       let rest = form_without t.symbol f in
       let b = c.domain.bounds_of (element_at c.domain (known_of c) h rest) in
-      by-held news h t.coefficient t.symbol (element_held c.domain (known_of c) h t.symbol) b.high (λ m u. k m u t.symbol)
+      by-held news h t.coefficient t.symbol (element_number c.domain (known_of c) h t.symbol) b.high (λ m u. number-has h m (k m u) t.symbol)
       (λ m u.
       let y = value_of (by_number m) rest in
       (y, (and_parts (is_above b.low y) (is_below b.high y) (c.lawful.bounds (element_at c.domain (known_of c) h rest) y (value-has news h m u k rest))).1, omega (arith, ints, met (by_number m) u.agrees, part_of (by_number m) 0 f.terms t r here))) k

@@ -1,5 +1,5 @@
 -- Where the walk is not the wide one.
-use Rattle.std.proofs.Common.{◌≡◌, ℕ, ◌&&◌, Bool, true, false, refl}
+use Rattle.std.proofs.Common.{◌≡◌, ℕ, ◌&&◌, Bool, true, false, Option, None, refl}
 use Rattle.std.specs.Prelude.{ℤ, pos, negsuc}
 use Rattle.semantics.specs.Word.{Kind, Int, Add, Subtract, Multiply, Divide, Remainder, BitAnd, BitOr, BitXor}
 use Rattle.semantics.specs.Launch.{Kernel}
@@ -11,9 +11,10 @@ use Rattle.facts.specs.Elements.{is_from_zero}
 use Rattle.walk_trees.specs.Held.{narrow}
 use Rattle.walk_trees.specs.Trees.{Tree}
 use Rattle.walk_trees.specs.Values.{value}
-use Rattle.walk_trees.specs.Walks.{Setting, State, Onward, bounds_of, holding, unknown, ranged, fork, is_dead, unless_dead, know_test, know_two, known_form}
+use Rattle.walk_trees.specs.Shares.{Shared}
+use Rattle.walk_trees.specs.Walks.{Setting, State, Onward, element_of, bounds_of, holding, unknown, ranged, fork, invent, is_dead, unless_dead, know_test, know_two, known_form}
 use Rattle.walk_trees.specs.Quotients.{quotient, left_by}
-use Rattle.walk_trees.specs.Operators.{product, claim_divisor, is_positive, is_exact, claim_dividend, divided, remaining, is_mask, are_from_zero, masked_by, masked, binary}
+use Rattle.walk_trees.specs.Operators.{product_in, product, claim_divisor, is_positive, is_exact, claim_dividend, share, divided, remaining, is_mask, are_from_zero, masked_by, masked, binary}
 use Rattle.walk_trees.specs.Tests.{Outcomes, split_number}
 use Rattle.walk_trees.specs.Statements.{setting}
 
@@ -71,3 +72,17 @@ module _ {E : Type 0} (g : Ghosts E) (kernel : Kernel) (c : Conditions) (has_ent
 
   pub narrow-xor : (k : Kind) (x y : Fact) (st : State E) (go : Onward E) → binary s BitXor k x y st go ≡ unknown s k st go
   narrow-xor k x y st go = refl
+
+  -- a product of two forms with terms is a new symbol
+  pub narrow-product_in : (f g : Fact) (e : E) (st : State E) (go : Fact → State E → Tree E) → product_in s s.is_wide f g e st go ≡ invent s e st go
+  narrow-product_in f g e st go = refl
+
+  -- a quotient by a form, or what it leaves, is a new symbol
+  pub narrow-share : (k : Kind) (x y : Fact) (st : State E) (go : Option Shared → State E → Tree E) → share s k x y st go ≡ go None st
+  narrow-share k x y st go = refl
+
+  pub narrow-divided : (k : Kind) (x y : Fact) (st : State E) (go : Fact → State E → Tree E) → divided s false k x y st go ≡ invent s (s.domain.div_of (element_of s st x) (element_of s st y)) st go
+  narrow-divided k x y st go = refl
+
+  pub narrow-remaining : (k : Kind) (x y : Fact) (st : State E) (go : Fact → State E → Tree E) → remaining s false k x y st go ≡ invent s (s.domain.rem_of (element_of s st x) (element_of s st y)) st go
+  narrow-remaining k x y st go = refl

@@ -1,5 +1,5 @@
 -- The trees of what an item does have its own symbols, and the launch's, alone.
-use Rattle.std.proofs.Common.{◌≡◌, ℕ, zero, suc, ◌+◌, ◌^◌, ◌%◌, ◌&&◌, ◌||◌, Bool, true, false, not, cond, nat_lt, List, [], ◌∷◌, ◌++◌, map, slice_index_or, Option, Some, None, refl, lt-ltb}
+use Rattle.std.proofs.Common.{◌≡◌, ℕ, zero, suc, ◌+◌, ◌^◌, ◌%◌, ◌&&◌, ◌||◌, Bool, true, false, not, cond, nat_lt, List, [], ◌∷◌, ◌++◌, length, map, slice_index_or, Option, Some, None, refl, lt-ltb}
 use Rattle.std.proofs.lemmas.Bool.{and_from}
 use Rattle.std.specs.Prelude.{ℤ, pos, negsuc, ◌+ℤ◌, slice_set}
 use Rattle.std.specs.Ordering.{int_eq}
@@ -7,20 +7,23 @@ use Rattle.semantics.specs.Word.{Kind, Int, Uint, Operator, Add, Subtract, Multi
 use Rattle.semantics.specs.Core.{Array, Site, Function, GlobalId, LocalId, GroupId, GlobalSize, LocalSize, NumGroups, Term, Literal, Variable, Id, Load, Unary, Binary, Convert, Compare, Not, And, Or, Select, Minimum, Maximum}
 use Rattle.semantics.specs.Setup.{along}
 use Rattle.linear.specs.Exact.{Terms, sum, multiple}
+use Rattle.linear.specs.Products.{factors, product as form_product}
 use Rattle.facts.specs.Symbols as symbols
 use Rattle.facts.specs.Symbols.{First, Local, Group, Fact, constant, once, minus}
 use Rattle.walk_trees.specs.Trees.{OfRange, Tree, Leaf, Dead, Claim, Know, Touch, Fork, Access, after, accesses}
 use Rattle.walk_trees.specs.Values.{Value, value}
-use Rattle.walk_trees.specs.Walks.{Setting, State, Onward, claimed_once, counted, bounds_of, claim_form, unknown, any_of, is_kept, kept_or_new, ranged, brought_from, both_brought, at_site, fork, is_dead, unless_dead, is_refuted, know_test, know_two, one_number, known_form}
-use Rattle.walk_trees.specs.Operators.{product, claim_divisor, claim_quotient, is_exact, asks_dividend, claim_dividend, divided, remaining, is_mask, are_from_zero, masked_by, masked, operate, known_operands, binary, complement, shifted, unary}
+use Rattle.walk_trees.specs.Walks.{Setting, State, Onward, claimed_once, counted, bounds_of, newest, claim_form, unknown, any_of, is_kept, kept_or_new, ranged, brought_from, both_brought, at_site, fork, is_dead, unless_dead, is_refuted, know_test, know_two, one_number, known_form}
+use Rattle.walk_trees.specs.SharedQuotients.{quotient_or_new, left_or_new}
+use Rattle.walk_trees.specs.Operators.{small_product, product_in, product, claim_divisor, claim_quotient, is_exact, asks_dividend, claim_dividend, divided, remaining, is_mask, are_from_zero, masked_by, masked, operate, known_operands, binary, complement, shifted, unary}
 use Rattle.walk_trees.specs.Bits.{meet, join, differ}
 use Rattle.walk_trees.specs.Tests.{Outcomes, below, split_below, split, split_number}
 use Rattle.walk_trees.specs.Terms.{Walks, walk, no_value, truth_value, id_inside, id_outside, id_form, access, array_kind, chosen, pick}
 use Rattle.walk_trees.specs.Statements.{argument_values, zero_value}
-use Rattle.walk_trees.specs.Seconds.{is_own_symbol, are_own_terms, is_own, are_own}
+use Rattle.walk_trees.specs.Seconds.{are_own_factors, is_whole, is_own_symbol, are_own_terms, is_own, are_own}
 use Rattle.walk_trees.proofs.Each.{Each}
-use Rattle.walk_trees.proofs.OwnForms.{IsOwn, AreOwn, own-sum, own-multiple, own-minus, own-groups, own-given, own-local, own-group}
-use Rattle.walk_trees.proofs.OwnQuotients.{IsOwnValue, AreOwnValues, HasOwn, IsOwnTree, GoesOn, GoesOnBy, GoesEither, invents, quotients, leaves_by}
+use Rattle.walk_trees.proofs.Products.{product_by}
+use Rattle.walk_trees.proofs.OwnForms.{AreOwnFactors, IsOwnSymbol, IsOwn, AreOwn, own-sum, own-multiple, own-product, own-minus, own-new, own-groups, own-given, own-local, own-group}
+use Rattle.walk_trees.proofs.OwnQuotients.{IsOwnValue, AreOwnValues, HasOwn, IsOwnTree, GoesOn, GoesOnBy, GoesEither, invents, multiplieds, quotients, leaves_by, own-shares, quotients_or_new, lefts_or_new}
 use Rattle.walk_trees.proofs.OwnBits.{own_meet, own_join, own_differ}
 
 module _ {E : Type 0} (s : Setting E) where
@@ -84,18 +87,25 @@ module _ {E : Type 0} (s : Setting E) where
       (λ a ha. forks a _ _ ha (λ b hb. tests s.is_wide (minus (constant (negsuc 0)) f) b (go true) (own-minus (constant (negsuc 0)) f tt i) hb (g true))
       (λ b hb. tests_two s.is_wide f (multiple (negsuc 0) f) b (go false) i (own-multiple (negsuc 0) f i) hb (g false)))
 
+  own-multiplied : (f k m : Fact) → IsOwn f → IsOwn k → small_product f k ≡ Some m → IsOwn m
+  own-multiplied f k m i j e = own-product f k m (product_by (form_product f k) m e) i j
+
+  product_ins : (b : Bool) (f k : Fact) (e : E) (st : State E) (go : Fact → State E → Tree E) → IsOwn f → IsOwn k → HasOwn st → GoesOn go → IsOwnTree (product_in s b f k e st go)
+  product_ins true f k e st go i j h g = multiplieds s (small_product f k) e st go (λ m p. own-multiplied f k m i j p) h g
+  product_ins false f k e st go i j h g = invents s e st go h g
+
   products : (ts us : Terms) (f k : Fact) (st : State E) (go : Fact → State E → Tree E) → IsOwn f → IsOwn k → HasOwn st → GoesOn go → IsOwnTree (product s ts us f k st go)
   products ts [] f k st go i j h g = g (multiple k.constant f) st (own-multiple k.constant f i) h
   products [] (u ∷ us) f k st go i j h g = g (multiple f.constant k) st (own-multiple f.constant k j) h
-  products (t ∷ ts) (u ∷ us) f k st go i j h g = invents s _ st go h g
+  products (t ∷ ts) (u ∷ us) f k st go i j h g = product_ins s.is_wide f k _ st go i j h g
 
-  divides : (b : Bool) (k : Kind) (x y : Fact) (st : State E) (go : Fact → State E → Tree E) → IsOwn x → HasOwn st → GoesOn go → IsOwnTree (divided s b k x y st go)
-  divides true k x y st go i h g = quotients s k x y.constant st _ i h (λ q r st' j l h'. g q st' j h')
-  divides false k x y st go i h g = invents s _ st go h g
+  divides : (b : Bool) (k : Kind) (x y : Fact) (st : State E) (go : Fact → State E → Tree E) → IsOwn x → IsOwn y → HasOwn st → GoesOn go → IsOwnTree (divided s b k x y st go)
+  divides true k x y st go i j h g = quotients s k x y.constant st _ i h (λ q r st' j l h'. g q st' j h')
+  divides false k x y st go i j h g = own-shares s k x y st (λ q st'. quotient_or_new s q x y st' go) (λ p e. own-multiplied (newest st) y p (own-new (length st.held.news)) j e) i j h (λ o st' a h'. quotients_or_new s o x y st' go a h' g)
 
-  remains : (b : Bool) (k : Kind) (x y : Fact) (st : State E) (go : Fact → State E → Tree E) → IsOwn x → HasOwn st → GoesOn go → IsOwnTree (remaining s b k x y st go)
-  remains true k x y st go i h g = leaves_by s k x y.constant st go i h g
-  remains false k x y st go i h g = invents s _ st go h g
+  remains : (b : Bool) (k : Kind) (x y : Fact) (st : State E) (go : Fact → State E → Tree E) → IsOwn x → IsOwn y → HasOwn st → GoesOn go → IsOwnTree (remaining s b k x y st go)
+  remains true k x y st go i j h g = leaves_by s k x y.constant st go i h g
+  remains false k x y st go i j h g = own-shares s k x y st (λ q st'. left_or_new s q x y st' go) (λ p e. own-multiplied (newest st) y p (own-new (length st.held.news)) j e) i j h (λ o st' a h'. lefts_or_new s o x y st' go a h' g)
 
   masks_by : (b : Bool) (k : Kind) (x y : Fact) (st : State E) (go : Fact → State E → Tree E) → HasOwn st → GoesOn go → IsOwnTree (masked_by s b k x y st go)
   masks_by true k x y st go h g = invents s _ st go h g
@@ -136,8 +146,8 @@ module _ {E : Type 0} (s : Setting E) where
   operates Add k x y st go i j h g = ranges k (sum x y) st go (own-sum x y i j) h g
   operates Subtract k x y st go i j h g = ranges k (minus x y) st go (own-minus x y i j) h g
   operates Multiply k x y st go i j h g = products x.terms y.terms x y st _ i j h (λ f st' l h'. ranges k f st' go l h' g)
-  operates Divide k x y st go i j h g = claims_divisor k x y st _ h (λ a ha. claims_dividend k x y a _ ha (λ b st' h'. divides b k x y st' _ i h' (λ f st'' l h''. g (value k f) st'' l h'')))
-  operates Remainder k x y st go i j h g = claims_divisor k x y st _ h (λ a ha. claims_dividend k x y a _ ha (λ b st' h'. remains b k x y st' _ i h' (λ f st'' l h''. g (value k f) st'' l h'')))
+  operates Divide k x y st go i j h g = claims_divisor k x y st _ h (λ a ha. claims_dividend k x y a _ ha (λ b st' h'. divides b k x y st' _ i j h' (λ f st'' l h''. g (value k f) st'' l h'')))
+  operates Remainder k x y st go i j h g = claims_divisor k x y st _ h (λ a ha. claims_dividend k x y a _ ha (λ b st' h'. remains b k x y st' _ i j h' (λ f st'' l h''. g (value k f) st'' l h'')))
   operates BitAnd k x y st go i j h g = masks (is_mask s.is_wide k y) k x y st _ i j h (λ f st' l h'. g (value k f) st' l h')
   operates BitOr k x y st go i j h g =
       let on : Fact → State E → Tree E = λ f st'. go (value k f) st' in
@@ -237,7 +247,7 @@ module _ {E : Type 0} (s : Setting E) where
 
   pub own : (e : Term) → Own (walk s e)
   own (Literal k z) = of_value _ (λ st go h g. g (value k (constant z)) st tt h)
-  own (Variable x) = of_value _ (λ st go h g. g _ st (own-variable st.variables x h) h)
+  own (Variable x) = of_value _ (λ st go h g. g _ st (own-variable st.variables x h.0) h)
   own (Id f d) = of_value _ (λ st go h g. g (value Uint (id_form s f d)) st (either (nat_lt d 3) (id_inside s f d) (id_outside f) (own-inside f d) (own-outside f)) h)
   own (Load a site e) = of_value _ (λ st go h g. (own e).as_value st _ h (λ x st1 i h1. accesses_on false a site x.form st1 (λ st2. unknown s (array_kind s a) st2 go) i h1 (λ st2 h2. unknowns (array_kind s a) st2 go h2 g)))
   own (Unary op k site e) = of_value _ (λ st go h g. (own e).as_value st _ h (λ x st1 i h1. unaries op k x (at_site site st1) go i h1 g))
@@ -287,10 +297,17 @@ own-accesses fs n (Know f rest) h k = own-accesses (fs ++ f ∷ []) n rest (one_
 own-accesses fs n (Touch t i e rest) h k = ((k.0, h), own-accesses fs n rest h k.1)
 own-accesses fs n (Fork first second) h k = joined IsOwnAccess (accesses fs n first) (accesses fs (after n first) (second (after n first))) (own-accesses fs n first h k.0) (own-accesses fs (after n first) (second (after n first)) h (k.1 (after n first)))
 
+own-factors-test : (ns : List ℕ) → AreOwnFactors ns → are_own_factors ns ≡ true
+own-factors-test [] h = refl
+own-factors-test (n ∷ ns) h = and_from (nat_lt (n % 16) 9) (are_own_factors ns) (lt-ltb (n % 16) 9 h.0) (own-factors-test ns h.1)
+
+own-symbol-test : (n : ℕ) → IsOwnSymbol n → is_own_symbol n ≡ true
+own-symbol-test n h = and_from (are_own_factors (factors n)) (is_whole n) (own-factors-test (factors n) h.0) h.1
+
 -- the same as a test
 pub own-terms-test : (ts : Terms) → AreOwn ts → are_own_terms ts ≡ true
 own-terms-test [] h = refl
-own-terms-test (t ∷ ts) h = and_from (is_own_symbol t.symbol) (are_own_terms ts) (lt-ltb (t.symbol % 16) 9 h.0) (own-terms-test ts h.1)
+own-terms-test (t ∷ ts) h = and_from (is_own_symbol t.symbol) (are_own_terms ts) (own-symbol-test t.symbol h.0) (own-terms-test ts h.1)
 
 pub own-test : (fs : List Fact) → Each IsOwn fs → are_own fs ≡ true
 own-test [] h = refl

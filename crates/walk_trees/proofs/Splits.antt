@@ -19,6 +19,7 @@ use Rattle.walk_trees.specs.Trees.{Tree}
 use Rattle.walk_trees.specs.Walks.{State, element_of, bounds_of, counted, holding, fork, is_none, is_number, is_dead, unless_dead, is_refuted, know_test, know_two}
 use Rattle.walk_trees.specs.Tests.{Outcomes, below, split_below, split, split_number}
 use Rattle.walk_trees.proofs.Holding.{known_of, IsHeld, form-has}
+use Rattle.walk_trees.proofs.Shares.{keeping}
 use Rattle.walk_trees.proofs.Standing.{walks, Stands, Comes, over_fact, over_first, over_second, past_fact, narrowed, past_first, past_second, at_once, comes_from, onward, restated, owns}
 use Rattle.walk_trees.proofs.Ranges.{IsForm, form_kept, form_constant, form-multiple, form-minus}
 
@@ -83,37 +84,37 @@ module _ {E : Type 0} (c : View E) (launch : List Fact) where
   ]
 
   -- a fact of a test that holds
-  pub know_sound : {A : Type 0} (w : Bool) {facts : List Fact} {n : ℕ} {news : List ℤ} (f : Fact) (z : ℤ) (st : State E) (x : A) (go : A → State E → Tree E) → IsForm c news f z → pos 0 ≤ℤ z → Stands c launch facts n (know_test (walks c) w f st (go x)) news st.held → Comes c launch facts n (know_test (walks c) w f st (go x)) go news (owns st) (λ more y. y ≡ x)
+  pub know_sound : {A : Type 0} (w : Bool) {facts : List Fact} {n : ℕ} {news : List ℤ} (f : Fact) (z : ℤ) (st : State E) (x : A) (go : A → State E → Tree E) → IsForm c news f z → pos 0 ≤ℤ z → Stands c launch facts n (know_test (walks c) w f st (go x)) news (keeping st) → Comes c launch facts n (know_test (walks c) w f st (go x)) go news (owns st) (λ more y. y ≡ x)
   know_sound w {facts = facts} {n = n} {news = news} f z st x go m h s = by ((w && is_refuted (walks c) f st) || is_dead f) refl s
     where
       next : State E
       next = holding (narrow c.domain (known_of c) f st.held) st
 
-      by : (b : Bool) → ((w && is_refuted (walks c) f st) || is_dead f) ≡ b → Stands c launch facts n (unless_dead b f (go x (holding (narrow c.domain (known_of c) f st.held) st))) news st.held → Comes c launch facts n (unless_dead b f (go x (holding (narrow c.domain (known_of c) f st.held) st))) go news (owns st) (λ more y. y ≡ x)
+      by : (b : Bool) → ((w && is_refuted (walks c) f st) || is_dead f) ≡ b → Stands c launch facts n (unless_dead b f (go x (holding (narrow c.domain (known_of c) f st.held) st))) news (keeping st) → Comes c launch facts n (unless_dead b f (go x (holding (narrow c.domain (known_of c) f st.held) st))) go news (owns st) (λ more y. y ≡ x)
       by true e s = absurd (goes_on_here w f z st m h s.fit e)
       by false e s =
           let met : (v : ℕ → ℤ) → Agrees c news v → pos 0 ≤ℤ value_of v f = λ v a. omega (arith, ints, m.means v a, h) in
           comes_from c launch (over_fact c launch) (at_once c launch go (λ more y. y ≡ x) x (holding (narrow c.domain (known_of c) f st.held) st) refl (past_fact c launch met (narrowed c launch f m.rising met s)))
 
-  know_two_sound : {A : Type 0} (w : Bool) {facts : List Fact} {n : ℕ} {news : List ℤ} (f g : Fact) (y z : ℤ) (st : State E) (x : A) (go : A → State E → Tree E) → IsForm c news f y → pos 0 ≤ℤ y → IsForm c news g z → pos 0 ≤ℤ z → Stands c launch facts n (know_two (walks c) w f g st (go x)) news st.held → Comes c launch facts n (know_two (walks c) w f g st (go x)) go news (owns st) (λ more t. t ≡ x)
+  know_two_sound : {A : Type 0} (w : Bool) {facts : List Fact} {n : ℕ} {news : List ℤ} (f g : Fact) (y z : ℤ) (st : State E) (x : A) (go : A → State E → Tree E) → IsForm c news f y → pos 0 ≤ℤ y → IsForm c news g z → pos 0 ≤ℤ z → Stands c launch facts n (know_two (walks c) w f g st (go x)) news (keeping st) → Comes c launch facts n (know_two (walks c) w f g st (go x)) go news (owns st) (λ more t. t ≡ x)
   know_two_sound w f g y z st x go mf hf mg hg s =
       let p = know_sound w f y st x (λ t st'. know_test (walks c) w g st' (go t)) mf hf s in
       let q = know_sound w g z p.state p.arrived go (form_kept c p.way.kept mg) hg p.stands in
       onward c launch p (restated c launch (λ more t kept e. e ∙ p.right) q)
 
   -- the first way of a fork, or the second one
-  fork_first : {A : Type 0} {facts : List Fact} {n : ℕ} {news : List ℤ} (st : State E) (first second : State E → Tree E) (go : A → State E → Tree E) (P : List ℤ → A → Type 0) → Stands c launch facts n (fork st first second) news st.held → (Stands c launch facts n (first st) news st.held → Comes c launch facts n (first st) go news (owns st) P) → Comes c launch facts n (fork st first second) go news (owns st) P
+  fork_first : {A : Type 0} {facts : List Fact} {n : ℕ} {news : List ℤ} (st : State E) (first second : State E → Tree E) (go : A → State E → Tree E) (P : List ℤ → A → Type 0) → Stands c launch facts n (fork st first second) news (keeping st) → (Stands c launch facts n (first st) news (keeping st) → Comes c launch facts n (first st) go news (owns st) P) → Comes c launch facts n (fork st first second) go news (owns st) P
   fork_first st first second go P s later = comes_from c launch (over_first c launch) (later (past_first c launch s))
 
-  fork_second : {A : Type 0} {facts : List Fact} {n : ℕ} {news : List ℤ} (st : State E) (first second : State E → Tree E) (go : A → State E → Tree E) (P : List ℤ → A → Type 0) → Stands c launch facts n (fork st first second) news st.held → ((m : ℕ) → Stands c launch facts m (second (counted m st)) news st.held → Comes c launch facts m (second (counted m st)) go news (owns st) P) → Comes c launch facts n (fork st first second) go news (owns st) P
+  fork_second : {A : Type 0} {facts : List Fact} {n : ℕ} {news : List ℤ} (st : State E) (first second : State E → Tree E) (go : A → State E → Tree E) (P : List ℤ → A → Type 0) → Stands c launch facts n (fork st first second) news (keeping st) → ((m : ℕ) → Stands c launch facts m (second (counted m st)) news (keeping st) → Comes c launch facts m (second (counted m st)) go news (owns st) P) → Comes c launch facts n (fork st first second) go news (owns st) P
   fork_second st first second go P s later = comes_from c launch (over_second c launch) (later _ (past_second c launch s))
 
   -- one is below the other, or not
-  split_below_first : (w : Bool) {facts : List Fact} {n : ℕ} {news : List ℤ} (first otherwise : Bool) (f g : Fact) (z : ℤ) (st : State E) (go : Outcomes E) → IsForm c news f z → pos 0 ≤ℤ z → Stands c launch facts n (split_below (walks c) w first otherwise f g st go) news st.held → Comes c launch facts n (split_below (walks c) w first otherwise f g st go) go news (owns st) (λ more t. t ≡ first)
+  split_below_first : (w : Bool) {facts : List Fact} {n : ℕ} {news : List ℤ} (first otherwise : Bool) (f g : Fact) (z : ℤ) (st : State E) (go : Outcomes E) → IsForm c news f z → pos 0 ≤ℤ z → Stands c launch facts n (split_below (walks c) w first otherwise f g st go) news (keeping st) → Comes c launch facts n (split_below (walks c) w first otherwise f g st go) go news (owns st) (λ more t. t ≡ first)
   split_below_first w first otherwise f g z st go m h s =
       fork_first st (λ a. know_test (walks c) w f a (go first)) (λ a. know_test (walks c) w g a (go otherwise)) go (λ more t. t ≡ first) s (know_sound w f z st first go m h)
 
-  split_below_other : (w : Bool) {facts : List Fact} {n : ℕ} {news : List ℤ} (first otherwise : Bool) (f g : Fact) (z : ℤ) (st : State E) (go : Outcomes E) → IsForm c news g z → pos 0 ≤ℤ z → Stands c launch facts n (split_below (walks c) w first otherwise f g st go) news st.held → Comes c launch facts n (split_below (walks c) w first otherwise f g st go) go news (owns st) (λ more t. t ≡ otherwise)
+  split_below_other : (w : Bool) {facts : List Fact} {n : ℕ} {news : List ℤ} (first otherwise : Bool) (f g : Fact) (z : ℤ) (st : State E) (go : Outcomes E) → IsForm c news g z → pos 0 ≤ℤ z → Stands c launch facts n (split_below (walks c) w first otherwise f g st go) news (keeping st) → Comes c launch facts n (split_below (walks c) w first otherwise f g st go) go news (owns st) (λ more t. t ≡ otherwise)
   split_below_other w first otherwise f g z st go m h s =
       fork_second st (λ a. know_test (walks c) w f a (go first)) (λ a. know_test (walks c) w g a (go otherwise)) go (λ more t. t ≡ otherwise) s (λ k. know_sound w g z (counted k st) otherwise go m h)
 
@@ -124,7 +125,7 @@ module _ {E : Type 0} (c : View E) (launch : List Fact) where
   form_from f g x y mf mg = form-minus c f g x y (x -ℤ y) mf mg (omega (arith, ints))
 
   -- a comparison
-  pub split_sound : (w : Bool) (r : Relation) {facts : List Fact} {n : ℕ} {news : List ℤ} (f g : Fact) (x y : ℤ) (st : State E) (go : Outcomes E) → IsForm c news f x → IsForm c news g y → Stands c launch facts n (split (walks c) w r f g st go) news st.held → Comes c launch facts n (split (walks c) w r f g st go) go news (owns st) (λ more t. t ≡ holds r x y)
+  pub split_sound : (w : Bool) (r : Relation) {facts : List Fact} {n : ℕ} {news : List ℤ} (f g : Fact) (x y : ℤ) (st : State E) (go : Outcomes E) → IsForm c news f x → IsForm c news g y → Stands c launch facts n (split (walks c) w r f g st go) news (keeping st) → Comes c launch facts n (split (walks c) w r f g st go) go news (owns st) (λ more t. t ≡ holds r x y)
   split_sound w Less f g x y st go mf mg s = by_lt_z x y
       (λ l. restated c launch (λ more t kept e. e ∙ sym (lt_true x y l)) (split_below_first w true false (below f g) (minus f g) ((y -ℤ x) -ℤ pos 1) st go (form_below f g x y mf mg) (omega (arith, ints, l)) s))
       (λ l. restated c launch (λ more t kept e. e ∙ sym (int_lt-not x y l)) (split_below_other w true false (below f g) (minus f g) (x -ℤ y) st go (form_from f g x y mf mg) (omega (arith, ints, l)) s))
@@ -158,7 +159,7 @@ module _ {E : Type 0} (c : View E) (launch : List Fact) where
       ]
 
   -- a number as a test
-  pub split_number_sound : {facts : List Fact} {n : ℕ} {news : List ℤ} (f : Fact) (z : ℤ) (st : State E) (go : Outcomes E) → IsForm c news f z → Stands c launch facts n (split_number (walks c) f st go) news st.held → Comes c launch facts n (split_number (walks c) f st go) go news (owns st) (λ more t. t ≡ not (is_zero z))
+  pub split_number_sound : {facts : List Fact} {n : ℕ} {news : List ℤ} (f : Fact) (z : ℤ) (st : State E) (go : Outcomes E) → IsForm c news f z → Stands c launch facts n (split_number (walks c) f st go) news (keeping st) → Comes c launch facts n (split_number (walks c) f st go) go news (owns st) (λ more t. t ≡ not (is_zero z))
   split_number_sound {news = news} f z st go m s =
       let late : State E → Tree E = λ b. know_two (walks c) c.is_wide f (multiple (negsuc 0) f) b (go false) in
       let under : State E → Tree E = λ b. know_test (walks c) c.is_wide (minus (constant (negsuc 0)) f) b (go true) in

@@ -7,7 +7,8 @@ use Rattle.semantics.specs.Word.{Word, in_kind}
 use Rattle.semantics.specs.Core.{Site, Array}
 use Rattle.semantics.specs.Evaluation.{Outcome, Gives, Needs, and_then}
 use Rattle.semantics.specs.Solo as solo
-use Rattle.linear.specs.Linear.{value_of, IsMet, IsImpossible}
+use Rattle.linear.specs.Linear.{value_of, IsMet}
+use Rattle.linear.specs.Products.{IsImpossibleWithProducts}
 use Rattle.semantics.specs.Memory.{cell, extent}
 use Rattle.linear.proofs.Merging.{IsRising}
 use Rattle.facts.specs.Symbols.{Fact, denial}
@@ -16,11 +17,13 @@ use Rattle.facts.proofs.Members.{by_number}
 use Rattle.facts.proofs.Worlds.{View, setup, Agrees, Means, Knows, own, agrees_itself, agrees_before}
 use Rattle.walk_trees.specs.Held.{Held, with_new, narrow}
 use Rattle.walk_trees.specs.Trees.{Demand, Goal, AtLeastZero, Either, Replaced, Divided, Target, Tree, Claim, Know, Touch, Fork, after, Access, Ended, ends, claimed, claims, accesses, Manner, Plainly, ByPositive, ByNegative, ByQuotient}
+use Rattle.walk_trees.specs.Shares.{Shared}
 use Rattle.walk_trees.specs.Values.{Value}
 use Rattle.walk_trees.specs.Walks.{Setting, State, Ranked, know_all}
 use Rattle.walk_trees.specs.Statements.{setting}
-use Rattle.walk_trees.specs.Shown.{IsShown, IsShownIn}
+use Rattle.walk_trees.specs.Shown.{IsShownWithProducts, IsShownInWithProducts}
 use Rattle.walk_trees.proofs.Each.{Has}
+use Rattle.walk_trees.proofs.Shares.{Keeping, keeping, IsShared, AreShared, shared_kept}
 use Rattle.walk_trees.proofs.Holding.{known_of, IsHeld, Fits, held_anew, held_narrow, news-narrow}
 
 -- the walk of a kernel under conditions
@@ -74,12 +77,13 @@ pub seen_in : {E : Type 0} (c : View E) {all more : List (Access E)} {stored : B
 seen_in c f s = record { node = s.node; news = s.news; known = s.known; fit = s.fit; index = s.index; store = s.store; array = s.array; space = s.space; inside = s.inside; here = f s.node s.here }
 
 -- what is known before a tree, and that all is shown of it
-pub record Stands {E : Type 0} (c : View E) (launch facts : List Fact) (n : ℕ) (tree : Tree E) (news : List ℤ) (held : Held E) : Type 0 where
-  pub fit : IsHeld c news held
-  pub counted : length news ≡ length held.news
+pub record Stands {E : Type 0} (c : View E) (launch facts : List Fact) (n : ℕ) (tree : Tree E) (news : List ℤ) (kept : Keeping E) : Type 0 where
+  pub fit : IsHeld c news kept.held
+  pub counted : length news ≡ length kept.held.news
+  pub shared : AreShared c news kept.quotients
   pub launched : Knows c news launch
   pub known : Knows c news facts
-  pub shown : All IsShown (claims launch facts n tree)
+  pub shown : All IsShownWithProducts (claims launch facts n tree)
 
 -- a later place: what agrees there agrees before, and the accesses and ends of what is left are the tree's
 pub record Way {E : Type 0} (c : View E) (facts : List Fact) (n : ℕ) (tree : Tree E) (news : List ℤ) (path : List Fact) (m : ℕ) (left : Tree E) (more : List ℤ) : Type 0 where
@@ -104,7 +108,7 @@ pub record Comes {E : Type 0} (c : View E) (launch : List Fact) {A : Type 0} (fa
   pub state : State E
   pub same : owns state ≡ variables
   pub right : P more arrived
-  pub stands : Stands c launch path count (go arrived state) more state.held
+  pub stands : Stands c launch path count (go arrived state) more (keeping state)
   pub way : Way c facts n tree news path count (go arrived state) more
 
 -- an outcome is a value of its kind, with which the item comes to what goes on, or it asks for an element that the tree has; it is no fault
@@ -154,32 +158,37 @@ module _ {E : Type 0} (c : View E) (launch : List Fact) where
   over_second {facts = facts} {n = n} {first = first} {second = second} = record { kept = λ v g. g; touched = λ a h. has_right a (accesses facts n first) (accesses facts (after n first) (second (after n first))) h; ended = λ e h. has_right e (ends facts n first) (ends facts (after n first) (second (after n first))) h }
 
   -- where an item stands behind one node
-  pub past_claim : {facts : List Fact} {n : ℕ} {o : Demand} {needed settled : Bool} {g : Goal} {tree : Tree E} {news : List ℤ} {held : Held E} → Stands c launch facts n (Claim o needed settled g tree) news held → Stands c launch facts (suc n) tree news held
-  past_claim {facts = facts} {n = n} {o = o} {needed = needed} {settled = settled} {g = g} {tree = tree} s = record { fit = s.fit; counted = s.counted; launched = s.launched; known = s.known; shown = All-tail IsShown (claimed launch facts o needed settled g) (claims launch facts (suc n) tree) s.shown }
+  pub past_claim : {facts : List Fact} {n : ℕ} {o : Demand} {needed settled : Bool} {g : Goal} {tree : Tree E} {news : List ℤ} {held : Keeping E} → Stands c launch facts n (Claim o needed settled g tree) news held → Stands c launch facts (suc n) tree news held
+  past_claim {facts = facts} {n = n} {o = o} {needed = needed} {settled = settled} {g = g} {tree = tree} s = record { fit = s.fit; counted = s.counted; shared = s.shared; launched = s.launched; known = s.known; shown = All-tail IsShownWithProducts (claimed launch facts o needed settled g) (claims launch facts (suc n) tree) s.shown }
 
-  pub past_fact : {facts : List Fact} {n : ℕ} {f : Fact} {tree : Tree E} {news : List ℤ} {held : Held E} → ((v : ℕ → ℤ) → Agrees c news v → pos 0 ≤ℤ value_of v f) → Stands c launch facts n (Know f tree) news held → Stands c launch (facts ++ f ∷ []) n tree news held
-  past_fact {facts = facts} {f = f} h s = record { fit = s.fit; counted = s.counted; launched = s.launched; known = λ v a. All-append (IsMet v) facts (f ∷ []) (s.known v a) (All-cons (IsMet v) f [] (h v a) (All-nil (IsMet v))); shown = s.shown }
+  pub past_fact : {facts : List Fact} {n : ℕ} {f : Fact} {tree : Tree E} {news : List ℤ} {held : Keeping E} → ((v : ℕ → ℤ) → Agrees c news v → pos 0 ≤ℤ value_of v f) → Stands c launch facts n (Know f tree) news held → Stands c launch (facts ++ f ∷ []) n tree news held
+  past_fact {facts = facts} {f = f} h s = record { fit = s.fit; counted = s.counted; shared = s.shared; launched = s.launched; known = λ v a. All-append (IsMet v) facts (f ∷ []) (s.known v a) (All-cons (IsMet v) f [] (h v a) (All-nil (IsMet v))); shown = s.shown }
 
-  pub past_access : {facts : List Fact} {n : ℕ} {t : Target} {i : Fact} {at held : Held E} {tree : Tree E} {news : List ℤ} → Stands c launch facts n (Touch t i at tree) news held → Stands c launch facts n tree news held
-  past_access s = record { fit = s.fit; counted = s.counted; launched = s.launched; known = s.known; shown = s.shown }
+  pub past_access : {facts : List Fact} {n : ℕ} {t : Target} {i : Fact} {at : Held E} {held : Keeping E} {tree : Tree E} {news : List ℤ} → Stands c launch facts n (Touch t i at tree) news held → Stands c launch facts n tree news held
+  past_access s = record { fit = s.fit; counted = s.counted; shared = s.shared; launched = s.launched; known = s.known; shown = s.shown }
 
-  pub past_new : {facts : List Fact} {n : ℕ} {tree : Tree E} {news : List ℤ} {held : Held E} (z : ℤ) (e : E) → c.domain.has e z ≡ true → Stands c launch facts n tree news held → Stands c launch facts n tree (news ++ z ∷ []) (with_new e held)
+  pub past_new : {facts : List Fact} {n : ℕ} {tree : Tree E} {news : List ℤ} {held : Keeping E} (z : ℤ) (e : E) → c.domain.has e z ≡ true → Stands c launch facts n tree news held → Stands c launch facts n tree (news ++ z ∷ []) (record { held = with_new e held.held; quotients = held.quotients })
   past_new {news = news} {held = held} z e h s = record {
-    fit = held_anew c news held z e s.counted h s.fit;
-    counted = omega (arith, s.counted, length-append news (z ∷ []), length-append held.news (e ∷ []));
+    fit = held_anew c news held.held z e s.counted h s.fit;
+    counted = omega (arith, s.counted, length-append news (z ∷ []), length-append held.held.news (e ∷ []));
+    shared = shared_kept c held.quotients (λ v a. agrees_before c news z v a) s.shared;
     launched = λ v a. s.launched v (agrees_before c news z v a);
     known = λ v a. s.known v (agrees_before c news z v a);
     shown = s.shown;
   }
 
-  pub narrowed : {facts : List Fact} {n : ℕ} {tree : Tree E} {news : List ℤ} {held : Held E} (f : Fact) → IsRising 0 f.terms → ((v : ℕ → ℤ) → Agrees c news v → pos 0 ≤ℤ value_of v f) → Stands c launch facts n tree news held → Stands c launch facts n tree news (narrow c.domain (known_of c) f held)
-  narrowed {news = news} {held = held} f r h s = record { fit = held_narrow c news f held r h s.fit; counted = s.counted ∙ ap length (sym (news-narrow c.domain (known_of c) f held)); launched = s.launched; known = s.known; shown = s.shown }
+  pub narrowed : {facts : List Fact} {n : ℕ} {tree : Tree E} {news : List ℤ} {held : Keeping E} (f : Fact) → IsRising 0 f.terms → ((v : ℕ → ℤ) → Agrees c news v → pos 0 ≤ℤ value_of v f) → Stands c launch facts n tree news held → Stands c launch facts n tree news (record { held = narrow c.domain (known_of c) f held.held; quotients = held.quotients })
+  narrowed {news = news} {held = held} f r h s = record { fit = held_narrow c news f held.held r h s.fit; counted = s.counted ∙ ap length (sym (news-narrow c.domain (known_of c) f held.held)); shared = s.shared; launched = s.launched; known = s.known; shown = s.shown }
 
-  pub past_first : {facts : List Fact} {n : ℕ} {first : Tree E} {second : ℕ → Tree E} {news : List ℤ} {held : Held E} → Stands c launch facts n (Fork first second) news held → Stands c launch facts n first news held
-  past_first {facts = facts} {n = n} {first = first} {second = second} s = record { fit = s.fit; counted = s.counted; launched = s.launched; known = s.known; shown = all_left IsShown (claims launch facts n first) (claims launch facts (after n first) (second (after n first))) s.shown }
+  -- one quotient more
+  pub past_kept : {facts : List Fact} {n : ℕ} {tree : Tree E} {news : List ℤ} {held : Keeping E} (q : Shared) → IsShared c news q → Stands c launch facts n tree news held → Stands c launch facts n tree news (record { held = held.held; quotients = q ∷ held.quotients })
+  past_kept q h s = record { fit = s.fit; counted = s.counted; shared = (h, s.shared); launched = s.launched; known = s.known; shown = s.shown }
 
-  pub past_second : {facts : List Fact} {n : ℕ} {first : Tree E} {second : ℕ → Tree E} {news : List ℤ} {held : Held E} → Stands c launch facts n (Fork first second) news held → Stands c launch facts (after n first) (second (after n first)) news held
-  past_second {facts = facts} {n = n} {first = first} {second = second} s = record { fit = s.fit; counted = s.counted; launched = s.launched; known = s.known; shown = all_right IsShown (claims launch facts n first) (claims launch facts (after n first) (second (after n first))) s.shown }
+  pub past_first : {facts : List Fact} {n : ℕ} {first : Tree E} {second : ℕ → Tree E} {news : List ℤ} {held : Keeping E} → Stands c launch facts n (Fork first second) news held → Stands c launch facts n first news held
+  past_first {facts = facts} {n = n} {first = first} {second = second} s = record { fit = s.fit; counted = s.counted; shared = s.shared; launched = s.launched; known = s.known; shown = all_left IsShownWithProducts (claims launch facts n first) (claims launch facts (after n first) (second (after n first))) s.shown }
+
+  pub past_second : {facts : List Fact} {n : ℕ} {first : Tree E} {second : ℕ → Tree E} {news : List ℤ} {held : Keeping E} → Stands c launch facts n (Fork first second) news held → Stands c launch facts (after n first) (second (after n first)) news held
+  past_second {facts = facts} {n = n} {first = first} {second = second} s = record { fit = s.fit; counted = s.counted; shared = s.shared; launched = s.launched; known = s.known; shown = all_right IsShownWithProducts (claims launch facts n first) (claims launch facts (after n first) (second (after n first))) s.shown }
 
   -- several facts
   pub gathered : List Fact → List Fact → List Fact
@@ -191,13 +200,13 @@ module _ {E : Type 0} (c : View E) (launch : List Fact) where
   over_facts [] = way_here
   over_facts (f ∷ fs) = way_then over_fact (over_facts fs)
 
-  pub past_facts : {facts : List Fact} (fs : List Fact) {n : ℕ} {tree : Tree E} {news : List ℤ} {held : Held E} → Knows c news fs → Stands c launch facts n (know_all fs tree) news held → Stands c launch (gathered facts fs) n tree news held
+  pub past_facts : {facts : List Fact} (fs : List Fact) {n : ℕ} {tree : Tree E} {news : List ℤ} {held : Keeping E} → Knows c news fs → Stands c launch facts n (know_all fs tree) news held → Stands c launch (gathered facts fs) n tree news held
   unfolding gathered
   past_facts [] h s = s
   past_facts (f ∷ fs) h s = past_facts fs (λ v a. All-tail (IsMet v) f fs (h v a)) (past_fact (λ v a. All-head (IsMet v) f fs (h v a)) s)
 
   -- at once, with nothing in between; from a place before it; one after the other
-  pub at_once : {A : Type 0} {facts : List Fact} {n : ℕ} {news : List ℤ} (go : A → State E → Tree E) (P : List ℤ → A → Type 0) (x : A) (st : State E) → P news x → Stands c launch facts n (go x st) news st.held → Comes c launch facts n (go x st) go news (owns st) P
+  pub at_once : {A : Type 0} {facts : List Fact} {n : ℕ} {news : List ℤ} (go : A → State E → Tree E) (P : List ℤ → A → Type 0) (x : A) (st : State E) → P news x → Stands c launch facts n (go x st) news (keeping st) → Comes c launch facts n (go x st) go news (owns st) P
   at_once {facts = facts} {n = n} {news = news} go P x st h s = record { more = news; arrived = x; path = facts; count = n; state = st; same = refl; right = h; stands = s; way = way_here }
 
   pub comes_from : {A : Type 0} {facts path : List Fact} {n m : ℕ} {tree left : Tree E} {go : A → State E → Tree E} {news more : List ℤ} {variables : Owns} {P : List ℤ → A → Type 0} → Way c facts n tree news path m left more → Comes c launch path m left go more variables P → Comes c launch facts n tree go news variables P
@@ -238,49 +247,49 @@ module _ {E : Type 0} (c : View E) (launch : List Fact) where
   goes_as go h Q f (asks a k site is seen) = asks a k site is seen
 
   -- what a needed claim tells of forms whose values are settled
-  told_shown : {facts : List Fact} {n : ℕ} {o : Demand} {settled : Bool} {g : Goal} {tree : Tree E} {news : List ℤ} {held : Held E} → Stands c launch facts n (Claim o true settled g tree) news held → (settled ≡ true) ⊎ ((m : Manner) × IsShownIn m (claimed launch facts o true settled g))
-  told_shown {facts = facts} {n = n} {o = o} {settled = settled} {g = g} {tree = tree} s = All-head IsShown (claimed launch facts o true settled g) (claims launch facts (suc n) tree) s.shown refl
+  told_shown : {facts : List Fact} {n : ℕ} {o : Demand} {settled : Bool} {g : Goal} {tree : Tree E} {news : List ℤ} {held : Keeping E} → Stands c launch facts n (Claim o true settled g tree) news held → (settled ≡ true) ⊎ ((m : Manner) × IsShownInWithProducts m (claimed launch facts o true settled g))
+  told_shown {facts = facts} {n = n} {o = o} {settled = settled} {g = g} {tree = tree} s = All-head IsShownWithProducts (claimed launch facts o true settled g) (claims launch facts (suc n) tree) s.shown refl
 
-  refuted : {facts : List Fact} {n : ℕ} {tree : Tree E} {news : List ℤ} {held : Held E} (f : Fact) (z : ℤ) → Stands c launch facts n tree news held → Means c news f z → IsImpossible ((launch ++ facts) ++ denial f ∷ []) → pos 0 ≤ℤ z
+  refuted : {facts : List Fact} {n : ℕ} {tree : Tree E} {news : List ℤ} {held : Keeping E} (f : Fact) (z : ℤ) → Stands c launch facts n tree news held → Means c news f z → IsImpossibleWithProducts ((launch ++ facts) ++ denial f ∷ []) → pos 0 ≤ℤ z
   refuted {facts = facts} {news = news} f z s m h =
       let v = by_number (own c news) in
       let a = agrees_itself c news in
-      subst (λ y. pos 0 ≤ℤ y) (m v a) (denied v [] (launch ++ facts) f h (All-nil (IsMet v)) (All-append (IsMet v) launch facts (s.launched v a) (s.known v a)))
+      subst (λ y. pos 0 ≤ℤ y) (m v a) (denied v a.products [] (launch ++ facts) f h (All-nil (IsMet v)) (All-append (IsMet v) launch facts (s.launched v a) (s.known v a)))
 
-  pub told : {facts : List Fact} {n : ℕ} {o : Demand} {settled : Bool} {tree : Tree E} {news : List ℤ} {held : Held E} (f : Fact) (z : ℤ) → Stands c launch facts n (Claim o true settled (AtLeastZero f) tree) news held → Means c news f z → (settled ≡ true → pos 0 ≤ℤ z) → pos 0 ≤ℤ z
+  pub told : {facts : List Fact} {n : ℕ} {o : Demand} {settled : Bool} {tree : Tree E} {news : List ℤ} {held : Keeping E} (f : Fact) (z : ℤ) → Stands c launch facts n (Claim o true settled (AtLeastZero f) tree) news held → Means c news f z → (settled ≡ true → pos 0 ≤ℤ z) → pos 0 ≤ℤ z
   told {facts = facts} {o = o} {settled = settled} f z s m d = elim (told_shown s) [ inl e ↦ d e | inr i ↦ by i.0 i.1 ]
     where
-      by : (m : Manner) → IsShownIn m (claimed launch facts o true settled (AtLeastZero f)) → pos 0 ≤ℤ z
+      by : (m : Manner) → IsShownInWithProducts m (claimed launch facts o true settled (AtLeastZero f)) → pos 0 ≤ℤ z
       by Plainly h = refuted f z s m h
       by ByPositive h = absurd h
       by ByNegative h = absurd h
       by ByQuotient h = absurd h
 
-  pub told_replaced : {facts : List Fact} {n : ℕ} {o : Demand} {settled : Bool} {tree : Tree E} {news : List ℤ} {held : Held E} {made : List Fact} (f : Fact) (z : ℤ) → Stands c launch facts n (Claim o true settled (Replaced made f) tree) news held → Means c news f z → (settled ≡ true → pos 0 ≤ℤ z) → pos 0 ≤ℤ z
+  pub told_replaced : {facts : List Fact} {n : ℕ} {o : Demand} {settled : Bool} {tree : Tree E} {news : List ℤ} {held : Keeping E} {made : List Fact} (f : Fact) (z : ℤ) → Stands c launch facts n (Claim o true settled (Replaced made f) tree) news held → Means c news f z → (settled ≡ true → pos 0 ≤ℤ z) → pos 0 ≤ℤ z
   told_replaced {facts = facts} {o = o} {settled = settled} {made = made} f z s m d = elim (told_shown s) [ inl e ↦ d e | inr i ↦ by i.0 i.1 ]
     where
-      by : (m : Manner) → IsShownIn m (claimed launch facts o true settled (Replaced made f)) → pos 0 ≤ℤ z
+      by : (m : Manner) → IsShownInWithProducts m (claimed launch facts o true settled (Replaced made f)) → pos 0 ≤ℤ z
       by Plainly h = refuted f z s m h
       by ByPositive h = absurd h
       by ByNegative h = absurd h
       by ByQuotient h = absurd h
 
-  pub told_divided : {facts : List Fact} {n : ℕ} {o : Demand} {settled : Bool} {tree : Tree E} {news : List ℤ} {held : Held E} {made : List Fact} (f : Fact) → Stands c launch facts n (Claim o true settled (Divided made f) tree) news held → (settled ≡ true) ⊎ (pos 0 ≤ℤ value_of (by_number (own c news)) f)
+  pub told_divided : {facts : List Fact} {n : ℕ} {o : Demand} {settled : Bool} {tree : Tree E} {news : List ℤ} {held : Keeping E} {made : List Fact} (f : Fact) → Stands c launch facts n (Claim o true settled (Divided made f) tree) news held → (settled ≡ true) ⊎ (pos 0 ≤ℤ value_of (by_number (own c news)) f)
   told_divided {facts = facts} {o = o} {settled = settled} {news = news} {made = made} f s = elim (told_shown s) [ inl e ↦ inl e | inr i ↦ inr (by i.0 i.1) ]
     where
-      by : (m : Manner) → IsShownIn m (claimed launch facts o true settled (Divided made f)) → pos 0 ≤ℤ value_of (by_number (own c news)) f
+      by : (m : Manner) → IsShownInWithProducts m (claimed launch facts o true settled (Divided made f)) → pos 0 ≤ℤ value_of (by_number (own c news)) f
       by Plainly h = absurd h
       by ByPositive h = absurd h
       by ByNegative h = absurd h
       by ByQuotient h =
           let v = by_number (own c news) in
           let a = agrees_itself c news in
-          denied v [] (launch ++ facts) f h (All-nil (IsMet v)) (All-append (IsMet v) launch facts (s.launched v a) (s.known v a))
+          denied v a.products [] (launch ++ facts) f h (All-nil (IsMet v)) (All-append (IsMet v) launch facts (s.launched v a) (s.known v a))
 
-  pub told_either : {facts : List Fact} {n : ℕ} {o : Demand} {settled : Bool} {tree : Tree E} {news : List ℤ} {held : Held E} (f g : Fact) (x y : ℤ) → Stands c launch facts n (Claim o true settled (Either f g) tree) news held → Means c news f x → Means c news g y → (settled ≡ true) ⊎ ((pos 0 ≤ℤ x) ⊎ (pos 0 ≤ℤ y))
+  pub told_either : {facts : List Fact} {n : ℕ} {o : Demand} {settled : Bool} {tree : Tree E} {news : List ℤ} {held : Keeping E} (f g : Fact) (x y : ℤ) → Stands c launch facts n (Claim o true settled (Either f g) tree) news held → Means c news f x → Means c news g y → (settled ≡ true) ⊎ ((pos 0 ≤ℤ x) ⊎ (pos 0 ≤ℤ y))
   told_either {facts = facts} {o = o} {settled = settled} f g x y s mf mg = elim (told_shown s) [ inl e ↦ inl e | inr i ↦ inr (by i.0 i.1) ]
     where
-      by : (m : Manner) → IsShownIn m (claimed launch facts o true settled (Either f g)) → (pos 0 ≤ℤ x) ⊎ (pos 0 ≤ℤ y)
+      by : (m : Manner) → IsShownInWithProducts m (claimed launch facts o true settled (Either f g)) → (pos 0 ≤ℤ x) ⊎ (pos 0 ≤ℤ y)
       by Plainly h = absurd h
       by ByPositive h = inl (refuted f x s mf h)
       by ByNegative h = inr (refuted g y s mg h)

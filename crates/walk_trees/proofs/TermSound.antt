@@ -16,6 +16,7 @@ use Rattle.walk_trees.specs.Operators.{unary, binary}
 use Rattle.walk_trees.specs.Tests.{Outcomes, split, split_number}
 use Rattle.walk_trees.specs.Terms.{Walks, by_value, by_test, truth_value, no_value, variable, id_form, load, chosen, pick, walk}
 use Rattle.walk_trees.specs.Covered.{is_covered_unary, covers_term}
+use Rattle.walk_trees.proofs.Shares.{keeping}
 use Rattle.walk_trees.proofs.Standing.{walks, Stands, Comes, Goes, gives, at_once, onward, arriving, restated, goes_then, goes_further, goes_as, Owns, owns}
 use Rattle.walk_trees.proofs.Ranges.{IsForm, IsValue, value_kept, form_constant, brought_sound, both_sound}
 use Rattle.walk_trees.proofs.Splits.{split_sound, split_number_sound}
@@ -66,13 +67,13 @@ truth-test w more b e = by b ∙ ap (λ (x : Word). not (is_zero x.value)) (sym 
 module _ {E : Type 0} (c : View E) (launch : List Fact) (laws : DividesLawfully c.domain) where
   -- what is promised of a walk as a value, as a test, and of one whose value is a truth value
   abbrev pub IsValueWalk : (State E → Onward E → Tree E) → (List Word → List Word → Outcome) → Type 0
-  IsValueWalk walk ev = (facts : List Fact) (n : ℕ) (news : List ℤ) (st : State E) (go : Onward E) (vars answers : List Word) → AreForms c news vars st.variables → Stands c launch facts n (walk st go) news st.held → Goes c launch facts n (walk st go) go news (owns st) (ArrivesAsValue c) (ev vars answers)
+  IsValueWalk walk ev = (facts : List Fact) (n : ℕ) (news : List ℤ) (st : State E) (go : Onward E) (vars answers : List Word) → AreForms c news vars st.variables → Stands c launch facts n (walk st go) news (keeping st) → Goes c launch facts n (walk st go) go news (owns st) (ArrivesAsValue c) (ev vars answers)
 
   abbrev pub IsTestWalk : (State E → Outcomes E → Tree E) → (List Word → List Word → Outcome) → Type 0
-  IsTestWalk walk ev = (facts : List Fact) (n : ℕ) (news : List ℤ) (st : State E) (go : Outcomes E) (vars answers : List Word) → AreForms c news vars st.variables → Stands c launch facts n (walk st go) news st.held → Goes c launch facts n (walk st go) go news (owns st) ArrivesAsTest (ev vars answers)
+  IsTestWalk walk ev = (facts : List Fact) (n : ℕ) (news : List ℤ) (st : State E) (go : Outcomes E) (vars answers : List Word) → AreForms c news vars st.variables → Stands c launch facts n (walk st go) news (keeping st) → Goes c launch facts n (walk st go) go news (owns st) ArrivesAsTest (ev vars answers)
 
   abbrev IsTruthWalk : (State E → Outcomes E → Tree E) → (List Word → List Word → Outcome) → Type 0
-  IsTruthWalk walk ev = (facts : List Fact) (n : ℕ) (news : List ℤ) (st : State E) (go : Outcomes E) (vars answers : List Word) → AreForms c news vars st.variables → Stands c launch facts n (walk st go) news st.held → Goes c launch facts n (walk st go) go news (owns st) ArrivesAsTruth (ev vars answers)
+  IsTruthWalk walk ev = (facts : List Fact) (n : ℕ) (news : List ℤ) (st : State E) (go : Outcomes E) (vars answers : List Word) → AreForms c news vars st.variables → Stands c launch facts n (walk st go) news (keeping st) → Goes c launch facts n (walk st go) go news (owns st) ArrivesAsTruth (ev vars answers)
 
   pub record IsSound (w : Walks E) (ev : List Word → List Word → Outcome) : Type 0 where
     pub value : IsValueWalk w.value ev
@@ -99,8 +100,8 @@ module _ {E : Type 0} (c : View E) (launch : List Fact) (laws : DividesLawfully 
 
   -- two operands, one after the other
   pair_sound : (wa wb : Walks E) (ea eb : List Word → List Word → Outcome) → IsSound wa ea → IsSound wb eb → {B : Type 0} (facts : List Fact) (n : ℕ) (news : List ℤ) (st : State E) (go : Value → Value → State E → Tree E) (onto : B → State E → Tree E) (Q : Word → List ℤ → B → Type 0) (op : Word → Word → List Word → Outcome) (vars answers : List Word) → AreForms c news vars st.variables →
-      ((path : List Fact) (k : ℕ) (more : List ℤ) (st2 : State E) (x y : Value) (a b : Word) (rest : List Word) → in_kind a.kind a.value ≡ true → in_kind b.kind b.value ≡ true → IsValue c more a x → IsValue c more b y → Stands c launch path k (go x y st2) more st2.held → Goes c launch path k (go x y st2) onto more (owns st2) Q (op a b rest)) →
-      Stands c launch facts n (wa.value st (λ x st1. wb.value st1 (λ y st2. go x y st2))) news st.held →
+      ((path : List Fact) (k : ℕ) (more : List ℤ) (st2 : State E) (x y : Value) (a b : Word) (rest : List Word) → in_kind a.kind a.value ≡ true → in_kind b.kind b.value ≡ true → IsValue c more a x → IsValue c more b y → Stands c launch path k (go x y st2) more (keeping st2) → Goes c launch path k (go x y st2) onto more (owns st2) Q (op a b rest)) →
+      Stands c launch facts n (wa.value st (λ x st1. wb.value st1 (λ y st2. go x y st2))) news (keeping st) →
       Goes c launch facts n (wa.value st (λ x st1. wb.value st1 (λ y st2. go x y st2))) onto news (owns st) Q (and_then (ea vars answers) (λ a r. and_then (eb vars r) (λ b r'. op a b r')))
   pair_sound wa wb ea eb sa sb facts n news st go onto Q op vars answers m later s =
       goes_then c launch (λ a r. and_then (eb vars r) (λ b r'. op a b r')) (sa.value facts n news st (λ x st1. wb.value st1 (λ y st2. go x y st2)) vars answers m s) (λ a r ia p.
@@ -112,24 +113,24 @@ module _ {E : Type 0} (c : View E) (launch : List Fact) (laws : DividesLawfully 
   yields_goes site rest y = gives y.result rest (ap (λ q. settled q site rest) y.is) y.right y.comes
 
   -- one of two, by a test
-  chosen_goes : {A : Type 0} (z t : Bool) (st : State E) {facts : List Fact} {n : ℕ} {news : List ℤ} {go : A → State E → Tree E} {P : Word → List ℤ → A → Type 0} {u v : Outcome} (first second : Tree E) → t ≡ z → Stands c launch facts n (chosen t first second) news st.held → (Stands c launch facts n first news st.held → Goes c launch facts n first go news (owns st) P u) → (Stands c launch facts n second news st.held → Goes c launch facts n second go news (owns st) P v) → Goes c launch facts n (chosen t first second) go news (owns st) P (decide z u v)
+  chosen_goes : {A : Type 0} (z t : Bool) (st : State E) {facts : List Fact} {n : ℕ} {news : List ℤ} {go : A → State E → Tree E} {P : Word → List ℤ → A → Type 0} {u v : Outcome} (first second : Tree E) → t ≡ z → Stands c launch facts n (chosen t first second) news (keeping st) → (Stands c launch facts n first news (keeping st) → Goes c launch facts n first go news (owns st) P u) → (Stands c launch facts n second news (keeping st) → Goes c launch facts n second go news (owns st) P v) → Goes c launch facts n (chosen t first second) go news (owns st) P (decide z u v)
   chosen_goes true true st first second e s yes' no' = yes' s
   chosen_goes true false st first second e s yes' no' = cc
   chosen_goes false true st first second e s yes' no' = cc
   chosen_goes false false st first second e s yes' no' = no' s
 
-  other_goes : {A : Type 0} (z t : Bool) (st : State E) {facts : List Fact} {n : ℕ} {news : List ℤ} {go : A → State E → Tree E} {P : Word → List ℤ → A → Type 0} {u v : Outcome} (first second : Tree E) → t ≡ not z → Stands c launch facts n (chosen t first second) news st.held → (Stands c launch facts n first news st.held → Goes c launch facts n first go news (owns st) P u) → (Stands c launch facts n second news st.held → Goes c launch facts n second go news (owns st) P v) → Goes c launch facts n (chosen t first second) go news (owns st) P (decide z v u)
+  other_goes : {A : Type 0} (z t : Bool) (st : State E) {facts : List Fact} {n : ℕ} {news : List ℤ} {go : A → State E → Tree E} {P : Word → List ℤ → A → Type 0} {u v : Outcome} (first second : Tree E) → t ≡ not z → Stands c launch facts n (chosen t first second) news (keeping st) → (Stands c launch facts n first news (keeping st) → Goes c launch facts n first go news (owns st) P u) → (Stands c launch facts n second news (keeping st) → Goes c launch facts n second go news (owns st) P v) → Goes c launch facts n (chosen t first second) go news (owns st) P (decide z v u)
   other_goes true true st first second e s yes' no' = cc
   other_goes true false st first second e s yes' no' = no' s
   other_goes false true st first second e s yes' no' = yes' s
   other_goes false false st first second e s yes' no' = cc
 
   -- a truth value that is known
-  truth_goes : {facts : List Fact} {n : ℕ} {news : List ℤ} (z b : Bool) (st : State E) (go : Outcomes E) (rest : List Word) → b ≡ z → Stands c launch facts n (go b st) news st.held → Goes c launch facts n (go b st) go news (owns st) ArrivesAsTruth (Gives (truth z) rest)
+  truth_goes : {facts : List Fact} {n : ℕ} {news : List ℤ} (z b : Bool) (st : State E) (go : Outcomes E) (rest : List Word) → b ≡ z → Stands c launch facts n (go b st) news (keeping st) → Goes c launch facts n (go b st) go news (owns st) ArrivesAsTruth (Gives (truth z) rest)
   truth_goes z b st go rest e s = gives (truth z) rest refl (truth-in z) (at_once c launch go (ArrivesAsTruth (truth z)) b st (ap truth (sym e)) s)
 
   -- a test's value as a truth value
-  tested_goes : (w : Walks E) (ev : List Word → List Word → Outcome) → IsSound w ev → {facts : List Fact} {n : ℕ} {news : List ℤ} (st : State E) (go : Outcomes E) (vars answers : List Word) → AreForms c news vars st.variables → Stands c launch facts n (w.test st go) news st.held → Goes c launch facts n (w.test st go) go news (owns st) ArrivesAsTruth (and_then (ev vars answers) (λ b r. Gives (truth (not (is_zero b.value))) r))
+  tested_goes : (w : Walks E) (ev : List Word → List Word → Outcome) → IsSound w ev → {facts : List Fact} {n : ℕ} {news : List ℤ} (st : State E) (go : Outcomes E) (vars answers : List Word) → AreForms c news vars st.variables → Stands c launch facts n (w.test st go) news (keeping st) → Goes c launch facts n (w.test st go) go news (owns st) ArrivesAsTruth (and_then (ev vars answers) (λ b r. Gives (truth (not (is_zero b.value))) r))
   tested_goes w ev h {facts = facts} {n = n} {news = news} st go vars answers m s =
       goes_then c launch (λ b r. Gives (truth (not (is_zero b.value))) r) (h.test facts n news st go vars answers m s) (λ b r ib p. truth_goes (not (is_zero b.value)) p.arrived p.state go r p.right p.stands)
 
@@ -145,7 +146,7 @@ module _ {E : Type 0} (c : View E) (launch : List Fact) (laws : DividesLawfully 
 
   -- the second where one is less than another
   picked : {facts : List Fact} {n : ℕ} {news : List ℤ} (x y : Fact) (u v : Word) (p q : Value) (a b : ℤ) (st : State E) (go : Onward E) (rest : List Word) → IsForm c news x a → IsForm c news y b → in_kind u.kind u.value ≡ true → in_kind v.kind v.value ≡ true → IsValue c news u p → IsValue c news v q →
-      Stands c launch facts n (split (walks c) c.is_wide Less x y st (λ t st'. go (chosen t q p) st')) news st.held → Goes c launch facts n (split (walks c) c.is_wide Less x y st (λ t st'. go (chosen t q p) st')) go news (owns st) (ArrivesAsValue c) (Gives (cond (int_lt a b) v u) rest)
+      Stands c launch facts n (split (walks c) c.is_wide Less x y st (λ t st'. go (chosen t q p) st')) news (keeping st) → Goes c launch facts n (split (walks c) c.is_wide Less x y st (λ t st'. go (chosen t q p) st')) go news (owns st) (ArrivesAsValue c) (Gives (cond (int_lt a b) v u) rest)
   picked x y u v p q a b st go rest mx my iu iv mp mq s =
       gives (cond (int_lt a b) v u) rest refl (pick-in (int_lt a b) u v iu iv)
       (arriving c launch go (λ t. chosen t q p) (ArrivesAsValue c (cond (int_lt a b) v u)) (λ more t kept e. pick-is t (int_lt a b) more u v p q e (value_kept c kept mp) (value_kept c kept mq))

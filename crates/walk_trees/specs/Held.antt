@@ -1,8 +1,9 @@
 -- What a domain knows on one item's path: the elements of its new symbols, and what tests made of elements.
-use Rattle.std.specs.Prelude.{ℕ, ℤ, pos, negsuc, neg_ℤ, List, [], ◌∷◌, ◌++◌, Bool, true, false, cond, ◌&&◌, nat_eq, Option, Some, None}
+use Rattle.std.specs.Prelude.{ℕ, ◌%◌, ℤ, pos, negsuc, neg_ℤ, List, [], ◌∷◌, ◌++◌, Bool, true, false, cond, ◌&&◌, nat_eq, Option, Some, None}
 use Rattle.std.specs.Ordering.{int_eq}
 use Rattle.linear.specs.Linear.{Weighted}
 use Rattle.linear.specs.Exact.{Terms, form_without, fits_i64}
+use Rattle.linear.specs.Products.{factors}
 use Rattle.domain.specs.declared.Domain.{Ghosts}
 use Rattle.facts.specs.Symbols.{symbol_of, Fact}
 use Rattle.facts.specs.Elements.{Known, element, is_from_zero}
@@ -35,6 +36,23 @@ latest found (n ∷ ns) s = latest (cond (nat_eq n.symbol s) n.element found) ns
 abbrev pub element_held : {E : Type 0} → Ghosts E → Known E → Held E → ℕ → E
 element_held g k h n = latest (element g (record { known = k; first = h.news; second = [] }) (symbol_of n)) h.narrowed n
 
+abbrev pub elements_from : {E : Type 0} → Ghosts E → (ℕ → E) → E → List ℕ → E
+elements_from g of_factor so_far [] = so_far
+elements_from g of_factor so_far (n ∷ ns) = elements_from g of_factor (g.mul_of so_far (of_factor n)) ns
+
+-- of a product, from the left
+abbrev pub elements_of_factors : {E : Type 0} → Ghosts E → (ℕ → E) → List ℕ → E
+elements_of_factors g of_factor [] = g.number_of (pos 1)
+elements_of_factors g of_factor (n ∷ ns) = elements_from g of_factor (of_factor n) ns
+
+-- no factor is a product
+abbrev pub element_of_own : {E : Type 0} → Ghosts E → Known E → Held E → ℕ → E
+element_of_own g k h n = cond (nat_eq (n % 16) 15) g.top_of (element_held g k h n)
+
+-- also of a product: the latest, or that of its factors
+abbrev pub element_number : {E : Type 0} → Ghosts E → Known E → Held E → ℕ → E
+element_number g k h n = cond (nat_eq (n % 16) 15) (latest (elements_of_factors g (element_of_own g k h) (factors n)) h.narrowed n) (element_held g k h n)
+
 -- the constant, then the terms in their order
 abbrev pub terms_with : {E : Type 0} → Ghosts E → (ℕ → E) → (so_far : E) → List (Weighted ℕ) → E
 terms_with g element so_far [] = so_far
@@ -45,7 +63,7 @@ abbrev pub element_with : {E : Type 0} → Ghosts E → (ℕ → E) → Fact →
 element_with g element f = terms_with g element (g.number_of f.constant) f.terms
 
 abbrev pub element_at : {E : Type 0} → Ghosts E → Known E → Held E → Fact → E
-element_at g k h f = element_with g (element_held g k h) f
+element_at g k h f = element_with g (element_number g k h) f
 
 -- a form that is at least 0 whose term of a symbol has the coefficient 1: the symbol is at least what denies the upper end of the rest.
 -- With the coefficient -1 it is at most that end. Where the end is open, or leaves 64 bits, nothing is narrowed
@@ -62,7 +80,7 @@ narrowed_by g c s e None h = h
 narrowed_by g c s e (Some high) h = from_above g (int_eq c (negsuc 0)) s e high (from_below g (int_eq c (pos 1) && fits_i64 (neg_ℤ high)) s e (neg_ℤ high) h)
 
 abbrev pub narrow_one : {E : Type 0} → Ghosts E → Known E → Fact → Weighted ℕ → Held E → Held E
-narrow_one g k f t h = narrowed_by g t.coefficient t.symbol (element_held g k h t.symbol) (g.bounds_of (element_at g k h (form_without t.symbol f))).high h
+narrow_one g k f t h = narrowed_by g t.coefficient t.symbol (element_number g k h t.symbol) (g.bounds_of (element_at g k h (form_without t.symbol f))).high h
 
 abbrev pub narrow_terms : {E : Type 0} → Ghosts E → Known E → Fact → Terms → Held E → Held E
 narrow_terms g k f [] h = h

@@ -1,8 +1,10 @@
 pub mod Held
 pub mod Values
 pub mod Trees
+pub mod Shares
 pub mod Walks
 pub mod Quotients
+pub mod SharedQuotients
 pub mod Bits
 pub mod Operators
 pub mod Tests

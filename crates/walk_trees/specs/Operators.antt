@@ -1,22 +1,39 @@
 -- The forms of operators, of operands that have been brought to one kind.
-use Rattle.std.specs.Prelude.{ℕ, ◌+◌, ◌^◌, ℤ, pos, negsuc, ◌+ℤ◌, [], ◌∷◌, Bool, true, false, not, ◌&&◌, ◌||◌, cond, int_lt, Option, Some, None}
+use Rattle.std.specs.Prelude.{ℕ, ◌+◌, ◌^◌, ℤ, pos, negsuc, ◌+ℤ◌, [], ◌∷◌, Bool, true, false, not, ◌&&◌, ◌||◌, cond, int_lt, nat_le, length, Option, Some, None}
 use Rattle.semantics.specs.Word.{Kind, Int, Uint, Operator, Add, Subtract, Multiply, Divide, Remainder, BitAnd, BitOr, BitXor, UnaryOperator, Negate, Complement, ShiftLeft, ShiftRight}
 use Rattle.linear.specs.Exact.{Terms, sum, multiple}
+use Rattle.linear.specs.Products.{and_then, product as form_product}
 use Rattle.domain.specs.declared.Bounds.{Bounds}
 use Rattle.facts.specs.Symbols.{Fact, constant, minus}
 use Rattle.facts.specs.Elements.{is_from_zero}
 use Rattle.walk_trees.specs.Trees.{OfRange, OfDivisor, OfQuotient, Goal, Either, Tree}
 use Rattle.walk_trees.specs.Values.{Value, value}
-use Rattle.walk_trees.specs.Walks.{Setting, State, Onward, element_of, bounds_of, claim, claim_form, invent, any_of, unknown, ranged, is_number, known_form}
+use Rattle.walk_trees.specs.Shares.{Shared, shared_of}
+use Rattle.walk_trees.specs.Walks.{Setting, State, Onward, element_of, bounds_of, claim, claim_form, know_all, bound_facts, newest, invent, any_of, unknown, ranged, is_number, known_form}
 use Rattle.walk_trees.specs.Covered.{is_uint}
 use Rattle.walk_trees.specs.Quotients.{quotient, left_by, is_power}
+use Rattle.walk_trees.specs.SharedQuotients.{is_shared, found_or_made, quotient_or_new, left_or_new}
 use Rattle.walk_trees.specs.Bits.{meet, join, differ}
 
--- by a constant form exactly, else a new symbol
+-- the product of two forms, where it is and has at most 24 terms
+abbrev pub small_product : Fact → Fact → Option Fact
+small_product f g = and_then (form_product f g) (λ h. cond (nat_le (length h.terms) 24) (Some h) None)
+
+-- a form with what the domain knows of it as facts, else a new symbol
+abbrev pub multiplied : {E : Type 0} → Setting E → Option Fact → E → State E → (Fact → State E → Tree E) → Tree E
+multiplied s None e st go = invent s e st go
+multiplied s (Some h) e st go = know_all (bound_facts h (s.domain.bounds_of e)) (go h st)
+
+-- in the wide walk
+abbrev pub product_in : {E : Type 0} → Setting E → (is_wide : Bool) → Fact → Fact → E → State E → (Fact → State E → Tree E) → Tree E
+product_in s true f g e st go = multiplied s (small_product f g) e st go
+product_in s false f g e st go = invent s e st go
+
+-- by a constant form exactly, else a new symbol; the wide walk has the product of the forms, where it is
 abbrev pub product : {E : Type 0} → Setting E → (left right : Terms) → Fact → Fact → State E → (Fact → State E → Tree E) → Tree E
 product s ts [] f g st go = go (multiple g.constant f) st
 product s [] (u ∷ us) f g st go = go (multiple f.constant g) st
-product s (t ∷ ts) (u ∷ us) f g st go = invent s (s.domain.mul_of (element_of s st f) (element_of s st g)) st go
+product s (t ∷ ts) (u ∷ us) f g st go = product_in s s.is_wide f g (s.domain.mul_of (element_of s st f) (element_of s st g)) st go
 
 -- bounds leave out a number
 abbrev pub is_over : Option ℤ → ℤ → Bool
@@ -62,13 +79,17 @@ abbrev pub claim_dividend : {E : Type 0} → Setting E → Kind → (dividend di
 claim_dividend s k x y st go =
     cond (asks_dividend s st k x y) (claim_form s (OfRange Uint) (s.has_entry (st.claims + 1)) x st (λ st'. go (s.has_entry (st.claims + 1)) st')) (go (is_exact s st k x y) st)
 
+-- what there is of a quotient by a form
+abbrev pub share : {E : Type 0} → Setting E → Kind → (dividend divisor : Fact) → State E → (Option Shared → State E → Tree E) → Tree E
+share s k x y st go = cond (is_shared s st k x y) (found_or_made s (shared_of x y st.quotients) (small_product (newest st) y) k x y st go) (go None st)
+
 abbrev pub divided : {E : Type 0} → Setting E → Bool → Kind → (dividend divisor : Fact) → State E → (Fact → State E → Tree E) → Tree E
 divided s true k x y st go = quotient s k x y.constant st (λ q r st'. go q st')
-divided s false k x y st go = invent s (s.domain.div_of (element_of s st x) (element_of s st y)) st go
+divided s false k x y st go = share s k x y st (λ q st'. quotient_or_new s q x y st' go)
 
 abbrev pub remaining : {E : Type 0} → Setting E → Bool → Kind → (dividend divisor : Fact) → State E → (Fact → State E → Tree E) → Tree E
 remaining s true k x y st go = left_by s k x y.constant st go
-remaining s false k x y st go = invent s (s.domain.rem_of (element_of s st x) (element_of s st y)) st go
+remaining s false k x y st go = share s k x y st (λ q st'. left_or_new s q x y st' go)
 
 -- the lowest bits of a `uint`; in the wide walk those of an `int`, too
 abbrev pub is_mask : (is_wide : Bool) → Kind → Fact → Bool

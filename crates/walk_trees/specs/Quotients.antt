@@ -16,9 +16,13 @@ abbrev pub quotient : {E : Type 0} → Setting E → Kind → Fact → (divisor 
 quotient s k x c st go =
     invent s (any_of s.domain k) st (λ q st'. Know (left_over x c q) (Know (minus (constant (c -ℤ pos 1)) (left_over x c q)) (go q (left_over x c q) st')))
 
--- what a quotient leaves, as a new symbol: from 0 up to below the divisor
+-- what a quotient leaves, as a new symbol
+abbrev pub named_by : {E : Type 0} → Setting E → E → (left : Fact) → State E → (Fact → State E → Tree E) → Tree E
+named_by s e left st go = invent s e st (λ r st'. Know (minus left r) (Know (minus r left) (go r st')))
+
+-- from 0 up to below the divisor
 abbrev pub named : {E : Type 0} → Setting E → (divisor : ℤ) → (left : Fact) → State E → (Fact → State E → Tree E) → Tree E
-named s c left st go = invent s (between s.domain (pos 0) (c -ℤ pos 1)) st (λ r st'. Know (minus left r) (Know (minus r left) (go r st')))
+named s c left st go = named_by s (between s.domain (pos 0) (c -ℤ pos 1)) left st go
 
 -- in the wide walk it is named
 abbrev pub left_by : {E : Type 0} → Setting E → Kind → Fact → (divisor : ℤ) → State E → (Fact → State E → Tree E) → Tree E

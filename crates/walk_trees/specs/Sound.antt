@@ -23,7 +23,7 @@ any_space sp = true
 
 -- an item as it begins
 abbrev pub beginning : {E : Type 0} → Kernel → State E
-beginning k = record { claims = 0; variables = opening_values k; ranks = []; held = no_held; at = spot_of 0 }
+beginning k = record { claims = 0; variables = opening_values k; ranks = []; quotients = []; held = no_held; at = spot_of 0 }
 
 -- a path ends with the term's value, as if that were the only variable
 abbrev pub with_value : {E : Type 0} → Value → State E → Tree E

@@ -13,6 +13,7 @@ use Rattle.walk_trees.specs.Values.{Value, value, Arrived}
 use Rattle.arrivals.specs.Trees as arrivals
 use Rattle.arrivals.specs.Trees.{Stop}
 use Rattle.walk_trees.specs.Held.{Held, with_new, element_at, is_settled_at, narrow}
+use Rattle.walk_trees.specs.Shares.{Shared}
 use Rattle.walk_trees.specs.Trees.{Sort, OfRange, Spot, Demand, Goal, AtLeastZero, Tree, Dead, Claim, Know, Fork}
 
 -- what a walk is of: whether it is the wide one, a domain with what it knows, the local sizes, the kinds of the buffers, the local arrays,
@@ -31,12 +32,13 @@ pub record Ranked : Type 0 where
   pub loop : ℕ
   pub form : Fact
 
--- how many claims were made, what the value parameters and private variables are, what ranked loops, the latest first, what the domain
--- holds, and where the walk stands
+-- how many claims were made, what the value parameters and private variables are, what ranked loops, and the quotients by forms, the latest
+-- first, what the domain holds, and where the walk stands
 pub record State (E : Type 0) : Type 0 where
   pub claims : ℕ
   pub variables : List Value
   pub ranks : List Ranked
+  pub quotients : List Shared
   pub held : Held E
   pub at : Spot
 
@@ -44,21 +46,25 @@ abbrev pub Onward : Type 0 → Type 0
 Onward E = Value → State E → Tree E
 
 abbrev pub claimed_once : {E : Type 0} → State E → State E
-claimed_once st = record { claims = suc st.claims; variables = st.variables; ranks = st.ranks; held = st.held; at = st.at }
+claimed_once st = record { claims = suc st.claims; variables = st.variables; ranks = st.ranks; quotients = st.quotients; held = st.held; at = st.at }
 
 -- with so many claims
 abbrev pub counted : {E : Type 0} → ℕ → State E → State E
-counted n st = record { claims = n; variables = st.variables; ranks = st.ranks; held = st.held; at = st.at }
+counted n st = record { claims = n; variables = st.variables; ranks = st.ranks; quotients = st.quotients; held = st.held; at = st.at }
 
 abbrev pub holding : {E : Type 0} → Held E → State E → State E
-holding h st = record { claims = st.claims; variables = st.variables; ranks = st.ranks; held = h; at = st.at }
+holding h st = record { claims = st.claims; variables = st.variables; ranks = st.ranks; quotients = st.quotients; held = h; at = st.at }
 
 abbrev pub with_variables : {E : Type 0} → List Value → State E → State E
-with_variables vs st = record { claims = st.claims; variables = vs; ranks = st.ranks; held = st.held; at = st.at }
+with_variables vs st = record { claims = st.claims; variables = vs; ranks = st.ranks; quotients = st.quotients; held = st.held; at = st.at }
 
 -- a loop's test was true
 abbrev pub with_rank : {E : Type 0} → ℕ → Fact → State E → State E
-with_rank n f st = record { claims = st.claims; variables = st.variables; ranks = record { loop = n; form = f } ∷ st.ranks; held = st.held; at = st.at }
+with_rank n f st = record { claims = st.claims; variables = st.variables; ranks = record { loop = n; form = f } ∷ st.ranks; quotients = st.quotients; held = st.held; at = st.at }
+
+-- a quotient was made
+abbrev pub with_quotient : {E : Type 0} → Shared → State E → State E
+with_quotient q st = record { claims = st.claims; variables = st.variables; ranks = st.ranks; quotients = q ∷ st.quotients; held = st.held; at = st.at }
 
 -- what ranked a loop when its test was last true: on the path, or before it
 abbrev pub rank_form : List Ranked → ℕ → Fact
@@ -71,7 +77,7 @@ arrived stop turns st = record { stop = stop; turns = turns; variables = st.vari
 
 -- the walk stands elsewhere
 abbrev pub stand : {E : Type 0} → Spot → State E → State E
-stand p st = record { claims = st.claims; variables = st.variables; ranks = st.ranks; held = st.held; at = p }
+stand p st = record { claims = st.claims; variables = st.variables; ranks = st.ranks; quotients = st.quotients; held = st.held; at = p }
 
 -- at another site of its statement
 abbrev pub spot_at : {E : Type 0} → Site → State E → Spot

@@ -14,7 +14,7 @@ ghost use Rattle.facts.specs.Launching.{are_sizes, launch_facts, item_facts};
 ghost use Rattle.walk_trees.specs.Trees.{claims};
 ghost use Rattle.walk_trees.specs.Statements.{setting};
 ghost use Rattle.walk_trees.specs.Covered.{covers_term};
-ghost use Rattle.walk_trees.specs.Shown.{IsShown};
+ghost use Rattle.walk_trees.specs.Shown.{IsShownWithProducts};
 ghost use Rattle.walk_trees.specs.Sound.{any_space, tree_of, IsFoundIn};
 
 use domain::Domain;
@@ -22,5 +22,5 @@ use domain::Domain;
 /// If all that the walk of a term claims is shown, no item meets a fault when it evaluates that term as it begins: it gets a value, which
 /// the form at some end of the walk has, or, of the loads that have no answer, it asks for one that the walk notes.
 pub fn walk_of_a_term_is_sound<D: Domain>()
-    ensures { (k : Kernel) (c : Conditions) (is_wide : Bool) (has_entry : ℕ → Bool) (e : Term) (l : Launch) (i : ℕ) (answers : List Word) → are_sizes k.sizes ≡ true → covers_term any_space e ≡ true → Fits k l → Meets c l → i < item_count (record { kernel = k; launch = l }) → All IsShown (claims (launch_facts c) (item_facts k.sizes First) 0 (tree_of (setting D.Domain k c is_wide has_entry) k e)) → IsFoundIn (tree_of (setting D.Domain k c is_wide has_entry) k e) (record { kernel = k; launch = l }) (evaluate (record { kernel = k; launch = l }) i e (opening (record { kernel = k; launch = l }) i).variables answers) }
+    ensures { (k : Kernel) (c : Conditions) (is_wide : Bool) (has_entry : ℕ → Bool) (e : Term) (l : Launch) (i : ℕ) (answers : List Word) → are_sizes k.sizes ≡ true → covers_term any_space e ≡ true → Fits k l → Meets c l → i < item_count (record { kernel = k; launch = l }) → All IsShownWithProducts (claims (launch_facts c) (item_facts k.sizes First) 0 (tree_of (setting D.Domain k c is_wide has_entry) k e)) → IsFoundIn (tree_of (setting D.Domain k c is_wide has_entry) k e) (record { kernel = k; launch = l }) (evaluate (record { kernel = k; launch = l }) i e (opening (record { kernel = k; launch = l }) i).variables answers) }
 {}

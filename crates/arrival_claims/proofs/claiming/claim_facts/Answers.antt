@@ -1,10 +1,9 @@
 use Rattle.std.proofs.Common.{refl, ◌+◌, arith}
 use Rattle.linear.specs.Forms.{form, forms}
 use Rattle.facts.proofs.Unmade.{handed}
-use Rattle.obligations.specs.Walking.{claim_facts}
+use Rattle.obligations.specs.Walking.{claim_fact, claim_facts}
 use Rattle.path_steps.specs.View.{followed}
 use Rattle.arrival_claims.specs.View.{placed}
-use Rattle.arrival_claims.specs.Claims.{claim_fact}
 use Rattle.arrival_claims.proofs.Each.{each_next, each_stops}
 use Rattle.arrival_claims.proofs.claiming.claim_facts.Goals as goal
 

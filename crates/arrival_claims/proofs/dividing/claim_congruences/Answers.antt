@@ -1,10 +1,9 @@
 use Rattle.std.proofs.Common.{refl, map, ◌+◌, arith}
 use Rattle.facts.proofs.Unmade.{handed}
-use Rattle.obligations.specs.Walking.{claim_congruences}
+use Rattle.obligations.specs.Walking.{claim_congruence, claim_congruences}
 use Rattle.path_steps.specs.View.{followed}
 use Rattle.obligations.specs.View.{congruence}
 use Rattle.arrival_claims.specs.View.{placed}
-use Rattle.arrival_claims.specs.Claims.{claim_congruence}
 use Rattle.arrival_claims.proofs.Each.{each_next, each_stops}
 use Rattle.arrival_claims.proofs.dividing.claim_congruences.Goals as goal
 

@@ -1,35 +1,30 @@
-use Rattle.std.proofs.Common.{[], sym, subst, ◌∙◌}
-use Rattle.std.proofs.lemmas.List.{append-nil}
+use Rattle.std.proofs.Common.{subst}
 use Rattle.linear.specs.Forms.{form, forms}
-use Rattle.facts.specs.Refusals.{IsUnfit}
 use Rattle.facts.proofs.Unmade.{handed}
-use Rattle.obligations.specs.Notes.{opens}
-use Rattle.obligations.specs.Walking.{rank_on}
 use Rattle.path_steps.specs.View.{followed}
 use Rattle.arrival_claims.specs.View.{placed}
-use Rattle.arrival_claims.proofs.Rankings.{rank_does, rank_unmade, rank_unfit}
+use Rattle.obligations.specs.Walking.{on_path}
+use Rattle.arrival_claims.specs.Unfit.{IsPut}
+use Rattle.arrival_claims.proofs.Rankings.{opened_does, opened_never, opened_unmade}
 use Rattle.arrival_claims.proofs.ranking.claim_opened.Goals as goal
 
-pub returns : goal.returns
-unfolding placed
-returns g c =
+pub returns-in-Some : goal.returns-in-Some
+returns-in-Some g c =
     let w = placed g.D.Domain c.args.placing.now in
-    let n = c.args.number in
     let l = followed c.args.path.now in
-    rank_does w n [] (opens (w.notes.ranking n).bound (rank_on w n l.state)) l (followed c.claim_told.new.path) (forms c.in_ok-told.told.made.items) (form c.in_ok-form.form) c.claim_told.result (c.in_ok-told.ensures.0 ∙ sym (append-nil _)) (c.in_ok-form.ensures ∙ (λ i. opens (c.progress_of-progress.ensures i) (c.in_ok-told.ensures.1 i))) c.claim_told.ensures
+    let n = c.args.number in
+    let p = subst (IsPut (on_path w l.state) (w.notes.ranking n).form) c.in-Some.is c.in_ok-told.ensures in
+    opened_does w n l (forms c.in-Some.told.made.items) (form c.in-Some.told.form) (followed c.put_opened.new.path) c.put_opened.result p c.put_opened.ensures
+
+pub returns-in-None : goal.returns-in-None
+returns-in-None g c =
+    let w = placed g.D.Domain c.args.placing.now in
+    let l = followed c.args.path.now in
+    let n = c.args.number in
+    let p = subst (IsPut (on_path w l.state) (w.notes.ranking n).form) c.in-None.is c.in_ok-told.ensures in
+    opened_never w n l (followed c.claim_never.new.path) c.claim_never.result p c.claim_never.ensures
 
 pub returns-in_err-told : goal.returns-in_err-told
 returns-in_err-told g c =
-    let w = placed g.D.Domain c.args.placing.now in
-    let n = c.args.number in
-    let l = followed c.args.path.now in
-    let k = rank_unmade w n [] (opens (w.notes.ranking n).bound (rank_on w n l.state)) l c.in_err-told.field-0.0 c.in_err-told.ensures in
+    let k = opened_unmade (placed g.D.Domain c.args.placing.now) c.args.number (followed c.args.path.now) c.in_err-told.field-0.0 c.in_err-told.ensures in
     handed c.from_residual.result c.in_err-told.field-0.0 _ _ c.from_residual.ensures k
-
-pub returns-in_err-form : goal.returns-in_err-form
-returns-in_err-form g c =
-    let w = placed g.D.Domain c.args.placing.now in
-    let n = c.args.number in
-    let l = followed c.args.path.now in
-    let k = rank_unfit w n [] (opens (w.notes.ranking n).bound (rank_on w n l.state)) l c.in_err-form.field-0.0 (subst (IsUnfit c.in_err-form.field-0.0) (λ i. opens (c.progress_of-progress.ensures i) (c.in_ok-told.ensures.1 i)) c.in_err-form.ensures) in
-    handed c.from_residual-in_err-form.result c.in_err-form.field-0.0 _ _ c.from_residual-in_err-form.ensures k

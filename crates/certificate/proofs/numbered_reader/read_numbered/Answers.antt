@@ -1,5 +1,6 @@
 use Rattle.std.proofs.Common.{length, ap, sym, ◌∙◌, arith}
 use Rattle.certificate_text.proofs.NumberedSteps.{add_numbered_keeps, numbered_row}
+use Rattle.certificate_text.proofs.Read.{settled_good}
 use Rattle.lines.specs.Left.{left}
 use Rattle.certificate.specs.Numbers.{numbered_draft}
 use Rattle.certificate.specs.Tables.{table}
@@ -17,3 +18,6 @@ loop-line-preserved c =
       used = kept.1;
       same = c.loop-line.invariant.same ∙ numbered_row t c.loop-line.number d (left c.loop-line.rest) c.in-Some.line.now (left c.in-Some.others) e c.in-Some.ensures (sym c.if-is_over.ensures) c.in-Ok.ensures;
     }
+
+pub finish-requires-clause-proper : goal.finish-requires-clause-proper
+finish-requires-clause-proper c = settled_good (numbered_draft c.loop-line.draft).read c.loop-line.invariant.proper

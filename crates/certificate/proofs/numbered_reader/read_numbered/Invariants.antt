@@ -1,7 +1,7 @@
 use Rattle.std.proofs.Common.{◌≡◌, ◌+◌, ◌≤◌, ◌^◌, length}
 use Rattle.certificate_text.specs.Drafts as drafting
 use Rattle.certificate_text.specs.NumberedReading as reading
-use Rattle.certificate_text.proofs.DraftsRead.{IsDraft}
+use Rattle.certificate_text.proofs.DraftsRead.{IsRead}
 use Rattle.lines.specs.Left.{left}
 use Rattle.certificate.specs.Drafts as drafts
 use Rattle.certificate.specs.Numbers.{numbered_draft}
@@ -11,7 +11,7 @@ use Rattle.certificate.proofs.numbered_reader.read_numbered.Given as goal
 abbrev pub invariant-loop-line : goal.invariant-loop-line
 invariant-loop-line l = record {
   room : l.number + length (left l.rest) ≤ 2 ^ 32 + 2;
-  proper : IsDraft (drafts.draft l.draft.read);
+  proper : IsRead (drafts.draft l.draft.read);
   used : l.draft.used ≤ length (table l.table);
   same : reading.read_numbered (table l.table) l.start (reading.numbered_draft 0 (drafting.begun l.is_wide)) (left l.lines) ≡ reading.read_numbered (table l.table) l.number (numbered_draft l.draft) (left l.rest);
 }

@@ -1,7 +1,7 @@
 use Rattle.std.proofs.Common.{◌≡◌, ◌+◌, ◌≤◌, ◌^◌, length}
 use Rattle.certificate_text.specs.Drafts as drafting
 use Rattle.certificate_text.specs.Reading as reading
-use Rattle.certificate_text.proofs.DraftsRead.{IsDraft}
+use Rattle.certificate_text.proofs.DraftsRead.{IsRead}
 use Rattle.lines.specs.Left.{left}
 use Rattle.certificate.specs.Drafts as drafts
 use Rattle.certificate.proofs.reader.read_lines.Given as goal
@@ -9,7 +9,7 @@ use Rattle.certificate.proofs.reader.read_lines.Given as goal
 abbrev pub invariant-loop-line : goal.invariant-loop-line
 invariant-loop-line l = record {
   room : l.number + length (left l.rest) ≤ 2 ^ 32 + 2;
-  proper : IsDraft (drafts.draft l.draft);
+  proper : IsRead (drafts.draft l.draft);
   same : reading.read_lines 2 drafting.nothing_yet (left l.lines) ≡ reading.read_lines l.number (drafts.draft l.draft) (left l.rest);
 }
 

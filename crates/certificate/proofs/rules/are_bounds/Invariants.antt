@@ -4,4 +4,4 @@ use Rattle.certificate.specs.View as view
 use Rattle.certificate.proofs.rules.are_bounds.Given as goal
 
 abbrev pub invariant-loop-bound : goal.invariant-loop-bound
-invariant-loop-bound l = rules.all (rules.is_bound_in l.is_wide) (map view.bound (drop l.bound-index l.bounds)) ≡ rules.all (rules.is_bound_in l.is_wide) (map view.bound l.bounds)
+invariant-loop-bound l = rules.all rules.is_bound (map view.bound (drop l.bound-index l.bounds)) ≡ rules.all rules.is_bound (map view.bound l.bounds)

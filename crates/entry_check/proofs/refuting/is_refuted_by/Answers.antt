@@ -1,6 +1,6 @@
 use Rattle.std.proofs.Common.{◌≡◌, Some, ap, sym, subst, ◌∙◌}
 use Rattle.std.specs.Prelude.{IsTrue}
-use Rattle.linear.specs.Linear.{IsImpossible}
+use Rattle.linear.specs.Products.{IsImpossibleWithProducts}
 use Rattle.linear.specs.Forms.{forms}
 use Rattle.certificate.specs.View.{entry}
 use Rattle.two_thread.specs.Goals.{maybe_forms}
@@ -16,4 +16,4 @@ returns-clause-shown g c =
     let xs = c.in-Some.facts.items in
     let b = c.in_ok-is_refuted.field-0 in
     let f : Some (forms xs) ≡ facts_for e.sort o = ap maybe_forms (sym c.in-Some.is) ∙ c.in_ok-facts.ensures in
-    shown_by o e xs b f (subst (λ l. IsTrue b → IsImpossible (forms l)) c.as_slice.ensures.value c.in_ok-is_refuted.ensures.impossible)
+    shown_by o e xs b f (subst (λ l. IsTrue b → IsImpossibleWithProducts (forms l)) c.as_slice.ensures.value c.in_ok-is_refuted.ensures.impossible)

@@ -4,8 +4,8 @@ use Rattle.certificate.specs.View.{entry}
 use Rattle.core_code.specs.View.{kernel}
 use Rattle.launch.specs.View.{conditions}
 use Rattle.facts.proofs.Unmade.{passed}
-use Rattle.walk_trees.specs.Shown.{IsShown}
-use Rattle.obligations.specs.View.{seen, quotient_of}
+use Rattle.walk_trees.specs.Shown.{IsShownWithProducts}
+use Rattle.obligations.specs.View.{seen}
 use Rattle.obligations.specs.Shown.{obligations}
 use Rattle.two_thread.specs.Listed.{listed, made_fit}
 use Rattle.two_thread.specs.Refusals.{DoNotFit}
@@ -13,6 +13,7 @@ use Rattle.walk.specs.Unfound.{IsFirstOfMany, IsUnfound, IsUnlisted}
 use Rattle.obligations.specs.Listing.{all_trees}
 use Rattle.entry_check.specs.Lacking.{AreListed, ArePassed, Lacks, LacksOf, TellsBy, TellsOwing, owing, with_entries}
 use Rattle.entry_check.specs.Numbers.{show_of}
+use Rattle.entry_check.specs.View.{said as said_seen, stated}
 use Rattle.entry_check.proofs.Owing.{are_listed, same_notes, told_unfound, unfit_unlisted}
 use Rattle.entry_check.proofs.Unshown.{gains, mapped, named}
 use Rattle.entry_check.proofs.showing.show_all.Goals as goal
@@ -22,40 +23,40 @@ returns-clause-shown g c =
     let d = g.D.Domain in
     let k = kernel c.args.core.now in
     let cs = conditions c.args.conditions.now in
-    let es = map entry c.args.entries.now in
-    let n = seen c.args.notes.now [] in
-    let same : listed d c.in_ok-found.found ≡ owing d k cs n es = c.in_ok-found.ensures.listed ∙ ap (obligations d k cs) (same_notes es c.args.notes.now c.in_ok-flags.flags.items c.in_ok-flags.ensures) in
-    subst (λ os. IfOk c.show_found.result (λ _. All IsShown os)) same c.show_found.ensures.shown
+    let es = map entry c.args.said.now.entries.now in
+    let n = seen c.args.said.now.notes.now [] in
+    let same : listed d c.in_ok-found.found ≡ owing d k cs n es = c.in_ok-found.ensures.listed ∙ ap (obligations d k cs) (same_notes es c.args.said.now.notes.now c.in_ok-flags.flags.items c.in_ok-flags.ensures) in
+    subst (λ os. IfOk c.show_found.result (λ _. All IsShownWithProducts os)) same c.show_found.ensures.shown
 
 pub returns-in_err-found-clause-lacks : goal.returns-in_err-found-clause-lacks
 returns-in_err-found-clause-lacks g c =
     let d = g.D.Domain in
     let k = kernel c.args.core.now in
     let cs = conditions c.args.conditions.now in
-    let es = map entry c.args.entries.now in
-    let n = seen c.args.notes.now [] in
+    let es = map entry c.args.said.now.entries.now in
+    let n = seen c.args.said.now.notes.now [] in
     let e = c.in_err-found.field-0.0 in
-    let x = seen c.args.notes.now c.in_ok-flags.flags.items in
+    let x = seen c.args.said.now.notes.now c.in_ok-flags.flags.items in
     let u : IsUnfound d k cs x e = search rules in
-    passed c.from_residual-in_err-found.result (show_of e) (TellsOwing d k cs n es) c.from_residual-in_err-found.ensures.1
-    (told_unfound d k cs es n e (subst (λ y. IsUnfound d k cs y e) (same_notes es c.args.notes.now c.in_ok-flags.flags.items c.in_ok-flags.ensures) u))
+    passed c.from_residual-in_err-found.result (show_of e) (TellsOwing d k cs (stated c.args.said.now.names) n es) c.from_residual-in_err-found.ensures.1
+    (told_unfound d k cs (stated c.args.said.now.names) es n e (subst (λ y. IsUnfound d k cs y e) (same_notes es c.args.said.now.notes.now c.in_ok-flags.flags.items c.in_ok-flags.ensures) u))
 
 pub returns-clause-lacks : goal.returns-clause-lacks
 returns-clause-lacks g c =
     let d = g.D.Domain in
     let k = kernel c.args.core.now in
     let cs = conditions c.args.conditions.now in
-    let es = map entry c.args.entries.now in
-    let n = seen c.args.notes.now [] in
-    let q = quotient_of c.args.notes.now.quotients.items in
+    let es = map entry c.args.said.now.entries.now in
+    let n = seen c.args.said.now.notes.now [] in
+    let q = said_seen c.args.said.now in
     let f = c.in_ok-found.found in
-    let noted = same_notes es c.args.notes.now c.in_ok-flags.flags.items c.in_ok-flags.ensures in
-    let x = seen c.args.notes.now c.in_ok-flags.flags.items in
+    let noted = same_notes es c.args.said.now.notes.now c.in_ok-flags.flags.items c.in_ok-flags.ensures in
+    let x = seen c.args.said.now.notes.now c.in_ok-flags.flags.items in
     let same : listed d f ≡ owing d k cs n es = c.in_ok-found.ensures.listed ∙ ap (obligations d k cs) noted in
     let l : AreListed d k cs n es = are_listed d k cs es n x f noted c.in_ok-found.ensures.listed c.in_ok-found.ensures.few c.in_ok-found.ensures.fits in
     let unfit = DoNotFit (made_fit f) in
-    mapped c.show_found.result (TellsBy (Lacks q es (listed d f)) (λ _. ⊥) unfit) (TellsOwing d k cs n es)
-    (λ e t. named (Lacks q es (listed d f)) (LacksOf d k cs n es) (λ _. ⊥) (λ s. IsFirstOfMany s (all_trees d k cs (with_entries es n))) unfit (IsUnlisted d k cs (with_entries es n)) e
+    mapped c.show_found.result (TellsBy (Lacks q es (listed d f)) (λ _. ⊥) unfit) (TellsOwing d k cs (stated c.args.said.now.names) n es)
+    (λ e t. named (Lacks q es (listed d f)) (LacksOf d k cs (stated c.args.said.now.names) n es) (λ _. ⊥) (λ s. IsFirstOfMany s (all_trees d k cs (with_entries es n))) unfit (IsUnlisted d k cs (with_entries es n)) e
     (λ m s. (l, subst (λ os. Lacks q es os m) same s)) (λ m u. absurd u) (λ w u. unfit_unlisted d k cs (with_entries es n) (made_fit f) c.in_ok-found.ensures.made w u) t) c.show_found.ensures.lacks
 
 pub returns-clause-passed : goal.returns-clause-passed
@@ -63,12 +64,12 @@ returns-clause-passed g c =
     let d = g.D.Domain in
     let k = kernel c.args.core.now in
     let cs = conditions c.args.conditions.now in
-    let es = map entry c.args.entries.now in
-    let n = seen c.args.notes.now [] in
-    let q = quotient_of c.args.notes.now.quotients.items in
+    let es = map entry c.args.said.now.entries.now in
+    let n = seen c.args.said.now.notes.now [] in
+    let q = said_seen c.args.said.now in
     let f = c.in_ok-found.found in
-    let noted = same_notes es c.args.notes.now c.in_ok-flags.flags.items c.in_ok-flags.ensures in
-    let x = seen c.args.notes.now c.in_ok-flags.flags.items in
+    let noted = same_notes es c.args.said.now.notes.now c.in_ok-flags.flags.items c.in_ok-flags.ensures in
+    let x = seen c.args.said.now.notes.now c.in_ok-flags.flags.items in
     let same : listed d f ≡ owing d k cs n es = c.in_ok-found.ensures.listed ∙ ap (obligations d k cs) noted in
     let l : AreListed d k cs n es = are_listed d k cs es n x f noted c.in_ok-found.ensures.listed c.in_ok-found.ensures.few c.in_ok-found.ensures.fits in
     gains (ArePassed q es (owing d k cs n es)) (AreListed d k cs n es) c.show_found.result l (subst (λ os. IfOk c.show_found.result (λ _. ArePassed q es os)) same c.show_found.ensures.passed)

@@ -8,5 +8,5 @@ use Rattle.launch_text.proofs.conditions.length_lines.Given as goal
 
 abbrev pub invariant-loop-parameter : goal.invariant-loop-parameter
 invariant-loop-parameter l =
-    length_lines (map parameter l.parameters) (cursor l.at)
-    ≡ each (length_due (map parameter l.parameters)) (lengths l.lengths) (map parameter (drop l.parameter-index l.parameters)) (cursor l.rest)
+    length_lines l.has_products (map parameter l.parameters) (cursor l.at)
+    ≡ each (length_due l.has_products (map parameter l.parameters)) (lengths l.lengths) (map parameter (drop l.parameter-index l.parameters)) (cursor l.rest)

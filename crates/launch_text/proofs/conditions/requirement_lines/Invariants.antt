@@ -7,7 +7,7 @@ use Rattle.launch_text.proofs.conditions.requirement_lines.Given as goal
 
 abbrev pub invariant-lines : goal.invariant-lines
 invariant-lines l =
-    requirement_lines (map parameter l.parameters) 16 [] (cursor l.at) ≡ requirement_lines (map parameter l.parameters) l.room (requirements l.requirements) (cursor l.rest)
+    requirement_lines l.has_products (map parameter l.parameters) 16 [] (cursor l.at) ≡ requirement_lines l.has_products (map parameter l.parameters) l.room (requirements l.requirements) (cursor l.rest)
 
 abbrev pub decreases-lines : goal.decreases-lines
 decreases-lines l = l.room

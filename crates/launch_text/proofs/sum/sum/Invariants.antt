@@ -8,7 +8,7 @@ use Rattle.launch_text.proofs.sum.sum.Given as goal
 abbrev pub invariant-loop-room : goal.invariant-loop-room
 invariant-loop-room l = record {
   few : vec_len l.terms + l.room ≡ 8;
-  same : sum_at (map parameter l.parameters) 8 [] (cursor l.at) ≡ sum_at (map parameter l.parameters) l.room (map summand l.terms.items) (cursor l.rest);
+  same : sum_at l.has_products (map parameter l.parameters) 8 [] (cursor l.at) ≡ sum_at l.has_products (map parameter l.parameters) l.room (map summand l.terms.items) (cursor l.rest);
 }
 
 abbrev pub decreases-loop-room : goal.decreases-loop-room

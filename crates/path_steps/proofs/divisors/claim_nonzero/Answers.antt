@@ -9,15 +9,15 @@ use Rattle.path_steps.specs.View.{followed, goal_seen, setting as seen}
 use Rattle.path_steps.proofs.Refusing.{goal_steps, goal_stops, unfit_goal}
 use Rattle.path_steps.proofs.divisors.claim_nonzero.Goals as goal
 
-pub returns : goal.returns
-returns g c = goal_steps OfDivisor true (lacks (bounds_of (seen g.D.Domain c.args.setting.now) (followed c.args.path.now).state (form c.args.divisor.now)) (pos 0)) c.lacks_zero-settled.result (divisor_goal (form c.args.divisor.now)) (goal_seen c.in_ok-goal.goal) (followed c.args.path.now) (followed c.claim.new.self) (c.lacks_zero-settled.ensures ∙ ap (λ b. lacks b (pos 0)) c.bounds_of.ensures) c.in_ok-goal.ensures c.in_ok-claim.ensures
+pub returns-clause-steps : goal.returns-clause-steps
+returns-clause-steps g c = goal_steps OfDivisor true (lacks (bounds_of (seen g.D.Domain c.args.setting.now) (followed c.args.path.now).state (form c.args.divisor.now)) (pos 0)) c.lacks_zero-settled.result (divisor_goal (form c.args.divisor.now)) (goal_seen c.in_ok-goal.goal) (followed c.args.path.now) (followed c.claim.new.self) (c.lacks_zero-settled.ensures ∙ ap (λ b. lacks b (pos 0)) c.bounds_of.ensures) c.in_ok-goal.ensures.goal c.in_ok-claim.ensures
 
-pub returns-in_err-goal : goal.returns-in_err-goal
-returns-in_err-goal g c =
-    let k = unfit_goal OfDivisor true (lacks (bounds_of (seen g.D.Domain c.args.setting.now) (followed c.args.path.now).state (form c.args.divisor.now)) (pos 0)) (divisor_goal (form c.args.divisor.now)) (followed c.args.path.now) c.in_err-goal.field-0.0 c.in_err-goal.ensures in
+pub returns-in_err-goal-clause-steps : goal.returns-in_err-goal-clause-steps
+returns-in_err-goal-clause-steps g c =
+    let k = unfit_goal OfDivisor true (lacks (bounds_of (seen g.D.Domain c.args.setting.now) (followed c.args.path.now).state (form c.args.divisor.now)) (pos 0)) (divisor_goal (form c.args.divisor.now)) (followed c.args.path.now) c.in_err-goal.field-0.0 c.in_err-goal.ensures.goal in
     handed c.from_residual.result c.in_err-goal.field-0.0 _ _ c.from_residual.ensures k
 
-pub returns-in_err-claim : goal.returns-in_err-claim
-returns-in_err-claim g c =
-    let k = goal_stops OfDivisor true (lacks (bounds_of (seen g.D.Domain c.args.setting.now) (followed c.args.path.now).state (form c.args.divisor.now)) (pos 0)) c.lacks_zero-settled.result (divisor_goal (form c.args.divisor.now)) (goal_seen c.in_ok-goal.goal) (followed c.args.path.now) c.in_err-claim.field-0.0 (c.lacks_zero-settled.ensures ∙ ap (λ b. lacks b (pos 0)) c.bounds_of.ensures) c.in_ok-goal.ensures c.in_err-claim.ensures in
+pub returns-in_err-claim-clause-steps : goal.returns-in_err-claim-clause-steps
+returns-in_err-claim-clause-steps g c =
+    let k = goal_stops OfDivisor true (lacks (bounds_of (seen g.D.Domain c.args.setting.now) (followed c.args.path.now).state (form c.args.divisor.now)) (pos 0)) c.lacks_zero-settled.result (divisor_goal (form c.args.divisor.now)) (goal_seen c.in_ok-goal.goal) (followed c.args.path.now) c.in_err-claim.field-0.0 (c.lacks_zero-settled.ensures ∙ ap (λ b. lacks b (pos 0)) c.bounds_of.ensures) c.in_ok-goal.ensures.goal c.in_err-claim.ensures in
     handed c.from_residual-in_err-claim.result c.in_err-claim.field-0.0 _ _ c.from_residual-in_err-claim.ensures k

@@ -33,4 +33,4 @@ returns g c =
     let left = form c.args.left.now in
     let right = form c.args.right.now in
     let d = c.mul-element.ensures ∙ (λ i. g.D.Domain.mul_of (c.element_at.ensures i) (c.element_at-2.ensures i)) in
-    new_product (seen g.D.Domain c.args.setting.now) left.terms right.terms left right (followed c.args.path.now) (followed c.invent.new.path) c.mul-element.result c.invent.result (sym c.is_number.ensures ∙ c.if-is_number.false) (sym c.is_number-2.ensures ∙ c.if-is_number-2.false) d c.invent.ensures.leads
+    new_product (seen g.D.Domain c.args.setting.now) left.terms right.terms left right (followed c.args.path.now) (followed c.product_in.new.path) c.mul-element.result c.product_in.result (sym c.is_number.ensures ∙ c.if-is_number.false) (sym c.is_number-2.ensures ∙ c.if-is_number-2.false) d c.product_in.ensures

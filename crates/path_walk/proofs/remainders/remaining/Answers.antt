@@ -6,13 +6,13 @@ use Rattle.words.specs.View.{kind}
 use Rattle.walk_trees.specs.Operators.{remaining}
 use Rattle.path_steps.specs.View.{followed, setting as seen}
 use Rattle.walk_trees.specs.Quotients.{left_by}
-use Rattle.path_walk.proofs.Operating.{chosen, anew, renumbered, positive_above}
+use Rattle.path_walk.proofs.Operating.{chosen, renumbered, positive_above}
 use Rattle.path_walk.proofs.remainders.remaining.Goals as goal
 
 pub left_by-requires : goal.left_by-requires
 left_by-requires g c =
     let z : SFits w64 c.constant_part-number.result = search rules in
-    subst (λ n. pos 0 <ℤ n) (sym (to_z-of_z w64 c.constant_part-number.result z ∙ c.constant_part-number.ensures)) (positive_above (form c.args.divisor.now) (c.requires c.if-exactly.true))
+    subst (λ n. pos 0 <ℤ n) (sym (to_z-of_z w64 c.constant_part-number.result z ∙ c.constant_part-number.ensures)) (positive_above (form c.args.divisor.now) (c.requires.positive c.if-exactly.true))
 
 pub returns-then-exactly : goal.returns-then-exactly
 returns-then-exactly g c =
@@ -26,8 +26,4 @@ returns-then-exactly g c =
 pub returns : goal.returns
 returns g c =
     let s = seen g.D.Domain c.args.setting.now in
-    let x = form c.args.dividend.now in
-    let y = form c.args.divisor.now in
-    let d = c.rem-element.ensures ∙ (λ i. g.D.Domain.rem_of (c.element_at.ensures i) (c.element_at-2.ensures i)) in
-    let h = anew s c.rem-element.result _ (followed c.args.path.now) (followed c.invent.new.path) c.invent.result d c.invent.ensures.leads in
-    chosen (λ b. remaining s b (kind c.args.kind) x y) (λ st. c.args.exactly) false (followed c.args.path.now) (followed c.invent.new.path) form c.invent.result c.if-exactly.false h
+    chosen (λ b. remaining s b (kind c.args.kind) (form c.args.dividend.now) (form c.args.divisor.now)) (λ st. c.args.exactly) false (followed c.args.path.now) (followed c.remaining_by_form.new.path) form c.remaining_by_form.result c.if-exactly.false c.remaining_by_form.ensures

@@ -60,7 +60,7 @@ returns-in_ok-push-in-Other g c =
         is_fit = p.found.is_fit;
         is_few = p.found.is_few;
       };
-      state = record { claims = k; variables = p.state.variables; ranks = p.state.ranks; held = p.state.held; at = p.state.at };
+      state = record { claims = k; variables = p.state.variables; ranks = p.state.ranks; quotients = p.state.quotients; held = p.state.held; at = p.state.at };
     } in
     chose_other k p n (sym (ap choice c.in-Other.is) ∙ c.next.ensures) (λ i. record {
       found = record {
@@ -74,5 +74,5 @@ returns-in_ok-push-in-Other g c =
         is_fit = p.found.is_fit;
         is_few = p.found.is_few;
       };
-      state = record { claims = k; variables = p.state.variables; ranks = p.state.ranks; held = p.state.held; at = p.state.at };
+      state = record { claims = k; variables = p.state.variables; ranks = p.state.ranks; quotients = p.state.quotients; held = p.state.held; at = p.state.at };
     })

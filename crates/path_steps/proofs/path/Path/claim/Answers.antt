@@ -25,7 +25,7 @@ returns-in_ok-push g c =
         is_fit = sym (goal_fits c.args.goal) i;
         is_few = sym (few s.count h) i;
       };
-      state = record { claims = add-one s.count i; variables = p.state.variables; ranks = p.state.ranks; held = p.state.held; at = p.state.at };
+      state = record { claims = add-one s.count i; variables = p.state.variables; ranks = p.state.ranks; quotients = p.state.quotients; held = p.state.held; at = p.state.at };
     }
 
 pub returns-else-is_new : goal.returns-else-is_new
@@ -46,7 +46,7 @@ returns-else-is_new g c =
         is_fit = sym (goal_fits c.args.goal) i;
         is_few = sym (few s.count h) i;
       };
-      state = record { claims = add-one s.count i; variables = p.state.variables; ranks = p.state.ranks; held = p.state.held; at = p.state.at };
+      state = record { claims = add-one s.count i; variables = p.state.variables; ranks = p.state.ranks; quotients = p.state.quotients; held = p.state.held; at = p.state.at };
     }
 
 pub returns-then-self-ge65536 : goal.returns-then-self-ge65536

@@ -21,5 +21,5 @@ returns g c =
         is_fit = p.found.is_fit;
         is_few = p.found.is_few;
       };
-      state = record { claims = p.state.claims; variables = p.state.variables; ranks = p.state.ranks; held = record { news = news_more s.news.items c.push.new.self.items _ e i; narrowed = p.state.held.narrowed }; at = p.state.at };
+      state = record { claims = p.state.claims; variables = p.state.variables; ranks = p.state.ranks; quotients = p.state.quotients; held = record { news = news_more s.news.items c.push.new.self.items _ e i; narrowed = p.state.held.narrowed }; at = p.state.at };
     }

@@ -21,5 +21,5 @@ returns g c =
         is_fit = p.found.is_fit;
         is_few = p.found.is_few;
       };
-      state = record { claims = p.state.claims; variables = p.state.variables; ranks = p.state.ranks; held = record { news = p.state.held.news; narrowed = narrowed_more s.narrowed.items c.push.new.self.items _ e i }; at = p.state.at };
+      state = record { claims = p.state.claims; variables = p.state.variables; ranks = p.state.ranks; quotients = p.state.quotients; held = record { news = p.state.held.news; narrowed = narrowed_more s.narrowed.items c.push.new.self.items _ e i }; at = p.state.at };
     }

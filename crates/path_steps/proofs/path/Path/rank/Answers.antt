@@ -9,5 +9,5 @@ returns g c =
     let p = followed s in
     λ i. record {
       found = p.found;
-      state = record { claims = p.state.claims; variables = p.state.variables; ranks = ranks_more s.ranks.items c.push.new.self.items _ c.in_ok-push.ensures.items i; held = p.state.held; at = p.state.at };
+      state = record { claims = p.state.claims; variables = p.state.variables; ranks = ranks_more s.ranks.items c.push.new.self.items _ c.in_ok-push.ensures.items i; quotients = p.state.quotients; held = p.state.held; at = p.state.at };
     }

@@ -1,0 +1,461 @@
+//! What may be lemmas: what a symbol multiplies in an equality, or in a sum of two facts.
+
+use crate::hashes::{first_place, hash_of, hash_of_opposite, hashes_of};
+use crate::replacing::{replaced_all, replacements_of};
+use facts::{Family, Side};
+use guesses::{
+    Factors, common_divisor, copied, divisor_of, has_product, index_of, is_product, one_of, plain,
+    plus, try_difference, try_multiple, try_sum,
+};
+use linear::{Form, Symbol, Term};
+use std::alloc::{AllocError, Global};
+
+/// The number of equalities of which sums and differences are made, the last ones.
+const SUMMED: usize = 6;
+
+/// The number of equalities, about and at most.
+const EQUALITIES: usize = 40;
+
+/// The number of facts of which two are added, and of their sums, at most.
+const FACTS: usize = 40;
+
+const SUMS: usize = 120;
+
+/// What a symbol multiplies in a form.
+#[derive(Drop)]
+struct Share {
+    symbol: Symbol,
+    form: Form,
+}
+
+/// Forms that may be lemmas, each once, and none that is known.
+#[derive(Drop)]
+struct Menu {
+    found: Vec<Form>,
+    hashes: Vec<u64>,
+}
+
+impl Menu {
+    /// Adds a form that is not known.
+    fn add(&mut self, form: Form) -> Result<(), AllocError> {
+        let hash = hash_of(&form);
+        if form.terms().is_empty() || self.hashes.as_slice().contains(&hash) {
+            return Ok(());
+        }
+        self.hashes.push(hash)?;
+        self.found.push(form)?;
+        Ok(())
+    }
+
+    /// Adds a form and its opposite.
+    fn add_both(&mut self, alloc: Global, form: &Form) -> Result<(), AllocError> {
+        self.add(copied(alloc, form)?)?;
+        match try_multiple(alloc, form, -1)? {
+            Some(opposite) => self.add(opposite),
+            None => Ok(()),
+        }
+    }
+}
+
+/// Adds so many times what a symbol multiplies in a term; nothing where the term has not the symbol.
+fn add_share(alloc: Global, sum: Form, term: &Term, factor: u64) -> Result<Form, AllocError> {
+    let factors = Factors::of(term.symbol);
+    if !factors.each().contains(&factor) {
+        return Ok(sum);
+    }
+    let rest = factors.without(factor);
+    let one = if rest.first == 0 {
+        Form::constant(alloc, 1)
+    } else {
+        one_of(alloc, rest.symbol())?
+    };
+    let Some(part) = try_multiple(alloc, &one, term.coefficient)? else {
+        return Ok(sum);
+    };
+    Ok(try_sum(alloc, &sum, &part)?.unwrap_or(sum))
+}
+
+/// What a factor multiplies in a form.
+fn share_of(alloc: Global, form: &Form, factor: u64) -> Result<Form, AllocError> {
+    let mut sum = Form::constant(alloc, 0);
+    for term in form.terms() {
+        sum = add_share(alloc, sum, term, factor)?;
+    }
+    Ok(sum)
+}
+
+/// Adds the factors of a product that are not there.
+fn note_factors(found: &mut Vec<u64>, symbol: Symbol) -> Result<(), AllocError> {
+    for factor in Factors::of(symbol).each() {
+        if factor != 0 && !found.as_slice().contains(&factor) {
+            found.push(factor)?;
+        }
+    }
+    Ok(())
+}
+
+/// The factors of the products of a form.
+fn factors_in(alloc: Global, form: &Form) -> Result<Vec<u64>, AllocError> {
+    let mut found = Vec::new(alloc);
+    for term in form.terms() {
+        if is_product(term.symbol) {
+            note_factors(&mut found, term.symbol)?;
+        }
+    }
+    Ok(found)
+}
+
+/// What each symbol multiplies that is in a product of a form, that of most terms first.
+fn shares_of(alloc: Global, form: &Form) -> Result<Vec<Share>, AllocError> {
+    let mut shares: Vec<Share> = Vec::new(alloc);
+    let factors = factors_in(alloc, form)?;
+    for factor in factors.as_slice() {
+        let share = share_of(alloc, form, *factor)?;
+        let count = share.terms().len();
+        let at = shares
+            .iter()
+            .position(|other| other.form.terms().len() < count)
+            .unwrap_or(shares.len());
+        let symbol = plain(*factor);
+        shares.insert(
+            at.min(shares.len()),
+            Share {
+                symbol,
+                form: share,
+            },
+        )?;
+    }
+    Ok(shares)
+}
+
+/// A form divided by the greatest number that divides it.
+fn whole(alloc: Global, form: Form) -> Result<Form, AllocError> {
+    let divisor = divisor_of(common_divisor(&form), form.constant_part().unsigned_abs());
+    match i64::try_from(divisor) {
+        Ok(divisor) if divisor > 1 => Ok(form.divided(alloc, divisor)?.unwrap_or(form)),
+        _ => Ok(form),
+    }
+}
+
+/// Copies of the facts with products.
+fn with_products(alloc: Global, facts: &[Form]) -> Result<Vec<Form>, AllocError> {
+    let mut found = Vec::new(alloc);
+    for fact in facts {
+        if has_product(fact) {
+            found.push(copied(alloc, fact)?)?;
+        }
+    }
+    Ok(found)
+}
+
+/// Forms with their hashes.
+#[derive(Drop)]
+struct Listed {
+    forms: Vec<Form>,
+    hashes: Vec<u64>,
+}
+
+impl Listed {
+    fn has(&self, hash: u64) -> bool {
+        first_place(self.hashes.as_slice(), hash).is_some()
+    }
+
+    /// Adds a form with terms, unless it is there.
+    fn add(&mut self, form: Form) -> Result<(), AllocError> {
+        let hash = hash_of(&form);
+        if form.terms().is_empty() || self.has(hash) {
+            return Ok(());
+        }
+        self.hashes.push(hash)?;
+        self.forms.push(form)?;
+        Ok(())
+    }
+}
+
+/// The forms with products that are 0, of each and its opposite the first.
+fn equalities_of(alloc: Global, facts: &[Form]) -> Result<Listed, AllocError> {
+    let mut found = Listed {
+        forms: Vec::new(alloc),
+        hashes: Vec::new(alloc),
+    };
+    let hashes = hashes_of(alloc, facts)?;
+    for fact in facts {
+        let opposite = hash_of_opposite(fact);
+        if has_product(fact) && !found.has(opposite) && hashes.as_slice().contains(&opposite) {
+            found.add(copied(alloc, fact)?)?;
+        }
+    }
+    Ok(found)
+}
+
+/// Adds the equalities in which symbols are replaced by what short equalities say of them.
+fn add_replaced(alloc: Global, equalities: &mut Listed, facts: &[Form]) -> Result<(), AllocError> {
+    let replacements = replacements_of(alloc, facts)?;
+    let mut more = Vec::new(alloc);
+    for form in equalities.forms.as_slice() {
+        more.push(replaced_all(alloc, form, replacements.as_slice())?)?;
+    }
+    for form in more {
+        equalities.add(form)?;
+    }
+    Ok(())
+}
+
+/// The difference and the sum of two forms, where they have terms.
+fn combined(
+    alloc: Global,
+    found: &mut Vec<Form>,
+    one: &Form,
+    other: &Form,
+) -> Result<(), AllocError> {
+    if let Some(difference) = try_difference(alloc, one, other)? {
+        found.push(difference)?;
+    }
+    if let Some(sum) = try_sum(alloc, one, other)? {
+        found.push(sum)?;
+    }
+    Ok(())
+}
+
+/// The differences and the sums of two of the last equalities.
+fn combinations(alloc: Global, forms: &[Form]) -> Result<Vec<Form>, AllocError> {
+    let mut found = Vec::new(alloc);
+    let from = forms.len().saturating_sub(SUMMED);
+    let last = forms.get(from..).unwrap_or(&[]);
+    for (place, one) in last.iter().enumerate() {
+        for other in last.iter().skip(place.saturating_add(1)) {
+            combined(alloc, &mut found, one, other)?;
+        }
+    }
+    Ok(found)
+}
+
+/// The equalities of facts, with short ones put in, and their differences and sums.
+fn all_equalities(alloc: Global, facts: &[Form]) -> Result<Vec<Form>, AllocError> {
+    let mut equalities = equalities_of(alloc, facts)?;
+    add_replaced(alloc, &mut equalities, facts)?;
+    for form in combinations(alloc, equalities.forms.as_slice())? {
+        if equalities.forms.len() < EQUALITIES && !form.terms().is_empty() {
+            equalities.forms.push(form)?;
+        }
+    }
+    Ok(equalities.forms)
+}
+
+/// Adds that a factor is not above 0.
+fn add_no_more(alloc: Global, menu: &mut Menu, factor: u64) -> Result<(), AllocError> {
+    let one = one_of(alloc, plain(factor))?;
+    match try_multiple(alloc, &one, -1)? {
+        Some(opposite) => menu.add(opposite),
+        None => Ok(()),
+    }
+}
+
+/// The second item's symbol of a new one of the first item; none of other symbols.
+fn copy_of(factor: u64) -> Option<u64> {
+    let symbol = plain(factor);
+    let index = u32::try_from(index_of(symbol)).ok()?;
+    match Family::of(symbol) {
+        Family::New(Side::First) => {
+            let copy = Family::New(Side::Second).symbol(index as u64);
+            Some(copy.number.saturating_add(1))
+        }
+        _ => None,
+    }
+}
+
+/// Adds that a new symbol, as a quotient, is the same of both items, where both are factors of products.
+fn add_copies(alloc: Global, menu: &mut Menu, factors: &[u64]) -> Result<(), AllocError> {
+    for factor in factors {
+        let Some(copy) = copy_of(*factor) else {
+            continue;
+        };
+        if factors.contains(&copy) {
+            let first = one_of(alloc, plain(*factor))?;
+            let second = one_of(alloc, plain(copy))?;
+            if let Some(difference) = try_difference(alloc, &first, &second)? {
+                menu.add_both(alloc, &difference)?;
+            }
+        }
+    }
+    Ok(())
+}
+
+/// The factors of the products of facts.
+fn factors_in_all(alloc: Global, facts: &[Form]) -> Result<Vec<u64>, AllocError> {
+    let mut found = Vec::new(alloc);
+    for fact in facts {
+        for term in fact.terms() {
+            if is_product(term.symbol) {
+                note_factors(&mut found, term.symbol)?;
+            }
+        }
+    }
+    Ok(found)
+}
+
+/// Adds of a fact that a product of two symbols is not above 0 that neither symbol is.
+fn add_factors(alloc: Global, menu: &mut Menu, fact: &Form) -> Result<(), AllocError> {
+    let Some(term) = fact.terms().first() else {
+        return Ok(());
+    };
+    if fact.terms().len() != 1 || fact.constant_part() != 0 || term.coefficient != -1 {
+        return Ok(());
+    }
+    let factors = Factors::of(term.symbol);
+    if factors.third != 0 || factors.first == factors.second {
+        return Ok(());
+    }
+    add_no_more(alloc, menu, factors.first)?;
+    add_no_more(alloc, menu, factors.second)
+}
+
+/// Adds what a symbol multiplies in a form, both ways, and what symbols multiply in that.
+fn add_parts(alloc: Global, menu: &mut Menu, form: Form) -> Result<(), AllocError> {
+    let form = whole(alloc, form)?;
+    if form.terms().len() < 2 && form.constant_part() == 0 {
+        return Ok(());
+    }
+    menu.add_both(alloc, &form)?;
+    for share in shares_of(alloc, &form)? {
+        menu.add_both(alloc, &share.form)?;
+    }
+    Ok(())
+}
+
+/// Adds what symbols multiply in an equality.
+fn add_equality(alloc: Global, menu: &mut Menu, form: &Form) -> Result<(), AllocError> {
+    for share in shares_of(alloc, form)? {
+        add_parts(alloc, menu, share.form)?;
+    }
+    Ok(())
+}
+
+/// One form has a term whose coefficient has the other sign in the other one.
+fn are_apart(one: &Form, other: &Form) -> bool {
+    for term in one.terms() {
+        let coefficient = other.coefficient(term.symbol);
+        if coefficient != 0 && (coefficient > 0) != (term.coefficient > 0) {
+            return true;
+        }
+    }
+    false
+}
+
+/// Adds the sums of a fact with others that cancel some of it.
+fn add_sums(
+    alloc: Global,
+    sums: &mut Vec<Form>,
+    one: &Form,
+    others: &[Form],
+) -> Result<(), AllocError> {
+    for other in others {
+        if sums.len() < SUMS && are_apart(one, other) {
+            if let Some(sum) = try_sum(alloc, one, other)? {
+                sums.push(sum)?;
+            }
+        }
+    }
+    Ok(())
+}
+
+/// The facts with products, and sums of two of them.
+fn facts_and_sums(alloc: Global, facts: Vec<Form>) -> Result<Vec<Form>, AllocError> {
+    let mut sums = Vec::new(alloc);
+    let first = facts.get(..FACTS.min(facts.len())).unwrap_or(&[]);
+    let room = SUMS.saturating_sub(facts.len());
+    for (place, one) in first.iter().enumerate() {
+        let others = first.get(place.saturating_add(1)..).unwrap_or(&[]);
+        if sums.len() < room {
+            add_sums(alloc, &mut sums, one, others)?;
+        }
+    }
+    let mut all = facts;
+    for sum in sums {
+        all.push(sum)?;
+    }
+    Ok(all)
+}
+
+/// How many terms of a form have not a symbol among their factors.
+fn count_without(form: &Form, symbol: Symbol) -> usize {
+    let factor = symbol.number.saturating_add(1);
+    let mut count = 0usize;
+    for term in form.terms() {
+        if !Factors::of(term.symbol).each().contains(&factor) {
+            count = count.saturating_add(1);
+        }
+    }
+    count
+}
+
+/// Adds what a symbol multiplies in a fact, where it has few terms besides.
+fn add_share_of_fact(
+    alloc: Global,
+    menu: &mut Menu,
+    fact: &Form,
+    share: Share,
+) -> Result<(), AllocError> {
+    if share.form.terms().len() < 2 {
+        return Ok(());
+    }
+    let rest = count_without(fact, share.symbol);
+    if rest == 0 && fact.constant_part() < 0 {
+        return match plus(alloc, &share.form, -1)? {
+            Some(form) => menu.add(form),
+            None => Ok(()),
+        };
+    }
+    if rest <= 3 {
+        return menu.add(share.form);
+    }
+    Ok(())
+}
+
+/// Adds what symbols multiply in a fact.
+fn add_fact(alloc: Global, menu: &mut Menu, fact: &Form) -> Result<(), AllocError> {
+    for share in shares_of(alloc, fact)? {
+        add_share_of_fact(alloc, menu, fact, share)?;
+    }
+    Ok(())
+}
+
+/// What may be lemmas of facts, the likeliest first, so many at most or somewhat more.
+pub fn lemmas_for(alloc: Global, facts: &[Form], most: usize) -> Result<Vec<Form>, AllocError> {
+    let mut menu = Menu {
+        found: Vec::new(alloc),
+        hashes: hashes_of(alloc, facts)?,
+    };
+    let products = with_products(alloc, facts)?;
+    let factors = factors_in_all(alloc, products.as_slice())?;
+    add_copies(alloc, &mut menu, factors.as_slice())?;
+    for fact in products.as_slice() {
+        add_factors(alloc, &mut menu, fact)?;
+    }
+    let equalities = all_equalities(alloc, facts)?;
+    for form in equalities.iter().rev() {
+        if menu.found.len() < most {
+            add_equality(alloc, &mut menu, form)?;
+        }
+    }
+    if menu.found.len() < most {
+        let all = facts_and_sums(alloc, products)?;
+        add_facts(alloc, &mut menu, all.as_slice(), most)?;
+    }
+    Ok(menu.found)
+}
+
+/// Adds what symbols multiply in facts, while there are too few.
+fn add_facts(
+    alloc: Global,
+    menu: &mut Menu,
+    facts: &[Form],
+    most: usize,
+) -> Result<(), AllocError> {
+    for fact in facts {
+        if menu.found.len() < most {
+            add_fact(alloc, menu, fact)?;
+        }
+    }
+    Ok(())
+}

@@ -1,0 +1,293 @@
+//! The search with products of facts, and lemmas.
+
+use crate::answer::Answer;
+use crate::deciding::{ROUNDS, conclude, enter_all};
+use crate::hashes::{first_place, hash_of};
+use crate::lemmas::lemmas_for;
+use crate::monomials::have_products;
+use crate::pool::Pool;
+use crate::proving::{finished, over_known};
+use crate::stop::Stop;
+use crate::tableau::{PIVOTS, Tableau};
+use crate::writing::{derive, derive_given, plain};
+use cut_proof::{Derivation, Lemma, Line};
+use guesses::{plus, try_multiple};
+use linear::{Fact, Form};
+use std::alloc::{AllocError, Global};
+
+/// How often lemmas are tried anew with those that are shown.
+const TURNS: u32 = 3;
+
+/// How many lemmas are tried each time, at most.
+const LEMMAS: usize = 24;
+
+/// How often the tableau of a lemma is solved, and how often its variables change places.
+const LEMMA_ROUNDS: u32 = 10;
+
+const LEMMA_PIVOTS: u32 = 600;
+
+/// How often variables change places in the last try.
+const LAST_PIVOTS: u32 = 500;
+
+/// Facts with products and the lemmas shown so far, and a tableau of the first `entered` forms of the pool, solved.
+#[derive(Drop)]
+struct Quest {
+    count: usize,
+    pool: Pool,
+    tableau: Tableau,
+    lemmas: Vec<Lemma>,
+    tried: Vec<u64>,
+}
+
+/// What is found by a step: lines that refute, over the numbers of the pool's forms.
+type Lines = Option<Vec<Line>>;
+
+/// The lines of an answer that is a derivation.
+fn lines_of(answer: Answer) -> Lines {
+    match answer {
+        Answer::Proof(derivation) => {
+            let Derivation { lines, .. } = derivation;
+            Some(lines)
+        }
+        Answer::Model(_) | Answer::Undecided => None,
+    }
+}
+
+/// What was given up was not found.
+fn found_or_not(outcome: Result<Lines, Stop>) -> Result<Lines, AllocError> {
+    match outcome {
+        Ok(lines) => Ok(lines),
+        Err(Stop::GivenUp) => Ok(None),
+        Err(Stop::Memory) => Err(AllocError),
+    }
+}
+
+/// Takes in the forms behind the first `from`, and solves the tableau.
+fn enter(alloc: Global, tableau: &mut Tableau, forms: &[Form], from: usize) -> Result<Lines, Stop> {
+    if let Some(number) = enter_all(alloc, tableau, forms, from)? {
+        let derivation = derive_given(alloc, number)?;
+        return Ok(Some(derivation.lines));
+    }
+    match tableau.solve(alloc)? {
+        Some(parts) => {
+            let derivation = derive(alloc, tableau.origins.as_slice(), parts.as_slice())?;
+            Ok(Some(derivation.lines))
+        }
+        None => Ok(None),
+    }
+}
+
+/// What denies that a form is at least 0; none where a number is too large.
+fn denial_of(alloc: Global, form: &Form) -> Result<Option<Form>, AllocError> {
+    match try_multiple(alloc, form, -1)? {
+        Some(opposite) => plus(alloc, &opposite, -1),
+        None => Ok(None),
+    }
+}
+
+/// How a lemma is tried: it is not shown, it is, or with it all is refuted by these lines over the facts and lemmas.
+#[derive(Drop)]
+enum Tried {
+    Failed,
+    Shown,
+    Refuting(Vec<Line>),
+}
+
+impl Quest {
+    /// Lines that refute the facts with the lemmas, by cuts.
+    fn conclude(&self, alloc: Global) -> Result<Lines, Stop> {
+        let tableau = self.tableau.copy(alloc, PIVOTS)?;
+        let answer = conclude(alloc, self.pool.forms.as_slice(), tableau, ROUNDS)?;
+        Ok(lines_of(answer))
+    }
+
+    /// Lines that refute the denial of a form, which the pool has with its products as the last ones.
+    fn refuted(&self, alloc: Global, pool: &Pool) -> Result<Lines, Stop> {
+        let mut tableau = self.tableau.copy(alloc, LEMMA_PIVOTS)?;
+        let forms = pool.forms.as_slice();
+        let found = enter(alloc, &mut tableau, forms, self.pool.forms.len())?;
+        if found.is_some() {
+            return Ok(found);
+        }
+        let answer = conclude(alloc, forms, tableau, LEMMA_ROUNDS)?;
+        Ok(lines_of(answer))
+    }
+
+    /// Lines that show a form, over the facts and lemmas and the form's denial.
+    fn lemma_lines(&self, alloc: Global, form: &Form) -> Result<Lines, Stop> {
+        let Some(denial) = denial_of(alloc, form)? else {
+            return Ok(None);
+        };
+        let mut pool = self.pool.copy(alloc)?;
+        pool.add(alloc, &denial)?;
+        let lines = found_or_not(self.refuted(alloc, &pool))?;
+        written(alloc, &pool, lines)
+    }
+
+    /// Takes in a lemma that is shown; lines that refute, over the pool, where that leaves nothing.
+    fn take(&mut self, alloc: Global, form: Form, lines: Vec<Line>) -> Result<Lines, Stop> {
+        let from = self.pool.forms.len();
+        self.pool.add(alloc, &form)?;
+        self.lemmas.push(Lemma { form, lines })?;
+        let tableau = self.tableau.copy(alloc, PIVOTS)?;
+        self.tableau = tableau;
+        enter(alloc, &mut self.tableau, self.pool.forms.as_slice(), from)
+    }
+
+    /// Tries a form as a lemma, unless it was tried since the last one was shown.
+    fn try_lemma(&mut self, alloc: Global, form: Form) -> Result<Tried, Stop> {
+        let hash = hash_of(&form);
+        if first_place(self.tried.as_slice(), hash).is_some() {
+            return Ok(Tried::Failed);
+        }
+        self.tried.push(hash)?;
+        let Some(lines) = self.lemma_lines(alloc, &form)? else {
+            return Ok(Tried::Failed);
+        };
+        self.tried.clear();
+        let found = self.take(alloc, form, lines)?;
+        match written(alloc, &self.pool, found)? {
+            Some(lines) => Ok(Tried::Refuting(lines)),
+            None => Ok(Tried::Shown),
+        }
+    }
+
+    /// Tries what may be lemmas, each once.
+    fn turn(&mut self, alloc: Global) -> Result<Tried, Stop> {
+        let mut turn = Tried::Failed;
+        let menu = lemmas_for(alloc, self.pool.known.as_slice(), LEMMAS)?;
+        for form in menu.into_iter().take(LEMMAS) {
+            match self.try_lemma(alloc, form)? {
+                Tried::Failed => {}
+                Tried::Shown => turn = Tried::Shown,
+                Tried::Refuting(lines) => return Ok(Tried::Refuting(lines)),
+            }
+        }
+        Ok(turn)
+    }
+
+    /// Lines that refute the facts with the lemmas, over them.
+    fn concluded(&self, alloc: Global) -> Result<Lines, Stop> {
+        let lines = found_or_not(self.conclude(alloc))?;
+        written(alloc, &self.pool, lines)
+    }
+
+    /// Lines that refute the facts with lemmas, which are sought.
+    fn seek(&mut self, alloc: Global) -> Result<Lines, Stop> {
+        for _ in 0..TURNS {
+            match self.turn(alloc)? {
+                Tried::Failed => return Ok(None),
+                Tried::Refuting(lines) => return Ok(Some(lines)),
+                Tried::Shown => {
+                    let found = self.concluded(alloc)?;
+                    if found.is_some() {
+                        return Ok(found);
+                    }
+                }
+            }
+        }
+        Ok(None)
+    }
+
+    /// The derivation with the lemmas that it needs.
+    fn derivation(self, alloc: Global, lines: Vec<Line>) -> Result<Derivation, Stop> {
+        let Quest { count, lemmas, .. } = self;
+        finished(alloc, count, lemmas, lines)
+    }
+}
+
+/// The lines over the facts and lemmas that these are over the pool.
+fn written(alloc: Global, pool: &Pool, lines: Lines) -> Result<Lines, Stop> {
+    match lines {
+        Some(lines) => {
+            let lines = over_known(alloc, lines.as_slice(), pool.sources.as_slice())?;
+            Ok(Some(lines))
+        }
+        None => Ok(None),
+    }
+}
+
+/// A derivation by products of two facts, and by lemmas.
+fn by_lemmas(alloc: Global, facts: &[Fact]) -> Result<Option<Derivation>, Stop> {
+    let mut quest = Quest {
+        count: facts.len(),
+        pool: Pool::of_facts(alloc, facts)?,
+        tableau: Tableau::new(alloc),
+        lemmas: Vec::new(alloc),
+        tried: Vec::new(alloc),
+    };
+    let begun = enter(alloc, &mut quest.tableau, quest.pool.forms.as_slice(), 0)?;
+    let mut found = written(alloc, &quest.pool, begun)?;
+    if found.is_none() {
+        found = quest.concluded(alloc)?;
+    }
+    if found.is_none() {
+        found = quest.seek(alloc)?;
+    }
+    match found {
+        Some(lines) => Ok(Some(quest.derivation(alloc, lines)?)),
+        None => Ok(None),
+    }
+}
+
+/// Lines that refute a wide pool, with few steps.
+fn last_lines(alloc: Global, pool: &Pool) -> Result<Lines, Stop> {
+    let mut tableau = Tableau::new(alloc).copy(alloc, LAST_PIVOTS)?;
+    let found = enter(alloc, &mut tableau, pool.forms.as_slice(), 0)?;
+    if found.is_some() {
+        return Ok(found);
+    }
+    let answer = conclude(alloc, pool.forms.as_slice(), tableau, ROUNDS)?;
+    Ok(lines_of(answer))
+}
+
+/// A derivation by products with one symbol more.
+fn by_wider(alloc: Global, facts: &[Fact]) -> Result<Option<Derivation>, Stop> {
+    let Some(pool) = Pool::wide(alloc, facts)? else {
+        return Ok(None);
+    };
+    let lines = found_or_not(last_lines(alloc, &pool))?;
+    match written(alloc, &pool, lines)? {
+        Some(lines) => Ok(Some(plain(alloc, lines))),
+        None => Ok(None),
+    }
+}
+
+/// A derivation in one of the ways in turn.
+fn by_any(alloc: Global, facts: &[Fact]) -> Result<Option<Derivation>, AllocError> {
+    let first = match by_lemmas(alloc, facts) {
+        Ok(found) => found,
+        Err(Stop::GivenUp) => None,
+        Err(Stop::Memory) => return Err(AllocError),
+    };
+    if first.is_some() {
+        return Ok(first);
+    }
+    match by_wider(alloc, facts) {
+        Ok(found) => Ok(found),
+        Err(Stop::GivenUp) => Ok(None),
+        Err(Stop::Memory) => Err(AllocError),
+    }
+}
+
+/// What is found where products are products: a derivation by products and lemmas in the place of what was found without. What was found
+/// stays where it is a derivation, where no fact has a product, and where nothing is found.
+pub fn with_products(
+    alloc: Global,
+    facts: &[Fact],
+    outcome: Result<Answer, Stop>,
+) -> Result<Answer, Stop> {
+    match outcome {
+        Ok(Answer::Proof(derivation)) => Ok(Answer::Proof(derivation)),
+        Err(Stop::Memory) => Err(Stop::Memory),
+        outcome => {
+            if !have_products(facts) {
+                return outcome;
+            }
+            match by_any(alloc, facts)? {
+                Some(derivation) => Ok(Answer::Proof(derivation)),
+                None => outcome,
+            }
+        }
+    }
+}

@@ -78,6 +78,7 @@ def reader_of(cert):
         first, rest = text.split("\n", 1)
         if first == "certificate 4":
             first = "certificate 2"
+            rest = rest.removeprefix("join\n")
         return Reader((first + "\n" + rest).encode(), (1, 2)).read()
 
     return read

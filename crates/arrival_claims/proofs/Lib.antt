@@ -4,7 +4,6 @@ pub mod Making
 pub mod Putting
 pub mod Digits
 pub mod Lines
-pub mod Each
 pub mod Arrivals
 pub mod Rankings
 pub mod Large

@@ -7,7 +7,8 @@ use Rattle.semantics.specs.Core.{Statement, Set, Store, If, Loop, Barrier, Retur
 use Rattle.semantics.specs.Setup.{Setup, item_count}
 use Rattle.semantics.specs.Item.{Entry, Status, Running, Waiting, Ended, Stopped, trail}
 use Rattle.semantics.specs.Solo.{after, passed, arrived, is_waiting}
-use Rattle.semantics.specs.Safety.{WaitAlike, EndsLast}
+use Rattle.semantics.specs.Contents.{IsHonest}
+use Rattle.semantics.specs.Safety.{WaitAlikeWithin, EndsLastWithin}
 use Rattle.arrivals.specs.Points.{Has, Point, point, fresh}
 use Rattle.arrivals.specs.Trees.{AtBarrier, AtEnd}
 use Rattle.arrivals.specs.Places.{is_barrier}
@@ -122,13 +123,13 @@ module _ (s : Setup) (k : Notes) (sound : IsSound s) (shown : Shown s k) (i j : 
       let c = ap₂ counted h.counts (loops-same s k shown sound.numbered v.ls w.ls v.loops w.loops m.1.0) in
       v.left_is ∙ ap₂ (λ c (p : Point). dressed c (fresh p.statement ∷ p.rest)) c p ∙ sym w.left_is
 
-  waiting : (ws : List ℤ) (l : ℕ) (is : l < item_count s) → (after s l ws).status ≡ Waiting → Waits s k l (passed s l ws) (after s l ws).left (after s l ws).variables
-  waiting ws l is h =
-      let p = subst (Placed s k l (passed s l ws) (after s l ws).left (after s l ws).variables) h (is_placed s k shown l is sound ws) in
+  waiting : (ws : List ℤ) (l : ℕ) (is : l < item_count s) → IsHonest s k.contents l ws → (after s l ws).status ≡ Waiting → Waits s k l (passed s l ws) (after s l ws).left (after s l ws).variables
+  waiting ws l is fair h =
+      let p = subst (Placed s k l (passed s l ws) (after s l ws).left (after s l ws).variables) h (is_placed s k shown l is sound ws fair) in
       waits s k l (passed s l ws) (after s l ws).left (after s l ws).variables p.0 p.1
 
-  pub waits-alike : WaitAlike s i j
-  waits-alike ws vs a b e = ap trail (both_wait (passed s i ws) (after s i ws).left (after s j vs).left (after s i ws).variables (after s j vs).variables (waiting ws i two.first a) (subst (λ n. Waits s k j n (after s j vs).left (after s j vs).variables) (sym e) (waiting vs j two.second b)))
+  pub waits-alike : WaitAlikeWithin k.contents s i j
+  waits-alike ws vs fair honest a b e = ap trail (both_wait (passed s i ws) (after s i ws).left (after s j vs).left (after s i ws).variables (after s j vs).variables (waiting ws i two.first fair a) (subst (λ n. Waits s k j n (after s j vs).left (after s j vs).variables) (sym e) (waiting vs j two.second honest b)))
 
   none_onward : (n : ℕ) (left : List Entry) (vars : List Word) → left ≡ [] → Stands s k i n left vars → Onward s k j n → ⊥
   none_onward n [] vars e v w =
@@ -138,12 +139,12 @@ module _ (s : Setup) (k : Notes) (sound : IsSound s) (shown : Shown s k) (i j : 
       (subst (λ f. Arrives s k j f w.start w.ls (AtBarrier w.barrier) w.here) (sym h.anchors) w.arrives)
   none_onward n (x ∷ r) vars e v w = cc
 
-  pub ends-last : EndsLast s i j
-  ends-last ws vs a = by (cases_lt (passed s i ws) (arrived s j vs))
+  pub ends-last : EndsLastWithin k.contents s i j
+  ends-last ws vs fair honest a = by (cases_lt (passed s i ws) (arrived s j vs))
     where
       ended : ((after s i ws).left ≡ []) × Stands s k i (passed s i ws) (after s i ws).left (after s i ws).variables
-      ended = subst (Placed s k i (passed s i ws) (after s i ws).left (after s i ws).variables) a (is_placed s k shown i two.first sound ws)
+      ended = subst (Placed s k i (passed s i ws) (after s i ws).left (after s i ws).variables) a (is_placed s k shown i two.first sound ws fair)
 
       by : (passed s i ws < arrived s j vs) ⊎ (arrived s j vs ≤ passed s i ws) → arrived s j vs ≤ arrived s i ws
-      by (inl less) = absurd (none_onward (passed s i ws) (after s i ws).left (after s i ws).variables ended.0 ended.1 (onward_of s k j (passed s i ws) (passed s j vs) (after s j vs).left (after s j vs).variables (after s j vs).status less (is_placed s k shown j two.second sound vs)))
+      by (inl less) = absurd (none_onward (passed s i ws) (after s i ws).left (after s i ws).variables ended.0 ended.1 (onward_of s k j (passed s i ws) (passed s j vs) (after s j vs).left (after s j vs).variables (after s j vs).status less (is_placed s k shown j two.second sound vs honest)))
       by (inr more) = let e = ap is_waiting a in omega (arith, more, e)

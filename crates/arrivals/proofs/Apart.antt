@@ -4,6 +4,7 @@ use Rattle.std.specs.Prelude.{◌⊎◌}
 use native.Mathlib.Decide.{ℕ_discrete}
 use Rattle.semantics.specs.Setup.{Setup, group_of, item_count}
 use Rattle.semantics.specs.Solo.{Access, after, passed, Touched, epoch}
+use Rattle.semantics.specs.Contents.{IsHonest}
 use Rattle.semantics.specs.Safety.{Clash}
 use Rattle.arrivals.specs.Paths.{Same}
 use Rattle.arrivals.specs.Shown.{Notes, Two, Shown, IsSound, alike_at}
@@ -38,8 +39,8 @@ module _ (s : Setup) (k : Notes) (sound : IsSound s) (shown : Shown s k) (access
   -- equal epochs of a fenced space: the same visit
   visits : is_fenced s (space_of a.at.owner) ≡ true → a.epoch ≡ b.epoch → passed s i v.words ≡ passed s j w.words
   visits f e =
-      sym (epoch-passed s k sound shown i first (space_of a.at.owner) f v.words) ∙ sym (epoch-is (after s i v.words) a.at.owner) ∙ sym v.epoch ∙ e ∙ w.epoch
-      ∙ ap (λ c. epoch (after s j w.words) c.owner) (sym element) ∙ epoch-is (after s j w.words) a.at.owner ∙ epoch-passed s k sound shown j second (space_of a.at.owner) f w.words
+      sym (epoch-passed s k sound shown i first (space_of a.at.owner) f v.words v.honest) ∙ sym (epoch-is (after s i v.words) a.at.owner) ∙ sym v.epoch ∙ e ∙ w.epoch
+      ∙ ap (λ c. epoch (after s j w.words) c.owner) (sym element) ∙ epoch-is (after s j w.words) a.at.owner ∙ epoch-passed s k sound shown j second (space_of a.at.owner) f w.words w.honest
 
   pub group_free : group_of s i ≡ group_of s j → a.epoch ≡ b.epoch → ⊥
   group_free g e = by (either (is_fenced s (space_of a.at.owner)))
@@ -61,14 +62,14 @@ module _ (s : Setup) (k : Notes) (sound : IsSound s) (shown : Shown s k) (access
           let l = level s k shown sound.numbered (passed s i v.words) i j two v.anchor w.anchor v.base w.base v.start w.start v.visited (subst (λ n. Visited s k j n w.anchor w.base w.start) (sym (visits f e)) w.visited) in
           in_one l (accesses.alike (space_of a.at.owner) v.place w.place v.at w.at f fronts (v.of ∙ l.anchors ∙ sym w.of))
 
-pub no_clash : (s : Setup) (k : Notes) → IsSound s → Shown s k → AccessesShown s k → (i j : ℕ) (ws vs : List ℤ) (a b : Access) → i < item_count s → j < item_count s → i ≢ j → Touched s i ws a → Touched s j vs b → Clash s a b → ⊥
-no_clash s k sound shown accesses i j ws vs a b first second distinct h g c = by (ℕ_discrete (group_of s i) (group_of s j)) c.unordered
+pub no_clash : (s : Setup) (k : Notes) → IsSound s → Shown s k → AccessesShown s k → (i j : ℕ) (ws vs : List ℤ) (a b : Access) → i < item_count s → j < item_count s → i ≢ j → IsHonest s k.contents i ws → IsHonest s k.contents j vs → Touched s i ws a → Touched s j vs b → Clash s a b → ⊥
+no_clash s k sound shown accesses i j ws vs a b first second distinct fair honest h g c = by (ℕ_discrete (group_of s i) (group_of s j)) c.unordered
   where
     v : Seen s k i a
-    v = seen s k sound shown i first ws a h
+    v = seen s k sound shown i first ws a fair h
 
     w : Seen s k j b
-    w = seen s k sound shown j second vs b g
+    w = seen s k sound shown j second vs b honest g
 
     by : Dec (group_of s i ≡ group_of s j) → (group_of s a.item ≢ group_of s b.item) ⊎ (a.epoch ≡ b.epoch) → ⊥
     by (no n) u = across_free s k sound shown accesses i j first second distinct a b v w c.element c.stored n

@@ -4,6 +4,7 @@ use Rattle.std.specs.Prelude.{slice_set}
 use Rattle.semantics.specs.Core.{Term, Statement, Set, Store, If, Loop, Barrier, Return, Break, Continue, Statements, none, one, number}
 use Rattle.semantics.specs.Item.{update_of}
 use Rattle.semantics.specs.Setup.{Setup}
+use Rattle.semantics.specs.Conditions.{Content}
 use Rattle.arrivals.specs.Loops.{have_barrier}
 use Rattle.arrivals.specs.Points.{Point, Left, fresh, turning, join}
 use Rattle.arrivals.specs.Places.{Place, behind, tree_from, tree, is_head}
@@ -20,7 +21,7 @@ neither_is true h k = cc
 neither_is false h k = cc
 
 -- `H` is that the head of the place is one
-module _ (s : Setup) (r : Ranking) (i : ℕ) (T S F : Type 0) (k : Terms T S F) (At : T → S → Held → Type 0) (law : Faithful s r i T S F k At) (H : Type 0) where
+module _ (s : Setup) (cs : List Content) (r : Ranking) (i : ℕ) (T S F : Type 0) (k : Terms T S F) (At : T → S → Held → Type 0) (law : Faithful s cs r i T S F k At) (H : Type 0) where
   -- an item stands at that point of the sketch; at a head's leaf it has come to its test, and so in front of a loop with a barrier
   abbrev pub AtSpot : Spot → (here : Held) → Type 0
   AtSpot (Stops stop t) here = ((st : S) × At (k.stops stop t st) st here) × ((n : ℕ) (b : Bool) → stop ≡ AtHead n b → AtArrival k At n b here)
@@ -29,7 +30,7 @@ module _ (s : Setup) (r : Ranking) (i : ℕ) (T S F : Type 0) (k : Terms T S F) 
 
   -- an item that stands at the sketch goes on in it as in the tree
   record Follow (tree : Tree) (from : Held) : Type 0 where
-    to : (x : Spot) (here : Held) → Reaches s r i tree x from here → AtSpot x here
+    to : (x : Spot) (here : Held) → Reaches s cs r i tree x from here → AtSpot x here
 
   abbrev Drawing : Later → Drawn T S → Type 0
   Drawing g h = (t : Turns) (st : S) (from : Held) → At (h t st) st from → Follow (g t) from
@@ -49,24 +50,24 @@ module _ (s : Setup) (r : Ranking) (i : ℕ) (T S F : Type 0) (k : Terms T S F) 
   body_drawn w c d = record { go = at_end; out = λ m. d.go; back = λ m. at_end }
 
   -- one step on
-  took : (st : Step) (tree : Tree) (from : Held) → ((n : ℕ) → st ≡ Enters n → AtEntering k At n from) → ((mid : Held) → paths.Takes s r i st from mid → Follow tree mid) → Follow (Takes st tree) from
+  took : (st : Step) (tree : Tree) (from : Held) → ((n : ℕ) → st ≡ Enters n → AtEntering k At n from) → ((mid : Held) → paths.Takes s cs r i st from mid → Follow tree mid) → Follow (Takes st tree) from
   took st tree from h f = record { to = λ x here g. by x here g }
     where
-      by : (x : Spot) (here : Held) → Reaches s r i (Takes st tree) x from here → AtSpot x here
+      by : (x : Spot) (here : Held) → Reaches s cs r i (Takes st tree) x from here → AtSpot x here
       by x here (inl g) = subst (λ x. AtSpot x here) (sym g.0) (subst (AtSpot (Taking st)) g.1 h)
       by x here (inr g) = (f g.0 g.1.0).to x here g.1.1
 
   came_to : (again : Bool) (a : Statement) (tree : Tree) (from : Held) → AtFront k At a from → (H → (n : ℕ) (b : Bool) → IsTest n b a again → AtArrival k At n b from) → Follow tree from → Follow (Comes (left a again) tree) from
   came_to again a tree from h test f = record { to = λ x here g. by x here g }
     where
-      by : (x : Spot) (here : Held) → Reaches s r i (Comes (left a again) tree) x from here → AtSpot x here
+      by : (x : Spot) (here : Held) → Reaches s cs r i (Comes (left a again) tree) x from here → AtSpot x here
       by x here (inl g) = subst (λ x. AtSpot x here) (sym g.0) (subst (AtSpot (Before (left a again))) g.1 (h, test))
       by x here (inr g) = f.to x here g
 
   forked : (left right : Tree) (from : Held) → Follow left from → Follow right from → Follow (Fork left right) from
   forked left right from f g = record { to = λ x here h. by x here h }
     where
-      by : (x : Spot) (here : Held) → Reaches s r i (Fork left right) x from here → AtSpot x here
+      by : (x : Spot) (here : Held) → Reaches s cs r i (Fork left right) x from here → AtSpot x here
       by x here (inl h) = f.to x here h
       by x here (inr h) = g.to x here h
 
@@ -94,7 +95,7 @@ module _ (s : Setup) (r : Ranking) (i : ℕ) (T S F : Type 0) (k : Terms T S F) 
         let q = law.value n j st from g.0 _ h g.1.0 in
         subst (Follow (Takes (Uses e) (w.go t))) (sym g.1.1) (took (Uses e) (w.go t) from (λ m q. cc) (λ mid' g'.
         let q' = law.value n e q.1.0 from g'.0 _ q.1.1 g'.1.0 in
-        let z = law.store (Store n y site j e) q.0 q'.1.0 from (λ st'''. c.go t st''') q'.1.1 in
+        let z = law.store (Store n y site j e) q.0 q'.0 q'.1.0 from (λ st'''. c.go t st''') q'.1.1 in
         subst (Follow (w.go t)) (sym g'.1.1) (d.go t z.0 from z.1)))))
     one_drawn a (If n e yeses noes) w c d t st from h = came_to a (If n e yeses noes) _ from (a, (st, (t, (c, h)))) (λ y m b z. absurd z) (tested_drawn n e (walk false yeses w) (walk false noes w) (draw k yeses c) (draw k noes c) t t st from (all_drawn yeses w c d) (all_drawn noes w c d) h)
     one_drawn a (Loop n e b u) w c d t st from h = loop_drawn (have_barrier b || have_barrier u) a n e b u (λ t'. walk false b (in_body w.go) t') (λ t'. walk false u (in_body w.go) t') w.go (λ t' st'. draw k b (inside k c.go) t' st') c.go (all_drawn b (in_body w.go) (inside k c.go) (body_drawn w c d)) d.go t st from h
@@ -142,7 +143,7 @@ module _ (s : Setup) (r : Ranking) (i : ℕ) (T S F : Type 0) (k : Terms T S F) 
   place_drawn body a (Some h) is = head_drawn h.statement h.rest is
 
   -- an item that stands at a place's sketch stands at each point to which it follows a path
-  pub stands_at : (body : Statements) (p : Place) (x : Spot) (path : List Step) (st : S) (root here : Held) → (H → IsOfHead p.head) → At (sketch k body p st) st root → IsSpot x path [] (tree body p) → Follows s r i path root here → AtSpot x here
+  pub stands_at : (body : Statements) (p : Place) (x : Spot) (path : List Step) (st : S) (root here : Held) → (H → IsOfHead p.head) → At (sketch k body p st) st root → IsSpot x path [] (tree body p) → Follows s cs r i path root here → AtSpot x here
   stands_at body p x path st root here is h e f =
-      let g = reaches_of s r i (tree body p) x path [] root here e f in
-      (place_drawn body p.anchor p.head is p.turns st root h).to x here (subst (λ mid. Reaches s r i (tree body p) x mid here) (sym g.1.0) g.1.1)
+      let g = reaches_of s cs r i (tree body p) x path [] root here e f in
+      (place_drawn body p.anchor p.head is p.turns st root h).to x here (subst (λ mid. Reaches s cs r i (tree body p) x mid here) (sym g.1.0) g.1.1)

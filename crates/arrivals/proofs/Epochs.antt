@@ -5,6 +5,7 @@ use Rattle.semantics.specs.Core.{Space, Global, Local, Statement, Set, Store, If
 use Rattle.semantics.specs.Setup.{Setup, item_count}
 use Rattle.semantics.specs.Item.{Entry, Item, trail, local_flag, global_flag}
 use Rattle.semantics.specs.Solo.{after, opening, passed, is_waiting, epoch}
+use Rattle.semantics.specs.Contents.{IsHonest}
 use Rattle.semantics.proofs.Steps.{Next, Passed, over-not_waiting}
 use Rattle.semantics.proofs.Turns.{Turn, Steps, Passes, Stays, turn}
 use Rattle.arrivals.specs.Points.{Has, Point, points}
@@ -53,17 +54,17 @@ module _ (s : Setup) (k : Notes) (sound : IsSound s) (shown : Shown s k) (i : �
   flag_here : (n : ℕ) (left : List Entry) (vars : List Word) → Waits s k i n left vars → get_or (trail left) (flag_at sp) 0 ≡ 1
   flag_here n left vars w = ap (λ l. get_or (trail l) (flag_at sp) 0) w.left_is ∙ flag_is sp w.barrier.statement _ _ w.is_a_barrier (fences sp (points s.kernel.body []) w.barrier fenced w.is_point)
 
-  by_turn : (z : ℤ) (ws : List ℤ) → of_space sp (after s i ws) ≡ passed s i ws → Turn (after s i ws) (after s i (z ∷ ws)) → of_space sp (after s i (z ∷ ws)) ≡ passed s i (z ∷ ws)
-  by_turn z ws h (Steps n) =
+  by_turn : (z : ℤ) (ws : List ℤ) → IsHonest s k.contents i ws → of_space sp (after s i ws) ≡ passed s i ws → Turn (after s i ws) (after s i (z ∷ ws)) → of_space sp (after s i (z ∷ ws)) ≡ passed s i (z ∷ ws)
+  by_turn z ws fair h (Steps n) =
       let w = ap is_waiting n.was in
       let q = kept sp (after s i ws) (after s i (z ∷ ws)) n in omega (arith, w, q, h)
-  by_turn z ws h (Passes p) =
+  by_turn z ws fair h (Passes p) =
       let w = ap is_waiting p.was in
       let q = raised sp (after s i ws) (after s i (z ∷ ws)) p in
-      let there = subst (Placed s k i (passed s i ws) (after s i ws).left (after s i ws).variables) p.was (is_placed s k shown i is_item sound ws) in
+      let there = subst (Placed s k i (passed s i ws) (after s i ws).left (after s i ws).variables) p.was (is_placed s k shown i is_item sound ws fair) in
       let f = flag_here (passed s i ws) (after s i ws).left (after s i ws).variables (waits s k i (passed s i ws) (after s i ws).left (after s i ws).variables there.0 there.1) in
       omega (arith, w, q, f, h)
-  by_turn z ws h (Stays o e) =
+  by_turn z ws fair h (Stays o e) =
       let w = over-not_waiting (after s i ws).status o in
       let q = ap (of_space sp) e in omega (arith, w, q, h)
 
@@ -75,9 +76,9 @@ module _ (s : Setup) (k : Notes) (sound : IsSound s) (shown : Shown s k) (i : �
       by Global = refl
       by Local = refl
 
-  pub epoch-passed : (ws : List ℤ) → of_space sp (after s i ws) ≡ passed s i ws
-  epoch-passed [] = opened
-  epoch-passed (z ∷ ws) = by_turn z ws (epoch-passed ws) (turn s i (after s i ws) z)
+  pub epoch-passed : (ws : List ℤ) → IsHonest s k.contents i ws → of_space sp (after s i ws) ≡ passed s i ws
+  epoch-passed [] fair = opened
+  epoch-passed (z ∷ ws) fair = by_turn z ws fair.0 (epoch-passed ws fair.0) (turn s i (after s i ws) z)
 
 pub epoch-is : (it : Item) (owner : ℕ) → epoch it owner ≡ of_space (space_of owner) it
 epoch-is it zero = refl

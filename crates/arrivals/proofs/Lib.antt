@@ -14,6 +14,7 @@ pub mod Rooted
 pub mod LoopBodies
 pub mod Turns
 pub mod Placing
+pub mod Keeping
 pub mod Moves
 pub mod Runs
 pub mod Meetings
@@ -22,7 +23,6 @@ pub mod Epochs
 pub mod Seen
 pub mod Apart
 pub mod Quiet
-pub mod Following
 pub mod Spots
 pub mod PlaceHeads
 pub mod Drawn

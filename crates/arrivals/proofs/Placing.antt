@@ -7,6 +7,8 @@ use Rattle.semantics.specs.Evaluation.{Outcome, Gives, Needs, Faults, Index, At,
 use Rattle.semantics.specs.Item.{Entry, Item, Status, Running, Waiting, Ended, Stopped, status_of}
 use Rattle.semantics.specs.Ask.{Ask, on_value, stores}
 use Rattle.semantics.specs.Solo.{moved}
+use Rattle.semantics.specs.Conditions.{Content}
+use Rattle.semantics.specs.Contents.{HonestFront}
 use Rattle.arrivals.specs.Points.{Point}
 use Rattle.arrivals.specs.Trees.{Step, Turns, Later, End, Front, IsEnd, IsFront, walk_left, left}
 use Rattle.arrivals.specs.LoopTests.{IsEntering}
@@ -17,6 +19,10 @@ use Rattle.arrivals.proofs.Counting.{Counts, counted}
 use Rattle.arrivals.proofs.Controlled.{bare, Controlled}
 use Rattle.arrivals.proofs.Ranked.{AreRan}
 use Rattle.arrivals.proofs.Standing.{all_points, Visited, Standing}
+
+-- the answers to the loads of the statement in front are numbers that the lines let buffers hold
+abbrev pub IsHonestItem : Setup → List Content → ℕ → Item → Type 0
+IsHonestItem s cs i it = (e : Entry) (r : List Entry) → it.left ≡ e ∷ r → HonestFront s cs i e.statement it.variables it.answers
 
 -- a barrier is in front
 abbrev pub IsAtBarrier : List Entry → Type 0

@@ -7,6 +7,8 @@ use Rattle.semantics.specs.Setup.{Setup, item_count}
 use Rattle.semantics.specs.Item.{Entry, Item, Status, Running, Waiting, Ended, Stopped, enter}
 use Rattle.semantics.specs.Ask.{passes, by_status, ask}
 use Rattle.semantics.specs.Solo.{moved, opening, after, passed, is_waiting}
+use Rattle.semantics.specs.Contents.{IsHonest}
+use Rattle.semantics.proofs.HonestRuns.{front_of}
 use Rattle.arrivals.specs.Points.{Has, Point, point, join}
 use Rattle.arrivals.specs.Trees.{AtBarrier, IsEnd, IsFront, walk_left}
 use Rattle.arrivals.specs.LoopTests.{IsEntering}
@@ -19,7 +21,7 @@ use Rattle.arrivals.proofs.Controlled.{bare, bare-enter, controlled-rest, contro
 use Rattle.arrivals.proofs.Members.{barriers-have}
 use Rattle.arrivals.proofs.Ranked.{ran-enter}
 use Rattle.arrivals.proofs.Standing.{all_points, no_turns}
-use Rattle.arrivals.proofs.Placing.{IsAtBarrier, Stands, Placed, IsPlaced, placed_by}
+use Rattle.arrivals.proofs.Placing.{IsAtBarrier, IsHonestItem, Stands, Placed, IsPlaced, placed_by}
 use Rattle.arrivals.proofs.Moves.{front_fine}
 
 module _ (s : Setup) (k : Notes) (shown : Shown s k) (i : ℕ) (is_item : i < item_count s) where
@@ -89,11 +91,11 @@ module _ (s : Setup) (k : Notes) (shown : Shown s k) (i : ℕ) (is_item : i < it
   passed_fine n it [] b h z = absurd b
   passed_fine n it (e ∷ r) b h z = placed_by s k i (suc n) r it.variables (past_barrier n e.statement e.turns r it.variables b h)
 
-  by_fine : (n : ℕ) (it : Item) (st : Status) → it.status ≡ st → Placed s k i n it.left it.variables st → IsPlaced s k i n it → (z : ℤ) → IsPlaced s k i (n + is_waiting st) (moved it (by_status s i it st) z)
-  by_fine n it Running e h p z = subst (λ m. IsPlaced s k i m (moved it (by_status s i it Running) z)) (sym (add-zero n)) (front_fine s k i n shown is_item it it.left e refl h p z)
-  by_fine n it Waiting e h p z = let m : suc n ≡ n + 1 = omega arith in subst (λ m. IsPlaced s k i m (moved it (by_status s i it Waiting) z)) m (passed_fine n it it.left h.0 h.1 z)
-  by_fine n it Ended e h p z = subst (λ m. IsPlaced s k i m it) (sym (add-zero n)) p
-  by_fine n it (Stopped f site) e h p z = subst (λ m. IsPlaced s k i m it) (sym (add-zero n)) p
+  by_fine : (n : ℕ) (it : Item) (st : Status) → it.status ≡ st → Placed s k i n it.left it.variables st → IsPlaced s k i n it → IsHonestItem s k.contents i it → (z : ℤ) → IsPlaced s k i (n + is_waiting st) (moved it (by_status s i it st) z)
+  by_fine n it Running e h p fair z = subst (λ m. IsPlaced s k i m (moved it (by_status s i it Running) z)) (sym (add-zero n)) (front_fine s k i n shown is_item it it.left e refl h p fair z)
+  by_fine n it Waiting e h p fair z = let m : suc n ≡ n + 1 = omega arith in subst (λ m. IsPlaced s k i m (moved it (by_status s i it Waiting) z)) m (passed_fine n it it.left h.0 h.1 z)
+  by_fine n it Ended e h p fair z = subst (λ m. IsPlaced s k i m it) (sym (add-zero n)) p
+  by_fine n it (Stopped f site) e h p fair z = subst (λ m. IsPlaced s k i m it) (sym (add-zero n)) p
 
   opening_stands : IsSound s → Stands s k i 0 (enter s.kernel.body []) (opening s i).variables
   opening_stands sound =
@@ -130,7 +132,15 @@ module _ (s : Setup) (k : Notes) (shown : Shown s k) (i : ℕ) (is_item : i < it
   unfolding opening
   placed_first sound = placed_by s k i 0 (enter s.kernel.body []) (opening s i).variables (opening_stands sound)
 
-  pub is_placed : IsSound s → (ws : List ℤ) → IsPlaced s k i (passed s i ws) (after s i ws)
+  -- whatever answers its next load
+  placed_next : (ws : List ℤ) → IsHonest s k.contents i ws → IsPlaced s k i (passed s i ws) (after s i ws) → (z : ℤ) → IsPlaced s k i (passed s i (z ∷ ws)) (after s i (z ∷ ws))
   unfolding ask
-  is_placed sound [] = placed_first sound
-  is_placed sound (z ∷ ws) = by_fine (passed s i ws) (after s i ws) (after s i ws).status refl (is_placed sound ws) (is_placed sound ws) z
+  placed_next ws fair p z = by_fine (passed s i ws) (after s i ws) (after s i ws).status refl p p (λ e r same. front_of s k.contents i ws e r fair same) z
+
+  pub is_placed : IsSound s → (ws : List ℤ) → IsHonest s k.contents i ws → IsPlaced s k i (passed s i ws) (after s i ws)
+  is_placed sound [] fair = placed_first sound
+  is_placed sound (z ∷ ws) fair = placed_next ws fair.0 (is_placed sound ws fair.0) z
+
+  -- the answer to its newest load may be any number
+  pub is_placed_then : IsSound s → (ws : List ℤ) → IsHonest s k.contents i ws → (z : ℤ) → IsPlaced s k i (passed s i (z ∷ ws)) (after s i (z ∷ ws))
+  is_placed_then sound ws fair z = placed_next ws fair (is_placed sound ws fair) z

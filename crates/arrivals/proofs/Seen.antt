@@ -5,6 +5,8 @@ use Rattle.semantics.specs.Setup.{Setup, item_count}
 use Rattle.semantics.specs.Item.{Entry, Item, Status, Running, Waiting, Ended, Stopped}
 use Rattle.semantics.specs.Ask.{Ask, Loads, Stores, Goes, Waits, Rests, act, front, passes, by_status, ask}
 use Rattle.semantics.specs.Solo.{Access, after, passed, touch, Touched, epoch}
+use Rattle.semantics.specs.Contents.{IsHonest, HonestFront}
+use Rattle.semantics.proofs.HonestRuns.{front_of}
 use Rattle.arrivals.specs.Loops.{have_barrier}
 use Rattle.arrivals.specs.Points.{Has, Point}
 use Rattle.arrivals.specs.Trees.{Step, Front, IsFront, left}
@@ -35,6 +37,7 @@ touch-item i it Rests a h = cc
 -- an access of a solo run: the visit, and the front at which it is made
 pub record Seen (s : Setup) (k : Notes) (i : ℕ) (a : Access) : Type 0 where
   pub words : List ℤ
+  pub honest : IsHonest s k.contents i words
   pub anchor : Option Point
   pub base : Counts
   pub start : Held
@@ -58,12 +61,13 @@ in_front n e b u a rest true t path = inl refl
 in_front n e b u a rest false t path = inl refl
 
 module _ (s : Setup) (k : Notes) (sound : IsSound s) (shown : Shown s k) (i : ℕ) (is_item : i < item_count s) where
-  seen_at : (again : Bool) (ws : List ℤ) (a : Access) (st : Statement) (t : ℕ) (r : List Entry) → touch i (after s i ws) (act s i (after s i ws) st t r) ≡ Some a → (h : Standing s k i (passed s i ws) (record { statement = st; turns = t } ∷ r) (after s i ws).variables (front_one st (has_turned t) (bare r)))
+  seen_at : (again : Bool) (ws : List ℤ) (a : Access) (st : Statement) (t : ℕ) (r : List Entry) → IsHonest s k.contents i ws → HonestFront s k.contents i st (after s i ws).variables (after s i ws).answers → touch i (after s i ws) (act s i (after s i ws) st t r) ≡ Some a → (h : Standing s k i (passed s i ws) (record { statement = st; turns = t } ∷ r) (after s i ws).variables (front_one st (has_turned t) (bare r)))
       → IsFront (record { statement = left st again; path = h.path }) h.path (front_one st (has_turned t) (bare r) h.turns) → Seen s k i a
-  seen_at again ws a st t r e h f =
+  seen_at again ws a st t r fair front e h f =
       let w = touch-item i (after s i ws) (act s i (after s i ws) st t r) a e in
       record {
         words = ws;
+        honest = fair;
         anchor = h.anchor;
         base = h.base;
         start = h.start;
@@ -73,37 +77,37 @@ module _ (s : Setup) (k : Notes) (sound : IsSound s) (shown : Shown s k) (i : �
         of = h.of;
         at = record { statement = left st again; path = h.path };
         is_front = h.fronts (record { statement = left st again; path = h.path }) f;
-        touch = record { here = held (after s i ws).variables h.ranks; came = h.came; makes = record { it = after s i ws; turns = t; rest = r; variables = refl; touches = e } };
+        touch = record { here = held (after s i ws).variables h.ranks; came = h.came; makes = record { it = after s i ws; turns = t; rest = r; variables = refl; honest = front; touches = e } };
         item = w.0;
         epoch = w.1;
       }
 
-  seen_by : (ws : List ℤ) (a : Access) (st : Statement) (t : ℕ) (r : List Entry) → touch i (after s i ws) (act s i (after s i ws) st t r) ≡ Some a → Standing s k i (passed s i ws) (record { statement = st; turns = t } ∷ r) (after s i ws).variables (front_one st (has_turned t) (bare r)) → Seen s k i a
-  seen_by ws a (Set m x e) t r h p = seen_at (has_turned t) ws a (Set m x e) t r h p (inl refl)
-  seen_by ws a (Store m y site x e) t r h p = seen_at (has_turned t) ws a (Store m y site x e) t r h p (inl refl)
-  seen_by ws a (If m e yeses noes) t r h p = seen_at (has_turned t) ws a (If m e yeses noes) t r h p (inl refl)
-  seen_by ws a (Loop m e b u) t r h p = seen_at (told_turned (have_barrier b || have_barrier u) (has_turned t)) ws a (Loop m e b u) t r h p (in_front m e b u (has_turned t) (bare r) (have_barrier b || have_barrier u) p.turns p.path)
-  seen_by ws a (Barrier m l g) t r h p = cc
-  seen_by ws a (Return m) t r h p = cc
-  seen_by ws a (Break m j) t r h p = cc
-  seen_by ws a (Continue m j) t r h p = cc
+  seen_by : (ws : List ℤ) (a : Access) (st : Statement) (t : ℕ) (r : List Entry) → IsHonest s k.contents i ws → HonestFront s k.contents i st (after s i ws).variables (after s i ws).answers → touch i (after s i ws) (act s i (after s i ws) st t r) ≡ Some a → Standing s k i (passed s i ws) (record { statement = st; turns = t } ∷ r) (after s i ws).variables (front_one st (has_turned t) (bare r)) → Seen s k i a
+  seen_by ws a (Set m x e) t r fair front h p = seen_at (has_turned t) ws a (Set m x e) t r fair front h p (inl refl)
+  seen_by ws a (Store m y site x e) t r fair front h p = seen_at (has_turned t) ws a (Store m y site x e) t r fair front h p (inl refl)
+  seen_by ws a (If m e yeses noes) t r fair front h p = seen_at (has_turned t) ws a (If m e yeses noes) t r fair front h p (inl refl)
+  seen_by ws a (Loop m e b u) t r fair front h p = seen_at (told_turned (have_barrier b || have_barrier u) (has_turned t)) ws a (Loop m e b u) t r fair front h p (in_front m e b u (has_turned t) (bare r) (have_barrier b || have_barrier u) p.turns p.path)
+  seen_by ws a (Barrier m l g) t r fair front h p = cc
+  seen_by ws a (Return m) t r fair front h p = cc
+  seen_by ws a (Break m j) t r fair front h p = cc
+  seen_by ws a (Continue m j) t r fair front h p = cc
 
-  seen_left : (ws : List ℤ) (a : Access) (left : List Entry) → touch i (after s i ws) (front s i (after s i ws) left) ≡ Some a → Stands s k i (passed s i ws) left (after s i ws).variables → Seen s k i a
-  seen_left ws a [] h p = cc
-  seen_left ws a (e ∷ r) h p = seen_by ws a e.statement e.turns r h (rooted s k shown i is_item (passed s i ws) (e ∷ r) (after s i ws).variables p)
+  seen_left : (ws : List ℤ) (a : Access) (left : List Entry) → IsHonest s k.contents i ws → (after s i ws).left ≡ left → touch i (after s i ws) (front s i (after s i ws) left) ≡ Some a → Stands s k i (passed s i ws) left (after s i ws).variables → Seen s k i a
+  seen_left ws a [] fair same h p = cc
+  seen_left ws a (e ∷ r) fair same h p = seen_by ws a e.statement e.turns r fair (front_of s k.contents i ws e r fair same) h (rooted s k shown i is_item (passed s i ws) (e ∷ r) (after s i ws).variables p)
 
   no_touch : (it : Item) (left : List Entry) (a : Access) → touch i it (passes it left) ≡ Some a → ⊥
   no_touch it [] a h = cc
   no_touch it (e ∷ r) a h = cc
 
-  seen_status : (ws : List ℤ) (a : Access) (st : Status) → touch i (after s i ws) (by_status s i (after s i ws) st) ≡ Some a → Placed s k i (passed s i ws) (after s i ws).left (after s i ws).variables st → Seen s k i a
-  seen_status ws a Running h p = seen_left ws a (after s i ws).left h p
-  seen_status ws a Waiting h p = absurd (no_touch (after s i ws) (after s i ws).left a h)
-  seen_status ws a Ended h p = cc
-  seen_status ws a (Stopped f site) h p = cc
+  seen_status : (ws : List ℤ) (a : Access) (st : Status) → IsHonest s k.contents i ws → touch i (after s i ws) (by_status s i (after s i ws) st) ≡ Some a → Placed s k i (passed s i ws) (after s i ws).left (after s i ws).variables st → Seen s k i a
+  seen_status ws a Running fair h p = seen_left ws a (after s i ws).left fair refl h p
+  seen_status ws a Waiting fair h p = absurd (no_touch (after s i ws) (after s i ws).left a h)
+  seen_status ws a Ended fair h p = cc
+  seen_status ws a (Stopped f site) fair h p = cc
 
-  pub seen : (ws : List ℤ) (a : Access) → Touched s i ws a → Seen s k i a
+  pub seen : (ws : List ℤ) (a : Access) → IsHonest s k.contents i ws → Touched s i ws a → Seen s k i a
   unfolding ask
-  seen [] a h = absurd h
-  seen (z ∷ ws) a (inl h) = seen_status ws a (after s i ws).status h (is_placed s k shown i is_item sound ws)
-  seen (z ∷ ws) a (inr h) = seen ws a h
+  seen [] a fair h = absurd h
+  seen (z ∷ ws) a fair (inl h) = seen_status ws a (after s i ws).status fair.0 h (is_placed s k shown i is_item sound ws fair.0)
+  seen (z ∷ ws) a fair (inr h) = seen ws a fair.0 h

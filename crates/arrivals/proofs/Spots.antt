@@ -2,6 +2,7 @@
 use Rattle.std.proofs.Common.{◌≡◌, ℕ, List, ◌∷◌, refl, sym, ap, inl, inr, subst}
 use Rattle.std.specs.Prelude.{◌⊎◌}
 use Rattle.semantics.specs.Setup.{Setup}
+use Rattle.semantics.specs.Conditions.{Content}
 use Rattle.arrivals.specs.Trees.{Step, Enters, Stop, Turns, Tree, Comes, Takes, Fork, Leaf, End, IsEnd, Front, IsFront}
 use Rattle.arrivals.specs.LoopTests.{IsEntering}
 use Rattle.arrivals.specs.Points.{Left}
@@ -20,11 +21,11 @@ IsSpot x end path (Fork left right) = IsSpot x end path left ⊎ IsSpot x end pa
 IsSpot x end path (Leaf stop t) = (x ≡ Stops stop t) × (end ≡ path)
 
 -- from the front on: an item goes through the tree to that point
-abbrev pub Reaches : Setup → Ranking → ℕ → Tree → Spot → (from here : Held) → Type 0
-Reaches s r i (Comes a rest) x from here = ((x ≡ Before a) × (from ≡ here)) ⊎ Reaches s r i rest x from here
-Reaches s r i (Takes st rest) x from here = ((x ≡ Taking st) × (from ≡ here)) ⊎ ((mid : Held) × (paths.Takes s r i st from mid × Reaches s r i rest x mid here))
-Reaches s r i (Fork left right) x from here = Reaches s r i left x from here ⊎ Reaches s r i right x from here
-Reaches s r i (Leaf stop t) x from here = (x ≡ Stops stop t) × (from ≡ here)
+abbrev pub Reaches : Setup → List Content → Ranking → ℕ → Tree → Spot → (from here : Held) → Type 0
+Reaches s cs r i (Comes a rest) x from here = ((x ≡ Before a) × (from ≡ here)) ⊎ Reaches s cs r i rest x from here
+Reaches s cs r i (Takes st rest) x from here = ((x ≡ Taking st) × (from ≡ here)) ⊎ ((mid : Held) × (paths.Takes s cs r i st from mid × Reaches s cs r i rest x mid here))
+Reaches s cs r i (Fork left right) x from here = Reaches s cs r i left x from here ⊎ Reaches s cs r i right x from here
+Reaches s cs r i (Leaf stop t) x from here = (x ≡ Stops stop t) × (from ≡ here)
 
 pub spot_of_end : (t : Tree) (u : End) (path : List Step) → IsEnd u path t → IsSpot (Stops u.stop u.turns) u.path path t
 spot_of_end (Comes a rest) u path e = inr (spot_of_end rest u path e)
@@ -50,13 +51,13 @@ spot_of_entering (Fork left right) n end path (inr e) = inr (spot_of_entering ri
 spot_of_entering (Leaf stop t) n end path e = absurd e
 
 -- a path to a point: to where the tree begins, and through it
-pub reaches_of : (s : Setup) (r : Ranking) (i : ℕ) (t : Tree) (x : Spot) (end path : List Step) (root here : Held) → IsSpot x end path t → Follows s r i end root here → (mid : Held) × (Follows s r i path root mid × Reaches s r i t x mid here)
-reaches_of s r i (Comes a rest) x end path root here (inl e) f = (here, (subst (λ p. Follows s r i p root here) e.1 f, inl (e.0, refl)))
-reaches_of s r i (Comes a rest) x end path root here (inr e) f = let h = reaches_of s r i rest x end path root here e f in (h.0, (h.1.0, inr h.1.1))
-reaches_of s r i (Takes st rest) x end path root here (inl e) f = (here, (subst (λ p. Follows s r i p root here) e.1 f, inl (e.0, refl)))
-reaches_of s r i (Takes st rest) x end path root here (inr e) f =
-    let h = reaches_of s r i rest x end (st ∷ path) root here e f in
+pub reaches_of : (s : Setup) (cs : List Content) (r : Ranking) (i : ℕ) (t : Tree) (x : Spot) (end path : List Step) (root here : Held) → IsSpot x end path t → Follows s cs r i end root here → (mid : Held) × (Follows s cs r i path root mid × Reaches s cs r i t x mid here)
+reaches_of s cs r i (Comes a rest) x end path root here (inl e) f = (here, (subst (λ p. Follows s cs r i p root here) e.1 f, inl (e.0, refl)))
+reaches_of s cs r i (Comes a rest) x end path root here (inr e) f = let h = reaches_of s cs r i rest x end path root here e f in (h.0, (h.1.0, inr h.1.1))
+reaches_of s cs r i (Takes st rest) x end path root here (inl e) f = (here, (subst (λ p. Follows s cs r i p root here) e.1 f, inl (e.0, refl)))
+reaches_of s cs r i (Takes st rest) x end path root here (inr e) f =
+    let h = reaches_of s cs r i rest x end (st ∷ path) root here e f in
     (h.1.0.0, (h.1.0.1.0, inr (h.0, (h.1.0.1.1, h.1.1))))
-reaches_of s r i (Fork left right) x end path root here (inl e) f = let h = reaches_of s r i left x end path root here e f in (h.0, (h.1.0, inl h.1.1))
-reaches_of s r i (Fork left right) x end path root here (inr e) f = let h = reaches_of s r i right x end path root here e f in (h.0, (h.1.0, inr h.1.1))
-reaches_of s r i (Leaf stop t) x end path root here e f = (here, (subst (λ p. Follows s r i p root here) e.1 f, (e.0, refl)))
+reaches_of s cs r i (Fork left right) x end path root here (inl e) f = let h = reaches_of s cs r i left x end path root here e f in (h.0, (h.1.0, inl h.1.1))
+reaches_of s cs r i (Fork left right) x end path root here (inr e) f = let h = reaches_of s cs r i right x end path root here e f in (h.0, (h.1.0, inr h.1.1))
+reaches_of s cs r i (Leaf stop t) x end path root here e f = (here, (subst (λ p. Follows s cs r i p root here) e.1 f, (e.0, refl)))

@@ -21,7 +21,7 @@ use Rattle.arrivals.proofs.Ranked.{AtTest, Entering, AreRan, ran-enter, ran-turn
 use Rattle.arrivals.proofs.Standing.{all_points, Standing, front_loop}
 use Rattle.arrivals.proofs.LoopBodies.{walk-body, met_inside, met_behind, agrees-turn}
 
-module _ (s : Setup) (k : Notes) (i c : ℕ) (n : ℕ) (e : Term) (b u : Statements) (t : ℕ) (r : List Entry) (vars : List Word) (v : Word) (can : CanBe s i e vars v) where
+module _ (s : Setup) (k : Notes) (i c : ℕ) (n : ℕ) (e : Term) (b u : Statements) (t : ℕ) (r : List Entry) (vars : List Word) (v : Word) (can : CanBe s k.contents i e vars v) where
   abbrev after_turn : List Entry
   after_turn = enter b (enter u (record { statement = Loop n e b u; turns = t + 1 } ∷ r))
 

@@ -1,8 +1,10 @@
 -- What is to be shown of the trees: of one item at each arrival, of two items at each pair of leaves and of accesses.
 use Rattle.std.specs.Prelude.{ℕ, ◌<◌, ◌≤◌, ℤ, pos, Bool, true, false, ◌&&◌, cond, nat_eq, List, [], Option, Some, None, ◌≡◌, ◌≢◌, ◌⊎◌}
 use Rattle.semantics.specs.Core.{number}
+use Rattle.semantics.specs.Conditions.{Content}
 use Rattle.semantics.specs.Setup.{Setup, group_of, item_count}
 use Rattle.semantics.specs.Solo.{opening, after}
+use Rattle.semantics.specs.Contents.{IsHonest}
 use Rattle.arrivals.specs.Loops.{unmet}
 use Rattle.arrivals.specs.Points.{Has, Point, points, AreFormed, IsNumbered}
 use Rattle.arrivals.specs.Trees.{Turns, Stop, AtBarrier, AtHead, AtEnd, End, IsEnd}
@@ -10,11 +12,12 @@ use Rattle.arrivals.specs.Places.{Place, places, tree, own_place, same_numbers}
 use Rattle.arrivals.specs.Paths.{Follows, Same, Held, held, Ranking}
 
 -- what is noted of the places: of a barrier the slots that two items have alike there, of a loop what ranks it, and of a place a fact of
--- one item, who has these of its own at the anchor and here
+-- one item, who has these of its own at the anchor and here; and what lines of the conditions say that buffers hold
 pub record Notes : Type 0 where
   pub same : ℕ → List ℕ
   pub rank : Ranking
   pub line : Place → (item : ℕ) → (anchor here : Held) → Bool
+  pub contents : List Content
 
 abbrev pub Line : Notes → Place → (item : ℕ) → (anchor here : Held) → Type 0
 Line k p i anchor here = k.line p i anchor here ≡ true
@@ -24,7 +27,7 @@ pub record Came (s : Setup) (k : Notes) (p : Place) (i : ℕ) (path : _) (anchor
   pub root : Held
   pub line : Line k p i anchor root
   pub own : p.head ≡ None → root ≡ anchor
-  pub follows : Follows s k.rank i path root here
+  pub follows : Follows s k.contents k.rank i path root here
 
 -- two items of one group
 pub record Two (s : Setup) (i j : ℕ) : Type 0 where
@@ -105,6 +108,6 @@ pub record IsSound (s : Setup) : Type 0 where
   pub numbered : IsNumbered (points s.kernel.body [])
   pub met : unmet s.kernel.body ≡ None
 
--- no solo run has more steps
-abbrev pub IsShort : Setup → (bound : ℕ) → Type 0
-IsShort s bound = (i : ℕ) (ws : List ℤ) → i < item_count s → (after s i ws).steps ≤ bound
+-- no solo run has more steps whose loads are answered by numbers that the lines let buffers hold
+abbrev pub IsShort : Setup → List Content → (bound : ℕ) → Type 0
+IsShort s cs bound = (i : ℕ) (ws : List ℤ) → i < item_count s → IsHonest s cs i ws → (after s i ws).steps ≤ bound

@@ -5,6 +5,7 @@ use Rattle.semantics.specs.Word.{Word, is_zero}
 use Rattle.semantics.specs.Core.{Term, Statement, Set, Store, If, Loop, Barrier, Return, Break, Continue, Statements, none, one, number}
 use Rattle.semantics.specs.Item.{update_of}
 use Rattle.semantics.specs.Setup.{Setup}
+use Rattle.semantics.specs.Conditions.{Content}
 use Rattle.arrivals.specs.Loops.{have_barrier}
 use Rattle.arrivals.specs.Points.{Point, Left, fresh, turning, join}
 use Rattle.arrivals.specs.Places.{Place, behind}
@@ -19,7 +20,7 @@ pub record Terms (T S F : Type 0) : Type 0 where
   pub set : S → ℕ → F → S
   pub arrive : (loop : ℕ) (again : Bool) → S → (S → T) → T
   pub enter : (loop : ℕ) → S → (S → T) → T
-  pub store : Statement → F → S → (S → T) → T
+  pub store : Statement → (index value : F) → S → (S → T) → T
   pub stops : Stop → Turns → S → T
 
 abbrev pub Drawn : (T S : Type 0) → Type 0
@@ -43,7 +44,7 @@ draw_loop k false n a e body go t st = k.arrive n a st (λ st1. k.stops (AtHead 
 abbrev mutual
   pub draw_one : {T S F : Type 0} → Terms T S F → (again : Bool) → Statement → Courses T S → Drawn T S
   draw_one k a (Set n x e) w t st = k.value n e st (λ f st'. w.go t (k.set st' x f))
-  draw_one k a (Store n y site i e) w t st = k.value n i st (λ f st'. k.value n e st' (λ g st''. k.store (Store n y site i e) f st'' (λ st'''. w.go t st''')))
+  draw_one k a (Store n y site i e) w t st = k.value n i st (λ f st'. k.value n e st' (λ g st''. k.store (Store n y site i e) f g st'' (λ st'''. w.go t st''')))
   draw_one k a (If n e yeses noes) w t st = k.test n e st (λ st'. draw k yeses w t st') (λ st'. draw k noes w t st')
   draw_one k a (Loop n e b u) w t st = draw_loop k (have_barrier b || have_barrier u) n a e (λ t' st'. draw k b (inside k w.go) t' st') w.go t st
   draw_one k a (Barrier n l g) w t st = k.stops (AtBarrier n) t st
@@ -81,14 +82,14 @@ sketch k body p st = sketch_from k body p.anchor p.head p.turns st
 
 -- the walk of terms goes along with what terms can be. `At` says that an item with these variables stands at a point of the sketch,
 -- with this state
-pub record Faithful (s : Setup) (r : Ranking) (i : ℕ) (T S F : Type 0) (k : Terms T S F) (At : T → S → Held → Type 0) : Type 0 where
-  pub value : (n : ℕ) (e : Term) (st : S) (from : Held) (v : Word) (go : F → S → T) → At (k.value n e st go) st from → CanBe s i e from.variables v → (f : F) × ((st' : S) × At (go f st') st' from)
-  pub taken : (n : ℕ) (e : Term) (st : S) (from : Held) (v : Word) (yeses noes : S → T) → At (k.test n e st yeses noes) st from → CanBe s i e from.variables v → is_zero v.value ≡ false → (st' : S) × At (yeses st') st' from
-  pub skipped : (n : ℕ) (e : Term) (st : S) (from : Held) (v : Word) (yeses noes : S → T) → At (k.test n e st yeses noes) st from → CanBe s i e from.variables v → is_zero v.value ≡ true → (st' : S) × At (noes st') st' from
-  pub set : (n : ℕ) (e : Term) (x : ℕ) (st : S) (from : Held) (v : Word) (go : S → T) → At (k.value n e st (λ f st'. go (k.set st' x f))) st from → CanBe s i e from.variables v → (st' : S) × At (go st') st' (held (slice_set from.variables x v) from.ranks)
+pub record Faithful (s : Setup) (cs : List Content) (r : Ranking) (i : ℕ) (T S F : Type 0) (k : Terms T S F) (At : T → S → Held → Type 0) : Type 0 where
+  pub value : (n : ℕ) (e : Term) (st : S) (from : Held) (v : Word) (go : F → S → T) → At (k.value n e st go) st from → CanBe s cs i e from.variables v → (f : F) × ((st' : S) × At (go f st') st' from)
+  pub taken : (n : ℕ) (e : Term) (st : S) (from : Held) (v : Word) (yeses noes : S → T) → At (k.test n e st yeses noes) st from → CanBe s cs i e from.variables v → is_zero v.value ≡ false → (st' : S) × At (yeses st') st' from
+  pub skipped : (n : ℕ) (e : Term) (st : S) (from : Held) (v : Word) (yeses noes : S → T) → At (k.test n e st yeses noes) st from → CanBe s cs i e from.variables v → is_zero v.value ≡ true → (st' : S) × At (noes st') st' from
+  pub set : (n : ℕ) (e : Term) (x : ℕ) (st : S) (from : Held) (v : Word) (go : S → T) → At (k.value n e st (λ f st'. go (k.set st' x f))) st from → CanBe s cs i e from.variables v → (st' : S) × At (go st') st' (held (slice_set from.variables x v) from.ranks)
   pub arrive : (n : ℕ) (again : Bool) (st : S) (from : Held) (go : S → T) → At (k.arrive n again st go) st from → (st' : S) × At (go st') st' from
   pub enter : (n : ℕ) (st : S) (from : Held) (go : S → T) → At (k.enter n st go) st from → (st' : S) × At (go st') st' (ranked r n i from)
-  pub store : (a : Statement) (f : F) (st : S) (from : Held) (go : S → T) → At (k.store a f st go) st from → (st' : S) × At (go st') st' from
+  pub store : (a : Statement) (f g : F) (st : S) (from : Held) (go : S → T) → At (k.store a f g st go) st from → (st' : S) × At (go st') st' from
 
 -- an item stands in front of a statement: at a loop, of its test
 abbrev pub AtFront : {T S F : Type 0} → Terms T S F → (At : T → S → Held → Type 0) → Statement → (here : Held) → Type 0

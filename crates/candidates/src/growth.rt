@@ -8,8 +8,24 @@ use crate::nests::tell_nest;
 use crate::single_values::Given;
 use crate::stride_lines::first_ways;
 use crate::turns::{Counter, Turns};
-use guesses::Leaf;
-use std::alloc::AllocError;
+use guesses::{Leaf, Sight, one_of, variable};
+use linear::Form;
+use std::alloc::{AllocError, Global};
+
+/// How far a counter has gone, from the first values that it begins with; where these have no name, as where it begins with what is loaded,
+/// no further than from 0.
+fn counts_of(
+    alloc: Global,
+    sight: &Sight,
+    courses: &Courses,
+    counter: Counter,
+) -> Result<Vec<Form>, AllocError> {
+    let mut counts = first_ways(alloc, sight, courses, counter.slot)?;
+    if counts.is_empty() && counter.stride > 0 {
+        counts.push(one_of(alloc, variable(counter.slot))?)?;
+    }
+    Ok(counts)
+}
 
 /// How far a variable goes from what it began with.
 fn tell_slot(
@@ -26,7 +42,7 @@ fn tell_slot(
         return Ok(());
     }
     let ways = first_ways(told.alloc, turns.sight, courses, slot)?;
-    let counts = first_ways(told.alloc, turns.sight, courses, counter.slot)?;
+    let counts = counts_of(told.alloc, turns.sight, courses, counter)?;
     for way in ways.iter() {
         for count in counts.iter() {
             tell_ends(told, turns.place, way, reach, count, counter.stride)?;

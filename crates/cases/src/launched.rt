@@ -2,7 +2,7 @@
 
 use launch::conditions::{Conditions, CountRange};
 use launch::launches::Launch;
-use launch_text::{read_conditions, write_buffers};
+use launch_text::{read_conditions_as, write_buffers};
 use std::alloc::{AllocError, Global};
 use types::typed::Typed;
 use words::Word;
@@ -51,6 +51,20 @@ fn push_sums(out: &mut String, conditions: &Conditions) -> Result<(), AllocError
     Ok(())
 }
 
+fn push_contents(out: &mut String, conditions: &Conditions) -> Result<(), AllocError> {
+    for content in &conditions.contents {
+        let end = if content.is_upper { "<=" } else { ">=" };
+        writeln!(
+            out,
+            "{}: values {} {end} of {}",
+            content.line,
+            content.buffer,
+            content.sum.terms.len()
+        )?;
+    }
+    Ok(())
+}
+
 /// Each line's number, ranges, and how many summands a sum has.
 fn push_lines(out: &mut String, conditions: &Conditions) -> Result<(), AllocError> {
     write!(out, "{}: groups", conditions.groups_line)?;
@@ -60,17 +74,18 @@ fn push_lines(out: &mut String, conditions: &Conditions) -> Result<(), AllocErro
     out.push_str("\n")?;
     push_arguments(out, conditions)?;
     push_sums(out, conditions)?;
+    push_contents(out, conditions)?;
     writeln!(out, "budget {}", conditions.budget)
 }
 
-/// Writes what conditions say of a kernel, or their refusal.
+/// Writes what conditions of either version say of a kernel, or their refusal.
 pub fn push_conditions(
     alloc: Global,
     out: &mut String,
     typed: &Typed,
     text: &[u8],
 ) -> Result<(), AllocError> {
-    match read_conditions(alloc, typed, text) {
+    match read_conditions_as(alloc, typed, text, true) {
         Ok(conditions) => push_lines(out, &conditions),
         Err(error) => writeln!(out, "refused {error}"),
     }

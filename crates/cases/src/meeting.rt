@@ -153,7 +153,7 @@ pub fn push_meeting<R: Threads + Wait + Sync>(
         core: typed.core(),
         code: &code,
         launch,
-        budget: 100,
+        budget: 1_000_000_000,
     };
     run_groups(rt, alloc, task, 2, &gate, &mut buffers)?;
     push_told(out, &gate)?;

@@ -4,29 +4,43 @@ use Rattle.syntax.specs.declared.tree.Kernel.{Kernel}
 use Rattle.core_code.specs.declared.tree.Core.{Core}
 use Rattle.semantics.specs.Conditions.{Conditions}
 use Rattle.certificate_text.specs.Certificate.{BadLine, OtherVersion}
+use Rattle.texts.specs.Surface.{Parameter}
+use Rattle.texts.specs.ConditionsReading.{Lined, conditions_of}
+use Rattle.syntax.specs.View.{kernel as tree_seen}
+use Rattle.launch_text.specs.Answers as launches
 use Rattle.certificate_text.specs.Reading.{Read, certificate_of}
 use Rattle.certificate_text.specs.NumberedReading.{certificate_of_two, certificate_of_four}
 use Rattle.certificate_text.specs.Migrated.{written, migrated}
 use Rattle.certificate_text.specs.Versions.{unless_other, certificate_in}
 use Rattle.certificate.specs.Certificates.{Says}
-use Rattle.cert_check.specs.Alike.{IsOfOneOrTwo}
+use Rattle.cert_check.specs.Alike.{AreNotOfTwo, IsOfOneOrTwo}
 use Rattle.cert_check.specs.Breadth.{text_says}
-use Rattle.cert_check.specs.Refusing.{IsPassedBy, RefusesBy}
+use Rattle.cert_check.specs.Refusing.{AreRead, IsPassedBy, RefusesBy}
 use Rattle.cert_check.specs.declared.error.CheckError.{CheckError}
 use Rattle.cert_check.specs.declared.error.CheckError.TheVariants as errors
 
 -- the second text says to one check what the first one says to another
-module _ (says answers : List ℕ → Read) (one two : List ℕ) (same : says one ≡ answers two) where
-  pub passed_alike : (typed : Kernel × Core) (c : Conditions) → IsPassedBy says typed c one → IsPassedBy answers typed c two
+module _ (wide as_wide : Bool) (one two : List ℕ) (same : text_says wide one ≡ text_says as_wide two) where
+  pub passed_alike : (typed : Kernel × Core) (c : Conditions) → IsPassedBy wide typed c one → IsPassedBy as_wide typed c two
   passed_alike typed c (met, cert, n, read, said, passes) = (met, cert, n, sym same ∙ read, said, passes)
 
-  pub refused_alike : (e : CheckError) (kernel conditions : List ℕ) → RefusesBy says e kernel conditions one → RefusesBy answers e kernel conditions two
-  refused_alike (errors.Kernel e) kernel conditions told = told
-  refused_alike (errors.Conditions e) kernel conditions told = told
-  refused_alike (errors.Missed site) kernel conditions told = told
-  refused_alike (errors.Certificate e) kernel conditions (typed, found, are_read, met, told) = (typed, found, are_read, met, subst (Says (Err e)) same told)
-  refused_alike (errors.ManyPaths site) kernel conditions (typed, found, cert, (are_read, met, read), many) = (typed, found, cert, (are_read, met, sym same ∙ read), many)
-  refused_alike (errors.Show e) kernel conditions (typed, found, cert, (are_read, met, read), shows) = (typed, found, cert, (are_read, met, sym same ∙ read), shows)
+  -- and so do the conditions
+  module _ (kernel conditions : List ℕ) (alike : (ps : List Parameter) → conditions_of wide ps conditions ≡ conditions_of as_wide ps conditions) where
+    read_alike : (typed : Kernel × Core) (found : Lined) → AreRead wide typed found kernel conditions → AreRead as_wide typed found kernel conditions
+    read_alike typed found (is, said) = (is, sym (alike (tree_seen typed.0).parameters) ∙ said)
+
+    pub refused_alike : (e : CheckError) → RefusesBy wide e kernel conditions one → RefusesBy as_wide e kernel conditions two
+    refused_alike (errors.Kernel e) told = told
+    refused_alike (errors.Conditions e) (typed, is, told) = (typed, is, subst (launches.Refuses e) (alike (tree_seen typed.0).parameters) told)
+    refused_alike (errors.Missed site) (typed, found, loop, are_read, missed, at) = (typed, found, loop, read_alike typed found are_read, missed, at)
+    refused_alike (errors.Certificate e) (typed, found, are_read, met, told) = (typed, found, read_alike typed found are_read, met, subst (Says (Err e)) same told)
+    refused_alike (errors.ManyPaths site) (typed, found, cert, (are_read, met, read), many) = (typed, found, cert, (read_alike typed found are_read, met, sym same ∙ read), many)
+    refused_alike (errors.Show e) (typed, found, cert, (are_read, met, read), shows) = (typed, found, cert, (read_alike typed found are_read, met, sym same ∙ read), shows)
+
+-- conditions of another version than 2 are read alike, by the law of their texts
+pub conditions_alike : ((ps : List Parameter) (text : List ℕ) → AreNotOfTwo text → conditions_of true ps text ≡ conditions_of false ps text) → (is_wide : Bool) (conditions : List ℕ) → AreNotOfTwo conditions → (ps : List Parameter) → conditions_of is_wide ps conditions ≡ conditions_of false ps conditions
+conditions_alike law false conditions h ps = refl
+conditions_alike law true conditions h ps = law ps conditions h
 
 -- what has its version is not read in another one
 of_its_version : (one four : Read) → (one ≡ Err OtherVersion → ⊥) → one ≡ unless_other one four

@@ -1,4 +1,5 @@
 pub mod Headlines
+pub mod Lineless
 pub mod Saying
 pub mod Budget
 pub mod Handing

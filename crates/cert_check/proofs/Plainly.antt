@@ -1,11 +1,10 @@
 -- What an error tells of a kernel, where it is plain.
 use Rattle.std.proofs.Common.{◌≡◌, ℕ, zero, suc, ◌<◌, List, [], ◌∷◌, get_or, arith, sym, subst, ◌∙◌, inl, inr}
-use Rattle.std.specs.Prelude.{◌⊎◌, true, false, Err, Option, None}
+use Rattle.std.specs.Prelude.{◌⊎◌, Bool, true, false, Err, Option, None}
 use Rattle.std.proofs.lemmas.Bool.{false≢true}
 use Rattle.semantics.specs.Launch as semantics
 use Rattle.semantics.specs.Conditions.{Conditions}
 use Rattle.certificate_text.specs.Certificate.{Certificate}
-use Rattle.certificate_text.specs.Reading.{Read}
 use Rattle.texts.specs.ConditionsReading.{Lined, meant}
 use Rattle.texts.specs.Surface as surface
 use Rattle.syntax.specs.View.{kernel as tree_seen}
@@ -69,12 +68,12 @@ module _ (laws : Laws) (k : semantics.Kernel) (tree : surface.Kernel) (c : Condi
   tells_plain shows.Memory h = tt
 
 -- what stops the check of a kernel with such limits
-pub stops_plain : (laws : Laws) (says : List ℕ → Read) (typed : Kernel × Core) (found : Lined) (kernel conditions certificate : List ℕ) → HasLimits (core_seen typed.1) (meant found) → AreRead typed found kernel conditions → (e : CheckError) → checked.StopsBy says typed (meant found) certificate e → OnPlainBy says (Err e) kernel conditions certificate
-stops_plain laws says typed found k l p limits read (errors.Kernel e) s = tt
-stops_plain laws says typed found k l p limits read (errors.Conditions e) s = tt
-stops_plain laws says typed found k l p limits read (errors.Missed site) (loop, missed, at) = (typed, found, read, λ plain. let m = laws.met (core_seen typed.1) (meant found) plain in cc)
-stops_plain laws says typed found k l p limits read (errors.Certificate e) s = tt
-stops_plain laws says typed found k l p limits read (errors.ManyPaths site) (cert, met, is, (n, s, said, first, at)) =
+pub stops_plain : (laws : Laws) (is_wide : Bool) (typed : Kernel × Core) (found : Lined) (kernel conditions certificate : List ℕ) → HasLimits (core_seen typed.1) (meant found) → AreRead is_wide typed found kernel conditions → (e : CheckError) → checked.StopsBy is_wide typed (meant found) certificate e → OnPlainBy is_wide (Err e) kernel conditions certificate
+stops_plain laws is_wide typed found k l p limits read (errors.Kernel e) s = tt
+stops_plain laws is_wide typed found k l p limits read (errors.Conditions e) s = tt
+stops_plain laws is_wide typed found k l p limits read (errors.Missed site) (loop, missed, at) = (typed, found, read, λ plain. let m = laws.met (core_seen typed.1) (meant found) plain in cc)
+stops_plain laws is_wide typed found k l p limits read (errors.Certificate e) s = tt
+stops_plain laws is_wide typed found k l p limits read (errors.ManyPaths site) (cert, met, is, (n, s, said, first, at)) =
     (typed, found, read, λ plain. not_many laws (core_seen typed.1) (tree_seen typed.0) (meant found) cert limits plain (with_entries cert.entries n) s first)
-stops_plain laws says typed found k l p limits read (errors.Show e) (cert, met, is, shown) =
+stops_plain laws is_wide typed found k l p limits read (errors.Show e) (cert, met, is, shown) =
     (typed, found, cert, read, is, λ plain. tells_plain laws (core_seen typed.1) (tree_seen typed.0) (meant found) cert limits plain e shown)

@@ -23,10 +23,11 @@ agree_same n m a =
     ∙ ap (λ f. record n { same = m.same; facts = m.facts; congruences = f }) (fun_ext (λ x. fun_ext (a.congruences x)))
     ∙ ap (λ f. record n { same = m.same; facts = m.facts; congruences = m.congruences; multiples = f }) (fun_ext (λ x. fun_ext (a.multiples x)))
     ∙ ap (λ f. record n { same = m.same; facts = m.facts; congruences = m.congruences; multiples = m.multiples; ranking = f }) (fun_ext a.ranking)
-    ∙ ap (λ f. record m { visible = f; quotient = n.quotient; has_entry = n.has_entry; is_wide = n.is_wide }) (fun_ext a.visible)
-    ∙ ap (λ f. record m { quotient = f; has_entry = n.has_entry; is_wide = n.is_wide }) (fun_ext a.quotient)
-    ∙ ap (λ f. record m { has_entry = f; is_wide = n.is_wide }) (fun_ext a.has_entry)
-    ∙ ap (λ b. record m { is_wide = b }) a.is_wide
+    ∙ ap (λ f. record m { visible = f; quotient = n.quotient; has_entry = n.has_entry; is_wide = n.is_wide; joins = n.joins }) (fun_ext a.visible)
+    ∙ ap (λ f. record m { quotient = f; has_entry = n.has_entry; is_wide = n.is_wide; joins = n.joins }) (fun_ext a.quotient)
+    ∙ ap (λ f. record m { has_entry = f; is_wide = n.is_wide; joins = n.joins }) (fun_ext a.has_entry)
+    ∙ ap (λ b. record m { is_wide = b; joins = n.joins }) a.is_wide
+    ∙ ap (λ b. record m { joins = b }) a.joins
 
 pub seen_said : (n : Notes) → seen n [] ≡ notes_by (views.notes n) []
 seen_said n = agree_same (seen n []) (notes_by (views.notes n) []) (seen-agrees n [])

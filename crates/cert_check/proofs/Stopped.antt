@@ -1,10 +1,9 @@
 -- What an error tells once the kernel and the conditions are read.
-use Rattle.std.proofs.Common.{◌≡◌, ℕ, List, sym, subst}
+use Rattle.std.proofs.Common.{◌≡◌, ℕ, List, Bool, sym, subst}
 use Rattle.std.specs.Prelude.{Ok}
 use Rattle.semantics.specs.Conditions.{Conditions}
 use Rattle.certificate_text.specs.Certificate.{Certificate}
 use Rattle.texts.specs.ConditionsReading.{Lined, conditions_of, meant}
-use Rattle.certificate_text.specs.Reading.{Read}
 use Rattle.syntax.specs.View.{kernel as tree_seen}
 use Rattle.syntax.specs.declared.tree.Kernel.{Kernel}
 use Rattle.core_code.specs.View.{kernel as core_seen}
@@ -12,15 +11,16 @@ use Rattle.core_code.specs.declared.tree.Core.{Core}
 use Rattle.launch_text.specs.Answers as answers
 use Rattle.entry_check.specs.declared.error.ShowError.{ShowError}
 use Rattle.entry_check.specs.declared.error.ShowError.TheVariants as shows
+use Rattle.cert_check.specs.Breadth.{text_says}
 use Rattle.cert_check.specs.Refusing.{AreRead, AreMet, RefusesBy, Shows}
 use Rattle.cert_check.specs.Checked.{StopsBy, IsTold, Unshown}
 use Rattle.cert_check.specs.declared.error.CheckError.{CheckError}
 use Rattle.cert_check.specs.declared.error.CheckError.TheVariants as errors
 
 -- what is not shown, as it is told of the source
-module _ (says : List ℕ → Read) (typed : Kernel × Core) (c : Conditions) (certificate : List ℕ) (cert : Certificate) (met : AreMet typed) (is : says certificate ≡ Ok cert) where
+module _ (is_wide : Bool) (typed : Kernel × Core) (c : Conditions) (certificate : List ℕ) (cert : Certificate) (met : AreMet typed) (is : text_says is_wide certificate ≡ Ok cert) where
   abbrev Has : CheckError → Type 0
-  Has e = StopsBy says typed c certificate e
+  Has e = StopsBy is_wide typed c certificate e
 
   -- it is told as it is
   as_is : (e : ShowError) (told : CheckError) → told ≡ errors.Show e → Shows (core_seen typed.1) (tree_seen typed.0) c cert e → Has told
@@ -42,10 +42,10 @@ module _ (says : List ℕ → Read) (typed : Kernel × Core) (c : Conditions) (c
   stopped shows.Memory told h u = as_is shows.Memory told h u
 
 -- what stops the check refuses the texts
-pub refused : (says : List ℕ → Read) (typed : Kernel × Core) (found : Lined) (kernel conditions certificate : List ℕ) → AreRead typed found kernel conditions → (e : CheckError) → StopsBy says typed (meant found) certificate e → RefusesBy says e kernel conditions certificate
-refused says typed found k l p read (errors.Kernel e) s = absurd s
-refused says typed found k l p read (errors.Conditions e) s = (typed, read.0, subst (λ x. answers.Refuses x (conditions_of (tree_seen typed.0).parameters l)) (sym s) tt)
-refused says typed found k l p read (errors.Missed site) (loop, missed, at) = (typed, found, loop, read, missed, at)
-refused says typed found k l p read (errors.Certificate e) (met, told) = (typed, found, read, met, told)
-refused says typed found k l p read (errors.ManyPaths site) (cert, met, is, many) = (typed, found, cert, (read, met, is), many)
-refused says typed found k l p read (errors.Show e) (cert, met, is, shown) = (typed, found, cert, (read, met, is), shown)
+pub refused : (is_wide : Bool) (typed : Kernel × Core) (found : Lined) (kernel conditions certificate : List ℕ) → AreRead is_wide typed found kernel conditions → (e : CheckError) → StopsBy is_wide typed (meant found) certificate e → RefusesBy is_wide e kernel conditions certificate
+refused is_wide typed found k l p read (errors.Kernel e) s = absurd s
+refused is_wide typed found k l p read (errors.Conditions e) s = (typed, read.0, subst (λ x. answers.Refuses x (conditions_of is_wide (tree_seen typed.0).parameters l)) (sym s) tt)
+refused is_wide typed found k l p read (errors.Missed site) (loop, missed, at) = (typed, found, loop, read, missed, at)
+refused is_wide typed found k l p read (errors.Certificate e) (met, told) = (typed, found, read, met, told)
+refused is_wide typed found k l p read (errors.ManyPaths site) (cert, met, is, many) = (typed, found, cert, (read, met, is), many)
+refused is_wide typed found k l p read (errors.Show e) (cert, met, is, shown) = (typed, found, cert, (read, met, is), shown)

@@ -1,11 +1,10 @@
 -- What the steps of the check tell one another of a kernel and conditions that are read.
-use Rattle.std.specs.Prelude.{◌≡◌, ◌≤◌, ℕ, List, Some, Ok, Err}
+use Rattle.std.specs.Prelude.{◌≡◌, ◌≤◌, ℕ, List, Bool, Some, Ok, Err}
 use Rattle.std.specs.List.{All}
 use Rattle.semantics.specs.Launch as semantics
 use Rattle.semantics.specs.Conditions.{Conditions}
 use Rattle.certificate_text.specs.Certificate.{Certificate}
 use Rattle.texts.specs.Surface as surface
-use Rattle.certificate_text.specs.Reading.{Read}
 use Rattle.syntax.specs.View.{kernel as tree_seen}
 use Rattle.syntax.specs.declared.tree.Kernel.{Kernel}
 use Rattle.core_code.specs.View.{kernel as core_seen, site as site_seen}
@@ -26,6 +25,7 @@ use Rattle.plain_kernels.specs.Domains.{domain}
 use Rattle.entry_check.specs.Lacking.{PassesOf, steps_of, with_entries}
 use Rattle.entry_check.specs.declared.error.ShowError.{ShowError}
 use Rattle.entry_check.specs.declared.error.ShowError.TheVariants as shows
+use Rattle.cert_check.specs.Breadth.{text_says}
 use Rattle.cert_check.specs.Refusing.{IsSaid, Shows, AreMet, HasManyPathsAt}
 use Rattle.cert_check.specs.declared.error.CheckError.{CheckError}
 use Rattle.cert_check.specs.declared.error.CheckError.TheVariants as errors
@@ -62,11 +62,12 @@ IsTold tree (shows.Walk e) told = told ≡ errors.Show (shows.Walk e)
 IsTold tree shows.OverBudget told = told ≡ errors.Show shows.OverBudget
 IsTold tree shows.Memory told = told ≡ errors.Show shows.Memory
 
--- what an error tells once the kernel and the conditions are read; want of memory may be told as theirs; `says` is what texts say
-abbrev pub StopsBy : (says : List ℕ → Read) → Kernel × Core → Conditions → (certificate : List ℕ) → CheckError → Type 0
-StopsBy says typed c certificate (errors.Kernel e) = ⊥
-StopsBy says typed c certificate (errors.Conditions e) = e ≡ launches.Memory
-StopsBy says typed c certificate (errors.Missed site) = (loop : ℕ) × (unmet (core_seen typed.1).body ≡ Some loop) × (site_seen site ≡ site_at (tree_seen typed.0) (Some loop))
-StopsBy says typed c certificate (errors.Certificate e) = AreMet typed × Says (Err e) (says certificate)
-StopsBy says typed c certificate (errors.ManyPaths site) = (cert : Certificate) × AreMet typed × (says certificate ≡ Ok cert) × HasManyPathsAt site typed c cert
-StopsBy says typed c certificate (errors.Show e) = (cert : Certificate) × AreMet typed × (says certificate ≡ Ok cert) × Shows (core_seen typed.1) (tree_seen typed.0) c cert e
+-- what an error tells once the kernel and the conditions are read; want of memory may be told as theirs; the check is the wide one, or it is
+-- not
+abbrev pub StopsBy : (is_wide : Bool) → Kernel × Core → Conditions → (certificate : List ℕ) → CheckError → Type 0
+StopsBy is_wide typed c certificate (errors.Kernel e) = ⊥
+StopsBy is_wide typed c certificate (errors.Conditions e) = e ≡ launches.Memory
+StopsBy is_wide typed c certificate (errors.Missed site) = (loop : ℕ) × (unmet (core_seen typed.1).body ≡ Some loop) × (site_seen site ≡ site_at (tree_seen typed.0) (Some loop))
+StopsBy is_wide typed c certificate (errors.Certificate e) = AreMet typed × Says (Err e) (text_says is_wide certificate)
+StopsBy is_wide typed c certificate (errors.ManyPaths site) = (cert : Certificate) × AreMet typed × (text_says is_wide certificate ≡ Ok cert) × HasManyPathsAt site typed c cert
+StopsBy is_wide typed c certificate (errors.Show e) = (cert : Certificate) × AreMet typed × (text_says is_wide certificate ≡ Ok cert) × Shows (core_seen typed.1) (tree_seen typed.0) c cert e

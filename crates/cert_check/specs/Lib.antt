@@ -1,4 +1,5 @@
 pub mod Accepting
+pub mod Properties
 pub mod View
 pub mod Breadth
 pub mod Refusing

@@ -1,11 +1,9 @@
 -- What a refusal says of a plain kernel, once its three texts are read.
-use Rattle.std.specs.Prelude.{◌≡◌, ◌<◌, ◌⊎◌, ℕ, zero, suc, List, length, true, false, Result, Ok, Err}
+use Rattle.std.specs.Prelude.{◌≡◌, ◌<◌, ◌⊎◌, ℕ, zero, suc, List, length, Bool, true, false, Result, Ok, Err}
 use Rattle.semantics.specs.Launch as semantics
 use Rattle.semantics.specs.Conditions.{Conditions}
 use Rattle.certificate_text.specs.Certificate.{Certificate}
 use Rattle.texts.specs.ConditionsReading.{Lined, meant}
-use Rattle.certificate_text.specs.Reading.{Read}
-use Rattle.certificate_text.specs.Versions.{certificate_in}
 use Rattle.texts.specs.Surface as surface
 use Rattle.syntax.specs.View.{kernel as tree_seen}
 use Rattle.syntax.specs.declared.tree.Kernel.{Kernel}
@@ -22,6 +20,7 @@ use Rattle.arrivals.specs.Places.{places}
 use Rattle.obligations.specs.Notes.{Notes}
 use Rattle.certificate_notes.specs.Noted.{stated}
 use Rattle.certificate_notes.specs.Noting.{lacks}
+use Rattle.cert_check.specs.Breadth.{text_says}
 use Rattle.cert_check.specs.Refusing.{AreRead, IsSaid}
 use Rattle.cert_check.specs.declared.accepted.Accepted.{Accepted}
 use Rattle.cert_check.specs.declared.error.CheckError.{CheckError}
@@ -50,21 +49,21 @@ TellsPlain k tree c cert shows.OverBudget = (n : Notes) × IsSaid k tree cert n 
 TellsPlain k tree c cert shows.Memory = Unit {0}
 
 -- the texts that come first are read, and the kernel is not plain: no barrier of a plain one is missed, and it has few paths
-abbrev pub IsNotPlain : (kernel conditions : List ℕ) → Type 0
-IsNotPlain kernel conditions = (typed : Kernel × Core) × (found : Lined) × AreRead typed found kernel conditions × (IsPlain (core_seen typed.1) (meant found) → ⊥)
+abbrev pub IsNotPlain : (is_wide : Bool) → (kernel conditions : List ℕ) → Type 0
+IsNotPlain is_wide kernel conditions = (typed : Kernel × Core) × (found : Lined) × AreRead is_wide typed found kernel conditions × (IsPlain (core_seen typed.1) (meant found) → ⊥)
 
--- the texts are read, and where the kernel is plain the error tells this of it; `says` is what texts say
-abbrev pub OnPlainBy : (says : List ℕ → Read) → Result Accepted CheckError → (kernel conditions certificate : List ℕ) → Type 0
-OnPlainBy says (Err (errors.Show e)) kernel conditions certificate =
-    (typed : Kernel × Core) × (found : Lined) × (cert : Certificate) × AreRead typed found kernel conditions × (says certificate ≡ Ok cert)
+-- the texts are read, and where the kernel is plain the error tells this of it; the check is the wide one, or it is not
+abbrev pub OnPlainBy : (is_wide : Bool) → Result Accepted CheckError → (kernel conditions certificate : List ℕ) → Type 0
+OnPlainBy is_wide (Err (errors.Show e)) kernel conditions certificate =
+    (typed : Kernel × Core) × (found : Lined) × (cert : Certificate) × AreRead is_wide typed found kernel conditions × (text_says is_wide certificate ≡ Ok cert)
     × (IsPlain (core_seen typed.1) (meant found) → TellsPlain (core_seen typed.1) (tree_seen typed.0) (meant found) cert e)
-OnPlainBy says (Err (errors.Missed site)) kernel conditions certificate = IsNotPlain kernel conditions
-OnPlainBy says (Err (errors.ManyPaths site)) kernel conditions certificate = IsNotPlain kernel conditions
-OnPlainBy says (Err (errors.Kernel e)) kernel conditions certificate = Unit {0}
-OnPlainBy says (Err (errors.Conditions e)) kernel conditions certificate = Unit {0}
-OnPlainBy says (Err (errors.Certificate e)) kernel conditions certificate = Unit {0}
-OnPlainBy says (Ok a) kernel conditions certificate = Unit {0}
+OnPlainBy is_wide (Err (errors.Missed site)) kernel conditions certificate = IsNotPlain is_wide kernel conditions
+OnPlainBy is_wide (Err (errors.ManyPaths site)) kernel conditions certificate = IsNotPlain is_wide kernel conditions
+OnPlainBy is_wide (Err (errors.Kernel e)) kernel conditions certificate = Unit {0}
+OnPlainBy is_wide (Err (errors.Conditions e)) kernel conditions certificate = Unit {0}
+OnPlainBy is_wide (Err (errors.Certificate e)) kernel conditions certificate = Unit {0}
+OnPlainBy is_wide (Ok a) kernel conditions certificate = Unit {0}
 
--- of the check of versions 1 and 2
+-- of the check of conditions of version 1, and of certificates of versions 1 and 2
 abbrev pub OnPlain : Result Accepted CheckError → (kernel conditions certificate : List ℕ) → Type 0
-OnPlain answer kernel conditions certificate = OnPlainBy certificate_in answer kernel conditions certificate
+OnPlain answer kernel conditions certificate = OnPlainBy false answer kernel conditions certificate

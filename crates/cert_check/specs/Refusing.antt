@@ -1,12 +1,10 @@
 -- What a refusal says of the three texts: those before the refused one are read, and its fault is the first of its text.
-use Rattle.std.specs.Prelude.{◌≡◌, ◌⊎◌, ℕ, zero, suc, List, [], true, Option, Some, None, Result, Ok, Err}
+use Rattle.std.specs.Prelude.{◌≡◌, ◌⊎◌, ℕ, zero, suc, List, [], Bool, true, false, Option, Some, None, Result, Ok, Err}
 use Rattle.semantics.specs.Launch as semantics
 use Rattle.semantics.specs.Conditions.{Conditions}
 use Rattle.certificate_text.specs.Certificate.{Certificate}
 use Rattle.texts.specs.Surface as surface
 use Rattle.texts.specs.ConditionsReading.{Lined, conditions_of, meant}
-use Rattle.certificate_text.specs.Reading.{Read}
-use Rattle.certificate_text.specs.Versions.{certificate_in}
 use Rattle.syntax.specs.View.{kernel as tree_seen}
 use Rattle.syntax.specs.declared.tree.Kernel.{Kernel}
 use Rattle.core_code.specs.View.{kernel as core_seen}
@@ -27,6 +25,7 @@ use Rattle.certificate_notes.specs.Noting.{lacks, notes_by}
 use Rattle.walk.specs.Unfound.{IsFirstOfMany}
 use Rattle.syntax.specs.Sites.{site_at}
 use Rattle.entry_check.specs.Lacking.{PassesOf, TellsOf, with_entries}
+use Rattle.cert_check.specs.Breadth.{text_says}
 use Rattle.cert_check.specs.declared.accepted.Accepted.{Accepted}
 use Rattle.cert_check.specs.declared.error.CheckError.{CheckError}
 use Rattle.cert_check.specs.declared.error.CheckError.TheVariants as errors
@@ -37,9 +36,9 @@ use Rattle.entry_check.specs.declared.error.ShowError.TheVariants as shows
 abbrev pub IsRead : Kernel × Core → (kernel : List ℕ) → Type 0
 IsRead typed kernel = read kernel ≡ Ok (reading.kernel_seen typed)
 
--- and the conditions, of its parameters
-abbrev pub AreRead : Kernel × Core → Lined → (kernel conditions : List ℕ) → Type 0
-AreRead typed found kernel conditions = IsRead typed kernel × (conditions_of (tree_seen typed.0).parameters conditions ≡ Ok found)
+-- and the conditions, of its parameters; of version 2 where the check is the wide one
+abbrev pub AreRead : (is_wide : Bool) → Kernel × Core → Lined → (kernel conditions : List ℕ) → Type 0
+AreRead is_wide typed found kernel conditions = IsRead typed kernel × (conditions_of is_wide (tree_seen typed.0).parameters conditions ≡ Ok found)
 
 -- what a certificate says of a kernel's places and loops, where it names nothing that the kernel lacks
 abbrev pub IsSaid : semantics.Kernel → surface.Kernel → Certificate → Notes → Type 0
@@ -59,40 +58,41 @@ Shows k tree c cert shows.Memory = Unit {0}
 abbrev pub AreMet : Kernel × Core → Type 0
 AreMet typed = unmet (core_seen typed.1).body ≡ None
 
--- the kernel and the conditions are read, the kernel's barriers are met, and the certificate is read; `says` is what texts say
-abbrev pub AllReadBy : (says : List ℕ → Read) → Kernel × Core → Lined → Certificate → (kernel conditions certificate : List ℕ) → Type 0
-AllReadBy says typed found cert kernel conditions certificate = AreRead typed found kernel conditions × AreMet typed × (says certificate ≡ Ok cert)
+-- the kernel and the conditions are read, the kernel's barriers are met, and the certificate is read; the check is the wide one, or it is
+-- not
+abbrev pub AllReadBy : (is_wide : Bool) → Kernel × Core → Lined → Certificate → (kernel conditions certificate : List ℕ) → Type 0
+AllReadBy is_wide typed found cert kernel conditions certificate = AreRead is_wide typed found kernel conditions × AreMet typed × (text_says is_wide certificate ≡ Ok cert)
 
 -- over 256 paths come to an end from a place whose statement begins there
 abbrev pub HasManyPathsAt : Site → Kernel × Core → Conditions → Certificate → Type 0
 HasManyPathsAt site typed c cert =
     (n : Notes) × (s : Option ℕ) × IsSaid (core_seen typed.1) (tree_seen typed.0) cert n × IsFirstOfMany s (all_trees domain (core_seen typed.1) c (with_entries cert.entries n)) × (site_seen site ≡ site_at (tree_seen typed.0) s)
 
-abbrev pub RefusesBy : (says : List ℕ → Read) → CheckError → (kernel conditions certificate : List ℕ) → Type 0
-RefusesBy says (errors.Kernel e) kernel conditions certificate = reading.Refuses e (read kernel)
-RefusesBy says (errors.Conditions e) kernel conditions certificate = (typed : Kernel × Core) × IsRead typed kernel × launches.Refuses e (conditions_of (tree_seen typed.0).parameters conditions)
-RefusesBy says (errors.Missed site) kernel conditions certificate =
-    (typed : Kernel × Core) × (found : Lined) × (loop : ℕ) × AreRead typed found kernel conditions × (unmet (core_seen typed.1).body ≡ Some loop) × (site_seen site ≡ site_at (tree_seen typed.0) (Some loop))
-RefusesBy says (errors.Certificate e) kernel conditions certificate = (typed : Kernel × Core) × (found : Lined) × AreRead typed found kernel conditions × AreMet typed × Says (Err e) (says certificate)
-RefusesBy says (errors.ManyPaths site) kernel conditions certificate = (typed : Kernel × Core) × (found : Lined) × (cert : Certificate) × AllReadBy says typed found cert kernel conditions certificate × HasManyPathsAt site typed (meant found) cert
-RefusesBy says (errors.Show e) kernel conditions certificate = (typed : Kernel × Core) × (found : Lined) × (cert : Certificate) × AllReadBy says typed found cert kernel conditions certificate × Shows (core_seen typed.1) (tree_seen typed.0) (meant found) cert e
+abbrev pub RefusesBy : (is_wide : Bool) → CheckError → (kernel conditions certificate : List ℕ) → Type 0
+RefusesBy is_wide (errors.Kernel e) kernel conditions certificate = reading.Refuses e (read kernel)
+RefusesBy is_wide (errors.Conditions e) kernel conditions certificate = (typed : Kernel × Core) × IsRead typed kernel × launches.Refuses e (conditions_of is_wide (tree_seen typed.0).parameters conditions)
+RefusesBy is_wide (errors.Missed site) kernel conditions certificate =
+    (typed : Kernel × Core) × (found : Lined) × (loop : ℕ) × AreRead is_wide typed found kernel conditions × (unmet (core_seen typed.1).body ≡ Some loop) × (site_seen site ≡ site_at (tree_seen typed.0) (Some loop))
+RefusesBy is_wide (errors.Certificate e) kernel conditions certificate = (typed : Kernel × Core) × (found : Lined) × AreRead is_wide typed found kernel conditions × AreMet typed × Says (Err e) (text_says is_wide certificate)
+RefusesBy is_wide (errors.ManyPaths site) kernel conditions certificate = (typed : Kernel × Core) × (found : Lined) × (cert : Certificate) × AllReadBy is_wide typed found cert kernel conditions certificate × HasManyPathsAt site typed (meant found) cert
+RefusesBy is_wide (errors.Show e) kernel conditions certificate = (typed : Kernel × Core) × (found : Lined) × (cert : Certificate) × AllReadBy is_wide typed found cert kernel conditions certificate × Shows (core_seen typed.1) (tree_seen typed.0) (meant found) cert e
 
-abbrev pub TellsBy : (says : List ℕ → Read) → Result Accepted CheckError → (kernel conditions certificate : List ℕ) → Type 0
-TellsBy says (Ok a) kernel conditions certificate = Unit {0}
-TellsBy says (Err e) kernel conditions certificate = RefusesBy says e kernel conditions certificate
+abbrev pub TellsBy : (is_wide : Bool) → Result Accepted CheckError → (kernel conditions certificate : List ℕ) → Type 0
+TellsBy is_wide (Ok a) kernel conditions certificate = Unit {0}
+TellsBy is_wide (Err e) kernel conditions certificate = RefusesBy is_wide e kernel conditions certificate
 
--- what is accepted: the kernel's barriers are met, the certificate is read, it names nothing that the kernel lacks, and with it nothing stops
--- the check
-abbrev pub IsPassedBy : (says : List ℕ → Read) → Kernel × Core → Conditions → (certificate : List ℕ) → Type 0
-IsPassedBy says typed c certificate =
-    AreMet typed × (cert : Certificate) × (n : Notes) × (says certificate ≡ Ok cert) × IsSaid (core_seen typed.1) (tree_seen typed.0) cert n × PassesOf domain (core_seen typed.1) c (stated (core_seen typed.1) (tree_seen typed.0)) n cert.entries
+-- what is accepted: the kernel's barriers are met, the certificate is read, it names nothing that the kernel lacks, and with it nothing
+-- stops the check
+abbrev pub IsPassedBy : (is_wide : Bool) → Kernel × Core → Conditions → (certificate : List ℕ) → Type 0
+IsPassedBy is_wide typed c certificate =
+    AreMet typed × (cert : Certificate) × (n : Notes) × (text_says is_wide certificate ≡ Ok cert) × IsSaid (core_seen typed.1) (tree_seen typed.0) cert n × PassesOf domain (core_seen typed.1) c (stated (core_seen typed.1) (tree_seen typed.0)) n cert.entries
 
--- of the check of versions 1 and 2
+-- of the check of conditions of version 1, and of certificates of versions 1 and 2
 abbrev pub Refuses : CheckError → (kernel conditions certificate : List ℕ) → Type 0
-Refuses e kernel conditions certificate = RefusesBy certificate_in e kernel conditions certificate
+Refuses e kernel conditions certificate = RefusesBy false e kernel conditions certificate
 
 abbrev pub Tells : Result Accepted CheckError → (kernel conditions certificate : List ℕ) → Type 0
-Tells answer kernel conditions certificate = TellsBy certificate_in answer kernel conditions certificate
+Tells answer kernel conditions certificate = TellsBy false answer kernel conditions certificate
 
 abbrev pub IsPassed : Kernel × Core → Conditions → (certificate : List ℕ) → Type 0
-IsPassed typed c certificate = IsPassedBy certificate_in typed c certificate
+IsPassed typed c certificate = IsPassedBy false typed c certificate

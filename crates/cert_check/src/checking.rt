@@ -1,11 +1,9 @@
 //! The check, narrow or wide.
 
-ghost use Rattle.std.specs.Prelude.{◌≡◌, ℕ, List, true, Ok, IfOk, IfErr};
+ghost use Rattle.std.specs.Prelude.{◌≡◌, ℕ, List, Bool, true, false, Ok, IfOk, IfErr};
 ghost use Rattle.semantics.specs.Conditions as meaning;
 ghost use Rattle.launch.specs.View.{conditions as conditions_seen};
 ghost use Rattle.launch_text.specs.View.{lined};
-ghost use Rattle.certificate_text.specs.Reading.{Read};
-ghost use Rattle.certificate_text.specs.Versions.{certificate_any};
 ghost use Rattle.certificate.specs.Certificates.{Says};
 ghost use Rattle.texts.specs.ConditionsReading.{conditions_of};
 ghost use Rattle.syntax.specs.View.{kernel as tree_seen};
@@ -14,8 +12,8 @@ ghost use Rattle.facts.specs.Launching.{are_sizes};
 ghost use Rattle.places.specs.Answers.{IsRefused};
 ghost use Rattle.reading.specs.Kernels.{read};
 ghost use Rattle.reading.specs.Answers.{kernel_seen};
-ghost use Rattle.cert_check.specs.Accepting.{IsAccepted, HasHeadline};
-ghost use Rattle.cert_check.specs.Alike.{AreAlike, HoldsOf, HoldsOfBy, IsOfOneOrTwo};
+ghost use Rattle.cert_check.specs.Accepting.{IsAccepted, IsAcceptedBy, IsAcceptedWithin, HasHeadline};
+ghost use Rattle.cert_check.specs.Alike.{AreAlike, AreNotOfTwo, HoldsOf, HoldsOfBy, IsOfOneOrTwo};
 ghost use Rattle.cert_check.specs.Breadth.{text_says};
 ghost use Rattle.cert_check.specs.Checked.{AllIsShown, IsTold, StopsBy};
 ghost use Rattle.cert_check.specs.Refusing.{IsPassed, IsPassedBy, Tells, TellsBy};
@@ -32,15 +30,17 @@ use domain::Elements;
 use entry_check::ShowError;
 use launch::conditions::Conditions;
 use launch_text::error::LaunchTextError;
-use launch_text::read_conditions;
+use launch_text::laws::texts_of_version_1_are_read_alike;
+use launch_text::read_conditions_as;
 use places::{PlaceError, places};
 use plain_kernels::laws::{
     forms_of_plain_kernels_fit, plain_kernels_have_one_place, ranges_of_plain_kernels_are_settled,
 };
 use reading::laws::local_sizes_are_within_limits;
 use reading::read_kernel;
-use reduction::headline;
-use shown_kernels::laws::what_is_read_and_shown_is_pair_safe;
+use reduction::headline_within;
+use semantics::honesty::{launches_begin_kept, without_lines_all_runs_are_honest};
+use shown_kernels::laws::what_is_read_and_shown_is_pair_safe_within;
 use shown_kernels::proper::what_is_read_is_proper;
 use shown_kernels::sound::what_is_read_is_orderly;
 use std::alloc::Global;
@@ -62,7 +62,7 @@ fn read_as(alloc: Global, text: &[u8], is_wide: bool) -> Result<Certificate, Cer
 /// The refusal of a kernel that has no places, with its place in the source.
 fn unplaced(typed: &Typed, error: PlaceError) -> CheckError
     requires { IsRefused (core_seen typed.now.1).body error }
-    ensures { (says : List ℕ → Read) (c : meaning.Conditions) (certificate : List ℕ) → StopsBy says typed.now c certificate result }
+    ensures { (is_wide : Bool) (c : meaning.Conditions) (certificate : List ℕ) → StopsBy is_wide typed.now c certificate result }
 {
     match error {
         PlaceError::Missed(number) => CheckError::Missed(site_at(typed.kernel(), Some(number))),
@@ -92,9 +92,9 @@ fn accept(
     is_wide: bool,
 ) -> Result<(), CheckError>
     requires { are_sizes (core_seen typed.now.1).sizes ≡ true }
-    ensures passed { IfOk result (λ _. IsPassedBy (text_says is_wide) typed.now (conditions_seen conditions.now) certificate.now) }
+    ensures passed { IfOk result (λ _. IsPassedBy is_wide typed.now (conditions_seen conditions.now) certificate.now) }
     ensures shown { IfOk result (λ _. AllIsShown (core_seen typed.now.1) (conditions_seen conditions.now)) }
-    ensures stopped { IfErr result (StopsBy (text_says is_wide) typed.now (conditions_seen conditions.now) certificate.now) }
+    ensures stopped { IfErr result (StopsBy is_wide typed.now (conditions_seen conditions.now) certificate.now) }
 {
     let places = match places(alloc, typed.core()) {
         Ok(places) => places,
@@ -120,17 +120,18 @@ pub fn check_as(
     is_wide: bool,
 ) -> Result<Accepted, CheckError>
     ensures kernel { IfOk result (λ a. read kernel.now ≡ Ok (kernel_seen (typed_of a))) }
-    ensures conditions { IfOk result (λ a. conditions_of (tree_seen (typed_of a).0).parameters conditions.now ≡ Ok (lined (kept a))) }
-    ensures passed { IfOk result (λ a. IsPassedBy (text_says is_wide) (typed_of a) (conditions_seen (kept a)) certificate.now) }
-    ensures refused { TellsBy (text_says is_wide) result kernel.now conditions.now certificate.now }
-    ensures plain { OnPlainBy (text_says is_wide) result kernel.now conditions.now certificate.now }
-    ensures two { (two : List ℕ) → AreAlike certificate.now two → HoldsOfBy (text_says is_wide) result kernel.now conditions.now two }
-    ensures one { (one : List ℕ) → AreAlike one certificate.now → HoldsOfBy (text_says is_wide) result kernel.now conditions.now one }
-    ensures alike { IsOfOneOrTwo certificate.now → HoldsOf result kernel.now conditions.now certificate.now }
-    ensures pair { IfOk result (λ a. IsAccepted (core_seen (typed_of a).1) (conditions_seen (kept a))) }
+    ensures conditions { IfOk result (λ a. conditions_of is_wide (tree_seen (typed_of a).0).parameters conditions.now ≡ Ok (lined (kept a))) }
+    ensures passed { IfOk result (λ a. IsPassedBy is_wide (typed_of a) (conditions_seen (kept a)) certificate.now) }
+    ensures refused { TellsBy is_wide result kernel.now conditions.now certificate.now }
+    ensures plain { OnPlainBy is_wide result kernel.now conditions.now certificate.now }
+    ensures two { (two : List ℕ) → AreAlike certificate.now two → HoldsOfBy is_wide result kernel.now conditions.now two }
+    ensures one { (one : List ℕ) → AreAlike one certificate.now → HoldsOfBy is_wide result kernel.now conditions.now one }
+    ensures alike { IsOfOneOrTwo certificate.now → AreNotOfTwo conditions.now → HoldsOf result kernel.now conditions.now certificate.now }
+    ensures pair { IfOk result (λ a. IsAcceptedBy is_wide (core_seen (typed_of a).1) (conditions_seen (kept a))) }
     ensures headline { IfOk result (λ a. HasHeadline (core_seen (typed_of a).1) (conditions_seen (kept a))) }
 {
     either_version_is_read();
+    texts_of_version_1_are_read_alike();
     plain_kernels_have_one_place();
     forms_of_plain_kernels_fit();
     ranges_of_plain_kernels_are_settled();
@@ -138,7 +139,7 @@ pub fn check_as(
         Ok(typed) => typed,
         Err(error) => return Err(CheckError::Kernel(error)),
     };
-    let conditions = match read_conditions(alloc, &typed, conditions) {
+    let conditions = match read_conditions_as(alloc, &typed, conditions, is_wide) {
         Ok(conditions) => conditions,
         Err(error) => return Err(CheckError::Conditions(error)),
     };
@@ -147,10 +148,12 @@ pub fn check_as(
         Ok(()) => {}
         Err(error) => return Err(error),
     }
-    headline();
+    headline_within();
+    launches_begin_kept();
+    without_lines_all_runs_are_honest();
     what_is_read_is_proper();
     what_is_read_is_orderly();
-    what_is_read_and_shown_is_pair_safe::<Elements>();
+    what_is_read_and_shown_is_pair_safe_within::<Elements>();
     Ok(Accepted::of(typed, conditions))
 }
 
@@ -166,7 +169,7 @@ pub fn check(
     certificate: &[u8],
 ) -> Result<Accepted, CheckError>
     ensures kernel { IfOk result (λ a. read kernel.now ≡ Ok (kernel_seen (typed_of a))) }
-    ensures conditions { IfOk result (λ a. conditions_of (tree_seen (typed_of a).0).parameters conditions.now ≡ Ok (lined (kept a))) }
+    ensures conditions { IfOk result (λ a. conditions_of false (tree_seen (typed_of a).0).parameters conditions.now ≡ Ok (lined (kept a))) }
     ensures passed { IfOk result (λ a. IsPassed (typed_of a) (conditions_seen (kept a)) certificate.now) }
     ensures refused { Tells result kernel.now conditions.now certificate.now }
     ensures plain { OnPlain result kernel.now conditions.now certificate.now }
@@ -178,8 +181,10 @@ pub fn check(
     check_as(alloc, kernel, conditions, certificate, false)
 }
 
-/// As `check`, of certificates of version 4, too: these are wide, and with them the check knows more of a kernel. What is accepted is
-/// pair-safe as ever. Of a certificate of version 1 or 2 the answer holds as that of `check`.
+/// As `check`, of conditions of version 2 and of certificates of version 4, too: these are wide, and with them the check knows more of a
+/// kernel. What is accepted is pair-safe in the runs whose loads are answered by what the conditions let buffers hold; where no line says
+/// what they hold it is pair-safe as ever. Of conditions of version 1 and a certificate of version 1 or 2 the answer holds as that of
+/// `check`.
 pub fn check_wide(
     alloc: Global,
     kernel: &[u8],
@@ -187,14 +192,14 @@ pub fn check_wide(
     certificate: &[u8],
 ) -> Result<Accepted, CheckError>
     ensures kernel { IfOk result (λ a. read kernel.now ≡ Ok (kernel_seen (typed_of a))) }
-    ensures conditions { IfOk result (λ a. conditions_of (tree_seen (typed_of a).0).parameters conditions.now ≡ Ok (lined (kept a))) }
-    ensures passed { IfOk result (λ a. IsPassedBy certificate_any (typed_of a) (conditions_seen (kept a)) certificate.now) }
-    ensures refused { TellsBy certificate_any result kernel.now conditions.now certificate.now }
-    ensures plain { OnPlainBy certificate_any result kernel.now conditions.now certificate.now }
-    ensures two { (two : List ℕ) → AreAlike certificate.now two → HoldsOfBy certificate_any result kernel.now conditions.now two }
-    ensures one { (one : List ℕ) → AreAlike one certificate.now → HoldsOfBy certificate_any result kernel.now conditions.now one }
-    ensures alike { IsOfOneOrTwo certificate.now → HoldsOf result kernel.now conditions.now certificate.now }
-    ensures pair { IfOk result (λ a. IsAccepted (core_seen (typed_of a).1) (conditions_seen (kept a))) }
+    ensures conditions { IfOk result (λ a. conditions_of true (tree_seen (typed_of a).0).parameters conditions.now ≡ Ok (lined (kept a))) }
+    ensures passed { IfOk result (λ a. IsPassedBy true (typed_of a) (conditions_seen (kept a)) certificate.now) }
+    ensures refused { TellsBy true result kernel.now conditions.now certificate.now }
+    ensures plain { OnPlainBy true result kernel.now conditions.now certificate.now }
+    ensures two { (two : List ℕ) → AreAlike certificate.now two → HoldsOfBy true result kernel.now conditions.now two }
+    ensures one { (one : List ℕ) → AreAlike one certificate.now → HoldsOfBy true result kernel.now conditions.now one }
+    ensures alike { IsOfOneOrTwo certificate.now → AreNotOfTwo conditions.now → HoldsOf result kernel.now conditions.now certificate.now }
+    ensures pair { IfOk result (λ a. IsAcceptedWithin (core_seen (typed_of a).1) (conditions_seen (kept a))) }
     ensures headline { IfOk result (λ a. HasHeadline (core_seen (typed_of a).1) (conditions_seen (kept a))) }
 {
     check_as(alloc, kernel, conditions, certificate, true)

@@ -9,7 +9,8 @@ use Rattle.certificate.specs.declared.draft.Draft.{Draft}
 use Rattle.certificate.specs.View as view
 
 abbrev pub parts : Parts → certificate.Certificate
-parts p = drafting.certificate_with p.is_wide (map view.place p.places.items) (map view.bound p.bounds.items) (map view.entry p.entries.items)
+parts p =
+    drafting.certificate_with p.is_wide p.joins (map view.place p.places.items) (map view.bound p.bounds.items) (map view.entry p.entries.items)
 
 abbrev pub opened : Open → drafting.Open
 opened opens.Nothing = drafting.Nothing

@@ -10,7 +10,8 @@ use crate::tree::{Bound, Entry, Place};
 use std::alloc::{AllocError, Global};
 
 /// A certificate that has a text: the lines of places, how loops end, and the entries of obligations, with names and numbers that can be
-/// written, and places, loops and obligations that rise. In a wide one loops may double.
+/// written, and places, loops and obligations that rise. In a wide one loops may double, and the walk may join
+/// ways.
 #[derive(Drop)]
 pub struct Certificate {
     parts: Parts,
@@ -54,6 +55,7 @@ impl Certificate {
     {
         let parts = Parts {
             is_wide: false,
+            joins: false,
             places,
             bounds,
             entries,
@@ -61,17 +63,19 @@ impl Certificate {
         Certificate::of_proper(alloc, parts)
     }
 
-    /// The wide certificate of these parts, where version 4, length aside, has a text for it.
+    /// The wide certificate of these parts, which joins or not, where version 4, length aside, has a text for it.
     pub fn new_wide(
         alloc: Global,
+        joins: bool,
         places: Vec<Place>,
         bounds: Vec<Bound>,
         entries: Vec<Entry>,
     ) -> Result<Option<Certificate>, AllocError>
-        ensures { IfOk result (λ r. option_map certificate r ≡ proper_wide (of_wide_parts (map view.place places.items) (map view.bound bounds.items) (map view.entry entries.items))) }
+        ensures { IfOk result (λ r. option_map certificate r ≡ proper_wide (of_wide_parts joins (map view.place places.items) (map view.bound bounds.items) (map view.entry entries.items))) }
     {
         let parts = Parts {
             is_wide: true,
+            joins,
             places,
             bounds,
             entries,
@@ -84,6 +88,13 @@ impl Certificate {
         ensures { result ≡ (certificate self.now).is_wide }
     {
         self.parts.is_wide
+    }
+
+    /// Whether the walk joins ways: only a wide certificate says so.
+    pub fn joins(&self) -> bool
+        ensures { result ≡ (certificate self.now).joins }
+    {
+        self.parts.joins
     }
 
     /// The places of which the certificate says something, in the order of the text.

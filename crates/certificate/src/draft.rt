@@ -15,10 +15,11 @@ use crate::order::{bound_follows, entry_follows, has_line, place_follows};
 use crate::tree::{Bound, Entry, EntrySort, Form, Lemma, Place, Spot, Step};
 use std::alloc::{AllocError, Global};
 
-/// The parts of a certificate whose lines are complete, and whether it is wide.
+/// The parts of a certificate whose lines are complete, whether it is wide, and whether the walk joins ways.
 #[derive(Drop)]
 pub struct Parts {
     pub is_wide: bool,
+    pub joins: bool,
     pub places: Vec<Place>,
     pub bounds: Vec<Bound>,
     pub entries: Vec<Entry>,

@@ -164,7 +164,8 @@ pub fn is_narrow(parts: &Parts) -> bool
 {
     let bounds = are_narrow_bounds(parts.bounds.as_slice());
     let entries = are_narrow_entries(parts.entries.as_slice());
-    are_narrow_places(parts.places.as_slice()) && (bounds && entries)
+    let lines = are_narrow_places(parts.places.as_slice()) && (bounds && entries);
+    !parts.joins && lines
 }
 
 /// Whether they have words for what a line says.

@@ -1,6 +1,6 @@
 //! A certificate of its text of version 2, or a wide one of its text of version 4.
 
-ghost use Rattle.std.specs.Prelude.{◌≡◌, ◌+◌, ◌≤◌, ◌^◌, [], true, length};
+ghost use Rattle.std.specs.Prelude.{◌≡◌, ◌+◌, ◌≤◌, ◌^◌, [], true, not, ◌||◌, length};
 ghost use Rattle.std.specs.Option.{option_map};
 ghost use Rattle.texts.specs.Lines.{words};
 ghost use Rattle.certificate_text.specs.Drafts as drafting;
@@ -36,11 +36,12 @@ pub struct NumberedDraft {
     pub read: Draft,
 }
 
-fn begun(alloc: Global, is_wide: bool) -> NumberedDraft
-    ensures { numbers.numbered_draft result ≡ reading.numbered_draft 0 (drafting.begun is_wide) }
+fn begun(alloc: Global, is_wide: bool, joins: bool) -> NumberedDraft
+    ensures { numbers.numbered_draft result ≡ reading.numbered_draft 0 (drafting.begun is_wide joins) }
 {
     let settled = Parts {
         is_wide,
+        joins,
         places: Vec::new(alloc),
         bounds: Vec::new(alloc),
         entries: Vec::new(alloc),
@@ -67,6 +68,13 @@ pub fn add_numbered(
     Ok(NumberedDraft { used, read })
 }
 
+/// The line of the first form: behind the first line, and the line `join` of a certificate that joins.
+fn table_start(joins: bool) -> usize
+    ensures { result ≡ reading.table_start joins }
+{
+    if joins { 3 } else { 2 }
+}
+
 /// The certificate that is read, if nothing stands behind its last line and each form was used.
 fn finish(
     table: &FormTable,
@@ -88,7 +96,7 @@ fn finish(
     }
     let used = used as usize;
     if used != table.len() {
-        return Err(bad(used + 2));
+        return Err(bad(used + table_start(settled.joins)));
     }
     Ok(Certificate::of(settled))
 }
@@ -96,15 +104,17 @@ fn finish(
 fn read_numbered(
     alloc: Global,
     is_wide: bool,
+    joins: bool,
     table: &FormTable,
     start: usize,
     lines: Pieces<'_>,
 ) -> Result<Certificate, CertError>
-    requires room { start + length (left lines) ≤ 2 ^ 32 + 2 }
+    requires room { start + length (left lines) ≤ 2 ^ 32 + 3 }
+    requires joined { (is_wide || not joins) ≡ true }
     requires good { all is_form (table_seen table.now) ≡ true }
-    ensures { Says result (reading.read_numbered (table_seen table.now) start (reading.numbered_draft 0 (drafting.begun is_wide)) (left lines.entry)) }
+    ensures { Says result (reading.read_numbered (table_seen table.now) start (reading.numbered_draft 0 (drafting.begun is_wide joins)) (left lines.entry)) }
 {
-    let mut draft = begun(alloc, is_wide);
+    let mut draft = begun(alloc, is_wide, joins);
     let mut number = start;
     let mut rest = lines;
     while let Some((line, others)) = rest.next() {
@@ -156,19 +166,25 @@ pub fn add_form(
     Ok(table)
 }
 
-fn read_table(alloc: Global, is_wide: bool, lines: Pieces<'_>) -> Result<Certificate, CertError>
-    requires { length (left lines) ≤ 2 ^ 32 }
-    ensures { Says result (reading.read_table is_wide [] 2 (left lines.entry)) }
+fn read_table(
+    alloc: Global,
+    is_wide: bool,
+    joins: bool,
+    lines: Pieces<'_>,
+) -> Result<Certificate, CertError>
+    requires room { length (left lines) ≤ 2 ^ 32 }
+    requires joined { (is_wide || not joins) ≡ true }
+    ensures { Says result (reading.read_table is_wide joins [] (reading.table_start joins) (left lines.entry)) }
 {
     let mut table = FormTable::new(alloc);
-    let mut number = 2;
+    let mut number = table_start(joins);
     let mut rest = lines;
     while let Some((line, others)) = rest.next() {
         if others.is_over() {
             return Err(bad(number));
         }
         let Some(words) = table_words(line) else {
-            return read_numbered(alloc, is_wide, &table, number, rest);
+            return read_numbered(alloc, is_wide, joins, &table, number, rest);
         };
         match add_form(alloc, is_wide, table, words) {
             Ok(next) => table = next,
@@ -179,6 +195,27 @@ fn read_table(alloc: Global, is_wide: bool, lines: Pieces<'_>) -> Result<Certifi
         rest = others;
     }
     Err(bad(number))
+}
+
+/// Whether that is the line `join`, which a wide certificate may have: behind its line feed something stands.
+fn is_join(is_wide: bool, line: &[u8], others: Pieces<'_>) -> bool
+    ensures { result ≡ reading.is_join is_wide line.now (left others.entry) }
+{
+    is_wide && (is(line, "join") && !others.is_over())
+}
+
+/// The lines behind the first one.
+fn read_behind(alloc: Global, is_wide: bool, lines: Pieces<'_>) -> Result<Certificate, CertError>
+    requires { length (left lines) ≤ 2 ^ 32 }
+    ensures { Says result (reading.read_behind is_wide (left lines.entry)) }
+{
+    let Some((line, others)) = lines.next() else {
+        return Err(bad(2));
+    };
+    if is_join(is_wide, line, others) {
+        return read_table(alloc, is_wide, true, others);
+    }
+    read_table(alloc, is_wide, false, lines)
 }
 
 /// Whether that is the version: 2, or of a wide certificate 4.
@@ -222,7 +259,7 @@ pub(crate) fn read_numbered_text(
     if let Some(fault) = head_fault(is_wide, first) {
         return Err(CertError::Refused(fault));
     }
-    read_table(alloc, is_wide, others)
+    read_behind(alloc, is_wide, others)
 }
 
 /// The certificate of a text of version 2, or its first fault. The text is gone through once.

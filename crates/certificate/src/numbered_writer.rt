@@ -294,7 +294,7 @@ fn push_entries(
     Ok(())
 }
 
-/// A first line, and behind it the other lines of versions 2 and 4 of a certificate.
+/// The first lines, and behind them the other lines of versions 2 and 4 of a certificate.
 fn write_behind(alloc: Global, first: &str, from: &Certificate) -> Result<Vec<u8>, AllocError>
     ensures { IfOk result (λ v. v.items ≡ first.now ++ text_of_lines (text.lines_of_two (text.forms_of (certificate from.now)) (certificate from.now))) }
 {
@@ -319,5 +319,8 @@ pub fn write(alloc: Global, from: &Certificate) -> Result<Vec<u8>, AllocError>
 pub fn write_wide(alloc: Global, from: &Certificate) -> Result<Vec<u8>, AllocError>
     ensures { IfOk result (λ v. v.items ≡ text.text_of_four (certificate from.now)) }
 {
+    if from.joins() {
+        return write_behind(alloc, "certificate 4\njoin\n", from);
+    }
     write_behind(alloc, "certificate 4\n", from)
 }

@@ -88,6 +88,7 @@ fn read_lines(alloc: Global, lines: Pieces<'_>) -> Result<Certificate, CertError
     let mut draft = Draft {
         settled: Parts {
             is_wide: false,
+            joins: false,
             places: Vec::new(alloc),
             bounds: Vec::new(alloc),
             entries: Vec::new(alloc),

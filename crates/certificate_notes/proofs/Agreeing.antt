@@ -67,6 +67,7 @@ seen-agrees n entries = record {
   quotient = quotient-same n.quotients.items;
   has_entry = λ c. refl;
   is_wide = refl;
+  joins = refl;
 }
 
 -- and tell of items alone

@@ -60,18 +60,18 @@ abbrev pub MayNoted : Option Noted → Type 0
 MayNoted None = Unit {0}
 MayNoted (Some m) = NotedTells m
 
-together : (is_wide : Bool) (c : Chart) (ls : Option (List Lines)) (rs : Option (List Ranked)) (qs : Option (List Quoted)) → MayEach ls → MayRanks rs → MayNoted (noted_all is_wide c ls rs qs)
-together is_wide c None rs qs h k = tt
-together is_wide c (Some ls) None qs h k = tt
-together is_wide c (Some ls) (Some rs) None h k = tt
-together is_wide c (Some ls) (Some rs) (Some qs) h k = record { places = h; rankings = k }
+together : (is_wide joins : Bool) (c : Chart) (ls : Option (List Lines)) (rs : Option (List Ranked)) (qs : Option (List Quoted)) → MayEach ls → MayRanks rs → MayNoted (noted_all is_wide joins c ls rs qs)
+together is_wide joins c None rs qs h k = tt
+together is_wide joins c (Some ls) None qs h k = tt
+together is_wide joins c (Some ls) (Some rs) None h k = tt
+together is_wide joins c (Some ls) (Some rs) (Some qs) h k = record { places = h; rankings = k }
 
 where-noted : (b : Bool) (o : Option Noted) → MayNoted o → MayNoted (cond b o None)
 where-noted true o h = h
 where-noted false o h = tt
 
 noted-tells : (c : Chart) (ps : List places.Place) (cert : Certificate) → MayNoted (noted_by c ps cert)
-noted-tells c ps cert = where-noted (all (has_line cert.bounds) c.scenes && all (are_stated c) cert.entries) _ (together cert.is_wide c (each (lines_of c ps) cert.places) (each (ranked_of c) cert.bounds) (quotients_of c cert.entries) (all-lines-tell c ps cert.places) (rankings-tell c cert.bounds))
+noted-tells c ps cert = where-noted (all (has_line cert.bounds) c.scenes && all (are_stated c) cert.entries) _ (together cert.is_wide cert.joins c (each (lines_of c ps) cert.places) (each (ranked_of c) cert.bounds) (quotients_of c cert.entries) (all-lines-tell c ps cert.places) (rankings-tell c cert.bounds))
 
 -- what is asked of it
 same-some : (a b : Option ℕ) → same_number a b ≡ true → is_some a ≡ is_some b

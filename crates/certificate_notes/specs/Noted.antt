@@ -159,22 +159,23 @@ visible_at s = record { statement = Some s.number; slots = map slot s.here }
 abbrev pub visible_in : Chart → List Visible
 visible_in c = record { statement = None; slots = map slot c.entry } ∷ map visible_at c.scenes
 
--- all that is said, and whether the walk is the wide one
+-- all that is said, whether the walk is the wide one, and whether it joins ways
 pub record Noted : Type 0 where
   pub is_wide : Bool
+  pub joins : Bool
   pub places : List Lines
   pub rankings : List Ranked
   pub visible : List Visible
   pub quotients : List Quoted
 
-abbrev pub noted_all : (is_wide : Bool) → Chart → Option (List Lines) → Option (List Ranked) → Option (List Quoted) → Option Noted
-noted_all is_wide c None rs qs = None
-noted_all is_wide c (Some ls) None qs = None
-noted_all is_wide c (Some ls) (Some rs) None = None
-noted_all is_wide c (Some ls) (Some rs) (Some qs) = Some (record { is_wide = is_wide; places = ls; rankings = rs; visible = visible_in c; quotients = qs })
+abbrev pub noted_all : (is_wide joins : Bool) → Chart → Option (List Lines) → Option (List Ranked) → Option (List Quoted) → Option Noted
+noted_all is_wide joins c None rs qs = None
+noted_all is_wide joins c (Some ls) None qs = None
+noted_all is_wide joins c (Some ls) (Some rs) None = None
+noted_all is_wide joins c (Some ls) (Some rs) (Some qs) = Some (record { is_wide = is_wide; joins = joins; places = ls; rankings = rs; visible = visible_in c; quotients = qs })
 
 abbrev pub noted_by : Chart → List places.Place → Certificate → Option Noted
-noted_by c ps cert = cond (all (has_line cert.bounds) c.scenes && all (are_stated c) cert.entries) (noted_all cert.is_wide c (each (lines_of c ps) cert.places) (each (ranked_of c) cert.bounds) (quotients_of c cert.entries)) None
+noted_by c ps cert = cond (all (has_line cert.bounds) c.scenes && all (are_stated c) cert.entries) (noted_all cert.is_wide cert.joins c (each (lines_of c ps) cert.places) (each (ranked_of c) cert.bounds) (quotients_of c cert.entries)) None
 
 abbrev pub noted : launch.Kernel → surface.Kernel → List places.Place → Certificate → Option Noted
 noted k tree ps cert = noted_by (chart_of k tree) ps cert

@@ -30,6 +30,7 @@ quoted q = record { claim = q.claim; form = form q.form }
 abbrev pub notes : Notes → noted.Noted
 notes n = record {
   is_wide = n.is_wide;
+  joins = n.joins;
   places = map lines n.places.items;
   rankings = map ranked n.rankings.items;
   visible = map visible n.visible.items;

@@ -56,6 +56,7 @@ notes_by m entries = record {
   quotient = quotient_of m.quotients;
   has_entry = λ n. slice_index_or entries n false;
   is_wide = m.is_wide;
+  joins = m.joins;
 }
 
 -- the same is said of all that can be asked
@@ -69,3 +70,4 @@ pub record Agrees (n m : notes.Notes) : Type 0 where
   pub quotient : (claim : ℕ) → n.quotient claim ≡ m.quotient claim
   pub has_entry : (claim : ℕ) → n.has_entry claim ≡ m.has_entry claim
   pub is_wide : n.is_wide ≡ m.is_wide
+  pub joins : n.joins ≡ m.joins

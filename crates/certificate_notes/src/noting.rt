@@ -79,6 +79,7 @@ fn noted_by(
     let visible = visible_in(alloc, chart)?;
     Ok(Some(Notes {
         is_wide: certificate.is_wide(),
+        joins: certificate.joins(),
         places,
         rankings,
         visible,

@@ -11,6 +11,7 @@ mod attempts;
 mod demands;
 mod entries;
 mod error;
+mod forks;
 mod hoping;
 mod joining;
 mod limits;

@@ -29,10 +29,11 @@ pub struct Missing {
     pub second: Option<Mark>,
 }
 
-/// The loop or the site that a claim is about, by its sort and its spot.
+/// The loop, the store or the site that a claim is about, by its sort and its spot.
 fn claimed(sort: Sort, spot: Spot) -> Mark {
     match sort {
         Sort::OfRanking => Mark::Loop(spot.statement),
+        Sort::OfContent => Mark::Store(spot.site),
         _ => Mark::At(spot.site),
     }
 }

@@ -2,17 +2,20 @@
 
 use crate::attempts::{Attempt, Matter, try_guesses};
 use crate::error::SearchError;
+use crate::forks::{Order, order_of};
 use crate::hoping::{Hoped, hope};
 use crate::missing::Missing;
 use crate::ranked::{advance, all_unrefuted, chosen, is_hopeless};
 use candidates::guess_told;
 use certificate::Certificate;
 use cut_search::Memory;
+use facts::WalkError;
 use guess_walk::{Names, Subject, names_of};
 use solo_runs::observe;
 use std::alloc::{AllocError, Global};
 use std::thread::Threads;
 use text_guesses::{Options, guess_rankings};
+use walk::FindError;
 
 /// The ways in which loops may end, whether runs refute all of some loop, and whether there is a place but the entry to guess at.
 #[derive(Drop)]
@@ -165,7 +168,45 @@ fn search_named<R: Threads + Sync>(
     Err(shortfall.told())
 }
 
-/// A certificate for a kernel under conditions, searched by so many workers.
+/// The search ended since a walk has too many paths or obligations.
+fn is_endless(found: &Result<Certificate, SearchError>) -> bool {
+    matches!(
+        found,
+        Err(SearchError::Walk(FindError::ManyPaths(_) | FindError::Walk(WalkError::TooMany)))
+    )
+}
+
+/// A certificate of the wide walk, with ways that are joined, or without them.
+fn search_widely<R: Threads + Sync>(
+    rt: &R,
+    alloc: Global,
+    subject: Subject<'_>,
+    names: &Names<'_>,
+    workers: u32,
+    memory: &mut Memory,
+) -> Result<Certificate, SearchError> {
+    let joining = subject.joining();
+    match order_of(alloc, &subject, names)? {
+        Order::Forked => {
+            let found = search_named(rt, alloc, subject, names, workers, memory);
+            if is_endless(&found) {
+                search_named(rt, alloc, joining, names, workers, memory)
+            } else {
+                found
+            }
+        }
+        Order::Joined => search_named(rt, alloc, joining, names, workers, memory),
+        Order::JoinedFirst => {
+            match search_named(rt, alloc, joining, names, workers, memory) {
+                Ok(certificate) => Ok(certificate),
+                Err(_) => search_named(rt, alloc, subject, names, workers, memory),
+            }
+        }
+    }
+}
+
+/// A certificate for a kernel under conditions, searched by so many workers. The walks of a wide subject join ways where that spares many
+/// paths.
 pub fn search<R: Threads + Sync>(
     rt: &R,
     alloc: Global,
@@ -173,6 +214,11 @@ pub fn search<R: Threads + Sync>(
     workers: u32,
 ) -> Result<Certificate, SearchError> {
     let names = names_of(alloc, subject.typed, subject.is_wide)?;
-    let mut memory = Memory::new(alloc, subject.is_wide);
-    search_named(rt, alloc, subject, &names, workers, &mut memory)
+    let unnamed = names.unnamed(alloc)?;
+    let mut memory = Memory::naming(alloc, subject.is_wide, unnamed);
+    if subject.is_wide && !subject.joins {
+        search_widely(rt, alloc, subject, &names, workers, &mut memory)
+    } else {
+        search_named(rt, alloc, subject, &names, workers, &mut memory)
+    }
 }

@@ -1,5 +1,5 @@
 -- What was read is a certificate as far as it goes, and its items are those that were read.
-use Rattle.std.proofs.Common.{◌≡◌, ℕ, Bool, true, ◌&&◌, ◌||◌, List, [], ◌∷◌, ◌++◌, map, Some, refl, ap, sym, subst, ◌∙◌, append_assoc}
+use Rattle.std.proofs.Common.{◌≡◌, ℕ, Bool, true, not, ◌&&◌, ◌||◌, List, [], ◌∷◌, ◌++◌, map, Some, refl, ap, sym, subst, ◌∙◌, append_assoc}
 use Rattle.std.specs.List.{flat_map}
 use Rattle.std.proofs.lemmas.Grind.{flat_map-append}
 use Rattle.std.proofs.lemmas.List.{append-nil, map_push}
@@ -30,16 +30,16 @@ abbrev pub draft_lines : Draft → List (List ℕ)
 draft_lines d = map item_line (draft_items d)
 
 -- the lines of a certificate with one part more
-items_place : (w : Bool) (places : List Place) (p : Place) (bounds : List Bound) (entries : List Entry) → bounds ≡ [] → entries ≡ [] → items_of (certificate_with w (places ++ p ∷ []) bounds entries) ≡ items_of (certificate_with w places bounds entries) ++ place_items p
-items_place w places p bounds entries b e =
+items_place : (w j : Bool) (places : List Place) (p : Place) (bounds : List Bound) (entries : List Entry) → bounds ≡ [] → entries ≡ [] → items_of (certificate_with w j (places ++ p ∷ []) bounds entries) ≡ items_of (certificate_with w j places bounds entries) ++ place_items p
+items_place w j places p bounds entries b e =
     rw (b, e) (append-nil (flat_map place_items (places ++ p ∷ [])) ∙ flat_map-append place_items places (p ∷ []) ∙ ap (λ t. flat_map place_items places ++ t) (append-nil (place_items p)) ∙ ap (λ t. t ++ place_items p) (sym (append-nil (flat_map place_items places))))
 
-items_bound : (w : Bool) (places : List Place) (bounds : List Bound) (b : Bound) (entries : List Entry) → entries ≡ [] → items_of (certificate_with w places (bounds ++ b ∷ []) entries) ≡ items_of (certificate_with w places bounds entries) ++ BoundItem b ∷ []
-items_bound w places bounds b entries e =
+items_bound : (w j : Bool) (places : List Place) (bounds : List Bound) (b : Bound) (entries : List Entry) → entries ≡ [] → items_of (certificate_with w j places (bounds ++ b ∷ []) entries) ≡ items_of (certificate_with w j places bounds entries) ++ BoundItem b ∷ []
+items_bound w j places bounds b entries e =
     rw e (ap (λ t. flat_map place_items places ++ t) (append-nil (map BoundItem (bounds ++ b ∷ [])) ∙ map_push BoundItem bounds b ∙ ap (λ t. t ++ BoundItem b ∷ []) (sym (append-nil (map BoundItem bounds)))) ∙ sym (append_assoc (flat_map place_items places) (map BoundItem bounds ++ []) (BoundItem b ∷ [])))
 
-items_entry : (w : Bool) (places : List Place) (bounds : List Bound) (entries : List Entry) (e : Entry) → items_of (certificate_with w places bounds (entries ++ e ∷ [])) ≡ items_of (certificate_with w places bounds entries) ++ entry_items e
-items_entry w places bounds entries e =
+items_entry : (w j : Bool) (places : List Place) (bounds : List Bound) (entries : List Entry) (e : Entry) → items_of (certificate_with w j places bounds (entries ++ e ∷ [])) ≡ items_of (certificate_with w j places bounds entries) ++ entry_items e
+items_entry w j places bounds entries e =
     ap (λ t. flat_map place_items places ++ (map BoundItem bounds ++ t)) (flat_map-append entry_items entries (e ∷ []) ∙ ap (λ t. flat_map entry_items entries ++ t) (append-nil (entry_items e)))
     ∙ ap (λ t. flat_map place_items places ++ t) (sym (append_assoc (map BoundItem bounds) (flat_map entry_items entries) (entry_items e)))
     ∙ sym (append_assoc (flat_map place_items places) (map BoundItem bounds ++ flat_map entry_items entries) (entry_items e))
@@ -70,22 +70,23 @@ record Settled (c : Certificate) (o : Open) (e : Certificate) : Type 0 where
   good : is_written e ≡ true
   items : items_of e ≡ items_of c ++ open_items o
   kind : e.is_wide ≡ c.is_wide
+  joins : e.joins ≡ c.joins
 
 settle_back : (c : Certificate) (o : Open) (e : Certificate) → is_written c ≡ true → OpenFits c o → settle c o ≡ Some e → Settled c o e
-settle_back c Nothing e h f q = subst (Settled c Nothing) (same c e q) (record { good = h; items = sym (append-nil (items_of c)); kind = refl })
+settle_back c Nothing e h f q = subst (Settled c Nothing) (same c e q) (record { good = h; items = sym (append-nil (items_of c)); kind = refl; joins = refl })
 settle_back c (InPlace p) e h f q =
     let w = when_back (has_line p) _ e q in
     let parts = both _ _ h in
     let fits = both (is_empty c.bounds && is_empty c.entries) (follows place_is_behind c.places p.spot) f.0 in
     let none = both (is_empty c.bounds) (is_empty c.entries) fits.0 in
     let row = row_push is_place place_is_before c.places p parts.0 (andt (is_open_place p) (has_line p) f.1 w.0) (sym (place_follows c.places p) ∙ fits.1) in
-    subst (Settled c (InPlace p)) w.1 (record { good = andt _ _ row parts.1; items = items_place c.is_wide c.places p c.bounds c.entries (none_left c.bounds none.0) (none_left c.entries none.1); kind = refl })
+    subst (Settled c (InPlace p)) w.1 (record { good = andt _ _ row parts.1; items = items_place c.is_wide c.joins c.places p c.bounds c.entries (none_left c.bounds none.0) (none_left c.entries none.1); kind = refl; joins = refl })
 settle_back c (InEntry n) e h f q =
     let made : Certificate = record c { entries = c.entries ++ n ∷ [] } in
     let parts = both _ _ h in
     let later = both _ _ parts.1 in
     let row = row_push is_entry entry_is_before c.entries n later.1 f.1 (sym (entry_follows c.entries n) ∙ f.0) in
-    subst (Settled c (InEntry n)) (same made e q) (record { good = andt _ _ parts.0 (andt _ _ later.0 row); items = items_entry c.is_wide c.places c.bounds c.entries n; kind = refl })
+    subst (Settled c (InEntry n)) (same made e q) (record { good = andt _ _ parts.0 (andt _ _ later.0 row); items = items_entry c.is_wide c.joins c.places c.bounds c.entries n; kind = refl; joins = refl })
 settle_back c (InLemma n l) e h f q = absurd cc
 settle_back c Ended e h f q = absurd cc
 
@@ -94,6 +95,7 @@ pub record Added (d : Draft) (i : Item) (e : Draft) : Type 0 where
   pub draft : IsDraft e
   pub items : draft_items e ≡ draft_items d ++ i ∷ []
   pub kind : e.settled.is_wide ≡ d.settled.is_wide
+  pub joins : e.settled.joins ≡ d.settled.joins
 
 add_place_back : (d : Draft) (spot : Spot) (e : Draft) → IsDraft d → is_spot spot ≡ true → add_place d spot ≡ Some e → Added d (PlaceItem spot) e
 add_place_back d spot e h g q =
@@ -101,7 +103,7 @@ add_place_back d spot e h g q =
     let w = when_back (place_fits c.0 spot) (draft c.0 (InPlace (place_at spot))) e c.2 in
     let s = settle_back d.settled d.opened c.0 h.settled h.opened c.1 in
     let made : IsDraft (draft c.0 (InPlace (place_at spot))) = record { settled = s.good; opened = (w.0, three (is_spot spot) true true g refl refl) } in
-    subst (Added d (PlaceItem spot)) w.1 (record { draft = made; items = ap (λ t. t ++ PlaceItem spot ∷ []) s.items; kind = s.kind })
+    subst (Added d (PlaceItem spot)) w.1 (record { draft = made; items = ap (λ t. t ++ PlaceItem spot ∷ []) s.items; kind = s.kind; joins = s.joins })
 
 add_bound_back : (d : Draft) (b : Bound) (e : Draft) → IsDraft d → is_bound b ≡ true → add_bound d b ≡ Some e → Added d (BoundItem b) e
 add_bound_back d b e h g q =
@@ -116,8 +118,9 @@ add_bound_back d b e h g q =
     let made : IsDraft (draft next Nothing) = record { settled = andt _ _ parts.0 (andt _ _ row later.1); opened = tt } in
     subst (Added d (BoundItem b)) w.1 (record {
       draft = made;
-      items = append-nil (items_of next) ∙ items_bound c.0.is_wide c.0.places c.0.bounds b c.0.entries (none_left c.0.entries fits.0) ∙ ap (λ t. t ++ BoundItem b ∷ []) s.items;
+      items = append-nil (items_of next) ∙ items_bound c.0.is_wide c.0.joins c.0.places c.0.bounds b c.0.entries (none_left c.0.entries fits.0) ∙ ap (λ t. t ++ BoundItem b ∷ []) s.items;
       kind = s.kind;
+      joins = s.joins;
     })
 
 add_entry_back : (d : Draft) (n : ℕ) (sort : EntrySort) (e : Draft) → IsDraft d → is_part (EntryItem n sort) ≡ true → add_entry d n sort ≡ Some e → Added d (EntryItem n sort) e
@@ -127,14 +130,14 @@ add_entry_back d n sort e h g q =
     let s = settle_back d.settled d.opened c.0 h.settled h.opened c.1 in
     let p = both _ (is_sort sort) g in
     let made : IsDraft (draft c.0 (InEntry (entry_at n sort))) = record { settled = s.good; opened = (w.0, andt _ (is_sort sort && true) p.0 (andt (is_sort sort) true p.1 refl)) } in
-    subst (Added d (EntryItem n sort)) w.1 (record { draft = made; items = ap (λ t. t ++ EntryItem n sort ∷ []) s.items; kind = s.kind })
+    subst (Added d (EntryItem n sort)) w.1 (record { draft = made; items = ap (λ t. t ++ EntryItem n sort ∷ []) s.items; kind = s.kind; joins = s.joins })
 
 add_end_back : (d e : Draft) → IsDraft d → add_end d ≡ Some e → Added d EndItem e
 add_end_back d e h q =
     let c = then_back (settle d.settled d.opened) _ e q in
     let s = settle_back d.settled d.opened c.0 h.settled h.opened c.1 in
     let made : IsDraft (draft c.0 Ended) = record { settled = s.good; opened = tt } in
-    subst (Added d EndItem) (same (draft c.0 Ended) e c.2) (record { draft = made; items = ap (λ t. t ++ EndItem ∷ []) s.items; kind = s.kind })
+    subst (Added d EndItem) (same (draft c.0 Ended) e c.2) (record { draft = made; items = ap (λ t. t ++ EndItem ∷ []) s.items; kind = s.kind; joins = s.joins })
 
 add_within_back : (d : Draft) (i : Item) (e : Draft) → IsDraft d → is_part i ≡ true → add_within d i ≡ Some e → Added d i e
 add_within_back d i e h g q =
@@ -145,6 +148,7 @@ add_within_back d i e h g q =
       draft = made;
       items = ap (λ t. items_of d.settled ++ t) x.items ∙ sym (append_assoc (items_of d.settled) (open_items d.opened) (i ∷ []));
       kind = refl;
+      joins = refl;
     })
 
 pub add_back : (d : Draft) (i : Item) (e : Draft) → IsDraft d → is_part i ≡ true → add d i ≡ Some e → Added d i e
@@ -165,12 +169,14 @@ add_back d (StepItem s) e h g q = add_within_back d (StepItem s) e h g q
 pub record IsRead (d : Draft) : Type 0 where
   pub draft : IsDraft d
   pub fits : Fits d.settled.is_wide (draft_items d)
+  pub may_join : (d.settled.is_wide || not d.settled.joins) ≡ true
 
 -- one with one line more
 pub record AddedFitting (d : Draft) (i : Item) (e : Draft) : Type 0 where
   pub read : IsRead e
   pub items : draft_items e ≡ draft_items d ++ i ∷ []
   pub kind : e.settled.is_wide ≡ d.settled.is_wide
+  pub joins : e.settled.joins ≡ d.settled.joins
 
 pub add_fitting_back : (d : Draft) (i : Item) (e : Draft) → IsRead d → is_part i ≡ true → add_fitting d i ≡ Some e → AddedFitting d i e
 add_fitting_back d i e h g q =
@@ -178,9 +184,10 @@ add_fitting_back d i e h g q =
     let a = add_back d i e h.draft g c.1 in
     let fits : Fits d.settled.is_wide (draft_items e) = ap (all (fits_in d.settled.is_wide)) a.items ∙ all_push (fits_in d.settled.is_wide) (draft_items d) i h.fits c.0 in
     record {
-      read = record { draft = a.draft; fits = subst (λ w. Fits w (draft_items e)) (sym a.kind) fits };
+      read = record { draft = a.draft; fits = subst (λ w. Fits w (draft_items e)) (sym a.kind) fits; may_join = ap (λ w. w || not e.settled.joins) a.kind ∙ ap (λ j. d.settled.is_wide || not j) a.joins ∙ h.may_join };
       items = a.items;
       kind = a.kind;
+      joins = a.joins;
     }
 
 -- with the line of one item more
@@ -188,6 +195,7 @@ pub record AddedLine (d : Draft) (line : List ℕ) (e : Draft) : Type 0 where
   pub read : IsRead e
   pub lines : draft_lines e ≡ draft_lines d ++ line ∷ []
   pub kind : e.settled.is_wide ≡ d.settled.is_wide
+  pub joins : e.settled.joins ≡ d.settled.joins
 
 pub add_line_back : (d : Draft) (line : List ℕ) (e : Draft) → IsRead d → add_line d line ≡ Some e → AddedLine d line e
 add_line_back d line e h q =
@@ -198,4 +206,5 @@ add_line_back d line e h q =
       read = a.read;
       lines = ap (map item_line) a.items ∙ map_push item_line (draft_items d) i.0 ∙ ap (λ t. draft_lines d ++ t ∷ []) b.0;
       kind = a.kind;
+      joins = a.joins;
     }

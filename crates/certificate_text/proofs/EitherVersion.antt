@@ -6,7 +6,7 @@ use Rattle.texts.specs.Lines.{is_empty, line_feed, pieces, words}
 use Rattle.certificate_text.specs.Certificate.{Certificate, BadLine, OtherVersion}
 use Rattle.certificate_text.specs.Drafts.{nothing_yet}
 use Rattle.certificate_text.specs.Reading.{Read, read_lines, head_of_version, head_fault, version_of, unless, read_text, certificate_limit, certificate_of}
-use Rattle.certificate_text.specs.NumberedReading.{read_table, numbered_head, read_numbered_text, numbered_certificate, certificate_of_two, certificate_of_four}
+use Rattle.certificate_text.specs.NumberedReading.{read_behind, numbered_head, read_numbered_text, numbered_certificate, certificate_of_two, certificate_of_four}
 use Rattle.certificate_text.specs.Migrated.{written, migrated}
 use Rattle.certificate_text.specs.Versions.{unless_other, certificate_in, certificate_any}
 use Rattle.certificate_text.proofs.Read.{unless_back}
@@ -22,10 +22,10 @@ one_other true = refl
 other_lines : (is_wide : Bool) (ls : List (List ℕ)) (c : Certificate) → read_numbered_text is_wide ls ≡ Ok c → read_text ls ≡ Err OtherVersion
 other_lines is_wide [] c = λ q. absurd cc
 other_lines is_wide (line ∷ others) c =
-    cond_both (is_empty others) (Err (BadLine 1)) (unless (numbered_head is_wide (version_of (words line))) (read_table is_wide [] 2 others)) (λ r. r ≡ Ok c → read_text (line ∷ others) ≡ Err OtherVersion)
+    cond_both (is_empty others) (Err (BadLine 1)) (unless (numbered_head is_wide (version_of (words line))) (read_behind is_wide others)) (λ r. r ≡ Ok c → read_text (line ∷ others) ≡ Err OtherVersion)
     (λ e q. absurd cc)
     (λ e q.
-    let u = unless_back (numbered_head is_wide (version_of (words line))) (read_table is_wide [] 2 others) c q in
+    let u = unless_back (numbered_head is_wide (version_of (words line))) (read_behind is_wide others) c q in
     cond-false (is_empty others) (Err (BadLine 1)) (unless (head_fault (words line)) (read_lines 2 nothing_yet others)) e
     ∙ ap (λ v. unless (head_of_version v) (read_lines 2 nothing_yet others)) (version_back is_wide (version_of (words line)) u.0)
     ∙ ap (λ f. unless f (read_lines 2 nothing_yet others)) (one_other is_wide))
@@ -40,12 +40,12 @@ other_version is_wide text c =
 not_two : (ls : List (List ℕ)) (c : Certificate) → read_numbered_text true ls ≡ Ok c → read_numbered_text false ls ≡ Err OtherVersion
 not_two [] c = λ q. absurd cc
 not_two (line ∷ others) c =
-    cond_both (is_empty others) (Err (BadLine 1)) (unless (numbered_head true (version_of (words line))) (read_table true [] 2 others)) (λ r. r ≡ Ok c → read_numbered_text false (line ∷ others) ≡ Err OtherVersion)
+    cond_both (is_empty others) (Err (BadLine 1)) (unless (numbered_head true (version_of (words line))) (read_behind true others)) (λ r. r ≡ Ok c → read_numbered_text false (line ∷ others) ≡ Err OtherVersion)
     (λ e q. absurd cc)
     (λ e q.
-    let u = unless_back (numbered_head true (version_of (words line))) (read_table true [] 2 others) c q in
-    cond-false (is_empty others) (Err (BadLine 1)) (unless (numbered_head false (version_of (words line))) (read_table false [] 2 others)) e
-    ∙ ap (λ v. unless (numbered_head false v) (read_table false [] 2 others)) (version_back true (version_of (words line)) u.0))
+    let u = unless_back (numbered_head true (version_of (words line))) (read_behind true others) c q in
+    cond-false (is_empty others) (Err (BadLine 1)) (unless (numbered_head false (version_of (words line))) (read_behind false others)) e
+    ∙ ap (λ v. unless (numbered_head false v) (read_behind false others)) (version_back true (version_of (words line)) u.0))
 
 no_two : (text : List ℕ) (c : Certificate) → certificate_of_four text ≡ Ok c → certificate_of_two text ≡ Err OtherVersion
 no_two text c =

@@ -32,8 +32,8 @@ one_apart : has_form (below ∷ above ∷ []) one ≡ false
 one_apart = ap (λ d. bytes_eq d (form_text below) || (bytes_eq d (((d ++ (codes "*" ++ (codes "lid" ++ codes " + "))) ++ (term_text (weighted (negsuc 0) (Local First)) ++ [])) ++ decimal 0) || false)) (decimal_digit 1 (omega arith))
 
 -- behind two lines of the table
-from_two : (rest : List ℕ) (answer : Read) → read_table false (below ∷ above ∷ []) 4 (pieces 10 rest) ≡ answer → go_to 3 (when (not (has_form (below ∷ []) above)) (below ∷ above ∷ [])) (λ more. read_table false more 4 (pieces 10 rest)) ≡ answer
-from_two rest answer e = ap (λ b. go_to 3 (when (not b) (below ∷ above ∷ [])) (λ more. read_table false more 4 (pieces 10 rest))) apart ∙ e
+from_two : (rest : List ℕ) (answer : Read) → read_table false false (below ∷ above ∷ []) 4 (pieces 10 rest) ≡ answer → go_to 3 (when (not (has_form (below ∷ []) above)) (below ∷ above ∷ [])) (λ more. read_table false false more 4 (pieces 10 rest)) ≡ answer
+from_two rest answer e = ap (λ b. go_to 3 (when (not b) (below ∷ above ∷ [])) (λ more. read_table false false more 4 (pieces 10 rest))) apart ∙ e
 
 pub exchanged : certificate_of_two (codes "certificate 2\nform -1*lid + 1*local.0 + 0\nform 1*lid + -1*local.0 + 0\nplace b3\nfact 2\nfact 1\nend\n") ≡ Err (BadLine 5)
 unfolding item_of congruence_of bound_of entry_of sum_of form_of name_of dimensional_of natural_of integer_of add
@@ -45,11 +45,11 @@ read = from_two (codes "place b3\nfact 1\nfact 2\nend\n") (certificate_of (codes
 
 pub unused : certificate_of_two (codes "certificate 2\nform -1*lid + 1*local.0 + 0\nform 1*lid + -1*local.0 + 0\nform 1\nplace b3\nfact 1\nfact 2\nend\n") ≡ Err (BadLine 4)
 unfolding item_of congruence_of bound_of entry_of sum_of form_of name_of dimensional_of natural_of integer_of add
-unused = from_two (codes "form 1\nplace b3\nfact 1\nfact 2\nend\n") (Err (BadLine 4)) (ap (λ b. go_to 4 (when (not b) (below ∷ above ∷ one ∷ [])) (λ more. read_table false more 5 (pieces 10 (codes "place b3\nfact 1\nfact 2\nend\n")))) one_apart)
+unused = from_two (codes "form 1\nplace b3\nfact 1\nfact 2\nend\n") (Err (BadLine 4)) (ap (λ b. go_to 4 (when (not b) (below ∷ above ∷ one ∷ [])) (λ more. read_table false false more 5 (pieces 10 (codes "place b3\nfact 1\nfact 2\nend\n")))) one_apart)
 
 pub repeated : certificate_of_two (codes "certificate 2\nform 1*lid + -1*local.0 + 0\nform 1*lid + -1*local.0 + 0\nplace b3\nfact 1\nfact 2\nend\n") ≡ Err (BadLine 3)
 unfolding item_of congruence_of bound_of entry_of sum_of form_of name_of dimensional_of natural_of integer_of add
-repeated = ap (λ b. go_to 3 (when (not (b || false)) (above ∷ above ∷ [])) (λ more. read_table false more 4 (pieces 10 (codes "place b3\nfact 1\nfact 2\nend\n")))) (form_itself above)
+repeated = ap (λ b. go_to 3 (when (not (b || false)) (above ∷ above ∷ [])) (λ more. read_table false false more 4 (pieces 10 (codes "place b3\nfact 1\nfact 2\nend\n")))) (form_itself above)
 
 pub nought : certificate_of_two (codes "certificate 2\nform 1\nplace b3\nfact 0\nend\n") ≡ Err (BadLine 4)
 unfolding item_of congruence_of bound_of entry_of sum_of form_of name_of dimensional_of natural_of integer_of add
@@ -83,7 +83,7 @@ pub shared : certificate_of_two (codes "certificate 2\nform 1*n + -1\nplace b3\n
 unfolding item_of congruence_of bound_of entry_of sum_of form_of name_of dimensional_of natural_of integer_of add
 shared = refl
 
-pub doubled : certificate_of_four (codes "certificate 4\nform 1*n + -1\nloop 3 double 2 64 1\nend\n") ≡ Ok (wide_certificate [] (record { loop = 3; descent = Double 2; most = pos 64; form = form (weighted (pos 1) (Variable (codes "n")) ∷ []) (negsuc 0) } ∷ []) [])
+pub doubled : certificate_of_four (codes "certificate 4\nform 1*n + -1\nloop 3 double 2 64 1\nend\n") ≡ Ok (wide_certificate false [] (record { loop = 3; descent = Double 2; most = pos 64; form = form (weighted (pos 1) (Variable (codes "n")) ∷ []) (negsuc 0) } ∷ []) [])
 unfolding item_of congruence_of bound_of entry_of sum_of form_of name_of dimensional_of natural_of integer_of add
 doubled = refl
 

@@ -68,13 +68,13 @@ add_place_on : (d : Draft) (c : Certificate) (spot : Spot) → settle d.settled 
 unfolding add
 add_place_on d c spot s f = ap (λ o. then o (λ x. when (place_fits x spot) (draft x (InPlace (place_at spot))))) s ∙ cond-true (place_fits c spot) (Some (draft c (InPlace (place_at spot)))) None f
 
-add_bound_on : (d : Draft) (is_wide : Bool) (places : List Place) (done : List Bound) (b : Bound) → settle d.settled d.opened ≡ Some (certificate_with is_wide places done []) → follows bound_is_behind done b.loop ≡ true → add d (BoundItem b) ≡ Some (draft (certificate_with is_wide places (done ++ b ∷ []) []) Nothing)
+add_bound_on : (d : Draft) (is_wide joins : Bool) (places : List Place) (done : List Bound) (b : Bound) → settle d.settled d.opened ≡ Some (certificate_with is_wide joins places done []) → follows bound_is_behind done b.loop ≡ true → add d (BoundItem b) ≡ Some (draft (certificate_with is_wide joins places (done ++ b ∷ []) []) Nothing)
 unfolding add
-add_bound_on d is_wide places done b s f = rw (s, f) refl
+add_bound_on d is_wide joins places done b s f = rw (s, f) refl
 
-add_entry_on : (d : Draft) (is_wide : Bool) (places : List Place) (bounds : List Bound) (done : List Entry) (n : ℕ) (sort : EntrySort) → settle d.settled d.opened ≡ Some (certificate_with is_wide places bounds done) → follows entry_is_behind done n ≡ true → add d (EntryItem n sort) ≡ Some (draft (certificate_with is_wide places bounds done) (InEntry (entry_at n sort)))
+add_entry_on : (d : Draft) (is_wide joins : Bool) (places : List Place) (bounds : List Bound) (done : List Entry) (n : ℕ) (sort : EntrySort) → settle d.settled d.opened ≡ Some (certificate_with is_wide joins places bounds done) → follows entry_is_behind done n ≡ true → add d (EntryItem n sort) ≡ Some (draft (certificate_with is_wide joins places bounds done) (InEntry (entry_at n sort)))
 unfolding add
-add_entry_on d is_wide places bounds done n sort s f = rw (s, f) refl
+add_entry_on d is_wide joins places bounds done n sort s f = rw (s, f) refl
 
 abbrev entry_of : ℕ → EntrySort → List Lemma → List Step → Entry
 entry_of n sort lemmas steps = record { obligation = n; sort = sort; lemmas = lemmas; steps = steps }
@@ -126,30 +126,30 @@ record Settles (d : Draft) (items : List Item) (c : Certificate) : Type 0 where
   added : add_all d items ≡ Some last
   settled : settle last.settled last.opened ≡ Some c
 
-places_added : (d : Draft) (is_wide : Bool) (done places : List Place) → settle d.settled d.opened ≡ Some (certificate_with is_wide done [] []) → all is_place places ≡ true → rises place_is_before (done ++ places) ≡ true → Settles d (flat_map place_items places) (certificate_with is_wide (done ++ places) [] [])
-places_added d is_wide done [] s h up = record { last = d; added = refl; settled = s ∙ ap (λ ps. Some (certificate_with is_wide ps [] [])) (sym (append-nil done)) }
-places_added d is_wide done (p ∷ places) s h up =
+places_added : (d : Draft) (is_wide joins : Bool) (done places : List Place) → settle d.settled d.opened ≡ Some (certificate_with is_wide joins done [] []) → all is_place places ≡ true → rises place_is_before (done ++ places) ≡ true → Settles d (flat_map place_items places) (certificate_with is_wide joins (done ++ places) [] [])
+places_added d is_wide joins done [] s h up = record { last = d; added = refl; settled = s ∙ ap (λ ps. Some (certificate_with is_wide joins ps [] [])) (sym (append-nil done)) }
+places_added d is_wide joins done (p ∷ places) s h up =
     let a = both (is_place p) (all is_place places) h in
     let b = both (is_open_place p) (has_line p) a.0 in
-    let c = certificate_with is_wide done [] [] in
+    let c = certificate_with is_wide joins done [] [] in
     let e = draft c (InPlace p) in
-    let now : settle c (InPlace p) ≡ Some (certificate_with is_wide (done ++ p ∷ []) [] []) = cond-true (has_line p) (Some (certificate_with is_wide (done ++ p ∷ []) [] [])) None b.1 in
-    let r = places_added e is_wide (done ++ p ∷ []) places now a.1 (ap (rises place_is_before) (sym (moved done p places)) ∙ up) in
+    let now : settle c (InPlace p) ≡ Some (certificate_with is_wide joins (done ++ p ∷ []) [] []) = cond-true (has_line p) (Some (certificate_with is_wide joins (done ++ p ∷ []) [] [])) None b.1 in
+    let r = places_added e is_wide joins (done ++ p ∷ []) places now a.1 (ap (rises place_is_before) (sym (moved done p places)) ∙ up) in
     record {
       last = r.last;
       added = add_on d e r.last (place_items p) (flat_map place_items places) (place_added d c p s (place_follows done p ∙ rises_follow place_is_before done p places up)) r.added;
-      settled = r.settled ∙ ap (λ ps. Some (certificate_with is_wide ps [] [])) (sym (moved done p places));
+      settled = r.settled ∙ ap (λ ps. Some (certificate_with is_wide joins ps [] [])) (sym (moved done p places));
     }
 
-bounds_added : (d : Draft) (is_wide : Bool) (places : List Place) (done bounds : List Bound) → settle d.settled d.opened ≡ Some (certificate_with is_wide places done []) → rises bound_is_before (done ++ bounds) ≡ true → Settles d (map BoundItem bounds) (certificate_with is_wide places (done ++ bounds) [])
-bounds_added d is_wide places done [] s up = record { last = d; added = refl; settled = s ∙ ap (λ bs. Some (certificate_with is_wide places bs [])) (sym (append-nil done)) }
-bounds_added d is_wide places done (b ∷ bounds) s up =
-    let e = draft (certificate_with is_wide places (done ++ b ∷ []) []) Nothing in
-    let r = bounds_added e is_wide places (done ++ b ∷ []) bounds refl (ap (rises bound_is_before) (sym (moved done b bounds)) ∙ up) in
+bounds_added : (d : Draft) (is_wide joins : Bool) (places : List Place) (done bounds : List Bound) → settle d.settled d.opened ≡ Some (certificate_with is_wide joins places done []) → rises bound_is_before (done ++ bounds) ≡ true → Settles d (map BoundItem bounds) (certificate_with is_wide joins places (done ++ bounds) [])
+bounds_added d is_wide joins places done [] s up = record { last = d; added = refl; settled = s ∙ ap (λ bs. Some (certificate_with is_wide joins places bs [])) (sym (append-nil done)) }
+bounds_added d is_wide joins places done (b ∷ bounds) s up =
+    let e = draft (certificate_with is_wide joins places (done ++ b ∷ []) []) Nothing in
+    let r = bounds_added e is_wide joins places (done ++ b ∷ []) bounds refl (ap (rises bound_is_before) (sym (moved done b bounds)) ∙ up) in
     record {
       last = r.last;
-      added = add_on d e r.last (BoundItem b ∷ []) (map BoundItem bounds) (one_added d (BoundItem b) e (add_bound_on d is_wide places done b s (bound_follows done b ∙ rises_follow bound_is_before done b bounds up))) r.added;
-      settled = r.settled ∙ ap (λ bs. Some (certificate_with is_wide places bs [])) (sym (moved done b bounds));
+      added = add_on d e r.last (BoundItem b ∷ []) (map BoundItem bounds) (one_added d (BoundItem b) e (add_bound_on d is_wide joins places done b s (bound_follows done b ∙ rises_follow bound_is_before done b bounds up))) r.added;
+      settled = r.settled ∙ ap (λ bs. Some (certificate_with is_wide joins places bs [])) (sym (moved done b bounds));
     }
 
 -- the steps of a lemma, and those that show the obligation
@@ -184,30 +184,30 @@ shown_added c n sort (l ∷ ls) steps =
     ap (add_all zero) regrouped
     ∙ add_on zero one three (lemma_items l) ((flat_map lemma_items ls ++ MainItem ∷ []) ++ map StepItem steps) first (add_on one two three (flat_map lemma_items ls ++ MainItem ∷ []) (map StepItem steps) (lemmas_added c n sort [] l ls) (steps_added c n sort (l ∷ ls) steps))
 
-entries_added : (d : Draft) (is_wide : Bool) (places : List Place) (bounds : List Bound) (done entries : List Entry) → settle d.settled d.opened ≡ Some (certificate_with is_wide places bounds done) → rises entry_is_before (done ++ entries) ≡ true → Settles d (flat_map entry_items entries) (certificate_with is_wide places bounds (done ++ entries))
-entries_added d is_wide places bounds done [] s up = record { last = d; added = refl; settled = s ∙ ap (λ es. Some (certificate_with is_wide places bounds es)) (sym (append-nil done)) }
-entries_added d is_wide places bounds done (x ∷ entries) s up =
-    let c = certificate_with is_wide places bounds done in
+entries_added : (d : Draft) (is_wide joins : Bool) (places : List Place) (bounds : List Bound) (done entries : List Entry) → settle d.settled d.opened ≡ Some (certificate_with is_wide joins places bounds done) → rises entry_is_before (done ++ entries) ≡ true → Settles d (flat_map entry_items entries) (certificate_with is_wide joins places bounds (done ++ entries))
+entries_added d is_wide joins places bounds done [] s up = record { last = d; added = refl; settled = s ∙ ap (λ es. Some (certificate_with is_wide joins places bounds es)) (sym (append-nil done)) }
+entries_added d is_wide joins places bounds done (x ∷ entries) s up =
+    let c = certificate_with is_wide joins places bounds done in
     let zero = draft c (InEntry (entry_of x.obligation x.sort [] [])) in
     let e = draft c (InEntry x) in
-    let r = entries_added e is_wide places bounds (done ++ x ∷ []) entries refl (ap (rises entry_is_before) (sym (moved done x entries)) ∙ up) in
-    let first = one_added d (EntryItem x.obligation x.sort) zero (add_entry_on d is_wide places bounds done x.obligation x.sort s (entry_follows done x ∙ rises_follow entry_is_before done x entries up)) in
+    let r = entries_added e is_wide joins places bounds (done ++ x ∷ []) entries refl (ap (rises entry_is_before) (sym (moved done x entries)) ∙ up) in
+    let first = one_added d (EntryItem x.obligation x.sort) zero (add_entry_on d is_wide joins places bounds done x.obligation x.sort s (entry_follows done x ∙ rises_follow entry_is_before done x entries up)) in
     record {
       last = r.last;
       added = add_on d e r.last (entry_items x) (flat_map entry_items entries) (add_on d zero e (EntryItem x.obligation x.sort ∷ []) _ first (shown_added c x.obligation x.sort x.lemmas x.steps)) r.added;
-      settled = r.settled ∙ ap (λ es. Some (certificate_with is_wide places bounds es)) (sym (moved done x entries));
+      settled = r.settled ∙ ap (λ es. Some (certificate_with is_wide joins places bounds es)) (sym (moved done x entries));
     }
 
 -- all of a certificate's items, and the end
-pub all_added : (c : Certificate) → is_written c ≡ true → add_all (begun c.is_wide) (items_of c ++ EndItem ∷ []) ≡ Some (draft c Ended)
+pub all_added : (c : Certificate) → is_written c ≡ true → add_all (begun c.is_wide c.joins) (items_of c ++ EndItem ∷ []) ≡ Some (draft c Ended)
 all_added c h =
     let a = both (all is_place c.places && rises place_is_before c.places) _ h in
     let p = both (all is_place c.places) (rises place_is_before c.places) a.0 in
     let b = both _ _ a.1 in
     let q = both _ (rises bound_is_before c.bounds) b.0 in
     let r = both _ (rises entry_is_before c.entries) b.1 in
-    let x = places_added (begun c.is_wide) c.is_wide [] c.places refl p.0 p.1 in
-    let y = bounds_added x.last c.is_wide c.places [] c.bounds x.settled q.1 in
-    let z = entries_added y.last c.is_wide c.places c.bounds [] c.entries y.settled r.1 in
-    let body = add_on (begun c.is_wide) x.last z.last (flat_map place_items c.places) (map BoundItem c.bounds ++ flat_map entry_items c.entries) x.added (add_on x.last y.last z.last (map BoundItem c.bounds) (flat_map entry_items c.entries) y.added z.added) in
-    add_on (begun c.is_wide) z.last (draft c Ended) (items_of c) (EndItem ∷ []) body (one_added z.last EndItem (draft c Ended) (add_end_on z.last c z.settled))
+    let x = places_added (begun c.is_wide c.joins) c.is_wide c.joins [] c.places refl p.0 p.1 in
+    let y = bounds_added x.last c.is_wide c.joins c.places [] c.bounds x.settled q.1 in
+    let z = entries_added y.last c.is_wide c.joins c.places c.bounds [] c.entries y.settled r.1 in
+    let body = add_on (begun c.is_wide c.joins) x.last z.last (flat_map place_items c.places) (map BoundItem c.bounds ++ flat_map entry_items c.entries) x.added (add_on x.last y.last z.last (map BoundItem c.bounds) (flat_map entry_items c.entries) y.added z.added) in
+    add_on (begun c.is_wide c.joins) z.last (draft c Ended) (items_of c) (EndItem ∷ []) body (one_added z.last EndItem (draft c Ended) (add_end_on z.last c z.settled))

@@ -1,11 +1,11 @@
 -- What versions 1 and 2 have no words for is missing in a certificate where it is missing in each of its lines.
-use Rattle.std.proofs.Common.{◌≡◌, Bool, true, false, ◌&&◌, ◌||◌, List, [], ◌∷◌, ◌++◌, map, refl, ap, sym, ◌∙◌}
+use Rattle.std.proofs.Common.{◌≡◌, Bool, true, false, not, ◌&&◌, ◌||◌, List, [], ◌∷◌, ◌++◌, map, refl, ap, sym, ◌∙◌}
 use Rattle.std.specs.List.{flat_map}
 use Rattle.texts.specs.Lines.{is_empty}
 use Rattle.certificate_text.specs.Certificate.{Place, Step, Lemma, Entry, Certificate}
 use Rattle.certificate_text.specs.Lines.{Item, SameItem, FactItem, CongruenceItem, MultipleItem, BoundItem, StepItem}
 use Rattle.certificate_text.specs.Items.{place_items, lemma_items, main_items, entry_items, items_of}
-use Rattle.certificate_text.specs.Rules.{all, is_narrow_form, is_narrow_congruence, is_narrow_place, is_narrow_bound, is_narrow_sort, is_narrow_step, is_narrow_entry, is_narrow_item, is_narrow}
+use Rattle.certificate_text.specs.Rules.{all, is_narrow_form, is_narrow_congruence, is_narrow_place, is_narrow_bound, is_narrow_sort, is_narrow_step, is_narrow_entry, is_narrow_item, has_narrow_lines, is_narrow}
 use Rattle.texts.proofs.Fits.{both}
 
 -- whether a certificate that is wide, or not, may have a line
@@ -58,7 +58,7 @@ shown_narrow (l ∷ lemmas) steps = refl
 entry_narrow : (e : Entry) → all is_narrow_item (entry_items e) ≡ is_narrow_entry e
 entry_narrow e = ap (λ t. is_narrow_sort e.sort && t) (shown_narrow e.lemmas e.steps)
 
-pub items_narrow : (c : Certificate) → all is_narrow_item (items_of c) ≡ is_narrow c
+pub items_narrow : (c : Certificate) → all is_narrow_item (items_of c) ≡ has_narrow_lines c
 items_narrow c =
     let late : List Item = map BoundItem c.bounds ++ flat_map entry_items c.entries in
     all_on is_narrow_item (flat_map place_items c.places) late
@@ -71,10 +71,28 @@ fits_are : (is_wide : Bool) (items : List Item) → all (fits_in is_wide) items 
 fits_are true items = always items
 fits_are false items = refl
 
+lines_too : (is_wide joins narrow : Bool) → (is_wide || (not joins && narrow)) ≡ true → (is_wide || narrow) ≡ true
+lines_too true joins narrow h = refl
+lines_too false joins narrow h = (both (not joins) narrow h).1
+
+with_both : (is_wide joins narrow : Bool) → (is_wide || not joins) ≡ true → (is_wide || narrow) ≡ true → (is_wide || (not joins && narrow)) ≡ true
+with_both true joins narrow j n = refl
+with_both false joins narrow j n = rw (j, n) refl
+
+-- a narrow certificate does not join
+pub joins_where : (c : Certificate) → (c.is_wide || is_narrow c) ≡ true → (c.is_wide || not c.joins) ≡ true
+joins_where c h = where_wide c.is_wide c.joins (has_narrow_lines c) h
+  where
+    where_wide : (is_wide joins narrow : Bool) → (is_wide || (not joins && narrow)) ≡ true → (is_wide || not joins) ≡ true
+    where_wide true joins narrow h = refl
+    where_wide false joins narrow h = (both (not joins) narrow h).0
+
 -- the lines of a certificate fit where it is wide or narrow
 pub items_fit : (c : Certificate) → (c.is_wide || is_narrow c) ≡ true → Fits c.is_wide (items_of c)
-items_fit c h = fits_are c.is_wide (items_of c) ∙ ap (λ t. c.is_wide || t) (items_narrow c) ∙ h
+items_fit c h =
+    fits_are c.is_wide (items_of c) ∙ ap (λ t. c.is_wide || t) (items_narrow c) ∙ lines_too c.is_wide c.joins (has_narrow_lines c) h
 
-pub fit_back : (c : Certificate) (rest : List Item) → Fits c.is_wide (items_of c ++ rest) → (c.is_wide || is_narrow c) ≡ true
-fit_back c rest h =
-    ap (λ t. c.is_wide || t) (sym (items_narrow c)) ∙ sym (fits_are c.is_wide (items_of c)) ∙ (both (all (fits_in c.is_wide) (items_of c)) (all (fits_in c.is_wide) rest) (sym (all_on (fits_in c.is_wide) (items_of c) rest) ∙ h)).0
+pub fit_back : (c : Certificate) (rest : List Item) → (c.is_wide || not c.joins) ≡ true → Fits c.is_wide (items_of c ++ rest) → (c.is_wide || is_narrow c) ≡ true
+fit_back c rest j h =
+    let front = (both (all (fits_in c.is_wide) (items_of c)) (all (fits_in c.is_wide) rest) (sym (all_on (fits_in c.is_wide) (items_of c) rest) ∙ h)).0 in
+    with_both c.is_wide c.joins (has_narrow_lines c) j (ap (λ t. c.is_wide || t) (sym (items_narrow c)) ∙ sym (fits_are c.is_wide (items_of c)) ∙ front)

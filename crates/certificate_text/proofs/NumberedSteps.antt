@@ -31,31 +31,31 @@ use Rattle.certificate_text.proofs.Tables.{all_at, at_place}
 use Rattle.certificate_text.proofs.FormsPut.{put_good}
 
 -- a line of the table is read
-pub table_row : (is_wide : Bool) (forms : FormTable) (n : ℕ) (ls : List (List ℕ)) (line : List ℕ) (others ws : List (List ℕ)) (more : FormTable) → ls ≡ line ∷ others → is_empty others ≡ false → table_words (words line) ≡ Some ws → add_form is_wide forms ws ≡ Some more → read_table is_wide forms n ls ≡ read_table is_wide more (n + 1) others
-table_row is_wide forms n ls line others ws more p e w a =
-    let body = read_numbered forms n (numbered_draft 0 (begun is_wide)) (line ∷ others) in
-    ap (read_table is_wide forms n) p
-    ∙ cond-false (is_empty others) (Err (BadLine n)) (by_table_words (table_words (words line)) body (λ v. go_to n (add_form is_wide forms v) (λ m. read_table is_wide m (suc n) others))) e
-    ∙ ap (λ o. by_table_words o body (λ v. go_to n (add_form is_wide forms v) (λ m. read_table is_wide m (suc n) others))) w
-    ∙ ap (λ o. go_to n o (λ m. read_table is_wide m (suc n) others)) a ∙ ap (λ k. read_table is_wide more k others) (omega arith)
+pub table_row : (is_wide joins : Bool) (forms : FormTable) (n : ℕ) (ls : List (List ℕ)) (line : List ℕ) (others ws : List (List ℕ)) (more : FormTable) → ls ≡ line ∷ others → is_empty others ≡ false → table_words (words line) ≡ Some ws → add_form is_wide forms ws ≡ Some more → read_table is_wide joins forms n ls ≡ read_table is_wide joins more (n + 1) others
+table_row is_wide joins forms n ls line others ws more p e w a =
+    let body = read_numbered forms n (numbered_draft 0 (begun is_wide joins)) (line ∷ others) in
+    ap (read_table is_wide joins forms n) p
+    ∙ cond-false (is_empty others) (Err (BadLine n)) (by_table_words (table_words (words line)) body (λ v. go_to n (add_form is_wide forms v) (λ m. read_table is_wide joins m (suc n) others))) e
+    ∙ ap (λ o. by_table_words o body (λ v. go_to n (add_form is_wide forms v) (λ m. read_table is_wide joins m (suc n) others))) w
+    ∙ ap (λ o. go_to n o (λ m. read_table is_wide joins m (suc n) others)) a ∙ ap (λ k. read_table is_wide joins more k others) (omega arith)
 
 -- a line of the table is at fault
-pub table_fault : (is_wide : Bool) (forms : FormTable) (n : ℕ) (ls : List (List ℕ)) (line : List ℕ) (others ws : List (List ℕ)) → ls ≡ line ∷ others → is_empty others ≡ false → table_words (words line) ≡ Some ws → add_form is_wide forms ws ≡ None → read_table is_wide forms n ls ≡ Err (BadLine n)
-table_fault is_wide forms n ls line others ws p e w a =
-    let body = read_numbered forms n (numbered_draft 0 (begun is_wide)) (line ∷ others) in
-    ap (read_table is_wide forms n) p
-    ∙ cond-false (is_empty others) (Err (BadLine n)) (by_table_words (table_words (words line)) body (λ v. go_to n (add_form is_wide forms v) (λ m. read_table is_wide m (suc n) others))) e
-    ∙ ap (λ o. by_table_words o body (λ v. go_to n (add_form is_wide forms v) (λ m. read_table is_wide m (suc n) others))) w
-    ∙ ap (λ o. go_to n o (λ m. read_table is_wide m (suc n) others)) a
+pub table_fault : (is_wide joins : Bool) (forms : FormTable) (n : ℕ) (ls : List (List ℕ)) (line : List ℕ) (others ws : List (List ℕ)) → ls ≡ line ∷ others → is_empty others ≡ false → table_words (words line) ≡ Some ws → add_form is_wide forms ws ≡ None → read_table is_wide joins forms n ls ≡ Err (BadLine n)
+table_fault is_wide joins forms n ls line others ws p e w a =
+    let body = read_numbered forms n (numbered_draft 0 (begun is_wide joins)) (line ∷ others) in
+    ap (read_table is_wide joins forms n) p
+    ∙ cond-false (is_empty others) (Err (BadLine n)) (by_table_words (table_words (words line)) body (λ v. go_to n (add_form is_wide forms v) (λ m. read_table is_wide joins m (suc n) others))) e
+    ∙ ap (λ o. by_table_words o body (λ v. go_to n (add_form is_wide forms v) (λ m. read_table is_wide joins m (suc n) others))) w
+    ∙ ap (λ o. go_to n o (λ m. read_table is_wide joins m (suc n) others)) a
 
 -- the table ends before a line that is none of it
-pub table_over : (is_wide : Bool) (forms : FormTable) (n : ℕ) (ls : List (List ℕ)) (line : List ℕ) (others : List (List ℕ)) → ls ≡ line ∷ others → is_empty others ≡ false → table_words (words line) ≡ None → read_table is_wide forms n ls ≡ read_numbered forms n (numbered_draft 0 (begun is_wide)) ls
-table_over is_wide forms n ls line others p e w =
-    let body = read_numbered forms n (numbered_draft 0 (begun is_wide)) (line ∷ others) in
-    ap (read_table is_wide forms n) p
-    ∙ cond-false (is_empty others) (Err (BadLine n)) (by_table_words (table_words (words line)) body (λ v. go_to n (add_form is_wide forms v) (λ m. read_table is_wide m (suc n) others))) e
-    ∙ ap (λ o. by_table_words o body (λ v. go_to n (add_form is_wide forms v) (λ m. read_table is_wide m (suc n) others))) w
-    ∙ ap (read_numbered forms n (numbered_draft 0 (begun is_wide))) (sym p)
+pub table_over : (is_wide joins : Bool) (forms : FormTable) (n : ℕ) (ls : List (List ℕ)) (line : List ℕ) (others : List (List ℕ)) → ls ≡ line ∷ others → is_empty others ≡ false → table_words (words line) ≡ None → read_table is_wide joins forms n ls ≡ read_numbered forms n (numbered_draft 0 (begun is_wide joins)) ls
+table_over is_wide joins forms n ls line others p e w =
+    let body = read_numbered forms n (numbered_draft 0 (begun is_wide joins)) (line ∷ others) in
+    ap (read_table is_wide joins forms n) p
+    ∙ cond-false (is_empty others) (Err (BadLine n)) (by_table_words (table_words (words line)) body (λ v. go_to n (add_form is_wide forms v) (λ m. read_table is_wide joins m (suc n) others))) e
+    ∙ ap (λ o. by_table_words o body (λ v. go_to n (add_form is_wide forms v) (λ m. read_table is_wide joins m (suc n) others))) w
+    ∙ ap (read_numbered forms n (numbered_draft 0 (begun is_wide joins))) (sym p)
 
 -- a line behind the table is read
 pub numbered_row : (forms : FormTable) (n : ℕ) (d : NumberedDraft) (ls : List (List ℕ)) (line : List ℕ) (others : List (List ℕ)) (e : NumberedDraft) → ls ≡ line ∷ others → is_empty others ≡ false → add_numbered forms d line ≡ Some e → read_numbered forms n d ls ≡ read_numbered forms (n + 1) e others

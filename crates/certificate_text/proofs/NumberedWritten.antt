@@ -10,7 +10,7 @@ use Rattle.std.proofs.lemmas.List.{append-nil, length-append, length-map, map_pu
 use Rattle.std.proofs.lemmas.Slice.Eq.{bytes_eq-Decides}
 use Rattle.linear.specs.Linear.{Form}
 use Rattle.texts.specs.Lines.{is_empty, is_natural, integer_of, pieces, words, text_of_lines}
-use Rattle.certificate_text.specs.Certificate.{Name, EntrySort, Show, Positive, Negative, Quotient, Certificate, BadLine}
+use Rattle.certificate_text.specs.Certificate.{Name, EntrySort, Show, Positive, Negative, Quotient, Given, Sum, Divide, Product, Certificate, BadLine}
 use Rattle.certificate_text.specs.Text.{form_text}
 use Rattle.certificate_text.specs.Forms.{then, when, number}
 use Rattle.certificate_text.specs.Lines.{Item, PlaceItem, SameItem, FactItem, CongruenceItem, MultipleItem, BoundItem, EntryItem, LemmaItem, MainItem, StepItem, EndItem, item_of}
@@ -20,7 +20,7 @@ use Rattle.certificate_text.specs.Rules.{all, is_form, is_narrow_form, is_narrow
 use Rattle.certificate_text.specs.Items.{items_of, item_line, sort_forms, line_forms, put_forms}
 use Rattle.certificate_text.specs.FormTables.{FormTable, has_form, with_form, number_of, form_at}
 use Rattle.certificate_text.specs.NumberedText.{forms_in, forms_of, number_for, numbered, numbered_line, table_line, text_of_two, text_of_four}
-use Rattle.certificate_text.specs.NumberedReading.{allowed_form, form_by, forms_by, filled, numbered_draft, add_filled, add_numbered, all_used, finish_numbered, go_to, read_numbered, table_words, add_form, by_table_words, read_table, numbered_head, read_numbered_text, numbered_certificate, certificate_of_two, certificate_of_four}
+use Rattle.certificate_text.specs.NumberedReading.{allowed_form, form_by, forms_by, filled, numbered_draft, add_filled, add_numbered, all_used, finish_numbered, go_to, read_numbered, table_words, add_form, by_table_words, read_table, table_start, read_behind, numbered_head, read_numbered_text, numbered_certificate, certificate_of_two, certificate_of_four}
 use Rattle.certificate_text.specs.Reading.{version_of}
 use Rattle.texts.proofs.Fits.{both}
 use Rattle.texts.proofs.Decimals.{below_test, integer_forth}
@@ -31,12 +31,12 @@ use Rattle.certificate_text.proofs.PartsRead.{is_constant, is_item, is_part}
 use Rattle.certificate_text.proofs.PartsRead.{andt, same}
 use Rattle.certificate_text.proofs.ItemsWritten.{item_forth}
 use Rattle.certificate_text.proofs.Read.{nothing_read}
-use Rattle.certificate_text.proofs.Narrowness.{fits_in, Fits, always, items_fit}
+use Rattle.certificate_text.proofs.Narrowness.{fits_in, Fits, always, joins_where, items_fit}
 use Rattle.certificate_text.proofs.DraftsRead.{IsDraft, add_back}
 use Rattle.certificate_text.proofs.ItemsAdded.{add_all, all_added, fitting, end_fits}
 use Rattle.certificate_text.proofs.Written.{form_line, item_free, some_more, pieces_of_lines, short}
 use Rattle.certificate_text.proofs.Tables.{le_forth, told, denied, is_fresh, known_form, new_form, Numbers, numbers_forth, grows, fresh_fold}
-use Rattle.certificate_text.proofs.FirstLines.{first_line, numbered_text}
+use Rattle.certificate_text.proofs.FirstLines.{first_line, joined_lines, numbered_text}
 use Rattle.certificate_text.proofs.ItemsNumbered.{items_good, number_constant}
 use Rattle.certificate_text.proofs.FormsPut.{forms_put, put_back, raw_good}
 use Rattle.certificate_text.proofs.ItemsNumbered.{forms_good as line_forms_good}
@@ -101,7 +101,7 @@ itself c = grind (arith, nat_tests)
 finished : (forms : FormTable) (m : ℕ) (u : ℕ) (d : Draft) (c : Certificate) → is_ended d.opened ≡ true → d.settled ≡ c → u ≡ length forms → finish_numbered forms m (numbered_draft u d) [] ≡ Ok c
 finished forms m u d c e s l =
     cond-true (is_ended d.opened && true) (all_used forms (numbered_draft u d)) (Err (BadLine m)) (andt (is_ended d.opened) true e refl)
-    ∙ cond-true (nat_eq u (length forms)) (Ok d.settled) (Err (BadLine (u + 2))) (ap (λ k. nat_eq k (length forms)) l ∙ itself (length forms)) ∙ ap Ok s
+    ∙ cond-true (nat_eq u (length forms)) (Ok d.settled) (Err (BadLine (u + table_start d.settled.joins))) (ap (λ k. nat_eq k (length forms)) l ∙ itself (length forms)) ∙ ap Ok s
 
 -- the items fill one after the other
 first_fills : (forms seen : FormTable) (i : Item) (items : List Item) → all is_form forms ≡ true → length forms ≤ certificate_limit → is_part i ≡ true → forms ≡ fold with_form seen (flat_map line_forms (i ∷ items)) → Fills forms seen i
@@ -152,10 +152,10 @@ no_table_words (w ∷ ws) i e = elim (told (bytes_eq w (codes "form"))) [
 ]
 
 -- the table ends
-table_ends : (is_wide : Bool) (forms : FormTable) (n : ℕ) (i : Item) (others : List (List ℕ)) → is_item i ≡ true → is_empty others ≡ false → read_table is_wide forms n (item_line i ∷ others) ≡ read_numbered forms n (numbered_draft 0 (begun is_wide)) (item_line i ∷ others)
-table_ends is_wide forms n i others g e =
-    let read = read_numbered forms n (numbered_draft 0 (begun is_wide)) (item_line i ∷ others) in
-    let go : List (List ℕ) → Read = λ ws. go_to n (add_form is_wide forms ws) (λ more. read_table is_wide more (suc n) others) in
+table_ends : (is_wide joins : Bool) (forms : FormTable) (n : ℕ) (i : Item) (others : List (List ℕ)) → is_item i ≡ true → is_empty others ≡ false → read_table is_wide joins forms n (item_line i ∷ others) ≡ read_numbered forms n (numbered_draft 0 (begun is_wide joins)) (item_line i ∷ others)
+table_ends is_wide joins forms n i others g e =
+    let read = read_numbered forms n (numbered_draft 0 (begun is_wide joins)) (item_line i ∷ others) in
+    let go : List (List ℕ) → Read = λ ws. go_to n (add_form is_wide forms ws) (λ more. read_table is_wide joins more (suc n) others) in
     cond-false (is_empty others) (Err (BadLine n)) (by_table_words (table_words (words (item_line i))) read go) e
     ∙ ap (λ o. by_table_words o read go) (no_table_words (words (item_line i)) i (item_forth i g))
 
@@ -169,17 +169,17 @@ add_form_forth is_wide forms f h k n =
     ∙ cond-true ((is_wide || is_narrow_form f) && not (has_form forms f)) (Some (forms ++ f ∷ [])) None (andt (is_wide || is_narrow_form f) (not (has_form forms f)) k n)
 
 -- the lines of the table are read
-table_reads : (is_wide : Bool) (before forms : FormTable) (n : ℕ) (lines : List (List ℕ)) → is_fresh before forms ≡ true → all is_form forms ≡ true → all (form_fits is_wide) forms ≡ true → is_empty lines ≡ false → (m : ℕ) × (read_table is_wide before n (map table_line forms ++ lines) ≡ read_table is_wide (before ++ forms) m lines)
-table_reads is_wide before [] n lines h g k e = (n, ap (λ t. read_table is_wide t n lines) (sym (append-nil before)))
-table_reads is_wide before (f ∷ forms) n lines h g k e =
+table_reads : (is_wide joins : Bool) (before forms : FormTable) (n : ℕ) (lines : List (List ℕ)) → is_fresh before forms ≡ true → all is_form forms ≡ true → all (form_fits is_wide) forms ≡ true → is_empty lines ≡ false → (m : ℕ) × (read_table is_wide joins before n (map table_line forms ++ lines) ≡ read_table is_wide joins (before ++ forms) m lines)
+table_reads is_wide joins before [] n lines h g k e = (n, ap (λ t. read_table is_wide joins t n lines) (sym (append-nil before)))
+table_reads is_wide joins before (f ∷ forms) n lines h g k e =
     let p = both (not (has_form before f)) (is_fresh (before ++ f ∷ []) forms) h in
     let q = both (is_form f) (all is_form forms) g in
     let s = both (form_fits is_wide f) (all (form_fits is_wide) forms) k in
     let others : List (List ℕ) = map table_line forms ++ lines in
-    let r = table_reads is_wide (before ++ f ∷ []) forms (suc n) lines p.1 q.1 s.1 e in (
+    let r = table_reads is_wide joins (before ++ f ∷ []) forms (suc n) lines p.1 q.1 s.1 e in (
       r.0,
-      cond-false (is_empty others) (Err (BadLine n)) (go_to n (add_form is_wide before (pieces 32 (form_text f))) (λ more. read_table is_wide more (suc n) others)) (some_more (map table_line forms) lines e)
-          ∙ ap (λ o. go_to n o (λ more. read_table is_wide more (suc n) others)) (add_form_forth is_wide before f q.0 s.0 p.0) ∙ r.1 ∙ ap (λ t. read_table is_wide t r.0 lines) (sym (moved before f forms)),
+      cond-false (is_empty others) (Err (BadLine n)) (go_to n (add_form is_wide before (pieces 32 (form_text f))) (λ more. read_table is_wide joins more (suc n) others)) (some_more (map table_line forms) lines e)
+          ∙ ap (λ o. go_to n o (λ more. read_table is_wide joins more (suc n) others)) (add_form_forth is_wide before f q.0 s.0 p.0) ∙ r.1 ∙ ap (λ t. read_table is_wide joins t r.0 lines) (sym (moved before f forms)),
     )
 
 table_free : (forms : FormTable) → all is_form forms ≡ true → all (is_free 10) (map table_line forms) ≡ true
@@ -234,9 +234,9 @@ lines_long : (lines : List (List ℕ)) → length lines ≤ length (text_of_line
 lines_long [] = omega arith
 lines_long (l ∷ lines) = omega (arith, lines_long lines, length-append (l ++ 10 ∷ []) (text_of_lines lines), length-append l (10 ∷ []))
 
-table_long : (forms : FormTable) (first : List ℕ) (rest : List (List ℕ)) → length forms ≤ length (text_of_lines (first ∷ (map table_line forms ++ rest)))
-table_long forms first rest =
-    omega (arith, lines_long (first ∷ (map table_line forms ++ rest)), length-append (map table_line forms) rest, length-map forms table_line)
+table_long : (before : List (List ℕ)) (forms : FormTable) (first : List ℕ) (rest : List (List ℕ)) → length forms ≤ length (text_of_lines (first ∷ (before ++ (map table_line forms ++ rest))))
+table_long before forms first rest =
+    omega (arith, lines_long (first ∷ (before ++ (map table_line forms ++ rest))), length-append before (map table_line forms ++ rest), length-append (map table_line forms) rest, length-map forms table_line)
 
 first_reads : (is_wide : Bool) → numbered_head is_wide (version_of (words (first_line is_wide))) ≡ None
 first_reads false = ap (λ r. numbered_head false (number r)) (ap integer_of (sym (decimal_digit 2 (omega arith))) ∙ integer_forth (pos 2) refl)
@@ -251,23 +251,70 @@ begins_by [] i = (i, [], refl)
 begins_by (j ∷ items) i = (j, items ++ i ∷ [], refl)
 
 -- all lines behind the table
-behind_table : (is_wide : Bool) (forms : FormTable) (n : ℕ) (i : Item) (items : List Item) → all is_form forms ≡ true → length forms ≤ certificate_limit → all is_part (i ∷ items) ≡ true → forms ≡ forms_in (i ∷ items) → read_table is_wide forms n (numbered_lines forms (i ∷ items) ++ [] ∷ []) ≡ read_numbered forms n (numbered_draft 0 (begun is_wide)) (numbered_lines forms (i ∷ items) ++ [] ∷ [])
-behind_table is_wide forms n i items fine small good t =
+behind_table : (is_wide joins : Bool) (forms : FormTable) (n : ℕ) (i : Item) (items : List Item) → all is_form forms ≡ true → length forms ≤ certificate_limit → all is_part (i ∷ items) ≡ true → forms ≡ forms_in (i ∷ items) → read_table is_wide joins forms n (numbered_lines forms (i ∷ items) ++ [] ∷ []) ≡ read_numbered forms n (numbered_draft 0 (begun is_wide joins)) (numbered_lines forms (i ∷ items) ++ [] ∷ [])
+behind_table is_wide joins forms n i items fine small good t =
     let x = first_fills forms [] i items fine small (both (is_part i) (all is_part items) good).0 t in
-    table_ends is_wide forms n (numbered forms i) (numbered_lines forms items ++ [] ∷ []) x.good (some_more (numbered_lines forms items) ([] ∷ []) refl)
+    table_ends is_wide joins forms n (numbered forms i) (numbered_lines forms items ++ [] ∷ []) x.good (some_more (numbered_lines forms items) ([] ∷ []) refl)
 
-behind_table_of : (is_wide : Bool) (forms : FormTable) (n : ℕ) (items : List Item) (i : Item) → all is_form forms ≡ true → length forms ≤ certificate_limit → all is_part (items ++ i ∷ []) ≡ true → forms ≡ forms_in (items ++ i ∷ []) → read_table is_wide forms n (numbered_lines forms (items ++ i ∷ []) ++ [] ∷ []) ≡ read_numbered forms n (numbered_draft 0 (begun is_wide)) (numbered_lines forms (items ++ i ∷ []) ++ [] ∷ [])
-behind_table_of is_wide forms n items i fine small good t =
+behind_table_of : (is_wide joins : Bool) (forms : FormTable) (n : ℕ) (items : List Item) (i : Item) → all is_form forms ≡ true → length forms ≤ certificate_limit → all is_part (items ++ i ∷ []) ≡ true → forms ≡ forms_in (items ++ i ∷ []) → read_table is_wide joins forms n (numbered_lines forms (items ++ i ∷ []) ++ [] ∷ []) ≡ read_numbered forms n (numbered_draft 0 (begun is_wide joins)) (numbered_lines forms (items ++ i ∷ []) ++ [] ∷ [])
+behind_table_of is_wide joins forms n items i fine small good t =
     let b = begins_by items i in
-    let r = behind_table is_wide forms n b.0 b.1 fine small (ap (all is_part) (sym b.2) ∙ good) (t ∙ ap forms_in b.2) in
-    subst (λ (js : List Item). read_table is_wide forms n (numbered_lines forms js ++ [] ∷ []) ≡ read_numbered forms n (numbered_draft 0 (begun is_wide)) (numbered_lines forms js ++ [] ∷ [])) (sym b.2) r
+    let r = behind_table is_wide joins forms n b.0 b.1 fine small (ap (all is_part) (sym b.2) ∙ good) (t ∙ ap forms_in b.2) in
+    subst (λ (js : List Item). read_table is_wide joins forms n (numbered_lines forms js ++ [] ∷ []) ≡ read_numbered forms n (numbered_draft 0 (begun is_wide joins)) (numbered_lines forms js ++ [] ∷ [])) (sym b.2) r
+
+-- no line of a certificate is the line `join`
+no_join_item : (i : Item) → bytes_eq (item_line i) (codes "join") ≡ false
+no_join_item (PlaceItem s) = refl
+no_join_item (SameItem name) = refl
+no_join_item (FactItem f) = refl
+no_join_item (CongruenceItem c) = refl
+no_join_item (MultipleItem m) = refl
+no_join_item (BoundItem b) = refl
+no_join_item (EntryItem n s) = refl
+no_join_item (LemmaItem f) = refl
+no_join_item MainItem = refl
+no_join_item (StepItem (Given fact)) = refl
+no_join_item (StepItem (Sum parts)) = refl
+no_join_item (StepItem (Divide quotient)) = refl
+no_join_item (StepItem (Product first second)) = refl
+no_join_item EndItem = refl
+
+abbrev begins_with_join : List (List ℕ) → Bool
+begins_with_join [] = false
+begins_with_join (line ∷ lines) = bytes_eq line (codes "join")
+
+no_join : (forms table : FormTable) (items : List Item) → begins_with_join (map table_line forms ++ numbered_lines table items) ≡ false
+no_join (f ∷ forms) table items = refl
+no_join [] table [] = refl
+no_join [] table (i ∷ items) = no_join_item (numbered table i)
+
+joined_free : (is_wide joins : Bool) → all (is_free 10) (joined_lines is_wide joins) ≡ true
+joined_free false joins = refl
+joined_free true false = refl
+joined_free true true = refl
+
+-- the line `join` is read where the certificate joins
+behind_reads : (is_wide joins : Bool) (lines : List (List ℕ)) → (is_wide || not joins) ≡ true → begins_with_join lines ≡ false → read_behind is_wide ((joined_lines is_wide joins ++ lines) ++ [] ∷ []) ≡ read_table is_wide joins [] (table_start joins) (lines ++ [] ∷ [])
+behind_reads false true lines m h = absurd (false≢true m)
+behind_reads false false [] m h = refl
+behind_reads false false (line ∷ lines) m h = refl
+behind_reads true true lines m h =
+    let rest : List (List ℕ) = lines ++ [] ∷ [] in
+    cond-true (not (is_empty rest)) (read_table true true [] 3 rest) (read_table true false [] 2 (codes "join" ∷ rest)) (ap not (some_more lines ([] ∷ []) refl))
+behind_reads true false [] m h = refl
+behind_reads true false (line ∷ lines) m h =
+    let rest : List (List ℕ) = lines ++ [] ∷ [] in
+    cond-false (bytes_eq line (codes "join") && not (is_empty rest)) (read_table true true [] 3 rest) (read_table true false [] 2 (line ∷ rest)) (ap (λ t. t && not (is_empty rest)) h)
 
 numbered_forth : (is_wide : Bool) (c : Certificate) → is_any_certificate c ≡ true → c.is_wide ≡ is_wide → length (numbered_text is_wide c) ≤ certificate_limit → numbered_certificate is_wide (numbered_text is_wide c) ≡ Ok c
 numbered_forth is_wide c h kind l =
     let forms : FormTable = forms_of c in
+    let joins : Bool = c.joins in
     let own = both (c.is_wide || is_narrow c) (is_written c) h in
+    let may_join : (is_wide || not joins) ≡ true = ap (λ w. w || not joins) (sym kind) ∙ joins_where c own.0 in
     let items : List Item = items_of c ++ EndItem ∷ [] in
     let lines : List (List ℕ) = numbered_lines forms items in
+    let before : List (List ℕ) = joined_lines is_wide joins in
     let t : forms ≡ forms_in items = sym (forms_push (items_of c) EndItem) in
     let good : all is_part items ≡ true = all_push is_part (items_of c) EndItem (items_good c h) refl in
     let fine : all is_form forms ≡ true = held is_form [] (flat_map line_forms (items_of c)) refl (forms_good (items_of c) (items_good c h)) in
@@ -275,21 +322,23 @@ numbered_forth is_wide c h kind l =
     let fit : all (form_fits is_wide) forms ≡ true = held (form_fits is_wide) [] (flat_map line_forms (items_of c)) refl (forms_fit is_wide (items_of c) inside) in
     let fresh : is_fresh [] forms ≡ true = fresh_fold [] (flat_map line_forms (items_of c)) refl in
     let first : List ℕ = first_line is_wide in
-    let same_text : numbered_text is_wide c ≡ text_of_lines (first ∷ (map table_line forms ++ lines)) = ap (λ ls. text_of_lines (first ∷ (map table_line forms ++ ls))) (sym (map_push (numbered_line forms) (items_of c) EndItem)) in
-    let small : length forms ≤ certificate_limit = omega (arith, l, table_long forms first lines, ap length same_text) in
+    let body : List (List ℕ) = before ++ (map table_line forms ++ lines) in
+    let same_text : numbered_text is_wide c ≡ text_of_lines (first ∷ body) = ap (λ ls. text_of_lines (first ∷ (before ++ (map table_line forms ++ ls)))) (sym (map_push (numbered_line forms) (items_of c) EndItem)) in
+    let small : length forms ≤ certificate_limit = omega (arith, l, table_long before forms first lines, ap length same_text) in
     let free : all (is_free 10) (map table_line forms ++ lines) ≡ true = all_append (is_free 10) (map table_line forms) lines (table_free forms fine) (numbered_good forms items [] fine small good t) in
-    let cut = pieces_of_lines (first ∷ (map table_line forms ++ lines)) (andt (is_free 10 first) (all (is_free 10) (map table_line forms ++ lines)) (first_free is_wide) free) in
-    let rest : List (List ℕ) = (map table_line forms ++ lines) ++ [] ∷ [] in
-    let r = table_reads is_wide [] forms 2 (lines ++ [] ∷ []) fresh fine fit (some_more lines ([] ∷ []) refl) in
-    let added : add_all (begun is_wide) items ≡ Some (draft c Ended) = ap (λ w. add_all (begun w) items) (sym kind) ∙ all_added c own.1 in
+    let all_free : all (is_free 10) body ≡ true = all_append (is_free 10) before (map table_line forms ++ lines) (joined_free is_wide joins) free in
+    let cut = pieces_of_lines (first ∷ body) (andt (is_free 10 first) (all (is_free 10) body) (first_free is_wide) all_free) in
+    let rest : List (List ℕ) = body ++ [] ∷ [] in
+    let r = table_reads is_wide joins [] forms (table_start joins) (lines ++ [] ∷ []) fresh fine fit (some_more lines ([] ∷ []) refl) in
+    let added : add_all (begun is_wide joins) items ≡ Some (draft c Ended) = ap (λ w. add_all (begun w joins) items) (sym kind) ∙ all_added c own.1 in
     let fits : Fits is_wide items = all_push (fits_in is_wide) (items_of c) EndItem inside (end_fits is_wide) in
     cond-false (nat_lt certificate_limit (length (numbered_text is_wide c))) (Err (BadLine 1)) (read_numbered_text is_wide (pieces 10 (numbered_text is_wide c))) (short (numbered_text is_wide c) l)
     ∙ ap (λ x. read_numbered_text is_wide (pieces 10 x)) same_text ∙ ap (read_numbered_text is_wide) cut
-    ∙ cond-false (is_empty rest) (Err (BadLine 1)) (unless (numbered_head is_wide (version_of (words first))) (read_table is_wide [] 2 rest)) (some_more (map table_line forms ++ lines) ([] ∷ []) refl)
-    ∙ ap (λ f. unless f (read_table is_wide [] 2 rest)) (first_reads is_wide)
-    ∙ ap (read_table is_wide [] 2) (append_assoc (map table_line forms) lines ([] ∷ [])) ∙ r.1
-    ∙ behind_table_of is_wide forms r.0 (items_of c) EndItem fine small good t
-    ∙ numbered_go forms r.0 (begun is_wide) items [] c fine small (nothing_read is_wide).draft good fits t added
+    ∙ cond-false (is_empty rest) (Err (BadLine 1)) (unless (numbered_head is_wide (version_of (words first))) (read_behind is_wide rest)) (some_more body ([] ∷ []) refl)
+    ∙ ap (λ f. unless f (read_behind is_wide rest)) (first_reads is_wide) ∙ behind_reads is_wide joins (map table_line forms ++ lines) may_join (no_join forms forms items)
+    ∙ ap (read_table is_wide joins [] (table_start joins)) (append_assoc (map table_line forms) lines ([] ∷ [])) ∙ r.1
+    ∙ behind_table_of is_wide joins forms r.0 (items_of c) EndItem fine small good t
+    ∙ numbered_go forms r.0 (begun is_wide joins) items [] c fine small (nothing_read is_wide joins may_join).draft good fits t added
 
 pub certificate_of_two_forth : (c : Certificate) → is_certificate c ≡ true → length (text_of_two c) ≤ certificate_limit → certificate_of_two (text_of_two c) ≡ Ok c
 certificate_of_two_forth c h l = let p = both (not c.is_wide) (is_any_certificate c) h in numbered_forth false c p.1 (denied c.is_wide p.0) l

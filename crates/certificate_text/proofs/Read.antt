@@ -55,7 +55,7 @@ ended_items d c e s = ap (λ t. items_of d.settled ++ t) (is_open_end d.opened e
 
 -- what is settled has a text at any time
 pub settled_good : (d : Draft) → IsRead d → is_any_certificate d.settled ≡ true
-settled_good d h = andt (d.settled.is_wide || is_narrow d.settled) (is_written d.settled) (fit_back d.settled (open_items d.opened) h.fits) h.draft.settled
+settled_good d h = andt (d.settled.is_wide || is_narrow d.settled) (is_written d.settled) (fit_back d.settled (open_items d.opened) h.may_join h.fits) h.draft.settled
 
 pub ended_good : (d : Draft) (c : Certificate) → IsRead d → d.settled ≡ c → is_any_certificate c ≡ true
 ended_good d c h s = ap is_any_certificate (sym s) ∙ settled_good d h
@@ -108,8 +108,8 @@ pub unless_back : (f : Option CertificateFault) (read : Read) (c : Certificate) 
 unless_back None read c q = (refl, q)
 unless_back (Some f) read c q = absurd cc
 
-pub nothing_read : (is_wide : Bool) → IsRead (begun is_wide)
-nothing_read is_wide = record { draft = record { settled = refl; opened = tt }; fits = refl }
+pub nothing_read : (is_wide joins : Bool) → (is_wide || not joins) ≡ true → IsRead (begun is_wide joins)
+nothing_read is_wide joins h = record { draft = record { settled = refl; opened = tt }; fits = refl; may_join = h }
 
 pub narrow : (c : Certificate) → is_any_certificate c ≡ true → c.is_wide ≡ false → is_certificate c ≡ true
 narrow c h w = andt (not c.is_wide) (is_any_certificate c) (ap not w) h
@@ -121,7 +121,7 @@ text_back (line ∷ others) c =
     (λ e q. absurd cc)
     (λ e q.
     let u = unless_back (head_fault (words line)) (read_lines 2 nothing_yet others) c q in
-    let r = read_back 2 nothing_yet others c (nothing_read false) u.1 in
+    let r = read_back 2 nothing_yet others c (nothing_read false false refl) u.1 in
     (ap (λ t. (codes "certificate 1" ++ (10 ∷ [])) ++ t) (sym r.0) ∙ ap (λ t. t ++ (10 ∷ join_with_byte 10 others)) (sym (first_line line u.0)) ∙ sym (joined_more line others e), narrow c r.1 r.2))
 
 pub certificate_back : (text : List ℕ) (c : Certificate) → certificate_of text ≡ Ok c → (text_of c ≡ text) × (is_certificate c ≡ true)

@@ -15,7 +15,7 @@ use Rattle.certificate_text.specs.Forms.{then, number}
 use Rattle.certificate_text.specs.Lines.{Item, PlaceItem, SameItem, FactItem, CongruenceItem, MultipleItem, BoundItem, EntryItem, LemmaItem, MainItem, StepItem, EndItem}
 use Rattle.certificate_text.specs.Drafts.{Ended, Draft, draft, begun, nothing_yet, add}
 use Rattle.certificate_text.specs.Reading.{add_fitting, add_line, finish, go_on, read_lines, unless, head_of_version, head_fault, read_text, certificate_limit, certificate_of}
-use Rattle.certificate_text.specs.Rules.{all, is_name, is_term, is_form, is_anchor, is_head, is_descent, is_sort, is_scaled, is_narrow, is_narrow_item, is_written, is_certificate, is_any_certificate}
+use Rattle.certificate_text.specs.Rules.{all, is_name, is_term, is_form, is_anchor, is_head, is_descent, is_sort, is_scaled, has_narrow_lines, is_narrow, is_narrow_item, is_written, is_certificate, is_any_certificate}
 use Rattle.texts.proofs.Fits.{both}
 use Rattle.texts.proofs.Decimals.{integer_forth}
 use Rattle.certificate_text.proofs.Cuts.{then_back, all_push}
@@ -27,7 +27,7 @@ use Rattle.certificate_text.proofs.PartsRead.{andt, same}
 use Rattle.certificate_text.proofs.ItemsWritten.{item_forth}
 use Rattle.certificate_text.proofs.ItemsNumbered.{lines_are, items_good, narrow_items}
 use Rattle.certificate_text.proofs.ItemsAdded.{add_all, all_added, fitting, end_fits}
-use Rattle.certificate_text.proofs.Narrowness.{fits_in, Fits, items_narrow, items_fit}
+use Rattle.certificate_text.proofs.Narrowness.{fits_in, Fits, items_narrow, joins_where, items_fit}
 use Rattle.certificate_text.proofs.DraftsRead.{IsDraft, add_back}
 use Rattle.certificate_text.proofs.Read.{nothing_read}
 use Rattle.certificate_text.proofs.Tables.{denied}
@@ -153,15 +153,17 @@ certificate_forth c h l =
     let p = both (not c.is_wide) (is_any_certificate c) h in
     let kind = denied c.is_wide p.0 in
     let w = both (c.is_wide || is_narrow c) (is_written c) p.1 in
+    let only : is_narrow c ≡ true = ap (λ v. v || is_narrow c) (sym kind) ∙ w.0 in
+    let alone : c.joins ≡ false = denied c.joins (both (not c.joins) (has_narrow_lines c) only).0 in
     let items : List Item = items_of c ++ EndItem ∷ [] in
-    let narrow : all is_narrow_item (items_of c) ≡ true = items_narrow c ∙ ap (λ v. v || is_narrow c) (sym kind) ∙ w.0 in
+    let narrow : all is_narrow_item (items_of c) ≡ true = items_narrow c ∙ (both (not c.joins) (has_narrow_lines c) only).1 in
     let good : all is_item items ≡ true = all_push is_item (items_of c) EndItem (narrow_items (items_of c) (items_good c p.1) narrow) refl in
     let fits : Fits c.is_wide items = all_push (fits_in c.is_wide) (items_of c) EndItem (items_fit c w.0) (end_fits c.is_wide) in
     let lines : body_lines c ++ codes "end" ∷ [] ≡ map item_line items = ap (λ ls. ls ++ codes "end" ∷ []) (sym (lines_are c)) ∙ sym (map_push item_line (items_of c) EndItem) in
     let rest : List (List ℕ) = map item_line items in
     let text : text_of c ≡ text_of_lines (codes "certificate 1" ∷ rest) = ap (λ ls. text_of_lines (codes "certificate 1" ∷ ls)) lines in
     let cut = ap (pieces 10) text ∙ pieces_of_lines (codes "certificate 1" ∷ rest) (andt true (all (is_free 10) rest) refl (lines_free items good)) in
-    let r = lines_go 2 (begun c.is_wide) items (draft c Ended) ([] ∷ []) (nothing_read c.is_wide).draft good fits (all_added c w.1) refl in
+    let r = lines_go 2 (begun c.is_wide c.joins) items (draft c Ended) ([] ∷ []) (nothing_read c.is_wide c.joins (joins_where c w.0)).draft good fits (all_added c w.1) refl in
     cond-false (nat_lt certificate_limit (length (text_of c))) _ _ (short (text_of c) l) ∙ ap read_text cut
     ∙ cond-false (is_empty (rest ++ [] ∷ [])) _ _ (some_more rest ([] ∷ []) refl) ∙ ap (λ f. unless f (read_lines 2 nothing_yet (rest ++ [] ∷ []))) first_reads
-    ∙ ap (λ v. read_lines 2 (begun v) (rest ++ [] ∷ [])) (sym kind) ∙ r.1
+    ∙ ap (λ v. read_lines 2 (begun v false) (rest ++ [] ∷ [])) (sym kind) ∙ ap (λ j. read_lines 2 (begun c.is_wide j) (rest ++ [] ∷ [])) (sym alone) ∙ r.1

@@ -88,9 +88,11 @@ pub record Entry : Type 0 where
   pub lemmas : List Lemma
   pub steps : List Step
 
--- in a wide certificate loops may double, and names, places and entries have what stands behind the first nine, the first four and the first three
+-- in a wide certificate loops may double, names, places and entries have what stands behind the first nine, the first four and the first three,
+-- and the walk may join ways
 pub record Certificate : Type 0 where
   pub is_wide : Bool
+  pub joins : Bool
   pub places : List Place
   pub bounds : List Bound
   pub entries : List Entry

@@ -39,21 +39,22 @@ pub record Draft : Type 0 where
 abbrev pub draft : Certificate → Open → Draft
 draft c o = record { settled = c; opened = o }
 
-abbrev pub certificate_with : (is_wide : Bool) → List Place → List Bound → List Entry → Certificate
-certificate_with is_wide places bounds entries = record { is_wide = is_wide; places = places; bounds = bounds; entries = entries }
+abbrev pub certificate_with : (is_wide joins : Bool) → List Place → List Bound → List Entry → Certificate
+certificate_with is_wide joins places bounds entries =
+    record { is_wide = is_wide; joins = joins; places = places; bounds = bounds; entries = entries }
 
 abbrev pub certificate : List Place → List Bound → List Entry → Certificate
-certificate places bounds entries = certificate_with false places bounds entries
+certificate places bounds entries = certificate_with false false places bounds entries
 
-abbrev pub wide_certificate : List Place → List Bound → List Entry → Certificate
-wide_certificate places bounds entries = certificate_with true places bounds entries
+abbrev pub wide_certificate : (joins : Bool) → List Place → List Bound → List Entry → Certificate
+wide_certificate joins places bounds entries = certificate_with true joins places bounds entries
 
--- of a certificate that is wide or not, before its first line
-abbrev pub begun : (is_wide : Bool) → Draft
-begun is_wide = draft (certificate_with is_wide [] [] []) Nothing
+-- of a certificate that is wide or not, and joins or not, before its first line
+abbrev pub begun : (is_wide joins : Bool) → Draft
+begun is_wide joins = draft (certificate_with is_wide joins [] [] []) Nothing
 
 abbrev pub nothing_yet : Draft
-nothing_yet = begun false
+nothing_yet = begun false false
 
 abbrev pub has_line : Place → Bool
 has_line p = not (is_empty p.same && (is_empty p.facts && (is_empty p.congruences && is_empty p.multiples)))

@@ -51,9 +51,14 @@ add_filled d line = then (add_fitting d line.1) (λ e. Some (numbered_draft line
 abbrev pub add_numbered : FormTable → NumberedDraft → List ℕ → Option NumberedDraft
 add_numbered forms d line = then (item_of (words line)) (λ item. then (filled forms d.used item) (add_filled d.read))
 
+-- the line of the first form: behind the first line, and the line `join` of a certificate that joins
+abbrev pub table_start : (joins : Bool) → ℕ
+table_start false = 2
+table_start true = 3
+
 -- each form was used: the first one that was not is at fault, at its line
 abbrev pub all_used : FormTable → NumberedDraft → Read
-all_used forms d = cond (nat_eq d.used (length forms)) (Ok d.read.settled) (Err (BadLine (d.used + 2)))
+all_used forms d = cond (nat_eq d.used (length forms)) (Ok d.read.settled) (Err (BadLine (d.used + table_start d.read.settled.joins)))
 
 abbrev pub finish_numbered : FormTable → ℕ → NumberedDraft → List ℕ → Read
 finish_numbered forms n d rest = cond (is_ended d.read.opened && is_empty rest) (all_used forms d) (Err (BadLine n))
@@ -82,12 +87,12 @@ by_table_words None read go = read
 by_table_words (Some words) read go = go words
 
 -- the lines of the table, and all others
-abbrev pub read_table : (is_wide : Bool) → FormTable → ℕ → List (List ℕ) → Read
-read_table is_wide forms n [] = Err (BadLine n)
-read_table is_wide forms n (line ∷ others) =
+abbrev pub read_table : (is_wide joins : Bool) → FormTable → ℕ → List (List ℕ) → Read
+read_table is_wide joins forms n [] = Err (BadLine n)
+read_table is_wide joins forms n (line ∷ others) =
     cond (is_empty others) (Err (BadLine n)) (by_table_words (table_words (words line))
-    (read_numbered forms n (numbered_draft 0 (begun is_wide)) (line ∷ others))
-    (λ ws. go_to n (add_form is_wide forms ws) (λ more. read_table is_wide more (suc n) others)))
+    (read_numbered forms n (numbered_draft 0 (begun is_wide joins)) (line ∷ others))
+    (λ ws. go_to n (add_form is_wide forms ws) (λ more. read_table is_wide joins more (suc n) others)))
 
 abbrev pub is_version : (is_wide : Bool) → ℤ → Bool
 is_version false version = int_eq version (pos 2)
@@ -98,10 +103,20 @@ abbrev pub numbered_head : (is_wide : Bool) → Option ℤ → Option Certificat
 numbered_head is_wide None = Some (BadLine 1)
 numbered_head is_wide (Some version) = cond (is_version is_wide version) None (Some OtherVersion)
 
+-- the line `join`, which a wide certificate may have; what follows the last line feed is no line
+abbrev pub is_join : (is_wide : Bool) → (line : List ℕ) → (others : List (List ℕ)) → Bool
+is_join is_wide line others = is_wide && (bytes_eq line (codes "join") && not (is_empty others))
+
+-- behind the first line
+abbrev pub read_behind : (is_wide : Bool) → List (List ℕ) → Read
+read_behind is_wide [] = Err (BadLine 2)
+read_behind is_wide (line ∷ others) =
+    cond (is_join is_wide line others) (read_table is_wide true [] (table_start true) others) (read_table is_wide false [] (table_start false) (line ∷ others))
+
 abbrev pub read_numbered_text : (is_wide : Bool) → List (List ℕ) → Read
 read_numbered_text is_wide [] = Err (BadLine 1)
 read_numbered_text is_wide (line ∷ others) =
-    cond (is_empty others) (Err (BadLine 1)) (unless (numbered_head is_wide (version_of (words line))) (read_table is_wide [] 2 others))
+    cond (is_empty others) (Err (BadLine 1)) (unless (numbered_head is_wide (version_of (words line))) (read_behind is_wide others))
 
 abbrev pub numbered_certificate : (is_wide : Bool) → List ℕ → Read
 numbered_certificate is_wide text =

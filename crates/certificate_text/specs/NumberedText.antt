@@ -1,5 +1,5 @@
 -- The text of a certificate in version 2, and of a wide one in version 4: its forms in a table, and in its lines their numbers.
-use Rattle.std.specs.Prelude.{ℕ, pos, List, [], ◌∷◌, ◌++◌, map, fold, codes}
+use Rattle.std.specs.Prelude.{ℕ, pos, Bool, true, false, List, [], ◌∷◌, ◌++◌, map, fold, codes}
 use Rattle.std.specs.List.{flat_map}
 use Rattle.linear.specs.Linear.{Form}
 use Rattle.texts.specs.Lines.{text_of_lines}
@@ -42,5 +42,10 @@ lines_of_two forms c = map table_line forms ++ (map (numbered_line forms) (items
 abbrev pub text_of_two : Certificate → List ℕ
 text_of_two c = text_of_lines (codes "certificate 2" ∷ lines_of_two (forms_of c) c)
 
+-- the line of a certificate that joins
+abbrev pub join_lines : (joins : Bool) → List (List ℕ)
+join_lines false = []
+join_lines true = codes "join" ∷ []
+
 abbrev pub text_of_four : Certificate → List ℕ
-text_of_four c = text_of_lines (codes "certificate 4" ∷ lines_of_two (forms_of c) c)
+text_of_four c = text_of_lines (codes "certificate 4" ∷ (join_lines c.joins ++ lines_of_two (forms_of c) c))

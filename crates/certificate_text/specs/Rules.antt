@@ -124,7 +124,7 @@ bound_is_before left right = nat_lt left.loop right.loop
 abbrev pub entry_is_before : (left right : Entry) → Bool
 entry_is_before left right = nat_lt left.obligation right.obligation
 
--- what versions 1 and 2 have no words for is missing: the second item's symbols, products, multiples, loops that double, lemmas
+-- what versions 1 and 2 have no words for is missing: the second item's symbols, products, multiples, loops that double, lemmas, ways that join
 abbrev pub is_narrow_name : Name → Bool
 is_narrow_name (Second name) = false
 is_narrow_name (Product first others) = false
@@ -178,8 +178,11 @@ is_narrow_item MainItem = false
 is_narrow_item (StepItem s) = is_narrow_step s
 is_narrow_item EndItem = true
 
+abbrev pub has_narrow_lines : Certificate → Bool
+has_narrow_lines c = all is_narrow_place c.places && (all is_narrow_bound c.bounds && all is_narrow_entry c.entries)
+
 abbrev pub is_narrow : Certificate → Bool
-is_narrow c = all is_narrow_place c.places && (all is_narrow_bound c.bounds && all is_narrow_entry c.entries)
+is_narrow c = not c.joins && has_narrow_lines c
 
 -- places rise by their spots, bounds by their loops, entries by their obligations
 abbrev pub is_written : Certificate → Bool

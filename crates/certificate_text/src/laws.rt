@@ -2,7 +2,7 @@
 //! text says one certificate. In version 2 `text_of_two` and `certificate_of_two` are, and in version 4, for wide certificates,
 //! `text_of_four` and `certificate_of_four`.
 
-ghost use Rattle.std.specs.Prelude.{◌≡◌, ◌≤◌, ◌++◌, ℕ, ℤ, pos, negsuc, List, [], ◌∷◌, length, true, None, Ok, Err, codes};
+ghost use Rattle.std.specs.Prelude.{◌≡◌, ◌≤◌, ◌++◌, ℕ, ℤ, pos, negsuc, List, [], ◌∷◌, length, true, false, None, Ok, Err, codes};
 ghost use Rattle.std.specs.Fmt.{decimal, signed_decimal};
 ghost use Rattle.linear.specs.Linear.{Form};
 ghost use Rattle.certificate_text.specs.Certificate.{Name, Variable, Argument, Group, Second, Product, Barrier, Congruence, Multiple, Double, Bound, Show, Quotient, Given, Certificate, CertificateFault, BadLine, OtherVersion};
@@ -106,7 +106,7 @@ pub fn texts_of_two_are_read()
 
 /// What texts of version 4 say, and that their lines are none of other versions.
 pub fn texts_of_four_are_read()
-    ensures doubled { certificate_of_four (codes "certificate 4\nform 1*n + -1\nloop 3 double 2 64 1\nend\n") ≡ Ok (wide_certificate [] (record { loop = 3; descent = Double 2; most = pos 64; form = form (weighted (pos 1) (Variable (codes "n")) ∷ []) (negsuc 0) } ∷ []) []) }
+    ensures doubled { certificate_of_four (codes "certificate 4\nform 1*n + -1\nloop 3 double 2 64 1\nend\n") ≡ Ok (wide_certificate false [] (record { loop = 3; descent = Double 2; most = pos 64; form = form (weighted (pos 1) (Variable (codes "n")) ∷ []) (negsuc 0) } ∷ []) []) }
     ensures any { certificate_any (codes "certificate 4\nform 1*n + -1\nloop 3 double 2 64 1\nend\n") ≡ certificate_of_four (codes "certificate 4\nform 1*n + -1\nloop 3 double 2 64 1\nend\n") }
     ensures from_nought { certificate_of_four (codes "certificate 4\nform 1*n + -1\nloop 3 double 0 64 1\nend\n") ≡ Err (BadLine 3) }
     ensures in_two { certificate_of_two (codes "certificate 2\nform 1*n + -1\nloop 3 double 2 64 1\nend\n") ≡ Err (BadLine 3) }
@@ -119,24 +119,38 @@ pub fn texts_of_four_are_read()
 
 /// What texts of version 4 say of products, of the second item's symbols and of multiples, and that other versions have none of them.
 pub fn texts_with_products_are_read()
-    ensures product { certificate_of_four (codes "certificate 4\nform 1*x*y + 0\nplace b3\nfact 1\nend\n") ≡ Ok (wide_certificate (record { spot = record { anchor = Barrier 3; head = None }; same = []; facts = form (weighted (pos 1) (Product (Variable (codes "x")) (Variable (codes "y"))) ∷ []) (pos 0) ∷ []; congruences = []; multiples = [] } ∷ []) [] []) }
-    ensures three { certificate_of_four (codes "certificate 4\nform 3*arg.w*group.1*group.1 + 0\nplace b3\nfact 1\nend\n") ≡ Ok (wide_certificate (record { spot = record { anchor = Barrier 3; head = None }; same = []; facts = form (weighted (pos 3) (Product (Argument (codes "w")) (Product (Group Second) (Group Second))) ∷ []) (pos 0) ∷ []; congruences = []; multiples = [] } ∷ []) [] []) }
-    ensures second { certificate_of_four (codes "certificate 4\nform 1*x'*y + 0\nplace b3\nfact 1\nend\n") ≡ Ok (wide_certificate (record { spot = record { anchor = Barrier 3; head = None }; same = []; facts = form (weighted (pos 1) (Product (Second (Variable (codes "x"))) (Variable (codes "y"))) ∷ []) (pos 0) ∷ []; congruences = []; multiples = [] } ∷ []) [] []) }
+    ensures product { certificate_of_four (codes "certificate 4\nform 1*x*y + 0\nplace b3\nfact 1\nend\n") ≡ Ok (wide_certificate false (record { spot = record { anchor = Barrier 3; head = None }; same = []; facts = form (weighted (pos 1) (Product (Variable (codes "x")) (Variable (codes "y"))) ∷ []) (pos 0) ∷ []; congruences = []; multiples = [] } ∷ []) [] []) }
+    ensures three { certificate_of_four (codes "certificate 4\nform 3*arg.w*group.1*group.1 + 0\nplace b3\nfact 1\nend\n") ≡ Ok (wide_certificate false (record { spot = record { anchor = Barrier 3; head = None }; same = []; facts = form (weighted (pos 3) (Product (Argument (codes "w")) (Product (Group Second) (Group Second))) ∷ []) (pos 0) ∷ []; congruences = []; multiples = [] } ∷ []) [] []) }
+    ensures second { certificate_of_four (codes "certificate 4\nform 1*x'*y + 0\nplace b3\nfact 1\nend\n") ≡ Ok (wide_certificate false (record { spot = record { anchor = Barrier 3; head = None }; same = []; facts = form (weighted (pos 1) (Product (Second (Variable (codes "x"))) (Variable (codes "y"))) ∷ []) (pos 0) ∷ []; congruences = []; multiples = [] } ∷ []) [] []) }
     ensures out_of_order { certificate_of_four (codes "certificate 4\nform 1*y*x + 0\nplace b3\nfact 1\nend\n") ≡ Err (BadLine 2) }
     ensures too_many { certificate_of_four (codes "certificate 4\nform 1*x*x*x*x + 0\nplace b3\nfact 1\nend\n") ≡ Err (BadLine 2) }
     ensures product_in_two { certificate_of_two (codes "certificate 2\nform 1*x*y + 0\nplace b3\nfact 1\nend\n") ≡ Err (BadLine 2) }
     ensures second_in_one { certificate_of (codes "certificate 1\nplace b3\nfact 1*x' + 0\nend\n") ≡ Err (BadLine 3) }
-    ensures multiple { certificate_of_four (codes "certificate 4\nform 1*x + 0\nplace b3\nmultiple 1 of 1\nend\n") ≡ Ok (wide_certificate (record { spot = record { anchor = Barrier 3; head = None }; same = []; facts = []; congruences = []; multiples = record { of = form (weighted (pos 1) (Variable (codes "x")) ∷ []) (pos 0); form = form (weighted (pos 1) (Variable (codes "x")) ∷ []) (pos 0) } ∷ [] } ∷ []) [] []) }
+    ensures multiple { certificate_of_four (codes "certificate 4\nform 1*x + 0\nplace b3\nmultiple 1 of 1\nend\n") ≡ Ok (wide_certificate false (record { spot = record { anchor = Barrier 3; head = None }; same = []; facts = []; congruences = []; multiples = record { of = form (weighted (pos 1) (Variable (codes "x")) ∷ []) (pos 0); form = form (weighted (pos 1) (Variable (codes "x")) ∷ []) (pos 0) } ∷ [] } ∷ []) [] []) }
     ensures multiple_in_two { certificate_of_two (codes "certificate 2\nform 1*x + 0\nplace b3\nmultiple 1 of 1\nend\n") ≡ Err (BadLine 4) }
 {}
 
 /// What texts of version 4 say of lemmas and of products of lines, and that other versions have none of them.
 pub fn texts_with_lemmas_are_read()
-    ensures lemma { certificate_of_four (codes "certificate 4\nform 1*x + 0\nob 2 show\nl 1\ng 1\nm\np 1 2\nend\n") ≡ Ok (wide_certificate [] [] (record { obligation = 2; sort = Show; lemmas = record { form = form (weighted (pos 1) (Variable (codes "x")) ∷ []) (pos 0); steps = Given (pos 1) ∷ [] } ∷ []; steps = Product (pos 1) (pos 2) ∷ [] } ∷ [])) }
+    ensures lemma { certificate_of_four (codes "certificate 4\nform 1*x + 0\nob 2 show\nl 1\ng 1\nm\np 1 2\nend\n") ≡ Ok (wide_certificate false [] [] (record { obligation = 2; sort = Show; lemmas = record { form = form (weighted (pos 1) (Variable (codes "x")) ∷ []) (pos 0); steps = Given (pos 1) ∷ [] } ∷ []; steps = Product (pos 1) (pos 2) ∷ [] } ∷ [])) }
     ensures not_ended { certificate_of_four (codes "certificate 4\nform 1*x + 0\nob 2 show\nl 1\ng 1\nend\n") ≡ Err (BadLine 6) }
     ensures not_asked { certificate_of_four (codes "certificate 4\nob 2 show\nm\ng 1\nend\n") ≡ Err (BadLine 3) }
     ensures twice { certificate_of_four (codes "certificate 4\nform 1*x + 0\nob 2 show\nl 1\nm\nm\nend\n") ≡ Err (BadLine 6) }
     ensures late { certificate_of_four (codes "certificate 4\nform 1*x + 0\nob 2 show\ng 1\nl 1\nm\nend\n") ≡ Err (BadLine 5) }
     ensures lemma_in_two { certificate_of_two (codes "certificate 2\nform 1*x + 0\nob 2 show\nl 1\nm\nend\n") ≡ Err (BadLine 4) }
     ensures step_in_one { certificate_of (codes "certificate 1\nob 2 show\np 1 2\nend\n") ≡ Err (BadLine 3) }
+{}
+
+/// What texts of version 4 say of a certificate that joins: the line `join` stands behind the first line, and is one that faults count. Other
+/// versions have none.
+pub fn texts_that_join_are_read()
+    ensures joined { certificate_of_four (codes "certificate 4\njoin\nplace b3\nsame x\nend\n") ≡ Ok (wide_certificate true (record { spot = record { anchor = Barrier 3; head = None }; same = codes "x" ∷ []; facts = []; congruences = []; multiples = [] } ∷ []) [] []) }
+    ensures unused { certificate_of_four (codes "certificate 4\njoin\nform 1\nplace b3\nsame x\nend\n") ≡ Err (BadLine 3) }
+    ensures bad { certificate_of_four (codes "certificate 4\njoin\nplace b3\nend\n") ≡ Err (BadLine 4) }
+    ensures twice { certificate_of_four (codes "certificate 4\njoin\njoin\nend\n") ≡ Err (BadLine 3) }
+    ensures late { certificate_of_four (codes "certificate 4\nplace b3\nsame x\njoin\nend\n") ≡ Err (BadLine 4) }
+    ensures with_word { certificate_of_four (codes "certificate 4\njoin 1\nend\n") ≡ Err (BadLine 2) }
+    ensures without_end { certificate_of_four (codes "certificate 4\njoin") ≡ Err (BadLine 2) }
+    ensures in_two { certificate_of_two (codes "certificate 2\njoin\nplace b3\nsame x\nend\n") ≡ Err (BadLine 2) }
+    ensures in_one { certificate_of (codes "certificate 1\njoin\nplace b3\nsame x\nend\n") ≡ Err (BadLine 2) }
 {}

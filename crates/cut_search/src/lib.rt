@@ -39,6 +39,7 @@ mod searching;
 mod stop;
 mod sums;
 mod tableau;
+mod unnamed;
 mod whole;
 mod writing;
 

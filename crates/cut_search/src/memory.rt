@@ -9,7 +9,7 @@ use crate::found::Found;
 use crate::hashes::{first_place, hash_of_list, hashes_of};
 use crate::monomials::have_products;
 use crate::point::meets;
-use crate::searching::{search, search_plainly};
+use crate::searching::{search_naming, search_plainly};
 use cut_proof::{Derivation, refutes};
 use guesses::copied;
 use linear::Form;
@@ -45,11 +45,12 @@ impl Numbers {
     }
 }
 
-/// The answers found so far: derivations, points, and the hashes of lists of which neither was found; and whether derivations may have
-/// products.
+/// The answers found so far: derivations, points, and the hashes of lists of which neither was found; whether derivations may have
+/// products, and the slots of variables that their lemmas cannot name.
 #[derive(Drop)]
 pub struct Memory {
     multiplies: bool,
+    unnamed: Vec<u64>,
     found: Vec<Found>,
     points: Vec<Seen>,
     undecided: Vec<u64>,
@@ -59,8 +60,14 @@ pub struct Memory {
 impl Memory {
     /// A memory without answers, of a search with products of facts or without.
     pub fn new(alloc: Global, multiplies: bool) -> Memory {
+        Memory::naming(alloc, multiplies, Vec::new(alloc))
+    }
+
+    /// A memory without answers, of a search whose lemmas name no variable of the slots.
+    pub fn naming(alloc: Global, multiplies: bool, unnamed: Vec<u64>) -> Memory {
         Memory {
             multiplies,
+            unnamed,
             found: Vec::new(alloc),
             points: Vec::new(alloc),
             undecided: Vec::new(alloc),
@@ -175,7 +182,7 @@ impl Memory {
 
     fn search(&self, alloc: Global, facts: &[Form]) -> Result<Answer, AllocError> {
         if self.multiplies {
-            search(alloc, facts)
+            search_naming(alloc, facts, self.unnamed.as_slice())
         } else {
             search_plainly(alloc, facts)
         }

@@ -5,6 +5,7 @@ use crate::monomials::{Couple, closed, equal_couples, partings, products_of, wid
 use crate::multiplying::{
     Factor, Source, copy_factors, factor_of, factors_of, pairs_of, pairs_with_last,
 };
+use crate::unnamed::{add_couples, is_named, named, values_of};
 use guesses::copied;
 use linear::{Form, Symbol};
 use std::alloc::{AllocError, Global};
@@ -26,6 +27,8 @@ pub struct Pool {
     products: Vec<Symbol>,
     partings: Vec<Couple>,
     factors: Vec<Factor>,
+    /// The slots of variables that lemmas cannot name.
+    unnamed: Vec<u64>,
 }
 
 /// Copies of forms.
@@ -44,8 +47,8 @@ fn next_number(count: usize) -> u32 {
 
 impl Pool {
     /// A pool of facts and of products of two of them.
-    pub fn of_facts(alloc: Global, facts: &[Form]) -> Result<Pool, AllocError> {
-        let mut pool = Pool::bare(alloc, facts)?;
+    pub fn of_facts(alloc: Global, facts: &[Form], unnamed: &[u64]) -> Result<Pool, AllocError> {
+        let mut pool = Pool::bare(alloc, facts, unnamed)?;
         let products = pool.at_hand(alloc)?;
         pool.take_products(alloc, products)?;
         Ok(pool)
@@ -53,8 +56,12 @@ impl Pool {
 
     /// A pool of facts and of products of two of them, where one symbol of a product may be another one that stands beside it in a short
     /// fact; none where those are too many, or nothing more.
-    pub fn wide(alloc: Global, facts: &[Form]) -> Result<Option<Pool>, AllocError> {
-        let mut pool = Pool::bare(alloc, facts)?;
+    pub fn wide(
+        alloc: Global,
+        facts: &[Form],
+        unnamed: &[u64],
+    ) -> Result<Option<Pool>, AllocError> {
+        let mut pool = Pool::bare(alloc, facts, unnamed)?;
         let products = pool.at_hand(alloc)?;
         let count = products.len();
         let products = widened(alloc, products, facts)?;
@@ -80,11 +87,12 @@ impl Pool {
             products: self.products.clone()?,
             factors: copy_factors(alloc, self.factors.as_slice())?,
             partings: self.partings.clone()?,
+            unnamed: self.unnamed.clone()?,
         })
     }
 
     /// A pool of facts alone.
-    fn bare(alloc: Global, facts: &[Form]) -> Result<Pool, AllocError> {
+    fn bare(alloc: Global, facts: &[Form], unnamed: &[u64]) -> Result<Pool, AllocError> {
         let mut pool = Pool {
             known: Vec::new(alloc),
             forms: Vec::new(alloc),
@@ -93,6 +101,7 @@ impl Pool {
             products: Vec::new(alloc),
             factors: Vec::new(alloc),
             partings: Vec::new(alloc),
+            unnamed: Vec::from_slice(alloc, unnamed)?,
         };
         for fact in facts {
             pool.put_known(alloc, fact)?;
@@ -100,10 +109,13 @@ impl Pool {
         Ok(pool)
     }
 
-    /// The products at hand, with those that equalities give.
+    /// The products at hand, with those that equalities give, also in the place of variables that lemmas cannot name.
     fn at_hand(&self, alloc: Global) -> Result<Vec<Symbol>, AllocError> {
-        let couples = equal_couples(alloc, self.known.as_slice())?;
-        let products = products_of(alloc, self.known.as_slice())?;
+        let known = self.known.as_slice();
+        let mut couples = equal_couples(alloc, known)?;
+        let values = values_of(alloc, self.unnamed.as_slice(), known)?;
+        add_couples(&mut couples, values.as_slice())?;
+        let products = products_of(alloc, known)?;
         closed(alloc, products, couples.as_slice())
     }
 
@@ -172,6 +184,16 @@ impl Pool {
 
     fn has(&self, form: &Form) -> bool {
         self.hashes.as_slice().contains(&hash_of(form))
+    }
+
+    /// The form as a lemma may say it; none where it cannot be said.
+    pub fn said(&self, alloc: Global, form: Form) -> Result<Option<Form>, AllocError> {
+        let unnamed = self.unnamed.as_slice();
+        if is_named(unnamed, &form) {
+            return Ok(Some(form));
+        }
+        let values = values_of(alloc, unnamed, self.known.as_slice())?;
+        named(alloc, unnamed, values.as_slice(), &form)
     }
 
     /// The fact or the lemma of a number.

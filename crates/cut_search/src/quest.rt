@@ -157,6 +157,9 @@ impl Quest {
         let mut turn = Tried::Failed;
         let menu = lemmas_for(alloc, self.pool.known.as_slice(), LEMMAS)?;
         for form in menu.into_iter().take(LEMMAS) {
+            let Some(form) = self.pool.said(alloc, form)? else {
+                continue;
+            };
             match self.try_lemma(alloc, form)? {
                 Tried::Failed => {}
                 Tried::Shown => turn = Tried::Shown,
@@ -208,10 +211,10 @@ fn written(alloc: Global, pool: &Pool, lines: Lines) -> Result<Lines, Stop> {
 }
 
 /// A derivation by products of two facts, and by lemmas.
-fn by_lemmas(alloc: Global, facts: &[Fact]) -> Result<Option<Derivation>, Stop> {
+fn by_lemmas(alloc: Global, facts: &[Fact], unnamed: &[u64]) -> Result<Option<Derivation>, Stop> {
     let mut quest = Quest {
         count: facts.len(),
-        pool: Pool::of_facts(alloc, facts)?,
+        pool: Pool::of_facts(alloc, facts, unnamed)?,
         tableau: Tableau::new(alloc),
         lemmas: Vec::new(alloc),
         tried: Vec::new(alloc),
@@ -242,8 +245,8 @@ fn last_lines(alloc: Global, pool: &Pool) -> Result<Lines, Stop> {
 }
 
 /// A derivation by products with one symbol more.
-fn by_wider(alloc: Global, facts: &[Fact]) -> Result<Option<Derivation>, Stop> {
-    let Some(pool) = Pool::wide(alloc, facts)? else {
+fn by_wider(alloc: Global, facts: &[Fact], unnamed: &[u64]) -> Result<Option<Derivation>, Stop> {
+    let Some(pool) = Pool::wide(alloc, facts, unnamed)? else {
         return Ok(None);
     };
     let lines = found_or_not(last_lines(alloc, &pool))?;
@@ -254,8 +257,12 @@ fn by_wider(alloc: Global, facts: &[Fact]) -> Result<Option<Derivation>, Stop> {
 }
 
 /// A derivation in one of the ways in turn.
-fn by_any(alloc: Global, facts: &[Fact]) -> Result<Option<Derivation>, AllocError> {
-    let first = match by_lemmas(alloc, facts) {
+fn by_any(
+    alloc: Global,
+    facts: &[Fact],
+    unnamed: &[u64],
+) -> Result<Option<Derivation>, AllocError> {
+    let first = match by_lemmas(alloc, facts, unnamed) {
         Ok(found) => found,
         Err(Stop::GivenUp) => None,
         Err(Stop::Memory) => return Err(AllocError),
@@ -263,7 +270,7 @@ fn by_any(alloc: Global, facts: &[Fact]) -> Result<Option<Derivation>, AllocErro
     if first.is_some() {
         return Ok(first);
     }
-    match by_wider(alloc, facts) {
+    match by_wider(alloc, facts, unnamed) {
         Ok(found) => Ok(found),
         Err(Stop::GivenUp) => Ok(None),
         Err(Stop::Memory) => Err(AllocError),
@@ -271,10 +278,11 @@ fn by_any(alloc: Global, facts: &[Fact]) -> Result<Option<Derivation>, AllocErro
 }
 
 /// What is found where products are products: a derivation by products and lemmas in the place of what was found without. What was found
-/// stays where it is a derivation, where no fact has a product, and where nothing is found.
+/// stays where it is a derivation, where no fact has a product, and where nothing is found. Lemmas name no variable of the slots.
 pub fn with_products(
     alloc: Global,
     facts: &[Fact],
+    unnamed: &[u64],
     outcome: Result<Answer, Stop>,
 ) -> Result<Answer, Stop> {
     match outcome {
@@ -284,7 +292,7 @@ pub fn with_products(
             if !have_products(facts) {
                 return outcome;
             }
-            match by_any(alloc, facts)? {
+            match by_any(alloc, facts, unnamed)? {
                 Some(derivation) => Ok(Answer::Proof(derivation)),
                 None => outcome,
             }

@@ -6,11 +6,11 @@ use guesses::{Factors, copied, is_launch, is_product, one_of, try_multiple, try_
 use linear::{Form, Symbol, Term};
 use std::alloc::{AllocError, Global};
 
-/// A symbol is equal to a form of one other symbol.
+/// A symbol is equal to a form of other symbols.
 #[derive(Drop)]
 pub struct Replacement {
-    symbol: Symbol,
-    value: Form,
+    pub symbol: Symbol,
+    pub value: Form,
 }
 
 /// A symbol that stays: of the launch, or an id.
@@ -41,7 +41,7 @@ fn solvable(form: &Form) -> Option<Symbol> {
 }
 
 /// What the symbol is where the form, which has it once or once below 0, is 0.
-fn value_of(alloc: Global, form: &Form, symbol: Symbol) -> Result<Option<Form>, AllocError> {
+pub fn value_of(alloc: Global, form: &Form, symbol: Symbol) -> Result<Option<Form>, AllocError> {
     let sign = form.coefficient(symbol).wrapping_neg();
     let Some(turned) = try_multiple(alloc, form, sign)? else {
         return Ok(None);

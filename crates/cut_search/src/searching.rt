@@ -41,8 +41,20 @@ impl Start {
     pub fn search(&self, alloc: Global, facts: &[Fact]) -> Result<Answer, AllocError>
         ensures { IfOk result (λ a. IsAnswer (forms facts.now) a) }
     {
+        self.search_naming(alloc, facts, &[])
+    }
+
+    /// Searches as `search` does, with lemmas that name no variable of the slots.
+    fn search_naming(
+        &self,
+        alloc: Global,
+        facts: &[Fact],
+        unnamed: &[u64],
+    ) -> Result<Answer, AllocError>
+        ensures { IfOk result (λ a. IsAnswer (forms facts.now) a) }
+    {
         let outcome = self.decide(alloc, facts);
-        settled(alloc, facts, with_products(alloc, facts, outcome))
+        settled(alloc, facts, with_products(alloc, facts, unnamed, outcome))
     }
 
     /// Searches as `search` does, without products of facts.
@@ -80,6 +92,13 @@ pub fn search(alloc: Global, facts: &[Fact]) -> Result<Answer, AllocError>
     ensures { IfOk result (λ a. IsAnswer (forms facts.now) a) }
 {
     Start::new(alloc).search(alloc, facts)
+}
+
+/// Searches as `search` does, for a derivation whose lemmas name no variable of the slots.
+pub fn search_naming(alloc: Global, facts: &[Fact], unnamed: &[u64]) -> Result<Answer, AllocError>
+    ensures { IfOk result (λ a. IsAnswer (forms facts.now) a) }
+{
+    Start::new(alloc).search_naming(alloc, facts, unnamed)
 }
 
 /// Searches for a derivation without products, or whole numbers.

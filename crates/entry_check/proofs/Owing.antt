@@ -26,7 +26,7 @@ use Rattle.entry_check.specs.Lacking.{AreListed, TellsOwing, with_entries}
 use Rattle.entry_check.specs.Numbers.{show_of}
 
 abbrev with_flags : Notes → (ℕ → Bool) → Notes
-with_flags n f = record { same = n.same; facts = n.facts; congruences = n.congruences; multiples = n.multiples; ranking = n.ranking; visible = n.visible; quotient = n.quotient; has_entry = f; is_wide = n.is_wide }
+with_flags n f = record { same = n.same; facts = n.facts; congruences = n.congruences; multiples = n.multiples; ranking = n.ranking; visible = n.visible; quotient = n.quotient; has_entry = f; is_wide = n.is_wide; joins = n.joins }
 
 -- flags that tell which obligations have entries
 pub same_notes : (es : List Entry) (n : code.Notes) (flags : List Bool) → ((m : ℕ) → slice_index_or flags m false ≡ has_entry es m) → seen n flags ≡ with_entries es (seen n [])

@@ -65,7 +65,7 @@ ArePassed s es os = AllPass s es 0 os × (is_past es (length os) ≡ false)
 
 -- what is said, where these entries are
 abbrev pub with_entries : List Entry → Notes → Notes
-with_entries es n = record { same = n.same; facts = n.facts; congruences = n.congruences; multiples = n.multiples; ranking = n.ranking; visible = n.visible; quotient = n.quotient; has_entry = has_entry es; is_wide = n.is_wide }
+with_entries es n = record { same = n.same; facts = n.facts; congruences = n.congruences; multiples = n.multiples; ranking = n.ranking; visible = n.visible; quotient = n.quotient; has_entry = has_entry es; is_wide = n.is_wide; joins = n.joins }
 
 -- all that is to be shown
 abbrev pub owing : {E : Type 0} → Ghosts E → Kernel → Conditions → Notes → List Entry → List Obligation

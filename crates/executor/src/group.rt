@@ -15,6 +15,7 @@ use cert_check::Accepted;
 use kernel_code::lower;
 use lane_groups::laws::lane_logs_are_by_rounds;
 use launch::launches::Launch;
+use semantics::honesty::launches_begin_kept;
 use std::alloc::{AllocError, Global};
 use write_log::WriteLog;
 
@@ -33,6 +34,7 @@ pub fn run_group(
     let typed = accepted.typed();
     let budget = accepted.conditions().budget;
     let code = lower(alloc, typed)?;
+    launches_begin_kept();
     lane_logs_are_by_rounds();
     lane_groups::run_group(alloc, typed.core(), launch, &code, budget, group)
 }

@@ -21,7 +21,8 @@ use kernel_code::lower;
 use lane_groups::laws::lane_logs_are_by_rounds;
 use launch::launches::{Buffers, Launch};
 use launch::meets::meets;
-use reduction::{headline, result_is_defined};
+use reduction::{headline_within, result_is_defined_within};
+use semantics::honesty::launches_begin_kept;
 use std::alloc::{AllocError, Global};
 use std::sync::Wait;
 use std::thread::Threads;
@@ -62,15 +63,16 @@ fn run_groups<R: Threads + Wait + Sync, G: Gate>(
         budget: accepted.conditions().budget,
     };
     group_workers::run_groups(rt, alloc, task, workers, gate, &mut buffers)?;
+    launches_begin_kept();
     lane_logs_are_by_rounds();
     Ok(buffers)
 }
 
 /// Runs an accepted kernel at a launch that fits it: the result by rounds, whatever the number of workers, and so what each
 /// interleaving of all work-items that is over ends with. Each worker has a thread of its own, but worker 1, which is the calling thread;
-/// a worker whose thread cannot be started is run by the calling thread in its turn, with the same answers. `gate` is told which groups a
-/// worker has claimed and has run, and that it ends, and changes no answer. Each word that is answered has the kind of its buffer's
-/// parameter, whatever kind the launch's word has.
+/// where there is little to do fewer are started, and a worker whose thread cannot be started is run by the calling thread in its turn, with
+/// the same answers. `gate` is told which groups a worker has claimed and has run, and that it ends, and changes no answer. Each word that
+/// is answered has the kind of its buffer's parameter, whatever kind the launch's word has.
 pub fn run<R: Threads + Wait + Sync, G: Gate>(
     rt: &R,
     alloc: Global,
@@ -92,8 +94,9 @@ pub fn run<R: Threads + Wait + Sync, G: Gate>(
         return Err(RunError::Workers);
     }
     let buffers = run_groups(rt, alloc, accepted, launch, workers, gate)?;
-    headline();
-    result_is_defined();
+    launches_begin_kept();
+    headline_within();
+    result_is_defined_within();
     let answer = of_parameters(alloc, accepted, &buffers)?;
     Ok(answer)
 }

@@ -9,7 +9,7 @@ ghost use Rattle.launch_text.specs.View.{lined};
 
 use crate::causes::{Causes, site_of};
 use crate::groups::push_group;
-use crate::hints::{Known, push_hints};
+use crate::hints::{Known, OwnNames, push_hints};
 use crate::meaning::{POSSIBLE, meaning};
 use crate::names::names_of;
 use crate::paragraph::push_paragraph;
@@ -23,7 +23,7 @@ use findings::{Finding, Grade, Spot};
 use launch::conditions::Conditions;
 use launch::probe::probe;
 use launch_text::laws::a_least_launch_fits;
-use launch_text::read_conditions;
+use launch_text::read_conditions_as;
 use machine::world::Event;
 use shown_kernels::kernel::read_proper_kernel;
 use std::alloc::{AllocError, Global};
@@ -141,7 +141,7 @@ fn push_under(
 ) -> Result<(), AllocError>
     requires { is_proper (core_seen typed.now.1) ≡ true }
 {
-    match read_conditions(alloc, typed, conditions) {
+    match read_conditions_as(alloc, typed, conditions, true) {
         Ok(conditions) => push_replay(alloc, typed, &conditions, finding, events, out),
         Err(_) => Err(AllocError),
     }
@@ -182,14 +182,17 @@ fn is_possible(finding: &Finding) -> bool {
     matches!(finding.grade, Grade::Possible)
 }
 
-/// The names of a kernel's arguments and variables, by their slots.
-fn slot_names<'a>(alloc: Global, typed: &'a Typed) -> Result<Vec<&'a str>, AllocError> {
+/// The names of a kernel's arguments and variables, by their slots, and of its buffers.
+fn own_names<'a>(alloc: Global, typed: &'a Typed) -> Result<OwnNames<'a>, AllocError> {
     let names = names_of(alloc, typed.kernel())?;
-    let mut all = Vec::new(alloc);
+    let mut variables = Vec::new(alloc);
     for named in names.variables.iter() {
-        all.push(named.name)?;
+        variables.push(named.name)?;
     }
-    Ok(all)
+    Ok(OwnNames {
+        variables,
+        buffers: names.buffers,
+    })
 }
 
 /// The findings of a cause.
@@ -208,11 +211,11 @@ fn members<'f>(
     Ok(members)
 }
 
-/// What is told of findings: the texts, the names of the kernel's arguments and variables, and the causes.
+/// What is told of findings: the texts, the names of the kernel's arguments, variables and buffers, and the causes.
 #[derive(Drop)]
 struct Telling<'a> {
     subject: Subject<'a>,
-    names: Vec<&'a str>,
+    names: OwnNames<'a>,
     causes: Causes,
 }
 
@@ -239,7 +242,7 @@ impl Told {
         push_hints(
             alloc,
             telling.subject.kernel,
-            telling.names.as_slice(),
+            &telling.names,
             hints.as_slice(),
             !self.has_hints,
             out,
@@ -281,7 +284,7 @@ fn push_causes(
 ) -> Result<(), AllocError> {
     let telling = Telling {
         subject,
-        names: slot_names(alloc, typed)?,
+        names: own_names(alloc, typed)?,
         causes: Causes::of(alloc, known, findings)?,
     };
     let mut told = Told {
@@ -306,7 +309,7 @@ fn push_known(
     findings: &[Finding],
     out: &mut String,
 ) -> Result<(), AllocError> {
-    match read_conditions(alloc, typed, subject.conditions) {
+    match read_conditions_as(alloc, typed, subject.conditions, true) {
         Ok(conditions) => {
             let known = Known::of(alloc, typed, &conditions)?;
             push_causes(alloc, subject, typed, findings, &known, out)
@@ -344,7 +347,7 @@ fn push_known_tests(
     place: Site,
     out: &mut String,
 ) -> Result<(), AllocError> {
-    match read_conditions(alloc, typed, subject.conditions) {
+    match read_conditions_as(alloc, typed, subject.conditions, true) {
         Ok(conditions) => {
             let known = Known::of(alloc, typed, &conditions)?;
             push_paths(alloc, subject.kernel, typed, &known, place, out)

@@ -1,8 +1,10 @@
 //! What conditions allow one value of.
 
 use core_code::tree::{Core, Function};
-use launch::conditions::{Conditions, CountRange, CountRanges};
+use launch::conditions::{Conditions, Content, CountRange, CountRanges, Factor, Summand};
+use launch::number::Number;
 use std::alloc::{AllocError, Global};
+use words::Kind;
 
 /// The greatest number that is named as an example of one value.
 const HIGH: i64 = 65_536;
@@ -31,11 +33,30 @@ pub enum OneValue {
     },
 }
 
-/// The arguments that the conditions allow, by their slots, and the extents of the dimensions.
+/// What the conditions say of the numbers that a buffer holds: that they have a least one, and that it is not negative, and that they have a
+/// greatest one.
+#[derive(Clone, Copy)]
+struct Ends {
+    has_least: bool,
+    is_unsigned: bool,
+    has_greatest: bool,
+}
+
+/// The lines by which the conditions might bound what a buffer holds, by its number: from below, from above, or both.
+#[derive(Clone, Copy)]
+pub struct Unbounded {
+    buffer: u32,
+    below: bool,
+    above: bool,
+}
+
+/// The arguments that the conditions allow, by their slots, the extents of the dimensions, and what is said of the numbers that each buffer
+/// holds.
 #[derive(Drop)]
 pub struct Given {
     arguments: Vec<(i64, i64)>,
     extents: [Extent; 3],
+    buffers: Vec<Ends>,
 }
 
 fn extent_of(size: u32, range: CountRange) -> Extent {
@@ -74,15 +95,103 @@ fn one_count(extent: Option<&Extent>, is_wanted: bool) -> (u32, u32) {
     }
 }
 
+/// What is known of a buffer of a kind without any line.
+fn ends_of(kind: Kind) -> Ends {
+    let is_unsigned = kind == Kind::Uint;
+    Ends {
+        has_least: is_unsigned,
+        is_unsigned,
+        has_greatest: false,
+    }
+}
+
+/// A number that is not negative.
+fn is_unsigned(number: Number) -> bool {
+    !number.negative || number.size == 0
+}
+
 impl Given {
     pub fn of(alloc: Global, core: &Core, conditions: &Conditions) -> Result<Given, AllocError> {
-        let mut arguments = Vec::new(alloc);
-        for range in conditions.arguments.iter() {
-            arguments.push((range.low.value(), range.high.value()))?;
-        }
-        Ok(Given {
-            arguments,
+        let mut given = Given {
+            arguments: Vec::new(alloc),
             extents: extents(core.sizes, conditions.groups),
+            buffers: Vec::new(alloc),
+        };
+        for range in conditions.arguments.iter() {
+            given
+                .arguments
+                .push((range.low.value(), range.high.value()))?;
+        }
+        for kind in core.buffers.iter() {
+            given.buffers.push(ends_of(*kind))?;
+        }
+        for content in conditions.contents.iter() {
+            given.take_line(content);
+        }
+        Ok(given)
+    }
+
+    /// Takes up what a line says of a buffer.
+    fn take_line(&mut self, content: &Content) {
+        let mut is_unsigned = true;
+        for summand in content.sum.terms.iter() {
+            is_unsigned = is_unsigned && self.is_unsigned_summand(*summand);
+        }
+        if let Some(ends) = self.buffers.get_mut(content.buffer as usize) {
+            if content.is_upper {
+                ends.has_greatest = true;
+            } else {
+                ends.has_least = true;
+                ends.is_unsigned = ends.is_unsigned || is_unsigned;
+            }
+        }
+    }
+
+    fn is_unsigned_factor(&self, factor: Factor) -> bool {
+        match factor {
+            Factor::Argument(slot) => !self.may_be_negative(slot as usize),
+            Factor::Groups(_) => true,
+        }
+    }
+
+    /// A term of a sum is not negative at any launch.
+    fn is_unsigned_summand(&self, summand: Summand) -> bool {
+        match summand {
+            Summand::Constant(number) => is_unsigned(number),
+            Summand::Argument { factor, parameter } => {
+                is_unsigned(factor) && !self.may_be_negative(parameter as usize)
+            }
+            Summand::Groups { factor, .. } => is_unsigned(factor),
+            Summand::Product {
+                factor,
+                first,
+                second,
+            } => {
+                is_unsigned(factor)
+                    && self.is_unsigned_factor(first)
+                    && self.is_unsigned_factor(second)
+            }
+        }
+    }
+
+    /// What a buffer holds may be negative.
+    pub fn may_hold_negative(&self, buffer: u32) -> bool {
+        match self.buffers.get(buffer as usize) {
+            Some(ends) => !ends.is_unsigned,
+            None => true,
+        }
+    }
+
+    /// The lines that would bound what a buffer holds; none where it is bounded.
+    pub fn unbounded(&self, buffer: u32) -> Option<Unbounded> {
+        let ends = self.buffers.get(buffer as usize)?;
+        if ends.has_least && ends.has_greatest {
+            return None;
+        }
+        Some(Unbounded {
+            buffer,
+            below: !ends.has_least,
+            above: !ends.has_greatest,
         })
     }
 
@@ -177,6 +286,18 @@ impl OneValue {
                 }
                 Ok(())
             }
+        }
+    }
+}
+
+impl Unbounded {
+    /// Writes the lines of the conditions that bound what the buffer holds, by the names of the buffers.
+    pub fn push(self, names: &[&str], out: &mut String) -> Result<(), AllocError> {
+        let name = names.get(self.buffer as usize).copied().unwrap_or("?");
+        match (self.below, self.above) {
+            (true, true) => write!(out, "values {name} >= SUM and values {name} <= SUM"),
+            (true, false) => write!(out, "values {name} >= SUM"),
+            _ => write!(out, "values {name} <= SUM"),
         }
     }
 }

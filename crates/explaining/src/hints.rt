@@ -1,6 +1,6 @@
 //! Values of which little is known, on which what was not shown depends.
 
-use crate::given::{Given, OneValue};
+use crate::given::{Given, OneValue, Unbounded};
 use crate::paragraph::push_paragraph;
 use crate::parts::{MOST, put, put_both, statements_of, terms_of};
 use crate::source::{push_label, push_site};
@@ -23,6 +23,13 @@ const HEAD: &str =
 
 /// The words in front of further hints.
 const NEXT: &str = "That depends on such values, too:";
+
+/// The names of a kernel's arguments and variables, by their slots, and of its buffers.
+#[derive(Drop)]
+pub struct OwnNames<'a> {
+    pub variables: Vec<&'a str>,
+    pub buffers: Vec<&'a str>,
+}
 
 /// The statements of a kernel, where each begins, and what is known of its variables.
 #[derive(Drop)]
@@ -57,7 +64,7 @@ impl<'a> Known<'a> {
 }
 
 /// The terms on which a finding depends: those that are left, which variables were met, and what was found; steps count where the finding
-/// is of an index, and what tells two accesses apart where it is a data race.
+/// is of an index, what tells two accesses apart where it is a data race, and bounds of what is loaded where it is of one work-item.
 #[derive(Drop)]
 struct Slice<'a> {
     left: Vec<&'a Term>,
@@ -65,6 +72,7 @@ struct Slice<'a> {
     hints: Vec<Vague>,
     has_index: bool,
     is_of_two: bool,
+    has_bounds: bool,
 }
 
 /// A finding is of that site.
@@ -129,9 +137,18 @@ impl<'a> Slice<'a> {
         finding: &Finding,
         statement: &'a Statement,
     ) -> Result<(), AllocError> {
-        if let Statement::Store { site, index, .. } = statement {
+        if let Statement::Store {
+            site,
+            index,
+            value,
+            ..
+        } = statement
+        {
             if is_of_indexes(finding.kind) && is_of(finding, *site) {
                 put(&mut self.left, index)?;
+            }
+            if finding.kind == FindingKind::Values && is_of(finding, *site) {
+                put(&mut self.left, value)?;
             }
         }
         let terms = terms_of(alloc, statement)?;
@@ -156,7 +173,12 @@ impl<'a> Slice<'a> {
     fn push_vague(&mut self, slots: &Slots<'_>, term: &Term) -> Result<(), AllocError> {
         match slots.what_is_vague(term) {
             Some(hint) if self.is_of_two || !hint.reason.is_of_two() => {
-                self.hints.push(hint)?;
+                let unbounded = if self.has_bounds {
+                    hint.unbounded
+                } else {
+                    None
+                };
+                self.hints.push(Vague { unbounded, ..hint })?;
                 Ok(())
             }
             _ => Ok(()),
@@ -251,6 +273,7 @@ pub fn hints_of(
         hints: Vec::new(alloc),
         has_index: is_of_indexes(finding.kind),
         is_of_two: finding.kind == FindingKind::Race,
+        has_bounds: !matches!(finding.kind, FindingKind::Race | FindingKind::Divergence),
     };
     for (statement, site) in statements.iter().zip(known.sites.iter()) {
         if is_asked(finding, *site) {
@@ -296,11 +319,26 @@ fn push_one(
     push_label(out, &label)
 }
 
+/// Writes which lines of the conditions would bound a value that is loaded; nothing where they do, or where none would.
+fn push_unbounded(
+    alloc: Global,
+    names: &[&str],
+    unbounded: Option<Unbounded>,
+    out: &mut String,
+) -> Result<(), AllocError> {
+    let Some(unbounded) = unbounded else {
+        return Ok(());
+    };
+    let mut label = String::from_str(alloc, "bounded if the conditions, of version 2, say ")?;
+    unbounded.push(names, &mut label)?;
+    push_label(out, &label)
+}
+
 /// Writes the first hints in the order of the source, each with its line.
 fn push_some(
     alloc: Global,
     kernel: &[u8],
-    names: &[&str],
+    names: &OwnNames<'_>,
     hints: &[Vague],
     out: &mut String,
 ) -> Result<(), AllocError> {
@@ -313,17 +351,18 @@ fn push_some(
         place = order_of(hint.site);
         let is_shown = hint.site.line == line;
         push_site(alloc, out, kernel, hint.site, is_shown, hint.reason.text())?;
-        push_one(alloc, names, hint.one, out)?;
+        push_one(alloc, names.variables.as_slice(), hint.one, out)?;
+        push_unbounded(alloc, names.buffers.as_slice(), hint.unbounded, out)?;
         line = hint.site.line;
     }
     Ok(())
 }
 
-/// Writes values on which findings that are only possible depend, behind an empty line; the names are those of the arguments.
+/// Writes values on which findings that are only possible depend, behind an empty line; the names are those of the kernel.
 pub fn push_hints(
     alloc: Global,
     kernel: &[u8],
-    names: &[&str],
+    names: &OwnNames<'_>,
     hints: &[Vague],
     is_first: bool,
     out: &mut String,

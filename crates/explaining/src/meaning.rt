@@ -80,7 +80,8 @@ const MEANINGS: &[(u8, &str)] = &[
     ),
     (
         30,
-        "Something else is due in that line of the conditions: compare it with docs/FORMATS.md.",
+        "Something else is due in that line of the conditions: compare it with docs/FORMATS.md. Conditions of version 2 \
+         are read with --wide.",
     ),
     (
         31,

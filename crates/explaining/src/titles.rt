@@ -13,6 +13,7 @@ pub fn confirmed(kind: FindingKind) -> &'static str {
         FindingKind::Fault(Fault::Overflow) => "Signed overflow",
         FindingKind::Fault(Fault::OutOfBounds) => "Read or write out of bounds",
         FindingKind::Bound => "Loop that nothing bounds",
+        FindingKind::Values => "Store of a value that its buffer may not hold",
     }
 }
 
@@ -25,6 +26,7 @@ pub fn possible(kind: FindingKind) -> &'static str {
         FindingKind::Fault(Fault::Overflow) => "signed overflow",
         FindingKind::Fault(Fault::OutOfBounds) => "read or write out of bounds",
         FindingKind::Bound => "loop that nothing bounds",
+        FindingKind::Values => "store of a value that its buffer may not hold",
     }
 }
 
@@ -41,6 +43,7 @@ pub fn meant(kind: FindingKind) -> &'static str {
         FindingKind::Fault(Fault::Overflow) => "the result does not fit an int.",
         FindingKind::Fault(Fault::OutOfBounds) => "the index is not below the array's length.",
         FindingKind::Bound => "no number of turns is shown to be enough.",
+        FindingKind::Values => "a values line of the conditions does not allow it.",
     }
 }
 
@@ -54,6 +57,7 @@ pub fn action(kind: FindingKind, spot: Spot) -> &'static str {
         (Spot::At(_), FindingKind::Fault(Fault::DivisionByZero)) => "division",
         (Spot::At(_), FindingKind::Fault(Fault::Overflow)) => "overflow",
         (Spot::At(_), FindingKind::Fault(Fault::OutOfBounds)) => "access",
+        (Spot::At(_), FindingKind::Values) => "store",
         (Spot::At(_), _) => "loop",
     }
 }

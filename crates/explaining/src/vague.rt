@@ -1,8 +1,8 @@
 //! Operators of whose results only a range is known to the wide walk of a kernel.
 
-use crate::given::{Given, OneValue};
+use crate::given::{Given, OneValue, Unbounded};
 use crate::kinds::kind_of;
-use core_code::tree::{Core, Operator, Site, Statement, Term, UnaryOperator};
+use core_code::tree::{Array, Core, Operator, Site, Space, Statement, Term, UnaryOperator};
 use std::alloc::{AllocError, Global};
 use words::Kind;
 
@@ -19,6 +19,7 @@ pub enum Reason {
     Bits,
     SignedBits,
     Loaded,
+    Held,
     Step,
 }
 
@@ -33,6 +34,7 @@ impl Reason {
             Reason::Bits => "bits of two values: at most their sum (where no bits meet, add them)",
             Reason::SignedBits => "bits of ints that may be negative",
             Reason::Loaded => "loaded, so any value until it is tested",
+            Reason::Held => "loaded: what the values lines say of it is known, and no more",
             Reason::Step => "step that is no number",
         }
     }
@@ -43,12 +45,13 @@ impl Reason {
     }
 }
 
-/// A value of which little is known: where its operator is, why, and what the conditions might say to make it exact.
+/// A value of which little is known: where its operator is, why, and what the conditions might say to make it exact, or to bound it.
 #[derive(Clone, Copy)]
 pub struct Vague {
     pub site: Site,
     pub reason: Reason,
     pub one: Option<OneValue>,
+    pub unbounded: Option<Unbounded>,
 }
 
 /// What is known of a kernel's variables, by their slots: which are a number, which may be negative, and which would be a number if an
@@ -142,6 +145,37 @@ impl<'a> Slots<'a> {
         }
     }
 
+    /// An element of an array of ints may be negative.
+    fn may_hold_negative(&self, array: Array) -> bool {
+        match array.space {
+            Space::Global => self.given.may_hold_negative(array.number),
+            Space::Local => true,
+        }
+    }
+
+    /// Why little is known of an element that is loaded, and which lines would bound it.
+    fn loaded(&self, site: Site, array: Array) -> Vague {
+        let unbounded = self.given.unbounded(array.number);
+        match array.space {
+            Space::Global => Vague {
+                site,
+                reason: if unbounded.is_some() {
+                    Reason::Loaded
+                } else {
+                    Reason::Held
+                },
+                one: None,
+                unbounded,
+            },
+            Space::Local => Vague {
+                site,
+                reason: Reason::Loaded,
+                one: None,
+                unbounded: None,
+            },
+        }
+    }
+
     /// An int that may be negative, as far as is known here.
     pub fn may_dip(&self, term: &Term) -> bool {
         if kind_of(self.core, term) == Kind::Uint {
@@ -149,7 +183,7 @@ impl<'a> Slots<'a> {
         }
         match term {
             Term::Variable { slot } => is_marked(self.dips.as_slice(), *slot),
-            Term::Load { .. } => true,
+            Term::Load { array, .. } => self.may_hold_negative(*array),
             Term::Unary { operator, .. } => {
                 matches!(operator, UnaryOperator::Negate | UnaryOperator::Complement)
             }
@@ -329,6 +363,7 @@ impl<'a> Slots<'a> {
                     site: *site,
                     reason: Reason::Step,
                     one: self.one_value(right),
+                    unbounded: None,
                 },
             ),
             _ => None,
@@ -338,11 +373,7 @@ impl<'a> Slots<'a> {
     /// Why only the range of a term's value is known, and where its operator is.
     pub fn what_is_vague(&self, term: &Term) -> Option<Vague> {
         match term {
-            Term::Load { site, .. } => Some(Vague {
-                site: *site,
-                reason: Reason::Loaded,
-                one: None,
-            }),
+            Term::Load { site, array, .. } => Some(self.loaded(*site, *array)),
             Term::Binary {
                 operator,
                 site,
@@ -355,6 +386,7 @@ impl<'a> Slots<'a> {
                     site: *site,
                     reason,
                     one: self.one_for(reason, left, right),
+                    unbounded: None,
                 })
             }
             _ => None,

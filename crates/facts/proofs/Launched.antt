@@ -13,6 +13,7 @@ use Rattle.linear.specs.Linear.{value_of, IsMet}
 use Rattle.semantics.proofs.Groups.{group_size-pos, place-below, group-below}
 use Rattle.semantics.proofs.Places.{place-is}
 use Rattle.linear.specs.Exact.{sum, multiple}
+use Rattle.linear.proofs.Merging.{IsRising, rising-merge, rising-multiples}
 use Rattle.linear.specs.Products.{times, single, and_then, IsMultiplicative}
 use Rattle.facts.specs.Symbols as symbols
 use Rattle.facts.specs.Symbols.{First, Symbol, ArgumentOf, Length, Local, Group, number, Fact, constant, once, minus}
@@ -78,6 +79,32 @@ sum_from-value v l m g a f (x ∷ xs) =
 
 pub sum_form-value : (v : ℕ → ℤ) (l : Launch) → IsMultiplicative v → ((d : ℕ) → v (number (symbols.Groups d)) ≡ groups_at l d) → ((n : ℕ) → v (number (ArgumentOf n)) ≡ given_at l n) → (xs : List Summand) → IsWorth v (sum_form xs) (sum_value l xs)
 sum_form-value v l m g a xs = subst (IsWorth v (sum_form xs)) (omega (arith, ints, value-constant v (pos 0))) (sum_from-value v l m g a (constant (pos 0)) xs)
+
+-- a sum's symbols rise, where it has a form
+abbrev pub AreRising : Option Fact → Type 0
+AreRising None = Unit {0}
+AreRising (Some f) = IsRising 0 f.terms
+
+rising-product : (c : ℤ) (o : Option ℕ) → AreRising (option_map (multiple c) (option_map single o))
+rising-product c None = tt
+rising-product c (Some k) = rising-multiples 0 c (single k).terms (omega arith, λ e. cc, tt)
+
+rising-summand : (x : Summand) → AreRising (summand_form x)
+rising-summand (Constant z) = tt
+rising-summand (Argument c n) = rising-multiples 0 c (once (ArgumentOf n)).terms (omega arith, λ e. cc, tt)
+rising-summand (Groups c d) = rising-multiples 0 c (once (symbols.Groups d)).terms (omega arith, λ e. cc, tt)
+rising-summand (Product c x y) = rising-product c (times (number (factor_symbol x)) (number (factor_symbol y)))
+
+rising-next : (f : Fact) (o : Option Fact) (go : Fact → Option Fact) → IsRising 0 f.terms → AreRising o → ((g : Fact) → IsRising 0 g.terms → AreRising (go g)) → AreRising (and_then o (λ g. go (sum f g)))
+rising-next f None go r h k = tt
+rising-next f (Some g) go r h k = k (sum f g) (rising-merge 0 f.terms g.terms r h)
+
+rising-sum_from : (f : Fact) (xs : List Summand) → IsRising 0 f.terms → AreRising (sum_from f xs)
+rising-sum_from f [] r = r
+rising-sum_from f (x ∷ xs) r = rising-next f (summand_form x) (λ g. sum_from g xs) r (rising-summand x) (λ g q. rising-sum_from g xs q)
+
+pub rising-sum_form : (xs : List Summand) → AreRising (sum_form xs)
+rising-sum_form xs = rising-sum_from (constant (pos 0)) xs tt
 
 -- a difference of two forms that are worth numbers in this order holds
 difference_holds : (v : ℕ → ℤ) (o p : Option Fact) (x y : ℤ) → IsWorth v o x → IsWorth v p y → y ≤ℤ x → IsMet v (difference o p)

@@ -1,6 +1,6 @@
 -- What elements say of the values of forms, by the domain's laws.
 use Rattle.std.proofs.Common.{◌≡◌, ◌≢◌, ◌%◌, ℕ, Bool, true, false, ◌||◌, not, List, [], ◌∷◌, Option, Some, None, arith, ap, ◌∙◌, subst, inl, inr}
-use Rattle.std.specs.Prelude.{ℤ, pos, ◌+ℤ◌, ◌*ℤ◌, ◌≤ℤ◌}
+use Rattle.std.specs.Prelude.{ℤ, pos, ◌+ℤ◌, ◌*ℤ◌, ◌≤ℤ◌, ◌⊎◌}
 use Rattle.std.proofs.lemmas.Int.{ints}
 use Rattle.std.proofs.lemmas.Bool.{and_parts, or_cases}
 use Rattle.linear.specs.Linear.{Weighted, terms_value, value_of}
@@ -18,6 +18,7 @@ use Rattle.facts.proofs.Integers.{le_test, lt_test}
 pub record Lawful {E : Type 0} (g : Ghosts E) : Type 0 where
   pub top : (z : ℤ) → g.has g.top_of z ≡ true
   pub number : (n : ℤ) → g.has (g.number_of n) n ≡ true
+  pub join : (a b : E) (z : ℤ) → (g.has a z ≡ true) ⊎ (g.has b z ≡ true) → g.has (g.join_of a b) z ≡ true
   pub add : (a b : E) (x y : ℤ) → g.has a x ≡ true → g.has b y ≡ true → g.has (g.add_of a b) (x +ℤ y) ≡ true
   pub mul : (a b : E) (x y : ℤ) → g.has a x ≡ true → g.has b y ≡ true → g.has (g.mul_of a b) (x *ℤ y) ≡ true
   pub at_least : (a : E) (n x : ℤ) → g.has a x ≡ true → n ≤ℤ x → g.has (g.at_least_of a n) x ≡ true

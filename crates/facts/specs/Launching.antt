@@ -3,7 +3,7 @@ use Rattle.std.specs.Prelude.{ℕ, zero, suc, ℤ, pos, ◌-ℤ◌, List, [], �
 use Rattle.std.specs.Option.{option_map}
 use Rattle.semantics.specs.Launch.{Three}
 use Rattle.semantics.specs.Setup.{along}
-use Rattle.semantics.specs.Conditions.{Range, Factor, ArgumentFactor, GroupsFactor, Summand, Constant, Argument, Groups, Product, Requirement, Conditions}
+use Rattle.semantics.specs.Conditions.{Range, Factor, ArgumentFactor, GroupsFactor, Summand, Constant, Argument, Groups, Product, Requirement, Content, Conditions}
 use Rattle.linear.specs.Exact.{sum, multiple}
 use Rattle.linear.specs.Products.{times, single, and_then}
 use Rattle.domain.specs.declared.Domain.{Ghosts}
@@ -40,6 +40,18 @@ abbrev pub difference : (left right : Option Fact) → Fact
 difference None g = constant (pos 0)
 difference (Some f) None = constant (pos 0)
 difference (Some f) (Some g) = minus f g
+
+-- what a line says of a buffer: each element is at most, or at least, this sum, where it has a form
+pub record BufferBound : Type 0 where
+  pub buffer : ℕ
+  pub is_upper : Bool
+  pub sum : Option Fact
+
+abbrev pub buffer_bound : Content → BufferBound
+buffer_bound x = record { buffer = x.buffer; is_upper = x.is_upper; sum = sum_form x.sum }
+
+abbrev pub buffer_bounds : Conditions → List BufferBound
+buffer_bounds c = map buffer_bound c.contents
 
 -- at least the low end, at most the high one
 abbrev pub ends : Range → Fact → List Fact

@@ -8,6 +8,7 @@
 //! symbols are put in their places.
 #![tactic(auto)]
 
+mod contents;
 mod copies;
 mod elements;
 mod error;
@@ -17,6 +18,7 @@ mod forms;
 mod launching;
 mod side;
 
+pub use contents::{BufferBound, buffer_bounds};
 pub use copies::copy_all;
 pub use elements::{Known, between, element_of, is_settled};
 pub use error::WalkError;

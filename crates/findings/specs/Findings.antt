@@ -10,6 +10,7 @@ pub data FindingKind : Type 0 where
   Divergence : FindingKind
   Faults : (fault : Fault) → FindingKind
   Bound : FindingKind
+  Values : FindingKind
 
 -- an access by its array's name, a barrier, an item's end, or what faults or does not end
 pub data Spot : Type 0 where

@@ -11,7 +11,7 @@ use Rattle.semantics.specs.Safety.{Clash, Divergent}
 use Rattle.semantics.specs.World.{World, waits}
 use Rattle.texts.specs.Surface.{Kernel}
 use Rattle.syntax.specs.Sites.{site_at}
-use Rattle.findings.specs.Findings.{FindingKind, Race, Divergence, Faults, Bound, Spot, Store, Load, Barrier, End, At, WorkItem}
+use Rattle.findings.specs.Findings.{FindingKind, Race, Divergence, Faults, Bound, Values, Spot, Store, Load, Barrier, End, At, WorkItem}
 
 -- the item of a number, with its ids (OpenCL 1.2, 3.2 and 6.12.1)
 abbrev pub item_of : Setup → ℕ → WorkItem
@@ -64,9 +64,10 @@ pub record HasDivergence (s : Setup) (k : Kernel) (w : World) (sites : List Spot
   pub at : sites ≡ standing_spot k (w.items waiting) ∷ standing_spot k (w.items other) ∷ []
   pub who : items ≡ item_of s waiting ∷ item_of s other ∷ []
 
--- no world shows that a loop has too many turns
+-- no world shows that a loop has too many turns; and what a buffer may hold is no matter of a world
 abbrev pub Shows : Setup → Kernel → World → FindingKind → List Spot → List WorkItem → Type 0
 Shows s k w Race sites items = HasRace s w sites items
 Shows s k w Divergence sites items = HasDivergence s k w sites items
 Shows s k w (Faults f) sites items = HasFault s w f sites items
 Shows s k w Bound sites items = ⊥
+Shows s k w Values sites items = ⊥

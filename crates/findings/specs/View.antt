@@ -20,6 +20,7 @@ kind kinds.Race = findings.Race
 kind kinds.Divergence = findings.Divergence
 kind (kinds.Fault f) = findings.Faults (fault f)
 kind kinds.Bound = findings.Bound
+kind kinds.Values = findings.Values
 
 abbrev pub spot : Spot → findings.Spot
 spot (spots.Store s) = findings.Store (site s)

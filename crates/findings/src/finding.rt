@@ -19,6 +19,8 @@ pub enum FindingKind {
     Fault(Fault),
     /// A loop whose turns may be too many.
     Bound,
+    /// A stored number that what is said of its buffer may not allow.
+    Values,
 }
 
 /// Where: an access by its array's name, a barrier, an item's end, an operator or index that faults, a loop's word.

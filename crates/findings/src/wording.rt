@@ -33,6 +33,7 @@ fn push_kind(out: &mut String, kind: FindingKind) -> Result<(), AllocError>
         FindingKind::Divergence => out.push_str("divergence"),
         FindingKind::Fault(fault) => push_fault(out, fault),
         FindingKind::Bound => out.push_str("bound"),
+        FindingKind::Values => out.push_str("values"),
     }
 }
 

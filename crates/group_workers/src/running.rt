@@ -22,6 +22,7 @@ use std::marker::Brand;
 use std::sync::Wait;
 use std::thread::{Threads, join};
 use words::Gate;
+use work_item::identity::group_size;
 
 /// The workers from 1 on, one a deque: where the logs stand that they handed over. The lowest runs on the calling thread. A worker whose
 /// thread cannot be started is run by the calling thread in its turn (`join` does so).
@@ -71,6 +72,27 @@ fn deal<D: Shares>(
     Ok((deques, sources))
 }
 
+/// The steps of items that take about as long as a worker takes to start.
+const STEPS_OF_A_START: u64 = 100_000;
+
+/// How many of so many workers have enough to do, at most: fewer where the budget of all items together is small.
+fn busy_workers(task: &Task, workers: u32) -> u32
+    requires task { is_proper (kernel_seen task.now.core.now) ≡ true }
+    requires fits { Fits (kernel_seen task.now.core.now) (launch_seen task.now.launch.now) }
+    requires workers { 1 ≤ workers }
+    ensures { (1 ≤ result) × (result ≤ workers) }
+{
+    let items = task.groups().saturating_mul(group_size(task.core));
+    let starts = items.saturating_mul(task.budget) / STEPS_OF_A_START;
+    if starts >= workers as u64 {
+        return workers;
+    }
+    if starts == 0 {
+        return 1;
+    }
+    starts as u32
+}
+
 fn run_as<J: Logged + Send + Sync, D: Shares + Send + Sync, R: Threads + Wait + Sync, G: Gate>(
     rt: &R,
     alloc: Global,
@@ -97,11 +119,8 @@ fn run_as<J: Logged + Send + Sync, D: Shares + Send + Sync, R: Threads + Wait + 
     collect(alloc, task, &logs, places.as_slice(), buffers)
 }
 
-/// Runs all groups of a proper kernel's lane code at a launch that fits it, by so many workers, and writes their logs to the buffers in the
-/// order of the groups. The calling thread is worker 1. `gate` is told what each worker does, and changes nothing that is written. A worker
-/// stops where memory is refused; there is want of memory where it is refused to the calling thread. Then buffers may have the logs of the
-/// first groups.
-pub fn run_groups<R: Threads + Wait + Sync, G: Gate>(
+/// Runs all groups of a proper kernel's lane code at a launch that fits it, by so many workers.
+fn run_by<R: Threads + Wait + Sync, G: Gate>(
     rt: &R,
     alloc: Global,
     task: Task,
@@ -116,4 +135,26 @@ pub fn run_groups<R: Threads + Wait + Sync, G: Gate>(
     ensures { OnOk result (HasLogs (logs_of task.entry) (groups task.entry) (words_of buffers.old) (words_of buffers.new)) }
 {
     run_as::<Brand, Brand, R, G>(rt, alloc, task, workers, gate, buffers)
+}
+
+/// Runs all groups of a proper kernel's lane code at a launch that fits it, by so many workers, or by fewer where they would have little to
+/// do, and writes their logs to the buffers in the order of the groups. The calling thread is worker 1. `gate` is told what each worker
+/// does, and changes nothing that is written. A worker stops where memory is refused; there is want of memory where it is refused to the
+/// calling thread. Then buffers may have the logs of the first groups.
+pub fn run_groups<R: Threads + Wait + Sync, G: Gate>(
+    rt: &R,
+    alloc: Global,
+    task: Task,
+    workers: u32,
+    gate: &G,
+    buffers: &mut Buffers,
+) -> Result<(), AllocError>
+    requires proper { is_proper (kernel_seen task.core.now) ≡ true }
+    requires fits { Fits (kernel_seen task.core.now) (launch_seen task.launch.now) }
+    requires code { block_seen task.code.now ≡ lowered (kernel_seen task.core.now) }
+    requires workers { (1 ≤ workers) × (workers ≤ 64) }
+    ensures { OnOk result (HasLogs (logs_of task.entry) (groups task.entry) (words_of buffers.old) (words_of buffers.new)) }
+{
+    let busy = busy_workers(&task, workers);
+    run_by(rt, alloc, task, busy, gate, buffers)
 }

@@ -59,6 +59,7 @@ pub fn begun_of(
     let setting = setting_of::<Elements>(
         alloc,
         notes.is_wide,
+        notes.joins,
         core,
         subject.conditions,
         Vec::new(alloc),

@@ -30,4 +30,4 @@ pub use said::may_be_said;
 pub use sights::{is_place, sights_of};
 pub use steps::{lemmas_of, steps_of};
 pub use subject::Subject;
-pub use walking::{Limits, Walked, certificate_of};
+pub use walking::{Limits, Walked, certificate_of, walk};

@@ -2,7 +2,8 @@
 
 use crate::kernel_names::Names;
 use certificate::tree;
-use guesses::{Factors, has_product, index_of, is_at_anchor, is_variable};
+use facts::Family;
+use guesses::{Factors, has_product, index_of};
 use linear::{Form, Symbol};
 use std::alloc::{AllocError, Global};
 
@@ -21,8 +22,9 @@ fn is_first(variables: &[&str], slot: usize) -> bool {
 
 /// The name of a symbol, if it has one, means that symbol everywhere in the kernel.
 fn is_plain(variables: &[&str], symbol: Symbol) -> bool {
-    if !is_variable(symbol) && !is_at_anchor(symbol) {
-        return true;
+    match Family::of(symbol) {
+        Family::Variable(_) | Family::AtAnchor(_) => {}
+        _ => return true,
     }
     let Ok(slot) = usize::try_from(index_of(symbol)) else {
         return false;
@@ -40,17 +42,37 @@ fn are_plain(variables: &[&str], symbol: Symbol) -> bool {
     true
 }
 
+/// The names of a form's symbols mean these everywhere in the kernel.
+pub fn is_plainly_named(names: &Names<'_>, form: &Form) -> bool {
+    for term in form.terms() {
+        if !are_plain(names.variables.as_slice(), term.symbol) {
+            return false;
+        }
+    }
+    true
+}
+
 impl<'a> Names<'a> {
+    /// The slots of the variables whose name means another one, which is declared before.
+    pub fn unnamed(&self, alloc: Global) -> Result<Vec<u64>, AllocError> {
+        let variables = self.variables.as_slice();
+        let mut slots = Vec::new(alloc);
+        for slot in 0..variables.len() {
+            if !is_first(variables, slot) {
+                slots.push(slot as u64)?;
+            }
+        }
+        Ok(slots)
+    }
+
     /// The form in names as an entry names its quotient, where a name means the first variable that is called so; none where a symbol has
     /// no such name.
     pub fn quotient(&self, alloc: Global, form: &Form) -> Result<Option<tree::Form>, AllocError> {
         if !self.multiplies && has_product(form) {
             return Ok(None);
         }
-        for term in form.terms() {
-            if !are_plain(self.variables.as_slice(), term.symbol) {
-                return Ok(None);
-            }
+        if !is_plainly_named(self, form) {
+            return Ok(None);
         }
         self.form(alloc, form)
     }

@@ -1,6 +1,7 @@
 //! The names of symbols, and forms in names.
 
 use crate::kernel_names::Names;
+use crate::quotient_names::is_plainly_named;
 use certificate::spelling::push_name;
 use certificate::tree::{self, Dimension, Name};
 use facts::{Family, Side};
@@ -254,12 +255,16 @@ impl<'a> Names<'a> {
         self.form_in(alloc, form, false)
     }
 
-    /// The form in names of two items, where each of its symbols has one.
+    /// The form in names of two items, as a lemma has it, where a name means the first variable that is called so; none where a symbol has
+    /// no such name.
     pub fn form_of_two(
         &self,
         alloc: Global,
         form: &Form,
     ) -> Result<Option<tree::Form>, AllocError> {
+        if !is_plainly_named(self, form) {
+            return Ok(None);
+        }
         self.form_in(alloc, form, true)
     }
 

@@ -59,7 +59,7 @@ pub fn certificate_of(
     let bounds = bounds_of(alloc, names, limits)?;
     let places = places_of(alloc, names, candidates)?;
     if subject.is_wide {
-        Certificate::new_wide(alloc, places, bounds, entries)
+        Certificate::new_wide(alloc, subject.joins, places, bounds, entries)
     } else {
         Certificate::new(alloc, places, bounds, entries)
     }

@@ -1,17 +1,19 @@
--- The launch at the least counts, arguments and lengths, all words 0.
-use Rattle.std.specs.Prelude.{ℕ, ℤ, pos, List, [], map, replicate, nat_le, sum, cond, Option, Some, None}
+-- The launch at the least counts, arguments and lengths, each buffer filled with the number nearest to 0 that its lines let it hold.
+use Rattle.std.specs.Prelude.{ℕ, ◌+◌, ◌-◌, ℤ, pos, List, [], ◌∷◌, length, map, replicate, nat_le, nat_eq, Bool, cond, Option, Some, None}
 use Rattle.std.specs.Prelude.{Vec}
+use Rattle.std.specs.Option.{option_map}
 use Rattle.std.specs.declared.alloc.Global.{Global}
-use Rattle.semantics.specs.Word.{Word as Typed, word as typed}
+use Rattle.semantics.specs.Word.{Kind, Word as Typed, word as typed, in_kind}
 use Rattle.semantics.specs.Launch as launches
 use Rattle.semantics.specs.Conditions.{sum_value}
 use Rattle.words.specs.View.{kind, word}
 use Rattle.words.specs.declared.word.Word.{Word}
-use Rattle.launch.specs.View.{length_sum, buffer}
+use Rattle.launch.specs.View.{length_sum, sum}
 use Rattle.launch.specs.Differences.{above_zero}
-use Rattle.launch.specs.Unmet.{unmet_requirements}
+use Rattle.launch.specs.Unmet.{may_hold, unmet_requirements, unmet_contents}
 use Rattle.launch.specs.declared.conditions.ArgumentRange.{ArgumentRange}
 use Rattle.launch.specs.declared.conditions.Length.{Length}
+use Rattle.launch.specs.declared.conditions.Content.{Content}
 use Rattle.launch.specs.declared.conditions.Conditions.{Conditions}
 
 abbrev pub low : ArgumentRange → Word
@@ -30,34 +32,66 @@ least_with c buffers = record {
 abbrev pub least_length : launches.Launch → Length → ℕ
 least_length l n = above_zero (sum_value l (length_sum n))
 
-abbrev pub least_lengths : launches.Launch → List Length → List ℕ
-least_lengths l ns = map (least_length l) ns
+-- a number, or the sum where the line does not let its buffer hold that number
+abbrev pub nearest : (is_upper : Bool) → (sum z : ℤ) → ℤ
+nearest is_upper sum z = cond (may_hold is_upper sum z) z sum
 
-abbrev pub zeros : ℕ → List ℤ
-zeros n = replicate n (pos 0)
+-- lines of other buffers do not matter
+abbrev pub next : launches.Launch → (buffer : ℕ) → Content → ℤ → ℤ
+next l b x z = cond (nat_eq x.buffer b) (nearest x.is_upper (sum_value l (sum x.sum)) z) z
 
-abbrev pub zero_buffers : launches.Launch → List Length → Option (List (List ℤ))
-zero_buffers l ns = cond (nat_le (sum (least_lengths l ns)) 1048576) (Some (map zeros (least_lengths l ns))) None
+-- the nearest one that each line of a buffer lets it hold, in the order of the lines
+abbrev pub brought : launches.Launch → (buffer : ℕ) → List Content → ℤ → ℤ
+brought l b [] z = z
+brought l b (x ∷ xs) z = brought l b xs (next l b x z)
 
--- zeros as words of the kind of a length
-abbrev pub typed_zeros : launches.Launch → Length → List Typed
-typed_zeros l n = replicate (least_length l n) (typed (kind n.kind) (pos 0))
+-- a number of a kind
+abbrev pub word_within : Kind → ℤ → Option Typed
+word_within k z = cond (in_kind k z) (Some (typed k z)) None
 
--- nothing where a requirement is not met there, or where the lengths together pass 1,048,576
-abbrev pub probed : Option ℕ → Conditions → Option (List (List ℤ)) → Option launches.Launch
-probed None c (Some buffers) = Some (least_with c buffers)
-probed None c None = None
+-- as many words as the buffer has at least, where there is room for them
+abbrev pub filled_with : (room words : ℕ) → Option Typed → Option (List Typed)
+filled_with room n w = cond (nat_le n room) (option_map (replicate n) w) None
+
+abbrev pub one_filled : launches.Launch → List Content → (buffer room : ℕ) → Length → Option (List Typed)
+one_filled l xs b room n = filled_with room (least_length l n) (word_within (kind n.kind) (brought l b xs (pos 0)))
+
+abbrev pub in_front : List Typed → Option (List (List Typed)) → Option (List (List Typed))
+in_front ws None = None
+in_front ws (Some others) = Some (ws ∷ others)
+
+abbrev pub follow : Option (List Typed) → (List Typed → Option (List (List Typed))) → Option (List (List Typed))
+follow None go = None
+follow (Some ws) go = in_front ws (go ws)
+
+-- the buffers, in order
+abbrev pub filled : launches.Launch → List Content → (buffer room : ℕ) → List Length → Option (List (List Typed))
+filled l xs b room [] = Some []
+filled l xs b room (n ∷ ns) = follow (one_filled l xs b room n) (λ ws. filled l xs (b + 1) (room - length ws) ns)
+
+abbrev pub number : Typed → ℤ
+number w = w.value
+
+-- where nothing is unmet
+abbrev pub met : Option ℕ → launches.Launch → Option launches.Launch
+met None l = Some l
+met (Some line) l = None
+
+abbrev pub with_buffers : Conditions → Option (List (List Typed)) → Option launches.Launch
+with_buffers c None = None
+with_buffers c (Some ws) = let l = least_with c (map (map number) ws) in met (unmet_contents l c.contents.items) l
+
+-- nothing where a requirement is not met there, where the lengths together pass 1,048,576, or where no number of its kind is one that all
+-- lines of a buffer let it hold
+abbrev pub probed : Option ℕ → Conditions → Option (List (List Typed)) → Option launches.Launch
+probed None c buffers = with_buffers c buffers
 probed (Some line) c buffers = None
 
 abbrev pub probe : Conditions → Option launches.Launch
 probe c =
-    probed (unmet_requirements (least_with c []) c.requirements.items) c (zero_buffers (least_with c []) c.lengths.items)
+    probed (unmet_requirements (least_with c []) c.requirements.items) c (filled (least_with c []) c.contents.items 0 1048576 c.lengths.items)
 
--- the buffers of the code
-abbrev pub buffers_seen : Vec (Vec Word Global) Global → List (List ℤ)
-buffers_seen bs = map buffer bs.items
-
--- and their words, with kinds
+-- the words of the code, with kinds
 abbrev pub words : Vec Word Global → List Typed
 words b = map word b.items
 

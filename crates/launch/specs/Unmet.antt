@@ -1,13 +1,14 @@
 -- The first condition that a launch does not meet, by its line, in the order of the text: group counts, arguments, lengths,
--- requirements.
-use Rattle.std.specs.Prelude.{ℕ, ℤ, pos, List, [], ◌∷◌, length, Bool, true, false, ◌&&◌, int_le, Option, Some, None, Result, Ok, Err}
+-- requirements, what buffers hold.
+use Rattle.std.specs.Prelude.{ℕ, ℤ, pos, List, [], ◌∷◌, length, slice_index_or, Bool, true, false, ◌&&◌, int_le, Option, Some, None, Result, Ok, Err}
 use Rattle.semantics.specs.Conditions as meaning
 use Rattle.semantics.specs.Word.{Word}
 use Rattle.semantics.specs.Launch as launches
-use Rattle.launch.specs.View.{count_range, argument_range, length_sum, requirement}
+use Rattle.launch.specs.View.{count_range, argument_range, length_sum, requirement, content}
 use Rattle.launch.specs.declared.conditions.ArgumentRange.{ArgumentRange}
 use Rattle.launch.specs.declared.conditions.Length.{Length}
 use Rattle.launch.specs.declared.conditions.Requirement.{Requirement}
+use Rattle.launch.specs.declared.conditions.Content.{Content}
 use Rattle.launch.specs.declared.conditions.Conditions.{Conditions}
 use Rattle.launch.specs.declared.error.ConditionError.{ConditionError}
 
@@ -47,7 +48,24 @@ unmet_requirements l [] = None
 unmet_requirements l (r ∷ rs) =
     unless (int_le (meaning.sum_value l (requirement r).right) (meaning.sum_value l (requirement r).left)) r.line (unmet_requirements l rs)
 
+-- whether a line lets its buffer hold a number
+abbrev pub may_hold : (is_upper : Bool) → (sum z : ℤ) → Bool
+may_hold true sum z = int_le z sum
+may_hold false sum z = int_le sum z
+
+-- and each of these
+abbrev pub may_hold_all : (is_upper : Bool) → (sum : ℤ) → List ℤ → Bool
+may_hold_all is_upper sum [] = true
+may_hold_all is_upper sum (z ∷ zs) = may_hold is_upper sum z && may_hold_all is_upper sum zs
+
+abbrev pub is_held : launches.Launch → meaning.Content → Bool
+is_held l x = may_hold_all x.is_upper (meaning.sum_value l x.sum) (slice_index_or l.buffers x.buffer [])
+
+abbrev pub unmet_contents : launches.Launch → List Content → Option ℕ
+unmet_contents l [] = None
+unmet_contents l (x ∷ xs) = unless (is_held l (content x)) x.line (unmet_contents l xs)
+
 abbrev pub unmet : Conditions → launches.Launch → Option ℕ
 unmet c l =
     then (unmet_groups c l) (then (unmet_arguments c.arguments.items l.arguments) (
-    then (unmet_lengths l c.lengths.items l.buffers) (unmet_requirements l c.requirements.items)))
+    then (unmet_lengths l c.lengths.items l.buffers) (then (unmet_requirements l c.requirements.items) (unmet_contents l c.contents.items))))

@@ -18,6 +18,7 @@ use Rattle.launch.specs.declared.conditions.Summand.TheVariants as summands
 use Rattle.launch.specs.declared.conditions.Sum.{Sum}
 use Rattle.launch.specs.declared.conditions.Length.{Length}
 use Rattle.launch.specs.declared.conditions.Requirement.{Requirement}
+use Rattle.launch.specs.declared.conditions.Content.{Content}
 use Rattle.launch.specs.declared.conditions.Conditions.{Conditions}
 use Rattle.launch.specs.declared.launches.Counts.{Counts}
 use Rattle.launch.specs.declared.launches.Launch.{Launch}
@@ -52,12 +53,16 @@ length_sum l = sum l.least
 abbrev pub requirement : Requirement → meaning.Requirement
 requirement r = record { left = sum r.left; right = sum r.right }
 
+abbrev pub content : Content → meaning.Content
+content x = record { buffer = x.buffer; is_upper = x.is_upper; sum = sum x.sum }
+
 abbrev pub conditions : Conditions → meaning.Conditions
 conditions c = record {
   groups = record { x = count_range c.groups.x; y = count_range c.groups.y; z = count_range c.groups.z };
   arguments = map argument_range c.arguments.items;
   lengths = map length_sum c.lengths.items;
   requires = map requirement c.requirements.items;
+  contents = map content c.contents.items;
   budget = c.budget;
 }
 

@@ -90,6 +90,16 @@ pub struct Requirement {
     pub line: u32,
 }
 
+/// Each element of a buffer (by its number among the buffer parameters) is at most a sum, or at least: when the launch begins, and each
+/// store keeps it.
+#[derive(Drop)]
+pub struct Content {
+    pub buffer: u32,
+    pub is_upper: bool,
+    pub sum: Sum,
+    pub line: u32,
+}
+
 /// The conditions that a launch has to meet, each with the line of the text in which it stands.
 #[derive(Drop)]
 pub struct Conditions {
@@ -98,5 +108,6 @@ pub struct Conditions {
     pub arguments: Vec<ArgumentRange>,
     pub lengths: Vec<Length>,
     pub requirements: Vec<Requirement>,
+    pub contents: Vec<Content>,
     pub budget: u64,
 }

@@ -4,14 +4,15 @@ ghost use Rattle.std.specs.Prelude.{◌≡◌, length, map, pos, int_le, vec_len
 ghost use Rattle.semantics.specs.Conditions as meaning;
 ghost use Rattle.semantics.specs.Conditions.{Meets};
 ghost use Rattle.words.specs.View.{value_of, word as word_of};
-ghost use Rattle.launch.specs.View.{conditions as conditions_of, launch as launch_of, buffer as buffer_of, count_range, argument_range, length_sum, requirement as requirement_of};
-ghost use Rattle.launch.specs.Unmet.{answer, is_in, unmet, unmet_groups, unmet_arguments, unmet_lengths, unmet_requirements};
+ghost use Rattle.launch.specs.View.{conditions as conditions_of, launch as launch_of, buffer as buffer_of, count_range, argument_range, length_sum, requirement as requirement_of, content as content_of};
+ghost use Rattle.launch.specs.Differences.{difference};
+ghost use Rattle.launch.specs.Unmet.{answer, is_in, is_held, may_hold, may_hold_all, unmet, unmet_groups, unmet_arguments, unmet_lengths, unmet_requirements, unmet_contents};
 
-use crate::conditions::{ArgumentRange, Conditions, CountRange, Length, Requirement};
+use crate::conditions::{ArgumentRange, Conditions, Content, CountRange, Length, Requirement};
 use crate::error::ConditionError;
 use crate::launches::Launch;
 use crate::sums::Difference;
-use crate::values::sum_of;
+use crate::values::{of_number, sum_of};
 use words::Word;
 
 fn is_count(range: CountRange, count: u32) -> bool
@@ -102,6 +103,51 @@ pub fn requirements_meet(
     Ok(())
 }
 
+/// Whether a line lets its buffer hold a number: at most the sum, or at least.
+pub fn may_hold(is_upper: bool, sum: Difference, number: Difference) -> bool
+    ensures { result ≡ may_hold is_upper (difference sum) (difference number) }
+{
+    if is_upper {
+        sum.at_least(number)
+    } else {
+        number.at_least(sum)
+    }
+}
+
+fn may_hold_all(is_upper: bool, sum: Difference, words: &[Word]) -> bool
+    ensures { result ≡ may_hold_all is_upper (difference sum) (map value_of words.now) }
+{
+    for word in words {
+        if !may_hold(is_upper, sum, of_number(*word)) {
+            return false;
+        }
+    }
+    true
+}
+
+fn is_held(launch: &Launch, content: &Content) -> bool
+    ensures { result ≡ is_held (launch_of launch.now) (content_of content.now) }
+{
+    let at = content.buffer as usize;
+    let buffers = &launch.buffers.words;
+    if at < buffers.len() {
+        return may_hold_all(content.is_upper, sum_of(launch, &content.sum), &buffers[at]);
+    }
+    true
+}
+
+/// Whether each buffer holds what its lines let it hold; else the first line that is not met.
+pub fn contents_meet(launch: &Launch, contents: &[Content]) -> Result<(), ConditionError>
+    ensures { answer result ≡ unmet_contents (launch_of launch.now) contents.now }
+{
+    for content in contents {
+        if !is_held(launch, content) {
+            return Err(ConditionError { line: content.line });
+        }
+    }
+    Ok(())
+}
+
 fn first_unmet(conditions: &Conditions, launch: &Launch) -> Result<(), ConditionError>
     requires arguments { vec_len conditions.now.arguments ≡ vec_len launch.now.arguments }
     requires buffers { vec_len conditions.now.lengths ≡ vec_len launch.now.buffers.words }
@@ -110,7 +156,8 @@ fn first_unmet(conditions: &Conditions, launch: &Launch) -> Result<(), Condition
     groups_meet(conditions, launch)?;
     arguments_meet(&conditions.arguments, &launch.arguments)?;
     lengths_meet(launch, &conditions.lengths, &launch.buffers.words)?;
-    requirements_meet(launch, &conditions.requirements)
+    requirements_meet(launch, &conditions.requirements)?;
+    contents_meet(launch, &conditions.contents)
 }
 
 /// Whether a launch meets its conditions; else the line of the first that it does not meet, in the order of the text.

@@ -1,17 +1,19 @@
 //! The launch at the least values.
 
-ghost use Rattle.std.specs.Prelude.{◌≡◌, ◌<◌, ◌^◌, IfOk, IfSome, map, replicate, [], pos};
+ghost use Rattle.std.specs.Prelude.{◌≡◌, ◌≤◌, ◌<◌, ◌^◌, IfOk, IfSome, Some, map, replicate, length, [], pos};
 ghost use Rattle.std.specs.Option.{option_map};
 ghost use Rattle.semantics.specs.Conditions.{Meets};
-ghost use Rattle.semantics.specs.Word.{word};
-ghost use Rattle.words.specs.View.{kind as kind_of, word as word_of, value_of};
-ghost use Rattle.launch.specs.View.{conditions as conditions_of, launch as launch_of, buffer};
+ghost use Rattle.words.specs.View.{kind as kind_of, word as word_seen};
+ghost use Rattle.launch.specs.Differences.{difference};
+ghost use Rattle.launch.specs.View.{conditions as conditions_of, launch as launch_of};
+ghost use Rattle.launch.specs.Unmet.{unmet_contents};
 ghost use Rattle.launch.specs.Least as least;
-ghost use Rattle.launch.specs.Least.{least_with, typed_zeros, buffers_seen, words, words_seen};
+ghost use Rattle.launch.specs.Least.{least_with, words, words_seen};
 
-use crate::conditions::{ArgumentRange, Conditions, Length};
+use crate::conditions::{ArgumentRange, Conditions, Content, Length};
 use crate::launches::{Buffers, Counts, Launch};
-use crate::meets::requirements_meet;
+use crate::meets::{contents_meet, may_hold, requirements_meet};
+use crate::sums::Difference;
 use crate::values::sum_of;
 use std::alloc::{AllocError, Global};
 use words::{Kind, Word};
@@ -52,66 +54,141 @@ fn least_length(launch: &Launch, length: &Length) -> u128
     sum_of(launch, &length.least).above_zero()
 }
 
-fn zero(kind: Kind) -> Word
-    ensures value { value_of result ≡ pos 0 }
-    ensures word { word_of result ≡ word (kind_of kind) (pos 0) }
+/// A number, or the sum where the line does not let its buffer hold that number.
+fn nearest(is_upper: bool, sum: Difference, number: Difference) -> Difference
+    ensures { difference result ≡ least.nearest is_upper (difference sum) (difference number) }
 {
-    match kind {
-        Kind::Int => Word::Int(0),
-        Kind::Uint => Word::Uint(0),
+    if may_hold(is_upper, sum, number) {
+        return number;
+    }
+    sum
+}
+
+/// The number nearest to this one that a line lets a buffer hold, where the line is of that buffer.
+fn next(launch: &Launch, content: &Content, buffer: usize, number: Difference) -> Difference
+    ensures { difference result ≡ least.next (launch_of launch.now) buffer content.now (difference number) }
+{
+    if content.buffer as usize == buffer {
+        return nearest(content.is_upper, sum_of(launch, &content.sum), number);
+    }
+    number
+}
+
+/// The number nearest to this one that each line of a buffer lets it hold, in the order of the lines.
+fn brought(launch: &Launch, contents: &[Content], buffer: usize, number: Difference) -> Difference
+    ensures { difference result ≡ least.brought (launch_of launch.now) buffer contents.now (difference number) }
+{
+    match contents {
+        [] => number,
+        [content, others @ ..] => {
+            let number = next(launch, content, buffer, number);
+            brought(launch, others, buffer, number)
+        }
     }
 }
 
-#[tactic(auto, using(crate::proofs::Least::zeroes))]
-fn zeros(alloc: Global, kind: Kind, length: usize) -> Result<Vec<Word>, AllocError>
-    ensures values { IfOk result (λ v. buffer v ≡ least.zeros length) }
-    ensures words { IfOk result (λ v. words v ≡ replicate length (word (kind_of kind) (pos 0))) }
+fn nothing() -> Difference
+    ensures { difference result ≡ pos 0 }
 {
-    Ok(vec![in alloc; zero(kind); length]?)
+    Difference { plus: 0, minus: 0 }
 }
 
-fn zero_buffers(
+/// A number as a word of a kind, where the kind has it.
+fn word_within(kind: Kind, number: Difference) -> Option<Word>
+    ensures { option_map word_seen result ≡ least.word_within (kind_of kind) (difference number) }
+{
+    let number = number.plus as i128 - number.minus as i128;
+    match kind {
+        Kind::Int => match i32::try_from(number) {
+            Ok(value) => Some(Word::Int(value)),
+            Err(_) => None,
+        },
+        Kind::Uint => match u32::try_from(number) {
+            Ok(value) => Some(Word::Uint(value)),
+            Err(_) => None,
+        },
+    }
+}
+
+#[tactic(auto, using(crate::proofs::Least::copies))]
+fn filled_with(alloc: Global, word: Word, count: usize) -> Result<Vec<Word>, AllocError>
+    ensures { IfOk result (λ v. words v ≡ replicate count (word_seen word)) }
+{
+    Ok(vec![in alloc; word; count]?)
+}
+
+/// A buffer as short as its condition allows, where there is room for it, filled with what its lines let it hold.
+fn one_filled(
     alloc: Global,
     launch: &Launch,
+    contents: &[Content],
+    buffer: usize,
+    room: u128,
+    length: &Length,
+) -> Result<Option<Vec<Word>>, AllocError>
+    requires { room ≤ 1048576 }
+    ensures { IfOk result (λ found. option_map words found ≡ least.one_filled (launch_of launch.now) contents.now buffer room length.now) }
+{
+    let count = least_length(launch, length);
+    if count > room {
+        return Ok(None);
+    }
+    let Some(word) = word_within(length.kind, brought(launch, contents, buffer, nothing())) else {
+        return Ok(None);
+    };
+    Ok(Some(filled_with(alloc, word, count as usize)?))
+}
+
+fn filled(
+    alloc: Global,
+    launch: &Launch,
+    contents: &[Content],
     lengths: &[Length],
 ) -> Result<Option<Vec<Vec<Word>>>, AllocError>
-    ensures values { IfOk result (λ found. option_map buffers_seen found ≡ least.zero_buffers (launch_of launch.now) lengths.now) }
-    ensures words { IfOk result (λ found. IfSome found (λ v. words_seen v ≡ map (typed_zeros (launch_of launch.now)) lengths.now)) }
+    ensures { IfOk result (λ found. option_map words_seen found ≡ least.filled (launch_of launch.now) contents.now 0 1048576 lengths.now) }
 {
     let mut left = MOST_WORDS;
     let mut buffers = Vec::new(alloc);
-    for length in lengths {
-        let words = least_length(launch, length);
-        if words > left {
+    for (at, length) in lengths.iter().enumerate() {
+        let Some(words) = one_filled(alloc, launch, contents, at, left, length)? else {
             return Ok(None);
-        }
-        left -= words;
-        buffers.push(zeros(alloc, length.kind, words as usize)?)?;
+        };
+        left = left.saturating_sub(words.len() as u128);
+        buffers.push(words)?;
     }
     Ok(Some(buffers))
 }
 
+/// The launch, where its buffers hold what their lines let them hold.
+fn held(launch: Launch, contents: &[Content]) -> Option<Launch>
+    ensures { option_map launch_of result ≡ least.met (unmet_contents (launch_of launch) contents.now) (launch_of launch) }
+{
+    if contents_meet(&launch, contents).is_err() {
+        return None;
+    }
+    Some(launch)
+}
+
 fn least_launch(alloc: Global, conditions: &Conditions) -> Result<Option<Launch>, AllocError>
-    ensures least { IfOk result (λ found. option_map launch_of found ≡ least.probe conditions.now) }
-    ensures words { IfOk result (λ found. IfSome found (λ l. words_seen l.buffers.words ≡ map (typed_zeros (least_with conditions.now [])) conditions.now.lengths.items)) }
+    ensures { IfOk result (λ found. option_map launch_of found ≡ least.probe conditions.now) }
 {
     let mut launch = without_buffers(alloc, conditions)?;
     if requirements_meet(&launch, &conditions.requirements).is_err() {
         return Ok(None);
     }
-    let Some(words) = zero_buffers(alloc, &launch, &conditions.lengths)? else {
+    let Some(words) = filled(alloc, &launch, &conditions.contents, &conditions.lengths)? else {
         return Ok(None);
     };
     launch.buffers = Buffers { words };
-    Ok(Some(launch))
+    Ok(held(launch, &conditions.contents))
 }
 
-/// The launch at the least counts and arguments, each buffer as short as its condition allows, all words 0 of its kind; nothing where a
-/// requirement is not met there, or where the lengths together pass 1,048,576.
+/// The launch at the least counts and arguments, each buffer as short as its condition allows and filled with the number nearest to 0 that
+/// its lines let it hold; nothing where a requirement is not met there, where the lengths together pass 1,048,576, or where no number of
+/// its kind is one that all lines of a buffer let it hold.
 #[tactic(auto, using(crate::proofs::Least::least))]
 pub fn probe(alloc: Global, conditions: &Conditions) -> Result<Option<Launch>, AllocError>
     ensures least { IfOk result (λ found. option_map launch_of found ≡ least.probe conditions.now) }
-    ensures words { IfOk result (λ found. IfSome found (λ l. words_seen l.buffers.words ≡ map (typed_zeros (least_with conditions.now [])) conditions.now.lengths.items)) }
     ensures met { IfOk result (λ found. IfSome found (λ l. Meets (conditions_of conditions.now) (launch_of l))) }
 {
     let found = least_launch(alloc, conditions)?;

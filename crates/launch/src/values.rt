@@ -1,13 +1,16 @@
-//! The values of sums.
+//! The values of sums and of words.
 
 ghost use Rattle.std.specs.Prelude.{◌≡◌};
 ghost use Rattle.semantics.specs.Conditions as meaning;
+ghost use Rattle.words.specs.View.{value_of};
 ghost use Rattle.launch.specs.Differences.{difference};
 ghost use Rattle.launch.specs.View.{launch as launch_of, sum as sum_seen};
 
 use crate::conditions::Sum;
 use crate::launches::Launch;
+use crate::number::of_word;
 use crate::sums::{Difference, value};
+use words::Word;
 
 /// The value of a sum.
 pub fn sum_of(launch: &Launch, sum: &Sum) -> Difference
@@ -24,4 +27,22 @@ pub fn sum_of(launch: &Launch, sum: &Sum) -> Difference
         }
     }
     Difference { plus, minus }
+}
+
+/// The number of a word, as a difference.
+pub fn of_number(word: Word) -> Difference
+    ensures { difference result ≡ value_of word }
+{
+    let number = of_word(word);
+    let size = number.size as u128;
+    if number.negative {
+        return Difference {
+            plus: 0,
+            minus: size,
+        };
+    }
+    Difference {
+        plus: size,
+        minus: 0,
+    }
 }

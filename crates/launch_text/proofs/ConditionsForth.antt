@@ -1,26 +1,31 @@
 -- What a conditions text says by cases is read of it.
-use Rattle.std.proofs.Common.{◌≡◌, ℕ, zero, suc, ◌+◌, ◌≤◌, Bool, true, false, nat_lt, List, [], ◌∷◌, ◌++◌, length, Ok, refl, ap, sym, ◌∙◌, append_assoc, arith}
+use Rattle.std.proofs.Common.{◌≡◌, ℕ, zero, suc, ◌+◌, ◌≤◌, Bool, true, false, nat_lt, List, [], ◌∷◌, ◌++◌, length, Some, Ok, refl, ap, sym, ◌∙◌, subst, append_assoc, arith}
 use Rattle.std.specs.Prelude.{codes, bytes_eq}
 use Rattle.std.specs.Fmt.{decimal}
-use Rattle.std.proofs.lemmas.Bool.{cond-false}
+use Rattle.std.specs.List.{prefix_len}
+use Rattle.std.proofs.lemmas.Bool.{cond-false, cond_both}
+use Rattle.std.proofs.lemmas.Slice.Eq.{bytes_eq-Decides}
 use Rattle.std.proofs.lemmas.List.{append-nil}
 use Rattle.semantics.specs.Word.{Kind}
 use Rattle.semantics.specs.Launch.{Three}
 use Rattle.semantics.specs.Conditions as meaning
 use Rattle.semantics.specs.Conditions.{Range, Summand}
 use Rattle.texts.specs.Identifiers.{is_identifier}
+use Rattle.texts.specs.Tokens.{is_word_byte}
 use Rattle.texts.specs.Surface.{Parameter, Buffer, Value}
 use Rattle.texts.specs.Spelling.{SpellsParameters}
-use Rattle.texts.specs.LaunchFaults.{Cursor, cursor, then, expect, end_line}
-use Rattle.texts.specs.LaunchWords.{Conditions, due, due_blank, due_parameter, first_word, each}
-use Rattle.texts.specs.ConditionsReading.{Length, Requirement, Lined, length_meant, requirement_meant, meant, length_of, length_line, length_due, requirement_of, requirement_line, requirement_lines, budget_line, lined, version_at, version_line, conditions_at, conditions_limit, conditions_of}
-use Rattle.texts.specs.ConditionsText.{IsShortSum, groups_text, length_text, requirement_text, budget_text, AreLengthLines, no_length, past_value, a_length, AreRequirementLines, no_requirement, a_requirement, version_text, AreConditionsLines, IsConditionsText}
+use Rattle.texts.specs.LaunchFaults.{Cursor, Step, cursor, expect, end_line}
+use Rattle.texts.specs.LaunchWords.{Conditions, due, due_blank, due_parameter, first_word, each, several}
+use Rattle.texts.specs.LaunchSums.{buffer_number, buffer_at}
+use Rattle.texts.specs.ConditionsReading.{Length, Requirement, ContentLine, Lined, length_meant, requirement_meant, content_meant, meant, length_of, length_line, length_due, requirement_of, requirement_line, end_at, content_of, content_line, content_lines, budget_line, lined, version_at, version_line, conditions_at, conditions_limit, conditions_of}
+use Rattle.texts.specs.ConditionsText.{IsShortSum, groups_text, length_text, requirement_text, end_text, content_text, budget_text, AreLengthLines, no_length, past_value, a_length, AreRequirementLines, no_requirement, a_requirement, AreContentLines, no_content, a_content, version_text, AreConditionsLines, IsConditionsText}
 use Rattle.launch_text.specs.Parameters.{AreNamed}
 use Rattle.launch_text.proofs.Back.{same_back}
-use Rattle.launch_text.proofs.Forth.{natural_forth, parameter_forth}
+use Rattle.launch_text.proofs.Several.{several_over, several_more}
+use Rattle.launch_text.proofs.Forth.{natural_forth, name_forth, parameter_forth}
 use Rattle.launch_text.proofs.LinesForth.{blank_forth, end_forth, each_goes, each_skips, each_ends, appended, end_text_forth}
 use Rattle.launch_text.proofs.LaunchForth.{not_above}
-use Rattle.launch_text.proofs.LinesTaken.{length_shape, requirement_shape}
+use Rattle.launch_text.proofs.LinesTaken.{length_shape, requirement_shape, content_shape}
 use Rattle.launch_text.proofs.SumsForth.{blank_stops, end_stops, short_sum_forth}
 use Rattle.launch_text.proofs.RangesForth.{ReadsLines, groups_forth, arguments_forth}
 
@@ -36,10 +41,12 @@ budget_due : (rest : List ℕ) (n : ℕ) → due_blank Conditions (codes "budget
 unfolding due_blank due expect
 budget_due rest n = refl
 
-version_forth : (products : Bool) (rest : List ℕ) → version_line (cursor 1 (version_text products ++ (10 ∷ rest))) ≡ Ok (products, cursor 2 rest)
+version_forth : (may products : Bool) (rest : List ℕ) → (products ≡ true → may ≡ true) → version_line may (cursor 1 (version_text products ++ (10 ∷ rest))) ≡ Ok (products, cursor 2 rest)
 unfolding version_line version_at due expect end_line
-version_forth true rest = refl
-version_forth false rest = refl
+version_forth true true rest h = refl
+version_forth false true rest h = let k = h refl in absurd cc
+version_forth true false rest h = refl
+version_forth false false rest h = refl
 
 least_forth : (rest : List ℕ) (n : ℕ) → expect (codes ">= ") (cursor n (codes ">= " ++ rest)) ≡ Ok (cursor n rest)
 unfolding expect
@@ -99,64 +106,130 @@ requirement_forth products ps left right r rest n i a b =
       end_forth rest n,
     ) refl
 
-none_left : (products : Bool) (ps : List Parameter) (room : ℕ) (done : List Requirement) (rest : List ℕ) (n : ℕ) → bytes_eq (first_word rest) (codes "require") ≡ false → requirement_lines products ps room done (cursor n rest) ≡ Ok (done ++ [], cursor n rest)
-unfolding requirement_lines
-none_left products ps zero done rest n h = rw (h, append-nil done) refl
-none_left products ps (suc room) done rest n h = rw (h, append-nil done) refl
-
-one_more : (products : Bool) (ps : List Parameter) (room : ℕ) (done : List Requirement) (left right rest : List ℕ) (n : ℕ) (r : Requirement) → requirement_line products ps (cursor n (requirement_text left right ++ rest)) ≡ Ok (r, cursor (n + 1) rest)
-    → requirement_lines products ps (suc room) done (cursor n (requirement_text left right ++ rest)) ≡ requirement_lines products ps room (done ++ r ∷ []) (cursor (n + 1) rest)
-unfolding requirement_lines
-one_more products ps room done left right rest n r e = ap (λ s. then s (λ (t : Requirement × Cursor). requirement_lines products ps room (done ++ t.0 ∷ []) t.1)) e
+-- no line is left
+none_left : {A : Type 0} (keyword : List ℕ) (line : Cursor → Step (A × Cursor)) (room : ℕ) (done : List A) (rest : List ℕ) (n : ℕ) → bytes_eq (first_word rest) keyword ≡ false → several keyword line room done (cursor n rest) ≡ Ok (done ++ [], cursor n rest)
+none_left {A} keyword line room done rest n h =
+    several_over keyword line room done (cursor n rest) h ∙ ap (λ xs. let r : Step (List A × Cursor) = Ok (xs, cursor n rest) in r) (sym (append-nil done))
 
 requirements_forth : (products : Bool) (ps : List Parameter) (room : ℕ) (done : List Requirement) (lines : List ℕ) (rs : List meaning.Requirement) (rest : List ℕ) (n : ℕ) → AreNamed ps → AreRequirementLines products ps lines rs → length rs ≤ room → bytes_eq (first_word rest) (codes "require") ≡ false
-    → ReadsLines (requirement_lines products ps room done) requirement_meant done lines rs rest n
-requirements_forth products ps room done lines rs rest n i no_requirement l h = record { read = []; line = n; is_read = none_left products ps room done rest n h; is_meant = refl }
+    → ReadsLines (several (codes "require") (requirement_line products ps) room done) requirement_meant done lines rs rest n
+requirements_forth products ps room done lines rs rest n i no_requirement l h = record { read = []; line = n; is_read = none_left (codes "require") (requirement_line products ps) room done rest n h; is_meant = refl }
 requirements_forth products ps zero done lines rs rest n i (a_requirement {rs = others} r a b more) l h = absurd (omega arith)
 requirements_forth products ps (suc room) done lines rs rest n i (a_requirement {left = left} {right = right} {lines = after} {rs = others} r a b more) l h =
     let own : Requirement = requirement_of r.left r.right n in
+    let line = requirement_line products ps in
     let behind = requirements_forth products ps room (done ++ own ∷ []) after others rest (n + 1) i more (omega (arith, l)) h in
     record {
       read = own ∷ behind.read;
       line = behind.line;
-      is_read = ap (λ bytes. requirement_lines products ps (suc room) done (cursor n bytes)) (append_assoc (requirement_text left right) after rest)
-          ∙ one_more products ps room done left right (after ++ rest) n own (requirement_forth products ps left right r (after ++ rest) n i a b)
+      is_read = ap (λ bytes. several (codes "require") line (suc room) done (cursor n bytes)) (append_assoc (requirement_text left right) after rest)
+          ∙ several_more (codes "require") line room done (cursor n (requirement_text left right ++ (after ++ rest))) (cursor (n + 1) (after ++ rest)) own refl (requirement_forth products ps left right r (after ++ rest) n i a b)
           ∙ behind.is_read ∙ appended done own behind.read (cursor behind.line rest);
       is_meant = ap (λ others. r ∷ others) behind.is_meant;
     }
+
+values_due : (rest : List ℕ) (n : ℕ) → due_blank Conditions (codes "values") (cursor n (codes "values " ++ rest)) ≡ Ok (cursor n rest)
+unfolding due_blank due expect
+values_due rest n = refl
+
+-- the names of buffer parameters are identifiers
+buffer_named : (before : ℕ) (ps : List Parameter) (name : List ℕ) (n : ℕ) → AreNamed ps → buffer_number before ps name ≡ Some n → is_identifier name ≡ true
+buffer_named before [] name n i h = absurd cc
+buffer_named before (Value k site own ∷ ps) name n i h = buffer_named before ps name n i.1 h
+buffer_named before (Buffer constant k site own ∷ ps) name n i h =
+    cond_both (bytes_eq own name) (Some before) (buffer_number (before + 1) ps name) (λ o. o ≡ Some n → is_identifier name ≡ true)
+    (λ same _. subst (λ w. is_identifier w ≡ true) ((bytes_eq-Decides own name).0 same) i.0) (λ _ e. buffer_named (before + 1) ps name n i.1 e) h
+
+buffer_forth : (ps : List Parameter) (name : List ℕ) (b : ℕ) (rest : List ℕ) (n : ℕ) → AreNamed ps → buffer_number 0 ps name ≡ Some b → prefix_len is_word_byte rest ≡ 0 → buffer_at ps (cursor n (name ++ rest)) ≡ Ok (b, cursor n rest)
+unfolding buffer_at
+buffer_forth ps name b rest n i h s = rw (name_forth name rest n (buffer_named 0 ps name b i h) s, h) refl
+
+side_forth : (u : Bool) (rest : List ℕ) (n : ℕ) → end_at (cursor n (end_text u ++ rest)) ≡ Ok (u, cursor n rest)
+unfolding end_at expect
+side_forth true rest n = refl
+side_forth false rest n = refl
+
+side_ends : (u : Bool) (rest : List ℕ) → prefix_len is_word_byte (end_text u ++ rest) ≡ 0
+side_ends true rest = refl
+side_ends false rest = refl
+
+content_forth : (ps : List Parameter) (name sum : List ℕ) (x : meaning.Content) (rest : List ℕ) (n : ℕ) → AreNamed ps → buffer_number 0 ps name ≡ Some x.buffer → IsShortSum true ps sum x.sum
+    → content_line ps (cursor n (content_text name x.is_upper sum ++ rest)) ≡ Ok (content_of x.buffer x.is_upper x.sum n, cursor (n + 1) rest)
+unfolding content_line
+content_forth ps name sum x rest n i b h =
+    let side = end_text x.is_upper in
+    rw (
+      sym (content_shape name side sum rest),
+      values_due (name ++ (side ++ (sum ++ (10 ∷ rest)))) n,
+      buffer_forth ps name x.buffer (side ++ (sum ++ (10 ∷ rest))) n i b (side_ends x.is_upper (sum ++ (10 ∷ rest))),
+      side_forth x.is_upper (sum ++ (10 ∷ rest)) n,
+      short_sum_forth true ps sum x.sum (10 ∷ rest) n i h (end_stops rest) refl,
+      end_forth rest n,
+    ) refl
+
+contents_forth : (ps : List Parameter) (room : ℕ) (done : List ContentLine) (lines : List ℕ) (xs : List meaning.Content) (rest : List ℕ) (n : ℕ) → AreNamed ps → AreContentLines true ps lines xs → length xs ≤ room → bytes_eq (first_word rest) (codes "values") ≡ false
+    → ReadsLines (several (codes "values") (content_line ps) room done) content_meant done lines xs rest n
+contents_forth ps room done lines xs rest n i no_content l h = record { read = []; line = n; is_read = none_left (codes "values") (content_line ps) room done rest n h; is_meant = refl }
+contents_forth ps zero done lines xs rest n i (a_content {xs = others} name x two b s more) l h = absurd (omega arith)
+contents_forth ps (suc room) done lines xs rest n i (a_content {sum = sum} {lines = after} {xs = others} name x two b s more) l h =
+    let own : ContentLine = content_of x.buffer x.is_upper x.sum n in
+    let behind = contents_forth ps room (done ++ own ∷ []) after others rest (n + 1) i more (omega (arith, l)) h in
+    record {
+      read = own ∷ behind.read;
+      line = behind.line;
+      is_read = ap (λ bytes. several (codes "values") (content_line ps) (suc room) done (cursor n bytes)) (append_assoc (content_text name x.is_upper sum) after rest)
+          ∙ several_more (codes "values") (content_line ps) room done (cursor n (content_text name x.is_upper sum ++ (after ++ rest))) (cursor (n + 1) (after ++ rest)) own refl (content_forth ps name sum x (after ++ rest) n i b s)
+          ∙ behind.is_read ∙ appended done own behind.read (cursor behind.line rest);
+      is_meant = ap (λ others. x ∷ others) behind.is_meant;
+    }
+
+held_forth : (is_two : Bool) (ps : List Parameter) (lines : List ℕ) (xs : List meaning.Content) (rest : List ℕ) (n : ℕ) → AreNamed ps → AreContentLines is_two ps lines xs → length xs ≤ 16 → bytes_eq (first_word rest) (codes "values") ≡ false
+    → ReadsLines (content_lines is_two ps) content_meant [] lines xs rest n
+unfolding content_lines
+held_forth true ps lines xs rest n i a l h = contents_forth ps 16 [] lines xs rest n i a l h
+held_forth false ps lines xs rest n i no_content l h = record { read = []; line = n; is_read = refl; is_meant = refl }
+held_forth false ps lines xs rest n i (a_content name x two b s more) l h = absurd cc
+
+-- another line comes behind the requirements
+no_requirement_next : (is_two : Bool) (ps : List Parameter) (lines : List ℕ) (xs : List meaning.Content) (last : List ℕ) → AreContentLines is_two ps lines xs → bytes_eq (first_word last) (codes "require") ≡ false → bytes_eq (first_word (lines ++ last)) (codes "require") ≡ false
+no_requirement_next is_two ps lines xs last no_content h = h
+no_requirement_next is_two ps lines xs last (a_content name x two b s more) h = refl
 
 budget_forth : (m : ℕ) (n : ℕ) → 1 ≤ m → m ≤ 1000000000000 → budget_line (cursor n (budget_text m)) ≡ Ok (m, cursor (n + 1) [])
 unfolding budget_line
 budget_forth m n a b =
     rw (budget_due (decimal m ++ 10 ∷ []) n, natural_forth 1 1000000000000 m (10 ∷ []) n a b (omega arith) refl, end_forth [] n) refl
 
-made : (c : meaning.Conditions) (groups : Three Range) (arguments : List Range) (lengths : List (List Summand)) (requires : List meaning.Requirement) → groups ≡ c.groups → arguments ≡ c.arguments → lengths ≡ c.lengths → requires ≡ c.requires
-    → (let d : meaning.Conditions = record { groups = groups; arguments = arguments; lengths = lengths; requires = requires; budget = c.budget } in d ≡ c)
-made c groups arguments lengths requires p q r s = rw (p, q, r, s) refl
+made : (c : meaning.Conditions) (groups : Three Range) (arguments : List Range) (lengths : List (List Summand)) (requires : List meaning.Requirement) (contents : List meaning.Content) → groups ≡ c.groups → arguments ≡ c.arguments → lengths ≡ c.lengths → requires ≡ c.requires → contents ≡ c.contents
+    → (let d : meaning.Conditions = record { groups = groups; arguments = arguments; lengths = lengths; requires = requires; contents = contents; budget = c.budget } in d ≡ c)
+made c groups arguments lengths requires contents p q r s t = rw (p, q, r, s, t) refl
 
-lines_forth : (products : Bool) (ps : List Parameter) (text : List ℕ) (c : meaning.Conditions) → AreNamed ps → AreConditionsLines products ps text c → (l : Lined) × (conditions_at ps (cursor 1 text) ≡ Ok l) × (meant l ≡ c)
+lines_forth : (may products : Bool) (ps : List Parameter) (text : List ℕ) (c : meaning.Conditions) → AreNamed ps → (products ≡ true → may ≡ true) → AreConditionsLines products ps text c → (l : Lined) × (conditions_at may ps (cursor 1 text) ≡ Ok l) × (meant l ≡ c)
 unfolding conditions_at
-lines_forth products ps text c i t =
+lines_forth may products ps text c i may_have t =
     let last : List ℕ = budget_text c.budget in
-    let behind_lengths : List ℕ = t.requirement_lines ++ last in
+    let behind_requires : List ℕ = t.content_lines ++ last in
+    let behind_lengths : List ℕ = t.requirement_lines ++ behind_requires in
     let behind_arguments : List ℕ = t.length_lines ++ behind_lengths in
     let body : List ℕ = t.argument_lines ++ behind_arguments in
     let groups = groups_forth c.groups body 2 t.counts_x t.counts_y t.counts_z t.few_groups in
     let arguments = arguments_forth ps [] ps t.argument_lines c.arguments behind_arguments 3 i t.arguments in
     let lengths = lengths_forth products ps [] ps t.length_lines c.lengths behind_lengths arguments.line i i t.lengths in
-    let requires = requirements_forth products ps 16 [] t.requirement_lines c.requires last lengths.line i t.requires t.few_requires refl in (
-      lined groups.groups 2 arguments.read lengths.read requires.read c.budget,
+    let requires = requirements_forth products ps 16 [] t.requirement_lines c.requires behind_requires lengths.line i t.requires t.few_requires (no_requirement_next products ps t.content_lines c.contents last t.contents refl) in
+    let contents = held_forth products ps t.content_lines c.contents last requires.line i t.contents t.few_contents refl in (
+      lined groups.groups 2 arguments.read lengths.read requires.read contents.read c.budget,
       rw (
         t.is_text,
-        version_forth products (groups_text c.groups ++ body),
+        version_forth may products (groups_text c.groups ++ body) may_have,
         groups.is_read,
         arguments.is_read,
         lengths.is_read,
         requires.is_read,
-        budget_forth c.budget requires.line t.budget.0 t.budget.1,
-        end_text_forth (requires.line + 1),
+        contents.is_read,
+        budget_forth c.budget contents.line t.budget.0 t.budget.1,
+        end_text_forth (contents.line + 1),
       ) refl,
-      made c _ _ _ _ groups.is_meant arguments.is_meant lengths.is_meant requires.is_meant,
+      made c _ _ _ _ _ groups.is_meant arguments.is_meant lengths.is_meant requires.is_meant contents.is_meant,
     )
 
 -- the names of a kernel's text are names of parameters
@@ -165,13 +238,13 @@ spelt_names [] h = tt
 spelt_names (Buffer constant k site name ∷ ps) h = (h.0, spelt_names ps h.1)
 spelt_names (Value k site name ∷ ps) h = (h.0, spelt_names ps h.1)
 
-pub conditions_forth : (ps : List Parameter) (text : List ℕ) (c : meaning.Conditions) → SpellsParameters ps → IsConditionsText ps text c → (l : Lined) × (conditions_of ps text ≡ Ok l) × (meant l ≡ c)
-conditions_forth ps text c i t =
-    let l = lines_forth t.has_products ps text c (spelt_names ps i) t.lines in
+pub conditions_forth : (may : Bool) (ps : List Parameter) (text : List ℕ) (c : meaning.Conditions) → SpellsParameters ps → IsConditionsText may ps text c → (l : Lined) × (conditions_of may ps text ≡ Ok l) × (meant l ≡ c)
+conditions_forth may ps text c i t =
+    let l = lines_forth may t.has_products ps text c (spelt_names ps i) t.may_have t.lines in
     (l.0, cond-false (nat_lt conditions_limit (length text)) _ _ (not_above conditions_limit (length text) t.within_limit) ∙ l.1, l.2)
 
-pub one_meaning : (ps : List Parameter) (text : List ℕ) (c d : meaning.Conditions) → SpellsParameters ps → IsConditionsText ps text c → IsConditionsText ps text d → c ≡ d
-one_meaning ps text c d i t u =
-    let l = conditions_forth ps text c i t in
-    let m = conditions_forth ps text d i u in
+pub one_meaning : (may : Bool) (ps : List Parameter) (text : List ℕ) (c d : meaning.Conditions) → SpellsParameters ps → IsConditionsText may ps text c → IsConditionsText may ps text d → c ≡ d
+one_meaning may ps text c d i t u =
+    let l = conditions_forth may ps text c i t in
+    let m = conditions_forth may ps text d i u in
     sym l.2 ∙ ap meant (same_back l.0 m.0 (sym l.1 ∙ m.1)) ∙ m.2

@@ -15,11 +15,12 @@ pub mod LinesTaken
 pub mod Lists
 pub mod Parameters
 pub mod RangesForth
-pub mod Requirements
 pub mod Rows
+pub mod Several
 pub mod SpellingsForth
 pub mod Sums
 pub mod SumsForth
 pub mod SumsTaken
 pub mod Taken
 pub mod Texts
+pub mod Versions

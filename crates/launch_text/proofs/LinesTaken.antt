@@ -1,5 +1,5 @@
 -- What a line's reader took from the front is that line.
-use Rattle.std.proofs.Common.{◌≡◌, ℕ, zero, suc, ◌*◌, ◌≤◌, Bool, true, false, nat_le, nat_lt, List, [], ◌∷◌, ◌++◌, length, map, Ok, refl, ap, sym, ◌∙◌, subst, append_assoc, arith}
+use Rattle.std.proofs.Common.{◌≡◌, ℕ, zero, suc, ◌*◌, ◌≤◌, Bool, true, false, nat_le, nat_lt, List, [], ◌∷◌, ◌++◌, length, map, Option, Some, None, Ok, refl, ap, sym, ◌∙◌, subst, append_assoc, arith}
 use Rattle.std.specs.Prelude.{pos, ◌≤ℤ◌, ◌*ℤ◌, int_le, bytes_eq, codes}
 use Rattle.std.specs.Fmt.{decimal, signed_decimal}
 use Rattle.std.proofs.lemmas.Bool.{cond_both}
@@ -8,17 +8,17 @@ use Rattle.std.proofs.lemmas.Int.{ints}
 use Rattle.std.proofs.lemmas.List.{append-nil}
 use Rattle.semantics.specs.Word.{Kind, in_kind}
 use Rattle.semantics.specs.Launch.{Three}
-use Rattle.semantics.specs.Conditions as meaning
-use Rattle.semantics.specs.Conditions.{Range, Summand}
+use Rattle.semantics.specs.Conditions.{Range}
 use Rattle.texts.specs.Surface.{Parameter, Buffer, Value}
-use Rattle.texts.specs.LaunchFaults.{LimitPassed, EmptyRange, Cursor, Step, refused, then, expect, end_line}
-use Rattle.texts.specs.LaunchWords.{Conditions, natural_at, word_at, due_blank, due_parameter, first_word, each}
-use Rattle.texts.specs.LaunchSums.{sum_at}
-use Rattle.texts.specs.ConditionsReading.{CountRange, ArgumentRange, Length, Requirement, counts_meant, argument_meant, length_meant, requirement_meant, counts_between, counts_at, words_between, three_counts_at, three, groups_line, argument_at, argument_line, argument_due, length_of, length_line, length_due, requirement_of, requirement_line, requirement_lines, budget_line}
-use Rattle.texts.specs.ConditionsText.{IsShortSum, range_text, AreCounts, AreOfKind, groups_text, argument_text, length_text, requirement_text, budget_text, AreArgumentLines, no_argument, past_buffer, an_argument, AreLengthLines, no_length, past_value, a_length, AreRequirementLines, no_requirement, a_requirement}
+use Rattle.texts.specs.LaunchFaults.{Expected, UnknownName, LimitPassed, EmptyRange, Cursor, Step, refused, then, sees, past, expect, end_line}
+use Rattle.texts.specs.LaunchWords.{Conditions, natural_at, word_at, name_at, is_known, due_blank, due_parameter, first_word, each, several}
+use Rattle.texts.specs.LaunchSums.{sum_at, buffer_number, buffer_found, buffer_at}
+use Rattle.texts.specs.ConditionsReading.{CountRange, ArgumentRange, Length, Requirement, ContentLine, counts_meant, argument_meant, length_meant, requirement_meant, content_meant, counts_between, counts_at, words_between, three_counts_at, three, groups_line, argument_at, argument_line, argument_due, length_of, length_line, length_due, requirement_of, requirement_line, requirement_lines, end_at, content_of, content_line, content_lines, budget_line}
+use Rattle.texts.specs.ConditionsText.{IsShortSum, range_text, AreCounts, AreOfKind, groups_text, argument_text, length_text, requirement_text, end_text, content_text, budget_text, AreArgumentLines, no_argument, past_buffer, an_argument, AreLengthLines, no_length, past_value, a_length, AreRequirementLines, no_requirement, a_requirement, AreContentLines, no_content, a_content}
+use Rattle.texts.proofs.Fits.{begins}
 use Rattle.launch.proofs.Unmet.{le-true}
 use Rattle.launch_text.proofs.Back.{then_back, same_back, when_back, unless_back, natural_back, word_back}
-use Rattle.launch_text.proofs.Taken.{expect_took, end_took, natural_took, word_took, due_blank_took, due_parameter_took}
+use Rattle.launch_text.proofs.Taken.{expect_took, end_took, natural_took, word_took, name_took, due_blank_took, due_parameter_took}
 use Rattle.launch_text.proofs.SumsTaken.{joined, short_sum_took}
 
 counted : (low high : ℕ) → (1 ≤ low) × (low ≤ 65536) → (1 ≤ high) × (high ≤ 65536) → nat_le low high ≡ true → AreCounts (counts_meant (counts_between low high))
@@ -247,22 +247,113 @@ requirement_took products ps c t e =
       rest = requirement_whole l.0 r.0 d.0.rest c.rest a.0.rest left.0.1.rest b.0.rest right.0.1.rest (due_blank_took Conditions (codes "require") c a.0 a.1) l.2 (expect_took (codes " >= ") left.0.1 b.0 b.1) r.2 (end_took right.0.1 d.0 d.1);
     })
 
--- at most as many as there was room for
-abbrev pub AreFewRequirements : (products : Bool) → List Parameter → (room : ℕ) → List ℕ → List meaning.Requirement → Type 0
-AreFewRequirements products ps room lines rs = AreRequirementLines products ps lines rs × (length rs ≤ room)
+-- what a line said, in front of what others said
+record TookOne {A B : Type 0} (Are : List ℕ → List B → Type 0) (view : A → B) (c : Cursor) (t : A × Cursor) : Type 0 where
+  pub line : List ℕ
+  pub rest : c.rest ≡ line ++ t.1.rest
+  pub goes : (lines : List ℕ) (bs : List B) → Are lines bs → Are (line ++ lines) (view t.0 ∷ bs)
 
-pub requirements_took : (products : Bool) (ps : List Parameter) (room : ℕ) (done : List Requirement) (c : Cursor) (t : List Requirement × Cursor) → requirement_lines products ps room done c ≡ Ok t → TookLines (AreFewRequirements products ps room) requirement_meant done c t
-unfolding requirement_lines
-requirements_took products ps zero done c t =
-    cond_both (bytes_eq (first_word c.rest) (codes "require")) (refused LimitPassed c) (Ok (done, c)) (λ s. s ≡ Ok t → TookLines (AreFewRequirements products ps zero) requirement_meant done c t)
-    (λ _ e. absurd cc) (λ _ e. no_line (AreFewRequirements products ps zero) requirement_meant done c t (no_requirement, omega arith) e)
-requirements_took products ps (suc room) done c t =
-    cond_both (bytes_eq (first_word c.rest) (codes "require")) (then (requirement_line products ps c) (λ u. requirement_lines products ps room (done ++ u.0 ∷ []) u.1)) (Ok (done, c)) (λ s. s ≡ Ok t → TookLines (AreFewRequirements products ps (suc room)) requirement_meant done c t)
-    (λ _ e. let u = then_back (requirement_line products ps c) _ t e in
-    let one = requirement_took products ps c u.0 u.1 in
-    one_line (AreFewRequirements products ps room) (AreFewRequirements products ps (suc room)) requirement_meant done u.0.0 (requirement_text one.left one.right) c u.0.1 t one.rest
-    (λ lines rs more. (a_requirement (requirement_meant u.0.0) one.left_sum one.right_sum more.0, omega (arith, more.1))) (requirements_took products ps room (done ++ u.0.0 ∷ []) u.0.1 t u.2))
-    (λ _ e. no_line (AreFewRequirements products ps (suc room)) requirement_meant done c t (no_requirement, omega arith) e)
+-- at most as many as there was room for
+abbrev pub AreFew : {B : Type 0} (Are : List ℕ → List B → Type 0) (room : ℕ) → List ℕ → List B → Type 0
+AreFew Are room lines bs = Are lines bs × (length bs ≤ room)
+
+module _ {A B : Type 0} (Are : List ℕ → List B → Type 0) (view : A → B) (keyword : List ℕ) (line : Cursor → Step (A × Cursor)) (none : Are [] []) (one : (c : Cursor) (t : A × Cursor) → line c ≡ Ok t → TookOne Are view c t) where
+  several_took : (room : ℕ) (done : List A) (c : Cursor) (t : List A × Cursor) → several keyword line room done c ≡ Ok t → TookLines (AreFew Are room) view done c t
+  unfolding several
+  several_took zero done c t =
+      cond_both (bytes_eq (first_word c.rest) keyword) (refused LimitPassed c) (Ok (done, c)) (λ s. s ≡ Ok t → TookLines (AreFew Are zero) view done c t)
+      (λ _ e. absurd cc) (λ _ e. no_line (AreFew Are zero) view done c t (none, omega arith) e)
+  several_took (suc room) done c t =
+      cond_both (bytes_eq (first_word c.rest) keyword) (then (line c) (λ u. several keyword line room (done ++ u.0 ∷ []) u.1)) (Ok (done, c)) (λ s. s ≡ Ok t → TookLines (AreFew Are (suc room)) view done c t)
+      (λ _ e. let u = then_back (line c) _ t e in
+      let here = one c u.0 u.1 in
+      one_line (AreFew Are room) (AreFew Are (suc room)) view done u.0.0 here.line c u.0.1 t here.rest
+      (λ lines bs more. (here.goes lines bs more.0, omega (arith, more.1))) (several_took room (done ++ u.0.0 ∷ []) u.0.1 t u.2))
+      (λ _ e. no_line (AreFew Are (suc room)) view done c t (none, omega arith) e)
+
+requirement_one : (products : Bool) (ps : List Parameter) (c : Cursor) (t : Requirement × Cursor) → requirement_line products ps c ≡ Ok t → TookOne (AreRequirementLines products ps) requirement_meant c t
+requirement_one products ps c t e =
+    let one = requirement_took products ps c t e in
+    record {
+      line = requirement_text one.left one.right;
+      rest = one.rest;
+      goes = λ lines rs more. a_requirement (requirement_meant t.0) one.left_sum one.right_sum more;
+    }
+
+pub requirements_took : (products : Bool) (ps : List Parameter) (c : Cursor) (t : List Requirement × Cursor) → requirement_lines products ps c ≡ Ok t → TookLines (AreFew (AreRequirementLines products ps) 16) requirement_meant [] c t
+requirements_took products ps c t e =
+    several_took (AreRequirementLines products ps) requirement_meant (codes "require") (requirement_line products ps) no_requirement (requirement_one products ps) 16 [] c t e
+
+-- the name of a buffer
+abbrev TookBuffer : List Parameter → Cursor → ℕ × Cursor → Type 0
+TookBuffer ps c t = (name : List ℕ) × (buffer_number 0 ps name ≡ Some t.0) × (c.rest ≡ name ++ t.1.rest)
+
+buffer_named : (ps : List Parameter) (before : Cursor) (name : List ℕ) (o : Option ℕ) (c : Cursor) (t : ℕ × Cursor) → buffer_number 0 ps name ≡ o → before.rest ≡ name ++ c.rest → buffer_found ps name o c ≡ Ok t → TookBuffer ps before t
+buffer_named ps before name (Some n) c t h r e = subst (λ t. TookBuffer ps before t) (same_back (n, c) t e) (name, h, r)
+buffer_named ps before name None c t h r e =
+    cond_both (is_known ps name) (refused Expected c) (refused UnknownName c) (λ s. s ≡ Ok t → TookBuffer ps before t) (λ _ f. absurd cc) (λ _ f. absurd cc) e
+
+buffer_took : (ps : List Parameter) (c : Cursor) (t : ℕ × Cursor) → buffer_at ps c ≡ Ok t → TookBuffer ps c t
+unfolding buffer_at
+buffer_took ps c t e =
+    let n = then_back (name_at c) _ t e in
+    buffer_named ps c n.0.0 (buffer_number 0 ps n.0.0) n.0.1 t refl (name_took c n.0 n.1) n.2
+
+side_took : (c : Cursor) (t : Bool × Cursor) → end_at c ≡ Ok t → c.rest ≡ end_text t.0 ++ t.1.rest
+unfolding end_at
+side_took c t =
+    cond_both (sees (codes " <= ") c) (Ok (true, past 4 c)) (then (expect (codes " >= ") c) (λ d. Ok (false, d))) (λ s. s ≡ Ok t → c.rest ≡ end_text t.0 ++ t.1.rest)
+    (λ h e. subst (λ (r : Bool × Cursor). c.rest ≡ end_text r.0 ++ r.1.rest) (same_back (true, past 4 c) t e) (begins c.rest (codes " <= ") h))
+    (λ h e. let d = then_back (expect (codes " >= ") c) _ t e in
+    subst (λ (r : Bool × Cursor). c.rest ≡ end_text r.0 ++ r.1.rest) (same_back (false, d.0) t d.2) (expect_took (codes " >= ") c d.0 d.1))
+
+-- what a line says that a buffer holds
+record TookContent (ps : List Parameter) (c : Cursor) (t : ContentLine × Cursor) : Type 0 where
+  pub name : List ℕ
+  pub sum : List ℕ
+  pub is_buffer : buffer_number 0 ps name ≡ Some (content_meant t.0).buffer
+  pub is_sum : IsShortSum true ps sum (content_meant t.0).sum
+  pub rest : c.rest ≡ content_text name t.0.is_upper sum ++ t.1.rest
+
+pub content_shape : (name side sum rest : List ℕ) → codes "values" ++ (32 ∷ (name ++ (side ++ (sum ++ (10 ∷ rest))))) ≡ (codes "values " ++ (name ++ (side ++ (sum ++ 10 ∷ [])))) ++ rest
+content_shape name side sum rest = simp append_assoc
+
+content_whole : (name side sum rest whole a b d f : List ℕ) → whole ≡ codes "values" ++ (32 ∷ a) → a ≡ name ++ b → b ≡ side ++ d → d ≡ sum ++ f → f ≡ 10 ∷ rest → whole ≡ (codes "values " ++ (name ++ (side ++ (sum ++ 10 ∷ [])))) ++ rest
+content_whole name side sum rest whole a b d f p q r s t =
+    p ∙ ap (λ x. codes "values " ++ x) (q ∙ ap (λ x. name ++ x) (r ∙ ap (λ x. side ++ x) (s ∙ ap (λ x. sum ++ x) t))) ∙ content_shape name side sum rest
+
+content_took : (ps : List Parameter) (c : Cursor) (t : ContentLine × Cursor) → content_line ps c ≡ Ok t → TookContent ps c t
+unfolding content_line
+content_took ps c t e =
+    let a = then_back (due_blank _ _ c) _ t e in
+    let b = then_back (buffer_at ps a.0) _ t a.2 in
+    let u = then_back (end_at b.0.1) _ t b.2 in
+    let s = then_back (sum_at true ps 8 [] u.0.1) _ t u.2 in
+    let d = then_back (end_line s.0.1) _ t s.2 in
+    let own = buffer_took ps a.0 b.0 b.1 in
+    let sum = short_sum_took true ps u.0.1 s.0 s.1 in
+    subst (λ (r : ContentLine × Cursor). TookContent ps c r) (same_back (content_of b.0.0 u.0.0 s.0.0 c.line, d.0) t d.2) (record {
+      name = own.0;
+      sum = sum.0;
+      is_buffer = own.1;
+      is_sum = sum.1;
+      rest = content_whole own.0 (end_text u.0.0) sum.0 d.0.rest c.rest a.0.rest b.0.1.rest u.0.1.rest s.0.1.rest (due_blank_took Conditions (codes "values") c a.0 a.1) own.2 (side_took b.0.1 u.0 u.1) sum.2 (end_took s.0.1 d.0 d.1);
+    })
+
+content_one : (ps : List Parameter) (c : Cursor) (t : ContentLine × Cursor) → content_line ps c ≡ Ok t → TookOne (AreContentLines true ps) content_meant c t
+content_one ps c t e =
+    let one = content_took ps c t e in
+    record {
+      line = content_text one.name t.0.is_upper one.sum;
+      rest = one.rest;
+      goes = λ lines xs more. a_content one.name (content_meant t.0) refl one.is_buffer one.is_sum more;
+    }
+
+pub contents_took : (is_two : Bool) (ps : List Parameter) (c : Cursor) (t : List ContentLine × Cursor) → content_lines is_two ps c ≡ Ok t → TookLines (AreFew (AreContentLines is_two ps) 16) content_meant [] c t
+unfolding content_lines
+contents_took true ps c t e =
+    several_took (AreContentLines true ps) content_meant (codes "values") (content_line ps) no_content (content_one ps) 16 [] c t e
+contents_took false ps c t e = no_line (AreFew (AreContentLines false ps) 16) content_meant [] c t (no_content, omega arith) e
 
 abbrev TookBudget : Cursor → ℕ × Cursor → Type 0
 TookBudget c t = (c.rest ≡ budget_text t.0 ++ t.1.rest) × ((1 ≤ t.0) × (t.0 ≤ 1000000000000))

@@ -14,7 +14,7 @@ use Rattle.texts.specs.Scope.{Scope, empty_scope, may_declare, may_name_kernel}
 use Rattle.texts.specs.Elaboration.{InKernel, declare_parameter, declare_parameters, elaborate_inside, elaborate, elaborate_all}
 use Rattle.texts.specs.LaunchFaults.{Cursor, Step, then}
 use Rattle.texts.specs.LaunchWords.{go_on, each}
-use Rattle.texts.specs.LaunchSums.{value_number}
+use Rattle.texts.specs.LaunchSums.{value_number, buffer_number}
 use Rattle.launch_text.specs.Parameters.{value_kind, buffer_kind, onto, kinds}
 use Rattle.launch_text.proofs.Back.{then_back}
 
@@ -24,6 +24,13 @@ value_below b (Buffer constant k site own ∷ ps) name n h = value_below b ps na
 value_below b (Value k site own ∷ ps) name n h =
     cond_both (bytes_eq own name) (Some b) (value_number (b + 1) ps name) (λ o. o ≡ Some n → n < b + length (k ∷ kinds value_kind ps))
     (λ _ e. let q : b ≡ n = cc in omega arith) (λ _ e. omega (arith, value_below (b + 1) ps name n e)) h
+
+pub buffer_below : (b : ℕ) (ps : List Parameter) (name : List ℕ) (n : ℕ) → buffer_number b ps name ≡ Some n → n < b + length (kinds buffer_kind ps)
+buffer_below b [] name n h = absurd cc
+buffer_below b (Value k site own ∷ ps) name n h = buffer_below b ps name n h
+buffer_below b (Buffer constant k site own ∷ ps) name n h =
+    cond_both (bytes_eq own name) (Some b) (buffer_number (b + 1) ps name) (λ o. o ≡ Some n → n < b + length (k ∷ kinds buffer_kind ps))
+    (λ _ e. let q : b ≡ n = cc in omega arith) (λ _ e. omega (arith, buffer_below (b + 1) ps name n e)) h
 
 checked_back : {A B : Type 0} (s : checks.Checked A) (go : A → checks.Checked B) (b : B) → checks.then s go ≡ Ok b → (a : A) × (s ≡ Ok a) × (go a ≡ Ok b)
 checked_back (Ok a) go b e = (a, refl, e)

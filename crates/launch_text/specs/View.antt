@@ -13,6 +13,7 @@ use Rattle.launch.specs.declared.conditions.CountRanges.{CountRanges}
 use Rattle.launch.specs.declared.conditions.ArgumentRange.{ArgumentRange}
 use Rattle.launch.specs.declared.conditions.Length.{Length}
 use Rattle.launch.specs.declared.conditions.Requirement.{Requirement}
+use Rattle.launch.specs.declared.conditions.Content.{Content}
 use Rattle.launch.specs.declared.conditions.Conditions.{Conditions}
 use Rattle.launch.specs.declared.launches.Counts.{Counts}
 use Rattle.launch.specs.declared.launches.Launch.{Launch}
@@ -41,8 +42,14 @@ requirement r = conditions.requirement_of (view.sum r.left) (view.sum r.right) r
 abbrev pub requirements : Vec Requirement Global → List conditions.Requirement
 requirements rs = map requirement rs.items
 
+abbrev pub content : Content → conditions.ContentLine
+content x = conditions.content_of x.buffer x.is_upper (view.sum x.sum) x.line
+
+abbrev pub contents : Vec Content Global → List conditions.ContentLine
+contents xs = map content xs.items
+
 abbrev pub lined : Conditions → conditions.Lined
-lined c = conditions.lined (three_counts c.groups) c.groups_line (arguments c.arguments) (lengths c.lengths) (requirements c.requirements) c.budget
+lined c = conditions.lined (three_counts c.groups) c.groups_line (arguments c.arguments) (lengths c.lengths) (requirements c.requirements) (contents c.contents) c.budget
 
 abbrev pub words : Vec Word Global → List semantics.Word
 words ws = map word ws.items

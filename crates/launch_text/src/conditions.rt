@@ -1,13 +1,15 @@
 //! Conditions of their text.
 
-ghost use Rattle.std.specs.Prelude.{◌≡◌, ◌≤◌, [], map, length};
+ghost use Rattle.std.specs.Prelude.{◌≡◌, ◌≤◌, ◌&&◌, true, false, codes, map, length, MatchOption};
 ghost use Rattle.words.specs.View.{kind as kind_of, value_of};
 ghost use Rattle.texts.specs.Declarations.{most_names};
+ghost use Rattle.texts.specs.LaunchFaults.{sees, past};
 ghost use Rattle.texts.specs.ConditionsReading as meaning;
 ghost use Rattle.syntax.specs.View.{parameter as parameter_of};
 ghost use Rattle.launch_text.specs.Answers.{cursor, read, same, Gives};
 ghost use Rattle.launch_text.specs.View as view;
 
+use crate::contents::content_lines;
 use crate::cursor::Cursor;
 use crate::error::{LaunchFault, LaunchTextError};
 use crate::groups::groups_line;
@@ -153,7 +155,7 @@ fn requirement_lines<'a>(
     has_products: bool,
 ) -> Result<(Vec<Requirement>, Cursor<'a>), LaunchTextError>
     requires { length parameters.now ≤ most_names }
-    ensures { Gives (read view.requirements) result (meaning.requirement_lines has_products (map parameter_of parameters.now) 16 [] (cursor at.entry)) }
+    ensures { Gives (read view.requirements) result (meaning.requirement_lines has_products (map parameter_of parameters.now) (cursor at.entry)) }
 {
     let mut requirements = Vec::new(alloc);
     let mut room = MOST_REQUIREMENTS;
@@ -179,12 +181,22 @@ fn budget_line(at: Cursor<'_>) -> Result<(u64, Cursor<'_>), LaunchTextError>
     Ok((budget, after.end_line()?))
 }
 
-/// The version of the text: whether its sums may have products.
-#[tactic(auto, unfolding(texts::specs::ConditionsReading::version_at))]
-fn version(at: Cursor<'_>) -> Result<(bool, Cursor<'_>), LaunchTextError>
-    ensures { Gives (read same) result (meaning.version_at (cursor at.entry)) }
+/// The cursor past the mark of version 2, where the text may be of that version.
+fn strip_two(at: Cursor<'_>, may_be_two: bool) -> Option<Cursor<'_>>
+    ensures { MatchOption result ((may_be_two && sees (codes " 2") (cursor at.entry)) ≡ false) (λ after. ((may_be_two && sees (codes " 2") (cursor at.entry)) ≡ true) × (cursor after ≡ past 2 (cursor at.entry))) }
 {
-    if let Some(after) = at.strip(" 2") {
+    if may_be_two {
+        return at.strip(" 2");
+    }
+    None
+}
+
+/// The version of the text: whether it is 2.
+#[tactic(auto, unfolding(texts::specs::ConditionsReading::version_at))]
+fn version(at: Cursor<'_>, may_be_two: bool) -> Result<(bool, Cursor<'_>), LaunchTextError>
+    ensures { Gives (read same) result (meaning.version_at may_be_two (cursor at.entry)) }
+{
+    if let Some(after) = strip_two(at, may_be_two) {
         return Ok((true, after));
     }
     let after = at.expect(" 1")?;
@@ -193,13 +205,13 @@ fn version(at: Cursor<'_>) -> Result<(bool, Cursor<'_>), LaunchTextError>
 
 /// The first line.
 #[tactic(auto, unfolding(texts::specs::ConditionsReading::version_line))]
-fn version_line(at: Cursor<'_>) -> Result<(bool, Cursor<'_>), LaunchTextError>
-    ensures { Gives (read same) result (meaning.version_line (cursor at.entry)) }
+fn version_line(at: Cursor<'_>, may_be_two: bool) -> Result<(bool, Cursor<'_>), LaunchTextError>
+    ensures { Gives (read same) result (meaning.version_line may_be_two (cursor at.entry)) }
 {
     let after = due(at, Form::Conditions, "conditions")?;
-    let (has_products, after) = version(after)?;
+    let (is_two, after) = version(after, may_be_two)?;
     let after = after.end_line()?;
-    Ok((has_products, after))
+    Ok((is_two, after))
 }
 
 #[tactic(auto, unfolding(texts::specs::ConditionsReading::conditions_at))]
@@ -207,15 +219,17 @@ fn conditions<'a>(
     alloc: Global,
     at: Cursor<'a>,
     parameters: &[Parameter],
+    may_be_two: bool,
 ) -> Result<Conditions, LaunchTextError>
     requires { length parameters.now ≤ most_names }
-    ensures { Gives view.lined result (meaning.conditions_at (map parameter_of parameters.now) (cursor at.entry)) }
+    ensures { Gives view.lined result (meaning.conditions_at may_be_two (map parameter_of parameters.now) (cursor at.entry)) }
 {
-    let (has_products, head) = version_line(at)?;
+    let (is_two, head) = version_line(at, may_be_two)?;
     let (groups, after) = groups_line(head)?;
     let (arguments, after) = argument_lines(alloc, after, parameters)?;
-    let (lengths, after) = length_lines(alloc, after, parameters, has_products)?;
-    let (requirements, after) = requirement_lines(alloc, after, parameters, has_products)?;
+    let (lengths, after) = length_lines(alloc, after, parameters, is_two)?;
+    let (requirements, after) = requirement_lines(alloc, after, parameters, is_two)?;
+    let (contents, after) = content_lines(alloc, after, parameters, is_two)?;
     let (budget, after) = budget_line(after)?;
     end_text(after)?;
     Ok(Conditions {
@@ -224,18 +238,20 @@ fn conditions<'a>(
         arguments,
         lengths,
         requirements,
+        contents,
         budget,
     })
 }
 
-/// The conditions of a text, for a kernel of these parameters.
+/// The conditions of a text, for a kernel of these parameters; of version 2 only where it may be.
 pub fn conditions_of(
     alloc: Global,
     parameters: &[Parameter],
     text: &[u8],
+    may_be_two: bool,
 ) -> Result<Conditions, LaunchTextError>
     requires { length parameters.now ≤ most_names }
-    ensures { Gives view.lined result (meaning.conditions_of (map parameter_of parameters.now) text.now) }
+    ensures { Gives view.lined result (meaning.conditions_of may_be_two (map parameter_of parameters.now) text.now) }
 {
     if text.len() > CONDITIONS_LIMIT {
         return Err(LaunchTextError::Refused {
@@ -250,5 +266,6 @@ pub fn conditions_of(
             rest: text,
         },
         parameters,
+        may_be_two,
     )
 }

@@ -1,6 +1,7 @@
 //! Laws of the two texts.
 
-ghost use Rattle.std.specs.Prelude.{◌≡◌, ◌≤◌, ℕ, List, length, Ok, Some};
+ghost use Rattle.std.specs.Prelude.{◌≡◌, ◌≤◌, ℕ, List, length, Bool, true, false, nat_eq, Ok, Some, codes};
+ghost use Rattle.std.specs.List.{starts_with};
 ghost use Rattle.texts.specs.Surface.{Parameter};
 ghost use Rattle.texts.specs.Spelling.{SpellsParameters};
 ghost use Rattle.texts.specs.ConditionsReading.{Lined, meant, conditions_of};
@@ -29,17 +30,22 @@ pub fn a_launch_is_read_back()
 
 /// If the reader reads conditions of a text, they are what the text says, case by case.
 pub fn what_is_read_of_conditions_is_their_text()
-    ensures { (ps : List Parameter) (text : List ℕ) (l : Lined) → conditions_of ps text ≡ Ok l → IsConditionsText ps text (meant l) }
+    ensures { (may_be_two : Bool) (ps : List Parameter) (text : List ℕ) (l : Lined) → conditions_of may_be_two ps text ≡ Ok l → IsConditionsText may_be_two ps text (meant l) }
 {}
 
 /// If a text says conditions, case by case, the reader reads them of it, where the names are those of a kernel's text.
 pub fn conditions_are_read_of_their_text()
-    ensures { (ps : List Parameter) (text : List ℕ) (c : meaning.Conditions) → SpellsParameters ps → IsConditionsText ps text c → (l : Lined) × (conditions_of ps text ≡ Ok l) × (meant l ≡ c) }
+    ensures { (may_be_two : Bool) (ps : List Parameter) (text : List ℕ) (c : meaning.Conditions) → SpellsParameters ps → IsConditionsText may_be_two ps text c → (l : Lined) × (conditions_of may_be_two ps text ≡ Ok l) × (meant l ≡ c) }
 {}
 
 /// A text says no two different conditions, where the names are those of a kernel's text.
 pub fn a_conditions_text_says_one_thing()
-    ensures { (ps : List Parameter) (text : List ℕ) (c d : meaning.Conditions) → SpellsParameters ps → IsConditionsText ps text c → IsConditionsText ps text d → c ≡ d }
+    ensures { (may_be_two : Bool) (ps : List Parameter) (text : List ℕ) (c d : meaning.Conditions) → SpellsParameters ps → IsConditionsText may_be_two ps text c → IsConditionsText may_be_two ps text d → c ≡ d }
+{}
+
+/// Of a text that does not begin as one of version 2 the same is read, whether it may be of that version or not.
+pub fn texts_of_version_1_are_read_alike()
+    ensures { (ps : List Parameter) (text : List ℕ) → starts_with nat_eq text (codes "conditions 2") ≡ false → conditions_of true ps text ≡ conditions_of false ps text }
 {}
 
 /// If the reader reads a launch of a text, it is what the text says, case by case.

@@ -8,6 +8,7 @@
 #![tactic(auto)]
 
 mod conditions;
+mod contents;
 pub mod cursor;
 pub mod error;
 pub mod given;
@@ -21,5 +22,5 @@ mod reader;
 pub mod sum;
 mod writer;
 
-pub use reader::{read_conditions, read_launch};
+pub use reader::{read_conditions, read_conditions_as, read_launch};
 pub use writer::write_buffers;

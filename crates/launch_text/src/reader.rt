@@ -1,6 +1,6 @@
 //! The texts of a kernel's conditions and launches.
 
-ghost use Rattle.std.specs.Prelude.{◌≡◌, IfOk};
+ghost use Rattle.std.specs.Prelude.{false, IfOk};
 ghost use Rattle.semantics.specs.Launch.{Fits};
 ghost use Rattle.semantics.specs.Conditions.{ConditionsFit};
 ghost use Rattle.texts.specs.ConditionsReading as conditions;
@@ -20,19 +20,33 @@ use launch::launches::Launch;
 use std::alloc::Global;
 use types::typed::Typed;
 
-/// The conditions that a text says of a kernel, or its first fault. The text is gone through once.
+/// The conditions that a text says of a kernel, or its first fault; of version 2 only where it may be. The text is gone through once.
+pub fn read_conditions_as(
+    alloc: Global,
+    typed: &Typed,
+    text: &[u8],
+    may_be_two: bool,
+) -> Result<Conditions, LaunchTextError>
+    ensures value { Gives view.lined result (conditions.conditions_of may_be_two (tree_of typed.now.0).parameters text.now) }
+    ensures of { IfOk result (λ c. IsOf (core_of typed.now.1) (view.lined c)) }
+    ensures fit { IfOk result (λ c. ConditionsFit (core_of typed.now.1) (conditions_seen c)) }
+{
+    let tree = typed.kernel();
+    let conditions = conditions_of(alloc, &tree.parameters, text, may_be_two)?;
+    Ok(conditions)
+}
+
+/// The conditions that a text of version 1 says of a kernel, or its first fault.
 pub fn read_conditions(
     alloc: Global,
     typed: &Typed,
     text: &[u8],
 ) -> Result<Conditions, LaunchTextError>
-    ensures value { Gives view.lined result (conditions.conditions_of (tree_of typed.now.0).parameters text.now) }
+    ensures value { Gives view.lined result (conditions.conditions_of false (tree_of typed.now.0).parameters text.now) }
     ensures of { IfOk result (λ c. IsOf (core_of typed.now.1) (view.lined c)) }
     ensures fit { IfOk result (λ c. ConditionsFit (core_of typed.now.1) (conditions_seen c)) }
 {
-    let tree = typed.kernel();
-    let conditions = conditions_of(alloc, &tree.parameters, text)?;
-    Ok(conditions)
+    read_conditions_as(alloc, typed, text, false)
 }
 
 /// The launch of a kernel that a text says, or its first fault. The text is gone through once.

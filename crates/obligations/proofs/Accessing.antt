@@ -7,6 +7,7 @@ use Rattle.semantics.specs.Launch.{LocalArray}
 use Rattle.semantics.specs.Setup.{Setup, group_of, item_count}
 use Rattle.semantics.specs.Memory.{Cell, owner_of, cell, extent_in, no_array}
 use Rattle.semantics.specs.Solo as solo
+use Rattle.semantics.specs.Contents.{HonestFront, StoresKept}
 use Rattle.facts.specs.Launching.{launch_facts, known}
 use Rattle.facts.proofs.Launched.{buffers-length}
 use Rattle.facts.proofs.Worlds.{Walked, View, setup_of}
@@ -18,7 +19,7 @@ use Rattle.arrivals.specs.Paths.{Held, Same, Makes}
 use Rattle.arrivals.specs.Shown as arrivals
 use Rattle.arrivals.specs.Shown.{Came, Two, alike_at}
 use Rattle.arrivals.specs.Races.{space_of, Race, Fronts, AccessesShown, is_fenced}
-use Rattle.arrivals.specs.Faults.{FaultsShown}
+use Rattle.arrivals.specs.Faults.{FaultsShown, StoresShown}
 use Rattle.semantics.specs.Item.{Status, Running, Stopped}
 use Rattle.semantics.specs.Word.{Fault}
 use Rattle.semantics.specs.Core.{Site}
@@ -61,7 +62,7 @@ module _ {E : Type 0} (w : Walked E) (n : Notes) (tell : TellsOfItems n) (laws :
     s = setup_of w
 
     abbrev k : arrivals.Notes
-    k = notes_of s n
+    k = notes_of s w.conditions.contents n
 
     -- an element that is there is of an array that is there
     is-of : (sp : Space) (b x : ℕ) → x < extent_in s sp b → IsNumbered w.kernel sp b
@@ -73,10 +74,10 @@ module _ {E : Type 0} (w : Walked E) (n : Notes) (tell : TellsOfItems n) (laws :
       abbrev pub c : View E
       c = stationed.c w n tell laws shown p is i h f.path from here came
 
-      pub fine : (it : Rattle.semantics.specs.Item.Item) → it.variables ≡ here.variables → (turns : ℕ) (rest : List Rattle.semantics.specs.Item.Entry) → IsFine c (stationed.all w n tell laws shown p is i h f.path from here came) it (act s i it f.statement.statement turns rest)
-      fine it same turns rest =
+      pub fine : (it : Rattle.semantics.specs.Item.Item) → it.variables ≡ here.variables → HonestFront s w.conditions.contents i f.statement.statement it.variables it.answers → (turns : ℕ) (rest : List Rattle.semantics.specs.Item.Entry) → IsFine c (stationed.all w n tell laws shown p is i h f.path from here came) it (act s i it f.statement.statement turns rest)
+      fine it same honest turns rest =
           fine_at c (launch_facts w.conditions) laws (stationed.all w n tell laws shown p is i h f.path from here came) (stationed.last w n tell laws shown p is i h f.path from here came) n (number_at p.anchor) (number_at p.head) (λ e x. x) tell.rankings
-          f.statement.statement here (stationed.at_front w n tell laws shown p is i h f.path from here came f refl front) it same turns rest
+          f.statement.statement here (stationed.at_front w n tell laws shown p is i h f.path from here came f refl front) it same honest turns rest
 
       -- an access with its array
       pub record Finds (a : solo.Access) : Type 0 where
@@ -85,9 +86,9 @@ module _ {E : Type 0} (w : Walked E) (n : Notes) (tell : TellsOfItems n) (laws :
         pub at : a.at ≡ cell s i array a.at.index
         pub there : IsOf w.kernel array
 
-      pub finds : (a : solo.Access) → Makes s i f.statement.statement here.variables a → Finds a
+      pub finds : (a : solo.Access) → Makes s w.conditions.contents i f.statement.statement here.variables a → Finds a
       finds a m =
-          let o = (fine m.it m.variables m.turns m.rest).noted a m.touches in
+          let o = (fine m.it m.variables m.honest m.turns m.rest).noted a m.touches in
           let it = stationed.it w n tell laws shown p is i h f.path from here came in
           record {
             array = o.node.target.array;
@@ -108,7 +109,10 @@ module _ {E : Type 0} (w : Walked E) (n : Notes) (tell : TellsOfItems n) (laws :
           }
 
     pub faults : FaultsShown s k
-    faults p f is front i from here h came stops = (fine p is f front i h from here came stops.it stops.variables stops.turns stops.rest).runs stops.answer stops.fault stops.site (running-not stops.it.status stops.fault stops.site stops.runs) stops.stops
+    faults p f is front i from here h came stops = (fine p is f front i h from here came stops.it stops.variables stops.honest stops.turns stops.rest).runs stops.answer stops.fault stops.site (running-not stops.it.status stops.fault stops.site stops.runs) stops.stops
+
+    pub stores : StoresShown s k
+    stores p f is front i from here h came at value writes = subst (StoresKept s w.conditions.contents) writes.stores (fine p is f front i h from here came writes.it writes.variables writes.honest writes.turns writes.rest).kept
 
     owners-same : (i j : ℕ) (sp sp' : Space) → owner_of s i sp ≡ owner_of s j sp' → sp ≡ sp'
     owners-same i j Global Global e = refl
@@ -157,7 +161,7 @@ module _ {E : Type 0} (w : Walked E) (n : Notes) (tell : TellsOfItems n) (laws :
           let t = alike (subst (λ y. is_fenced s y ≡ true) space e) in
           let first = at_anchor-is (number_at p.head) from race.one.came.root (stationed.own w n tell laws shown p fronts.first i hi f.path from race.one.here race.one.came) in
           let second = at_anchor-is (number_at q.head) other race.two.came.root (stationed.own w n tell laws shown q fronts.second j hj g.path other race.two.here race.two.came) in
-          let same : Same (same_at n (number_at p.anchor)) from.variables other.variables = subst (λ xs. Same xs from.variables other.variables) (alike-is s n p.anchor) t.1 in
+          let same : Same (same_at n (number_at p.anchor)) from.variables other.variables = subst (λ xs. Same xs from.variables other.variables) (alike-is s w.conditions.contents n p.anchor) t.1 in
           (ap number_at t.0, subst (λ ws. Same (same_at n (number_at p.anchor)) ws (at_anchor (is_some (number_at q.head)) (root_at other race.two.came.root))) (sym first) (subst (λ ws. Same (same_at n (number_at p.anchor)) from.variables ws) (sym second) same)))
 
       pub not-apart : group_of s i ≢ group_of s j → ⊥

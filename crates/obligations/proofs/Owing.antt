@@ -4,6 +4,7 @@ use Rattle.std.specs.List.{All}
 use Rattle.std.proofs.lemmas.Bool.{cases_lt}
 use Rattle.semantics.specs.Word.{Word, zero_word}
 use Rattle.semantics.specs.Launch.{Kernel, Launch}
+use Rattle.semantics.specs.Conditions.{Content}
 use Rattle.semantics.specs.Setup.{Setup, item_count}
 use Rattle.facts.specs.Launching.{launch_facts, known}
 use Rattle.facts.proofs.Worlds.{Walked, View, setup_of}
@@ -59,9 +60,9 @@ rests (AtBarrier m) h = refl
 rests (AtHead m again) h = absurd (h tt)
 rests AtEnd h = refl
 
-pub alike-is : (s : Setup) (n : Notes) (x : Option Point) → alike_at (notes_of s n) x ≡ same_at n (number_at x)
-alike-is s n None = refl
-alike-is s n (Some p) = refl
+pub alike-is : (s : Setup) (cs : List Content) (n : Notes) (x : Option Point) → alike_at (notes_of s cs n) x ≡ same_at n (number_at x)
+alike-is s cs n None = refl
+alike-is s cs n (Some p) = refl
 
 -- what an item had at its anchor
 pub at_anchor-is : (b : Option ℕ) (from root : Held) → (b ≡ None → root ≡ from) → at_anchor (is_some b) (root_at from root) ≡ from.variables
@@ -75,7 +76,7 @@ module _ {E : Type 0} (w : Walked E) (n : Notes) (tell : TellsOfItems n) (laws :
     s = setup_of w
 
     abbrev k : arrivals.Notes
-    k = notes_of s n
+    k = notes_of s w.conditions.contents n
 
     -- one item at one leaf
     module _ (p : Place) (is : points.Has p (places w.kernel.body)) (u : End) (end : IsEnd u [] (placed.tree w.kernel.body p)) (i : ℕ) (h : i < item_count s) (from here : Held) (came : Came s k p i u.path from here) where
@@ -120,7 +121,7 @@ module _ {E : Type 0} (w : Walked E) (n : Notes) (tell : TellsOfItems n) (laws :
       both-owed here there y =
           let one = reached p is u end y.i y.two.first y.a here y.one (rests u.stop no) in
           let two = reached q so v other y.j y.two.second y.b there y.other (rests v.stop nor) in
-          let same : Same (same_at n (number_at p.anchor)) y.a.variables y.b.variables = subst (λ xs. Same xs y.a.variables y.b.variables) (alike-is s n p.anchor) y.same in
+          let same : Same (same_at n (number_at p.anchor)) y.a.variables y.b.variables = subst (λ xs. Same xs y.a.variables y.b.variables) (alike-is s w.conditions.contents n p.anchor) y.same in
           let first = at_anchor-is (number_at p.head) y.a y.one.root (stationed.own w n tell laws shown p is y.i y.two.first u.path y.a here y.one) in
           let second = at_anchor-is (number_at q.head) y.b y.other.root (stationed.own w n tell laws shown q so y.j y.two.second v.path y.b there y.other) in
           met (over w n) n y.i y.j y.two.first y.two.second (root_at y.a y.one.root) (root_at y.b y.other.root) (ends_in (all_trees w.domain w.kernel w.conditions n)) together

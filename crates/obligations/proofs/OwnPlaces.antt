@@ -14,6 +14,7 @@ use Rattle.walk_trees.specs.Statements.{setting}
 use Rattle.walk_trees.proofs.Each.{Each}
 use Rattle.walk_trees.proofs.OwnForms.{IsOwn}
 use Rattle.walk_trees.proofs.OwnQuotients.{AreOwnValues, IsOwnTree}
+use Rattle.walk_trees.proofs.OwnContents.{own-bounds}
 use Rattle.walk_trees.proofs.OwnTrees.{IsOwnAccess, one_more, joined, own-accesses, own-terms-test, own-test}
 use Rattle.obligations.specs.Notes.{Notes, number_at}
 use Rattle.obligations.specs.Telling.{TellsOfItems}
@@ -71,10 +72,10 @@ ends_in-own (p ∷ ps) h = placed-ends-test p (ends p.facts p.claims p.tree) (en
 module _ {E : Type 0} (g : Ghosts E) (k : Kernel) (c : Conditions) (n : Notes) (tell : TellsOfItems n) where
   own-planted : (claims : ℕ) (p : Place) → IsOwnPlanted (planted g k c n claims p)
   own-planted claims p =
-      let s = setting g k c n.is_wide n.has_entry in
+      let s = setting g k c n.is_wide n.joins n.has_entry in
       let a = number_at p.anchor in
       let h = number_at p.head in
-      record { facts = own-root k n tell a h; tree = own-sketch (placed g k c n p) k.body p (root_state g (known g k.sizes c) k n claims a h) (own-values s k a h, tt) }
+      record { facts = own-root k n tell a h; tree = own-sketch (placed g k c n p) (own-bounds c) k.body p (root_state g (known g k.sizes c) k n claims a h) (own-values s k a h, tt) }
 
   own-from : (claims : ℕ) (ps : List Place) → Each IsOwnPlanted (planted_from g k c n claims ps)
   own-from claims [] = tt

@@ -8,14 +8,16 @@ use Rattle.walk_trees.specs.Values.{Value}
 use Rattle.walk_trees.specs.Walks.{State, Onward, claim, claimed_once, stand, with_rank, arrived}
 use Rattle.walk_trees.specs.Statements.{spot_of}
 use Rattle.walk_trees.proofs.OwnQuotients.{IsOwnValue, HasOwn, IsOwnTree, GoesOnBy}
-use Rattle.walk_trees.proofs.OwnTrees.{accesses_on, selects, own}
+use Rattle.walk_trees.proofs.OwnTrees.{stores_on, selects, own}
+use Rattle.walk_trees.proofs.OwnContents.{IsOwnBound}
+use Rattle.walk_trees.proofs.Each.{Each}
 use Rattle.walk_trees.specs.Operators.{small_product}
 use Rattle.obligations.specs.Notes.{Congruence, Multiple}
 use Rattle.obligations.specs.Replacing.{replaced}
 use Rattle.obligations.specs.Roots.{kinds, are_slots, facts_at, congruences_at, multiples_at}
 use Rattle.obligations.specs.Walking.{Placed, on_path, if_replaced, has_form, claim_facts, claim_congruences, claim_product, claim_multiples, is_lawful, refused, arrive_at, stops, rank_on, arrive, enter, store, course}
 
-module _ {E : Type 0} (w : Placed E) where
+module _ {E : Type 0} (w : Placed E) (bounds : Each IsOwnBound w.setting.contents) where
   -- from an own state
   abbrev pub GoesOwn : (State E → Tree E) → Type 0
   GoesOwn go = (st : State E) → HasOwn st → IsOwnTree (go st)
@@ -83,19 +85,19 @@ module _ {E : Type 0} (w : Placed E) where
       let on : GoesOwn (λ st'. go (with_rank n (rank_on w n st) st')) = λ st' h'. g (with_rank n (rank_on w n st) st') h' in
       own-replaced (has_form w st (w.notes.ranking n).form) _ (stand (spot_of n) st) _ h on (own-once _ _ _ (stand (spot_of n) st) _ h on)
 
-  pub own-store : (a : Statement) (x : Value) (st : State E) (go : State E → Tree E) → IsOwnValue x → HasOwn st → GoesOwn go → IsOwnTree (store w a x st go)
-  own-store (Store n a site i e) x st go p h g = accesses_on w.setting true a site x.form st go p h g
-  own-store (Set n y e) x st go p h g = g st h
-  own-store (If n e t f) x st go p h g = g st h
-  own-store (Loop n e b u) x st go p h g = g st h
-  own-store (Barrier n l k) x st go p h g = g st h
-  own-store (Return n) x st go p h g = g st h
-  own-store (Break n k) x st go p h g = g st h
-  own-store (Continue n k) x st go p h g = g st h
+  pub own-store : (a : Statement) (x y : Value) (st : State E) (go : State E → Tree E) → IsOwnValue x → IsOwnValue y → HasOwn st → GoesOwn go → IsOwnTree (store w a x y st go)
+  own-store (Store n a site i e) x y st go p q h g = stores_on w.setting a site x y st go p q h g
+  own-store (Set n z e) x y st go p q h g = g st h
+  own-store (If n e t f) x y st go p q h g = g st h
+  own-store (Loop n e b u) x y st go p q h g = g st h
+  own-store (Barrier n l k) x y st go p q h g = g st h
+  own-store (Return n) x y st go p q h g = g st h
+  own-store (Break n k) x y st go p q h g = g st h
+  own-store (Continue n k) x y st go p q h g = g st h
 
   pub own-value : (n : ℕ) (e : Term) (st : State E) (go : Onward E) → HasOwn st → GoesOnBy go → IsOwnTree ((course w).value n e st go)
-  own-value n e st go h g = either_tree (is_lawful e) _ _ ((own w.setting e).as_value (stand (spot_of n) st) go h g) (own-refused st)
+  own-value n e st go h g = either_tree (is_lawful e) _ _ ((own w.setting bounds e).as_value (stand (spot_of n) st) go h g) (own-refused st)
 
   pub own-test : (n : ℕ) (e : Term) (st : State E) (taken skipped : State E → Tree E) → HasOwn st → GoesOwn taken → GoesOwn skipped → IsOwnTree ((course w).test n e st taken skipped)
   own-test n e st taken skipped h g k =
-      either_tree (is_lawful e) _ _ ((own w.setting e).as_test (stand (spot_of n) st) _ h (λ b st' h'. selects w.setting b (taken st') (skipped st') (g st' h') (k st' h'))) (own-refused st)
+      either_tree (is_lawful e) _ _ ((own w.setting bounds e).as_test (stand (spot_of n) st) _ h (λ b st' h'. selects w.setting b (taken st') (skipped st') (g st' h') (k st' h'))) (own-refused st)

@@ -5,6 +5,7 @@ use Rattle.std.specs.Int.RustNames.{unsigned_abs}
 use Rattle.std.proofs.lemmas.Bool.{and_parts, and_from}
 use Rattle.semantics.specs.Word.{Word}
 use Rattle.semantics.specs.Setup.{Setup}
+use Rattle.semantics.specs.Conditions.{Content}
 use Rattle.semantics.specs.Solo.{opening}
 use Rattle.linear.specs.Linear.{value_of}
 use Rattle.facts.specs.Symbols.{Fact}
@@ -52,9 +53,9 @@ line_by s n a h i from here =
     (are_words s.kernel s.launch here.variables && are_words s.kernel s.launch from.variables)
     && (opens_so s i a h here.variables && (facts_hold (value_by s i (root_at from here)) (facts_at n a h) && quotients_hold (value_by s i (root_at from here)) (congruences_at n a h) (multiples_at n a h)))
 
--- what is noted of a kernel's places
-abbrev pub notes_of : Setup → Notes → shown.Notes
-notes_of s n = record { same = n.same; rank = ranking_of s n; line = λ p i from here. line_by s n (number_at p.anchor) (number_at p.head) i from here }
+-- what is noted of a kernel's places, where lines say so of what buffers hold
+abbrev pub notes_of : Setup → List Content → Notes → shown.Notes
+notes_of s cs n = record { same = n.same; rank = ranking_of s n; line = λ p i from here. line_by s n (number_at p.anchor) (number_at p.head) i from here; contents = cs }
 
 -- the parts of the test
 pub record Holds (s : Setup) (n : Notes) (a h : Option ℕ) (i : ℕ) (from here : Held) : Type 0 where

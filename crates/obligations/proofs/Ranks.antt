@@ -38,7 +38,7 @@ module _ {E : Type 0} (w : Walked E) (n : Notes) (tell : TellsOfItems n) (laws :
   s = setup_of w
 
   abbrev k : arrivals.Notes
-  k = notes_of s n
+  k = notes_of s w.conditions.contents n
 
   -- one item
   module _ (p : Place) (is : Has p (places w.kernel.body)) (i : ℕ) (h : i < item_count s) (path : List Step) (from here : Held) (came : Came s k p i path from here) where

@@ -41,6 +41,7 @@ over w n = record {
   kernel = w.kernel;
   conditions = w.conditions;
   is_wide = n.is_wide;
+  joins = n.joins;
   has_entry = n.has_entry;
   spaces = λ sp. true;
   launch = w.launch;

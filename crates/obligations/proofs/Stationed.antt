@@ -37,7 +37,7 @@ head-none None e = refl
 head-none (Some p) e = cc
 
 module _ {E : Type 0} (w : Walked E) (n : Notes) (tell : TellsOfItems n) (laws : DividesLawfully w.domain) (shown : All IsShownWithProducts (claims_of w.conditions (all_trees w.domain w.kernel w.conditions n)))
-    (p : Place) (is : points.Has p (places w.kernel.body)) (i : ℕ) (h : i < item_count (setup_of w)) (path : List arrivals.Step) (from here : Held) (came : Came (setup_of w) (notes_of (setup_of w) n) p i path from here)
+    (p : Place) (is : points.Has p (places w.kernel.body)) (i : ℕ) (h : i < item_count (setup_of w)) (path : List arrivals.Step) (from here : Held) (came : Came (setup_of w) (notes_of (setup_of w) w.conditions.contents n) p i path from here)
   where
     abbrev s : Setup
     s = setup_of w
@@ -86,27 +86,27 @@ module _ {E : Type 0} (w : Walked E) (n : Notes) (tell : TellsOfItems n) (laws :
 
     pub at_leaf : (u : End) → u.path ≡ path → IsEnd u [] (placed.tree w.kernel.body p) → (st : State E) × At ((course pl).stops u.stop u.turns st) st here
     at_leaf u e end =
-        stands_at_leaf s (notes_of s n).rank i (Tree E) (State E) Value (course pl) At (faithfully.faithful c launch laws all last n a b (λ e x. x) tell.rankings)
-        w.kernel.body p u (root_state w.domain (known w.domain w.kernel.sizes w.conditions) w.kernel n count.0 a b) came.root here at_root end (subst (λ q. Follows s (notes_of s n).rank i q came.root here) (sym e) came.follows)
+        stands_at_leaf s w.conditions.contents (notes_of s w.conditions.contents n).rank i (Tree E) (State E) Value (course pl) At (faithfully.faithful c launch laws all last n a b (λ e x. x) tell.rankings)
+        w.kernel.body p u (root_state w.domain (known w.domain w.kernel.sizes w.conditions) w.kernel n count.0 a b) came.root here at_root end (subst (λ q. Follows s w.conditions.contents (notes_of s w.conditions.contents n).rank i q came.root here) (sym e) came.follows)
 
     pub at_front : (f : Front) → f.path ≡ path → IsFront f [] (placed.tree w.kernel.body p) → AtFront (course pl) At f.statement.statement here
     at_front f e front =
-        stands_in_front s (notes_of s n).rank i (Tree E) (State E) Value (course pl) At (faithfully.faithful c launch laws all last n a b (λ e x. x) tell.rankings)
-        w.kernel.body p f (root_state w.domain (known w.domain w.kernel.sizes w.conditions) w.kernel n count.0 a b) came.root here at_root front (subst (λ q. Follows s (notes_of s n).rank i q came.root here) (sym e) came.follows)
+        stands_in_front s w.conditions.contents (notes_of s w.conditions.contents n).rank i (Tree E) (State E) Value (course pl) At (faithfully.faithful c launch laws all last n a b (λ e x. x) tell.rankings)
+        w.kernel.body p f (root_state w.domain (known w.domain w.kernel.sizes w.conditions) w.kernel n count.0 a b) came.root here at_root front (subst (λ q. Follows s w.conditions.contents (notes_of s w.conditions.contents n).rank i q came.root here) (sym e) came.follows)
 
-    law : Faithful s (notes_of s n).rank i (Tree E) (State E) Value (course pl) At
+    law : Faithful s w.conditions.contents (notes_of s w.conditions.contents n).rank i (Tree E) (State E) Value (course pl) At
     law = faithfully.faithful c launch laws all last n a b (λ e x. x) tell.rankings
 
     -- where claims are made of rankings
     pub at_arrival : (f : Front) (m : ℕ) (again : Bool) → f.path ≡ path → IsFront f [] (placed.tree w.kernel.body p) → IsTest m again f.statement.statement f.statement.again → AtArrival (course pl) At m again here
     at_arrival f m again e front test =
-        stands_at_arrival s (notes_of s n).rank i (Tree E) (State E) Value (course pl) At law w.kernel.body p f m again (root_state w.domain (known w.domain w.kernel.sizes w.conditions) w.kernel n count.0 a b) came.root here is at_root front test
-        (subst (λ q. Follows s (notes_of s n).rank i q came.root here) (sym e) came.follows)
+        stands_at_arrival s w.conditions.contents (notes_of s w.conditions.contents n).rank i (Tree E) (State E) Value (course pl) At law w.kernel.body p f m again (root_state w.domain (known w.domain w.kernel.sizes w.conditions) w.kernel n count.0 a b) came.root here is at_root front test
+        (subst (λ q. Follows s w.conditions.contents (notes_of s w.conditions.contents n).rank i q came.root here) (sym e) came.follows)
 
     pub at_loop_head : (u : End) (m : ℕ) (again : Bool) → u.path ≡ path → IsEnd u [] (placed.tree w.kernel.body p) → u.stop ≡ arrivals.AtHead m again → AtArrival (course pl) At m again here
     at_loop_head u m again e end stop =
-        stands_at_head s (notes_of s n).rank i (Tree E) (State E) Value (course pl) At law w.kernel.body p u m again (root_state w.domain (known w.domain w.kernel.sizes w.conditions) w.kernel n count.0 a b) came.root here at_root end stop
-        (subst (λ q. Follows s (notes_of s n).rank i q came.root here) (sym e) came.follows)
+        stands_at_head s w.conditions.contents (notes_of s w.conditions.contents n).rank i (Tree E) (State E) Value (course pl) At law w.kernel.body p u m again (root_state w.domain (known w.domain w.kernel.sizes w.conditions) w.kernel n count.0 a b) came.root here at_root end stop
+        (subst (λ q. Follows s w.conditions.contents (notes_of s w.conditions.contents n).rank i q came.root here) (sym e) came.follows)
 
     pub at_entering : (m : ℕ) → IsEntering m path [] (placed.tree w.kernel.body p) → AtEntering (course pl) At m here
-    at_entering m e = stands_at_entering s (notes_of s n).rank i (Tree E) (State E) Value (course pl) At law w.kernel.body p m path (root_state w.domain (known w.domain w.kernel.sizes w.conditions) w.kernel n count.0 a b) came.root here at_root e came.follows
+    at_entering m e = stands_at_entering s w.conditions.contents (notes_of s w.conditions.contents n).rank i (Tree E) (State E) Value (course pl) At law w.kernel.body p m path (root_state w.domain (known w.domain w.kernel.sizes w.conditions) w.kernel n count.0 a b) came.root here at_root e came.follows

@@ -4,7 +4,7 @@ use Rattle.std.specs.List.{All}
 use Rattle.semantics.specs.Core.{number}
 use Rattle.semantics.specs.Setup.{Setup, item_count}
 use Rattle.semantics.specs.Solo.{opening}
-use Rattle.semantics.specs.Safety.{IsPairSafe}
+use Rattle.semantics.specs.Safety.{IsPairSafeWithin}
 use Rattle.facts.specs.Launching.{launch_facts, known}
 use Rattle.facts.proofs.Worlds.{Walked, setup_of}
 use Rattle.arrivals.specs.Points as points
@@ -17,6 +17,7 @@ use Rattle.arrivals.specs.Shown as arrivals
 use Rattle.arrivals.specs.Shown.{Came, Line, Shown, IsSound, IsShort, HasHead, at_opening}
 use Rattle.arrivals.proofs.Alike.{waits-alike, ends-last}
 use Rattle.arrivals.proofs.Apart.{no_clash}
+use Rattle.arrivals.proofs.Keeping.{keeps}
 use Rattle.arrivals.proofs.Quiet.{quiet}
 use Rattle.walk_trees.specs.Trees.{Obligation}
 use Rattle.walk_trees.specs.Shown.{IsShownWithProducts}
@@ -47,7 +48,7 @@ module _ {E : Type 0} (w : Walked E) (n : Notes) (tell : TellsOfItems n) (laws :
   s = setup_of w
 
   abbrev k : arrivals.Notes
-  k = notes_of s n
+  k = notes_of s w.conditions.contents n
 
   abbrev together : List Obligation
   together = meetings w.domain (known w.domain w.kernel.sizes w.conditions) (launch_facts w.conditions) n (ends_in (all_trees w.domain w.kernel w.conditions n))
@@ -98,15 +99,16 @@ module _ {E : Type 0} (w : Walked E) (n : Notes) (tell : TellsOfItems n) (laws :
     pairs = λ p q u v is so anchor end other no nor. inl (pair_shown w n tell laws claims (all_left IsShownWithProducts together apart pairs) p q u v is so anchor end other no nor);
   }
 
-  pub whole_pair_safe : (bound : ℕ) → IsSound s → IsShort s bound → IsPairSafe s bound
+  pub whole_pair_safe : (bound : ℕ) → IsSound s → IsShort s w.conditions.contents bound → IsPairSafeWithin w.conditions.contents s bound
   whole_pair_safe bound sure short = record {
     quiet = quiet s k sure leaves (accessing.faults w n tell laws claims (all_right IsShownWithProducts together apart pairs));
     short = short;
     apart = no_clash s k sure leaves (accessing.accesses w n tell laws claims (all_right IsShownWithProducts together apart pairs));
     agree = λ i j a b ne g. waits-alike s k sure leaves i j (record { first = a; second = b; distinct = ne; group = g });
     ends = λ i j a b ne g. ends-last s k sure leaves i j (record { first = a; second = b; distinct = ne; group = g });
+    keeps = keeps s k sure leaves (accessing.stores w n tell laws claims (all_right IsShownWithProducts together apart pairs));
   }
 
   -- within the cost, with as many turns as is said of loops
-  pub whole_safe_within : IsSound s → AreLimits n → IsPairSafe s (cost (turns_at n) w.kernel.body)
+  pub whole_safe_within : IsSound s → AreLimits n → IsPairSafeWithin w.conditions.contents s (cost (turns_at n) w.kernel.body)
   whole_safe_within sure are = whole_pair_safe (cost (turns_at n) w.kernel.body) sure (ranked_short s k (limit_at n) sure leaves (ranks w n tell laws claims are))

@@ -78,4 +78,5 @@ seen n entries = record {
   quotient = quotient_of n.quotients.items;
   has_entry = λ m. slice_index_or entries m false;
   is_wide = n.is_wide;
+  joins = n.joins;
 }

@@ -16,7 +16,7 @@ use Rattle.walk_trees.specs.Covered.{covers_term}
 use Rattle.walk_trees.specs.Trees.{OfRanking, OfFact, OfCongruence, AtLeastZero, Replaced, Divided, Tree, Leaf, Dead}
 use Rattle.walk_trees.specs.Values.{Value}
 use Rattle.walk_trees.specs.Walks.{Setting, State, settles, claim, stand, with_rank, rank_form, arrived}
-use Rattle.walk_trees.specs.Terms.{walk, access, chosen}
+use Rattle.walk_trees.specs.Terms.{walk, stored, chosen}
 use Rattle.walk_trees.specs.Operators.{small_product}
 use Rattle.walk_trees.specs.Statements.{spot_of, setting, assigned}
 use Rattle.obligations.specs.Notes.{Congruence, Multiple, Notes, number_at, opens, holds, fallen, fallen_by}
@@ -139,15 +139,15 @@ arrive w n true st go = claim_rank w n (fallen_by (w.notes.ranking n).bound (ran
 abbrev pub enter : {E : Type 0} → Placed E → ℕ → State E → (State E → Tree E) → Tree E
 enter w n st go = claim_rank w n [] (holds (w.notes.ranking n).bound (rank_on w n st)) (stand (spot_of n) st) (λ st'. go (with_rank n (rank_on w n st) st'))
 
-abbrev pub store : {E : Type 0} → Placed E → Statement → Value → State E → (State E → Tree E) → Tree E
-store w (Store n a site i e) x st go = access w.setting true a site x.form st go
-store w (Set n y e) x st go = go st
-store w (If n e t f) x st go = go st
-store w (Loop n e b u) x st go = go st
-store w (Barrier n l g) x st go = go st
-store w (Return n) x st go = go st
-store w (Break n k) x st go = go st
-store w (Continue n k) x st go = go st
+abbrev pub store : {E : Type 0} → Placed E → Statement → (index value : Value) → State E → (State E → Tree E) → Tree E
+store w (Store n a site i e) x y st go = stored w.setting a site x y st go
+store w (Set n x e) x' y st go = go st
+store w (If n e t f) x y st go = go st
+store w (Loop n e b u) x y st go = go st
+store w (Barrier n l g) x y st go = go st
+store w (Return n) x y st go = go st
+store w (Break n k) x y st go = go st
+store w (Continue n k) x y st go = go st
 
 abbrev pub course : {E : Type 0} → Placed E → Terms (Tree E) (State E) Value
 course w = record {
@@ -156,12 +156,12 @@ course w = record {
   set = λ st x f. assigned x f st;
   arrive = λ n again st go. arrive w n again st go;
   enter = λ n st go. enter w n st go;
-  store = λ a x st go. store w a x st go;
+  store = λ a x y st go. store w a x y st go;
   stops = λ stop turns st. stops w stop turns st;
 }
 
 abbrev pub placed : {E : Type 0} → Ghosts E → Kernel → Conditions → Notes → Place → Placed E
-placed g k c n p = record { setting = setting g k c n.is_wide n.has_entry; kernel = k; notes = n; anchor = number_at p.anchor; head = number_at p.head }
+placed g k c n p = record { setting = setting g k c n.is_wide n.joins n.has_entry; kernel = k; notes = n; anchor = number_at p.anchor; head = number_at p.head }
 
 -- the tree of a place, with so many claims before it
 abbrev pub tree_of : {E : Type 0} → Ghosts E → Kernel → Conditions → Notes → (claims : ℕ) → Place → Tree E

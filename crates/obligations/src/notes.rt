@@ -46,10 +46,11 @@ pub struct Quotient {
     pub form: Form,
 }
 
-/// All that is said, and whether the walk is the wide one; of what is said twice the first holds.
+/// All that is said, whether the walk is the wide one, and whether it joins ways; of what is said twice the first holds.
 #[derive(Drop)]
 pub struct Notes {
     pub is_wide: bool,
+    pub joins: bool,
     pub places: Vec<Lines>,
     pub rankings: Vec<LoopBound>,
     pub visible: Vec<Visible>,

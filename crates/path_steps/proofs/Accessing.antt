@@ -11,6 +11,7 @@ use Rattle.walk_trees.specs.Values as values
 use Rattle.walk_trees.specs.Walks as walks
 use Rattle.walk_trees.specs.Walks.{Setting, State, spot_at}
 use Rattle.walk_trees.specs.Terms as terms
+use Rattle.walk_trees.specs.Contents.{contents_of, know_contents}
 use Rattle.path_steps.specs.Paths.{Followed, collect, add_access, with_spot, with_access}
 use Rattle.path_steps.specs.Leads.{Steps, Leads}
 use Rattle.path_steps.specs.Refusals.{Refused, StopsAtStep, Stops}
@@ -52,13 +53,43 @@ module _ {E : Type 0} (s : Setting E) (is_store : Bool) (a : Array) (site : Site
   pub access_stops : (p : Spot) (l m : Followed E) (e : WalkError) → p ≡ spot_at site l.state → m ≡ with_spot l p → StopsAtStep m e (terms.in_array s a i) → StopsAtStep l e (terms.access s is_store a site i)
   access_stops p l m e d h b go = refused_from e _ _ (reached p l m d h go) (b (λ st'. Touch (terms.target_at is_store a site st') i st'.held (go st')))
 
+-- any number that an array may hold
+module _ {E : Type 0} (s : Setting E) (a : Array) where
+  pub element_leads : (k : Kind) (v : values.Value) (l m n : Followed E) → k ≡ terms.array_kind s a → Leads l m (walks.unknown s k) v → Steps m n (know_contents s (contents_of s a) v.form) → Leads l n (terms.element s a) v
+  element_leads k v l m n d h t go =
+      ap (λ x. collect l.found (walks.unknown s x l.state (λ w st'. know_contents s (contents_of s a) w.form st' (λ st''. go w st'')))) (sym d)
+      ∙ h (λ w st'. know_contents s (contents_of s a) w.form st' (λ st''. go w st''))
+      ∙ t (go v)
+
+  pub unknown_refused : (k : Kind) (l : Followed E) (e : WalkError) → k ≡ terms.array_kind s a → Stops l e (walks.unknown s k) → Stops l e (terms.element s a)
+  unknown_refused k l e d h go =
+      refused_from e _ _ (ap (λ x. collect l.found (walks.unknown s x l.state (λ w st'. know_contents s (contents_of s a) w.form st' (λ st''. go w st'')))) (sym d)) (h (λ w st'. know_contents s (contents_of s a) w.form st' (λ st''. go w st'')))
+
+  pub element_stops : (k : Kind) (v : values.Value) (l m : Followed E) (e : WalkError) → k ≡ terms.array_kind s a → Leads l m (walks.unknown s k) v → StopsAtStep m e (know_contents s (contents_of s a) v.form) → Stops l e (terms.element s a)
+  element_stops k v l m e d h t go =
+      refused_from e _ _
+      (ap (λ x. collect l.found (walks.unknown s x l.state (λ w st'. know_contents s (contents_of s a) w.form st' (λ st''. go w st'')))) (sym d)
+      ∙ h (λ w st'. know_contents s (contents_of s a) w.form st' (λ st''. go w st'')))
+      (t (go v))
+
 -- a load behind its access
 module _ {E : Type 0} (s : Setting E) (a : Array) (site : Site) (i : Fact) where
-  pub load_after : (k : Kind) (l m n : Followed E) (view : Value → values.Value) (r : Result Value WalkError) → k ≡ terms.array_kind s a → Steps l m (terms.access s false a site i) →
-      MatchResult r (λ v. Leads m n (walks.unknown s k) (view v)) (λ e. Stops m e (walks.unknown s k)) →
+  pub load_after : (l m n : Followed E) (view : Value → values.Value) (r : Result Value WalkError) → Steps l m (terms.access s false a site i) →
+      MatchResult r (λ v. Leads m n (terms.element s a) (view v)) (λ e. Stops m e (terms.element s a)) →
       MatchResult r (λ v. Leads l n (terms.load s a site i) (view v)) (λ e. Stops l e (terms.load s a site i))
-  load_after k l m n view (Ok v) d b h = λ go. b (λ st'. walks.unknown s (terms.array_kind s a) st' go) ∙ ap (λ x. collect m.found (walks.unknown s x m.state go)) (sym d) ∙ h go
-  load_after k l m n view (Err e) d b h = λ go. refused_from e _ _ (b (λ st'. walks.unknown s (terms.array_kind s a) st' go) ∙ ap (λ x. collect m.found (walks.unknown s x m.state go)) (sym d)) (h go)
+  load_after l m n view (Ok v) b h = λ go. b (λ st'. terms.element s a st' go) ∙ h go
+  load_after l m n view (Err e) b h = λ go. refused_from e _ _ (b (λ st'. terms.element s a st' go)) (h go)
 
   pub load_stops : (l : Followed E) (e : WalkError) → StopsAtStep l e (terms.access s false a site i) → Stops l e (terms.load s a site i)
-  load_stops l e h go = h (λ st'. walks.unknown s (terms.array_kind s a) st' go)
+  load_stops l e h go = h (λ st'. terms.element s a st' go)
+
+-- what a store keeps, then its access
+module _ {E : Type 0} (s : Setting E) (a : Array) (site : Site) (i v : values.Value) where
+  pub store_after : (k : Kind) (l m n : Followed E) (r : Result (Unit {0}) WalkError) → k ≡ terms.array_kind s a → Steps l m (terms.keep_contents s (contents_of s a) k site v) →
+      MatchResult r (λ _. Steps m n (terms.access s true a site i.form)) (λ e. StopsAtStep m e (terms.access s true a site i.form)) →
+      MatchResult r (λ _. Steps l n (terms.stored s a site i v)) (λ e. StopsAtStep l e (terms.stored s a site i v))
+  store_after k l m n (Ok u) d b h = λ go. ap (λ x. collect l.found (terms.keep_contents s (contents_of s a) x site v l.state (λ st'. terms.access s true a site i.form st' go))) (sym d) ∙ b (λ st'. terms.access s true a site i.form st' go) ∙ h go
+  store_after k l m n (Err e) d b h = λ go. refused_from e _ _ (ap (λ x. collect l.found (terms.keep_contents s (contents_of s a) x site v l.state (λ st'. terms.access s true a site i.form st' go))) (sym d) ∙ b (λ st'. terms.access s true a site i.form st' go)) (h go)
+
+  pub store_stops : (k : Kind) (l : Followed E) (e : WalkError) → k ≡ terms.array_kind s a → StopsAtStep l e (terms.keep_contents s (contents_of s a) k site v) → StopsAtStep l e (terms.stored s a site i v)
+  store_stops k l e d h go = refused_from e _ _ (ap (λ x. collect l.found (terms.keep_contents s (contents_of s a) x site v l.state (λ st'. terms.access s true a site i.form st' go))) (sym d)) (h (λ st'. terms.access s true a site i.form st' go))

@@ -1,5 +1,5 @@
 -- Exact results in the range of their kind.
-use Rattle.std.proofs.Common.{◌≡◌, ◌⊎◌, inl, inr, ℕ, suc, Bool, true, false, List, [], ◌∷◌, refl, sym, ap, subst, ◌∙◌, length}
+use Rattle.std.proofs.Common.{◌≡◌, ◌⊎◌, inl, inr, suc, Bool, true, false, List, [], ◌∷◌, refl, sym, ap, subst, ◌∙◌, length}
 use Rattle.std.specs.Prelude.{Result, Ok, Err, MatchResult, MatchOption, Option, None, Some, cond, nat_le}
 use Rattle.semantics.specs.Word.{Kind, Int, Uint, Multiply}
 use Rattle.linear.specs.Linear.{Weighted}

@@ -10,6 +10,9 @@ pub mod Digits
 pub mod Alike
 pub mod SharedParts
 pub mod Quotients
+pub mod Each
+pub mod Joining
+pub mod Lines
 pub mod Accessing
 pub mod Turning
 pub mod Collecting

@@ -5,7 +5,6 @@ use Rattle.semantics.specs.Word.{Kind}
 use Rattle.facts.specs.Symbols.{Fact, minus}
 use Rattle.facts.specs.Refusals.{IsMemory, IsUnfit}
 use Rattle.facts.specs.declared.error.WalkError.{WalkError}
-use Rattle.facts.specs.declared.error.WalkError.TheVariants as errors
 use Rattle.walk_trees.specs.Trees.{Tree, Know}
 use Rattle.walk_trees.specs.Shares as shares
 use Rattle.walk_trees.specs.Walks as walks

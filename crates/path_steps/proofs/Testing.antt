@@ -1,6 +1,6 @@
 -- Facts of tests, and the ways of a comparison.
-use Rattle.std.proofs.Common.{◌≡◌, Bool, true, false, ◌&&◌, ◌||◌, List, [], ◌∷◌, refl, sym, ap, subst, ◌∙◌}
-use Rattle.std.specs.Prelude.{pos, int_lt, Result, Ok, Err, IsErr, IsErrAnd, MatchResult}
+use Rattle.std.proofs.Common.{◌≡◌, Bool, true, false, ◌&&◌, ◌||◌, List, [], ◌∷◌, cond, refl, sym, ap, subst, ◌∙◌}
+use Rattle.std.specs.Prelude.{pos, int_lt, Option, None, Some, MatchOption, Result, Ok, Err, IsErr, IsErrAnd, MatchResult}
 use Rattle.semantics.specs.Word.{Relation, Equal}
 use Rattle.linear.specs.Exact.{fits, fits_i64, fits_terms}
 use Rattle.facts.specs.Symbols.{Fact, minus}
@@ -12,7 +12,8 @@ use Rattle.walk_trees.specs.Held.{narrow}
 use Rattle.walk_trees.specs.Trees.{Tree}
 use Rattle.walk_trees.specs.Walks as walks
 use Rattle.walk_trees.specs.Walks.{Setting, State, bounds_of, is_none, is_refuted, is_dead, unless_dead, know_test, know_two, holding}
-use Rattle.walk_trees.specs.Tests.{Outcomes, below, split, split_below}
+use Rattle.walk_trees.specs.Joined.{are_joined, told_apart}
+use Rattle.walk_trees.specs.Tests.{Outcomes, below, split, split_below, split_apart, split_from_zero, split_sign}
 use Rattle.walk_trees.specs.Terms.{chosen}
 use Rattle.path_steps.specs.Paths.{Found, Followed, collect, with_fact, with_held, choosing}
 use Rattle.path_steps.specs.Leads.{Steps, Leads}
@@ -20,8 +21,8 @@ use Rattle.path_steps.specs.Refusals.{Refused, StopsAtStep}
 use Rattle.path_steps.specs.Halts.{Ended, HaltsAtStep, Halts}
 use Rattle.path_steps.specs.declared.halt.Halt.{Halt}
 use Rattle.path_steps.specs.declared.halt.Halt.TheVariants as halts
-use Rattle.path_steps.specs.Sides.{side, split_sides, three_ways}
-use Rattle.path_steps.proofs.Refusing.{unfit_fact}
+use Rattle.path_steps.specs.Sides.{side, split_sides, one_below, one_way, apart}
+use Rattle.path_steps.proofs.Refusing.{unfit_fact, refused_from}
 
 pub know_steps : {E : Type 0} (s : Setting E) (w b : Bool) (f : Fact) (l m n : Followed E) → b ≡ ((w && is_refuted s f l.state) || is_dead f) → b ≡ false → m ≡ with_held l (narrow s.domain s.known f l.state.held) → n ≡ with_fact m f → Steps l n (know_test s w f)
 unfolding collect
@@ -122,57 +123,108 @@ second_way b m n one two h d = h (λ c st. chosen c (one st) (two st)) ∙ ap (�
 
 module _ {E : Type 0} (s : Setting E) (x y : Fact) where
   pub equal_first : (b : Bool) (m n k : Followed E) → Leads m n choosing b → b ≡ true → Steps n k (know_two s s.is_wide (minus x y) (minus y x)) → Leads m k (split s s.is_wide Equal x y) true
-  equal_first b m n k h d a go = first_way b m n (λ st. know_two s s.is_wide (minus x y) (minus y x) st (go true)) (λ st. split_below s s.is_wide false false (below x y) (below y x) st go) h d ∙ a (go true)
+  equal_first b m n k h d a go = first_way b m n (λ st. know_two s s.is_wide (minus x y) (minus y x) st (go true)) (λ st. apart s x y st go) h d ∙ a (go true)
 
   pub equal_first_halts : (b : Bool) (m n k : Followed E) (e : Halt) → Leads m n choosing b → b ≡ true → HaltsAtStep n k e (know_two s s.is_wide (minus x y) (minus y x)) → Halts m k e (split s s.is_wide Equal x y)
-  equal_first_halts b m n k e h d a go = ended_from k.found e _ _ (first_way b m n (λ st. know_two s s.is_wide (minus x y) (minus y x) st (go true)) (λ st. split_below s s.is_wide false false (below x y) (below y x) st go) h d) (a (go true))
+  equal_first_halts b m n k e h d a go = ended_from k.found e _ _ (first_way b m n (λ st. know_two s s.is_wide (minus x y) (minus y x) st (go true)) (λ st. apart s x y st go) h d) (a (go true))
+
+  pub equal_second : (b : Bool) (m n k : Followed E) (r : Result Bool Halt) → Leads m n choosing b → b ≡ false →
+      MatchResult r (λ c. Leads n k (apart s x y) c) (λ e. Halts n k e (apart s x y)) →
+      MatchResult r (λ c. Leads m k (split s s.is_wide Equal x y) c) (λ e. Halts m k e (split s s.is_wide Equal x y))
+  equal_second b m n k (Ok c) h d a = λ go. second_way b m n (λ st. know_two s s.is_wide (minus x y) (minus y x) st (go true)) (λ st. apart s x y st go) h d ∙ a go
+  equal_second b m n k (Err e) h d a = λ go. ended_from k.found e _ _ (second_way b m n (λ st. know_two s s.is_wide (minus x y) (minus y x) st (go true)) (λ st. apart s x y st go) h d) (a go)
 
   chosen_one : (b : Bool) → chosen b false false ≡ false
   chosen_one true = refl
   chosen_one false = refl
 
-  equal_rest : (b c : Bool) (m n o : Followed E) (go : Outcomes E) → Leads m n choosing b → b ≡ false → Leads n o choosing c → collect m.found (split s s.is_wide Equal x y m.state go) ≡ collect o.found (know_test s s.is_wide (side Equal c x y) o.state (go (chosen c false false)))
-  equal_rest b c m n o go h d k =
-      second_way b m n (λ st. know_two s s.is_wide (minus x y) (minus y x) st (go true)) (λ st. split_below s s.is_wide false false (below x y) (below y x) st go) h d
-      ∙ chose_side s s.is_wide false false c (below x y) (below y x) (side Equal c x y) n o k (chosen_side Equal c x y) go
+  pub below_leads : (c : Bool) (n o k : Followed E) → Leads n o choosing c → Steps o k (know_test s s.is_wide (side Equal c x y)) → Leads n k (one_below s x y) false
+  below_leads c n o k h a go = chose_side s s.is_wide false false c (below x y) (below y x) (side Equal c x y) n o h (chosen_side Equal c x y) go ∙ a (go (chosen c false false)) ∙ ap (λ q. collect k.found (go q k.state)) (chosen_one c)
 
-  pub equal_second : (b c : Bool) (m n o k : Followed E) → Leads m n choosing b → b ≡ false → Leads n o choosing c → Steps o k (know_test s s.is_wide (side Equal c x y)) → Leads m k (split s s.is_wide Equal x y) false
-  equal_second b c m n o k h d l a go = equal_rest b c m n o go h d l ∙ a (go (chosen c false false)) ∙ ap (λ q. collect k.found (go q k.state)) (chosen_one c)
+  pub below_halts : (c : Bool) (n o k : Followed E) (e : Halt) → Leads n o choosing c → HaltsAtStep o k e (know_test s s.is_wide (side Equal c x y)) → Halts n k e (one_below s x y)
+  below_halts c n o k e h a go = ended_from k.found e _ _ (chose_side s s.is_wide false false c (below x y) (below y x) (side Equal c x y) n o h (chosen_side Equal c x y) go) (a (go (chosen c false false)))
 
-  pub equal_second_halts : (b c : Bool) (m n o k : Followed E) (e : Halt) → Leads m n choosing b → b ≡ false → Leads n o choosing c → HaltsAtStep o k e (know_test s s.is_wide (side Equal c x y)) → Halts m k e (split s s.is_wide Equal x y)
-  equal_second_halts b c m n o k e h d l a go = ended_from k.found e _ _ (equal_rest b c m n o go h d l) (a (go (chosen c false false)))
+  -- joined, or not
+  pub apart_joined : (more less : Fact) (m n : Followed E) (r : Result Bool Halt) → are_joined s (pos 1) (minus x y) (minus y x) m.state ≡ true → more ≡ minus x y → less ≡ minus y x →
+      MatchResult r (λ c. Leads m n (one_way s more less) c) (λ e. Halts m n e (one_way s more less)) →
+      MatchResult r (λ c. Leads m n (apart s x y) c) (λ e. Halts m n e (apart s x y))
+  apart_joined more less m n (Ok c) j d e a = λ go. ap (λ b. collect m.found (split_apart s b x y m.state go)) j ∙ (λ i. collect m.found (told_apart s (sym d i) (sym e i) m.state (go false))) ∙ a go
+  apart_joined more less m n (Err h) j d e a = λ go. ended_from n.found h _ _ (ap (λ b. collect m.found (split_apart s b x y m.state go)) j ∙ (λ i. collect m.found (told_apart s (sym d i) (sym e i) m.state (go false)))) (a go)
+
+  pub apart_below : (m n : Followed E) (r : Result Bool Halt) → are_joined s (pos 1) (minus x y) (minus y x) m.state ≡ false →
+      MatchResult r (λ c. Leads m n (one_below s x y) c) (λ e. Halts m n e (one_below s x y)) →
+      MatchResult r (λ c. Leads m n (apart s x y) c) (λ e. Halts m n e (apart s x y))
+  apart_below m n (Ok c) j a = λ go. ap (λ b. collect m.found (split_apart s b x y m.state go)) j ∙ a go
+  apart_below m n (Err e) j a = λ go. ended_from n.found e _ _ (ap (λ b. collect m.found (split_apart s b x y m.state go)) j) (a go)
+
+-- what there is where there is nothing, or something
+pub matched_none : {A : Type 0} (o : Option A) (N : Type 0) (P : A → Type 0) → o ≡ None → MatchOption o N P → N
+matched_none None N P e h = h
+matched_none (Some x) N P e h = absurd cc
+
+-- the differences of two numbers whose ways are joined
+abbrev pub AreDifferences : {E : Type 0} → Setting E → (x y : Fact) → State E → (more less : Fact) → Type 0
+AreDifferences s x y st more less = (are_joined s (pos 1) (minus x y) (minus y x) st ≡ true) × (more ≡ minus x y) × (less ≡ minus y x)
+
+-- ways that are joined, and ways that are not
+module _ {E : Type 0} (s : Setting E) (f g p q : Fact) where
+  pub joined_ways : (form negation : Fact) (b : Bool) (m n : Followed E) (r : Result Bool Halt) → b ≡ true → form ≡ f → negation ≡ g →
+      MatchResult r (λ c. Leads m n (split_from_zero s form negation) c) (λ e. Halts m n e (split_from_zero s form negation)) →
+      MatchResult r (λ c. Leads m n (λ st go. cond b (split_from_zero s f g st go) (split_sign s p q f g st go)) c) (λ e. Halts m n e (λ st go. cond b (split_from_zero s f g st go) (split_sign s p q f g st go)))
+  joined_ways form negation b m n (Ok c) j d e a = λ go. ap (λ x. collect m.found (cond x (split_from_zero s f g m.state go) (split_sign s p q f g m.state go))) j ∙ (λ i. collect m.found (split_from_zero s (sym d i) (sym e i) m.state go)) ∙ a go
+  joined_ways form negation b m n (Err h) j d e a = λ go. ended_from n.found h _ _ (ap (λ x. collect m.found (cond x (split_from_zero s f g m.state go) (split_sign s p q f g m.state go))) j ∙ (λ i. collect m.found (split_from_zero s (sym d i) (sym e i) m.state go))) (a go)
+
+  pub parted_ways : (b : Bool) (m n : Followed E) (r : Result Bool Halt) → b ≡ false →
+      MatchResult r (λ c. Leads m n (split_sign s p q f g) c) (λ e. Halts m n e (split_sign s p q f g)) →
+      MatchResult r (λ c. Leads m n (λ st go. cond b (split_from_zero s f g st go) (split_sign s p q f g st go)) c) (λ e. Halts m n e (λ st go. cond b (split_from_zero s f g st go) (split_sign s p q f g st go)))
+  parted_ways b m n (Ok c) j a = λ go. ap (λ x. collect m.found (cond x (split_from_zero s f g m.state go) (split_sign s p q f g m.state go))) j ∙ a go
+  parted_ways b m n (Err h) j a = λ go. ended_from n.found h _ _ (ap (λ x. collect m.found (cond x (split_from_zero s f g m.state go) (split_sign s p q f g m.state go))) j) (a go)
+
+-- not 0, or 0
+module _ {E : Type 0} (s : Setting E) (f g : Fact) where
+  pub zero_first : (b : Bool) (m n k : Followed E) → Leads m n choosing b → b ≡ true → Steps n k (told_apart s f g) → Leads m k (split_from_zero s f g) true
+  zero_first b m n k h d a go = first_way b m n (λ st. told_apart s f g st (go true)) (λ st. know_two s s.is_wide f g st (go false)) h d ∙ a (go true)
+
+  pub zero_first_stops : (b : Bool) (m n k : Followed E) (e : WalkError) → Leads m n choosing b → b ≡ true → StopsAtStep n e (told_apart s f g) → Halts m k (halts.Refused e) (split_from_zero s f g)
+  zero_first_stops b m n k e h d a go = refused_from e _ _ (first_way b m n (λ st. told_apart s f g st (go true)) (λ st. know_two s s.is_wide f g st (go false)) h d) (a (go true))
+
+  pub zero_second : (b : Bool) (m n k : Followed E) → Leads m n choosing b → b ≡ false → Steps n k (know_two s s.is_wide f g) → Leads m k (split_from_zero s f g) false
+  zero_second b m n k h d a go = second_way b m n (λ st. told_apart s f g st (go true)) (λ st. know_two s s.is_wide f g st (go false)) h d ∙ a (go false)
+
+  pub zero_second_halts : (b : Bool) (m n k : Followed E) (e : Halt) → Leads m n choosing b → b ≡ false → HaltsAtStep n k e (know_two s s.is_wide f g) → Halts m k e (split_from_zero s f g)
+  zero_second_halts b m n k e h d a go = ended_from k.found e _ _ (second_way b m n (λ st. told_apart s f g st (go true)) (λ st. know_two s s.is_wide f g st (go false)) h d) (a (go false))
 
 module _ {E : Type 0} (s : Setting E) (p q f g : Fact) where
   ways_rest : State E → Outcomes E → Tree E
   ways_rest st go = walks.fork st (λ b. know_test s s.is_wide q b (go true)) (λ b. know_two s s.is_wide f g b (go false))
 
-  pub ways_first : (b : Bool) (m n k : Followed E) → Leads m n choosing b → b ≡ true → Steps n k (know_test s s.is_wide p) → Leads m k (three_ways s p q f g) true
+  pub ways_first : (b : Bool) (m n k : Followed E) → Leads m n choosing b → b ≡ true → Steps n k (know_test s s.is_wide p) → Leads m k (split_sign s p q f g) true
   unfolding ways_rest
   ways_first b m n k h d a go = first_way b m n (λ st. know_test s s.is_wide p st (go true)) (λ st. ways_rest st go) h d ∙ a (go true)
 
-  pub ways_first_halts : (b : Bool) (m n k : Followed E) (e : Halt) → Leads m n choosing b → b ≡ true → HaltsAtStep n k e (know_test s s.is_wide p) → Halts m k e (three_ways s p q f g)
+  pub ways_first_halts : (b : Bool) (m n k : Followed E) (e : Halt) → Leads m n choosing b → b ≡ true → HaltsAtStep n k e (know_test s s.is_wide p) → Halts m k e (split_sign s p q f g)
   unfolding ways_rest
   ways_first_halts b m n k e h d a go = ended_from k.found e _ _ (first_way b m n (λ st. know_test s s.is_wide p st (go true)) (λ st. ways_rest st go) h d) (a (go true))
 
-  pub ways_second : (b c : Bool) (m n o k : Followed E) → Leads m n choosing b → b ≡ false → Leads n o choosing c → c ≡ true → Steps o k (know_test s s.is_wide q) → Leads m k (three_ways s p q f g) true
+  pub ways_second : (b c : Bool) (m n o k : Followed E) → Leads m n choosing b → b ≡ false → Leads n o choosing c → c ≡ true → Steps o k (know_test s s.is_wide q) → Leads m k (split_sign s p q f g) true
   unfolding ways_rest
   ways_second b c m n o k h d l z a go =
       second_way b m n (λ st. know_test s s.is_wide p st (go true)) (λ st. ways_rest st go) h d
       ∙ first_way c n o (λ st. know_test s s.is_wide q st (go true)) (λ st. know_two s s.is_wide f g st (go false)) l z ∙ a (go true)
 
-  pub ways_second_halts : (b c : Bool) (m n o k : Followed E) (e : Halt) → Leads m n choosing b → b ≡ false → Leads n o choosing c → c ≡ true → HaltsAtStep o k e (know_test s s.is_wide q) → Halts m k e (three_ways s p q f g)
+  pub ways_second_halts : (b c : Bool) (m n o k : Followed E) (e : Halt) → Leads m n choosing b → b ≡ false → Leads n o choosing c → c ≡ true → HaltsAtStep o k e (know_test s s.is_wide q) → Halts m k e (split_sign s p q f g)
   unfolding ways_rest
   ways_second_halts b c m n o k e h d l z a go = ended_from k.found e _ _
       (second_way b m n (λ st. know_test s s.is_wide p st (go true)) (λ st. ways_rest st go) h d
       ∙ first_way c n o (λ st. know_test s s.is_wide q st (go true)) (λ st. know_two s s.is_wide f g st (go false)) l z) (a (go true))
 
-  pub ways_third : (b c : Bool) (m n o k : Followed E) → Leads m n choosing b → b ≡ false → Leads n o choosing c → c ≡ false → Steps o k (know_two s s.is_wide f g) → Leads m k (three_ways s p q f g) false
+  pub ways_third : (b c : Bool) (m n o k : Followed E) → Leads m n choosing b → b ≡ false → Leads n o choosing c → c ≡ false → Steps o k (know_two s s.is_wide f g) → Leads m k (split_sign s p q f g) false
   unfolding ways_rest
   ways_third b c m n o k h d l z a go =
       second_way b m n (λ st. know_test s s.is_wide p st (go true)) (λ st. ways_rest st go) h d
       ∙ second_way c n o (λ st. know_test s s.is_wide q st (go true)) (λ st. know_two s s.is_wide f g st (go false)) l z ∙ a (go false)
 
-  pub ways_third_halts : (b c : Bool) (m n o k : Followed E) (e : Halt) → Leads m n choosing b → b ≡ false → Leads n o choosing c → c ≡ false → HaltsAtStep o k e (know_two s s.is_wide f g) → Halts m k e (three_ways s p q f g)
+  pub ways_third_halts : (b c : Bool) (m n o k : Followed E) (e : Halt) → Leads m n choosing b → b ≡ false → Leads n o choosing c → c ≡ false → HaltsAtStep o k e (know_two s s.is_wide f g) → Halts m k e (split_sign s p q f g)
   unfolding ways_rest
   ways_third_halts b c m n o k e h d l z a go = ended_from k.found e _ _
       (second_way b m n (λ st. know_test s s.is_wide p st (go true)) (λ st. ways_rest st go) h d

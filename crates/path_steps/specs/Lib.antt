@@ -9,3 +9,5 @@ pub mod Halts
 pub mod Sides
 pub mod Divisors
 pub mod Sharing
+pub mod Joins
+pub mod Lines

@@ -1,10 +1,11 @@
 -- What holds on each way of a comparison other than equality.
-use Rattle.std.specs.Prelude.{Bool, true, false}
+use Rattle.std.specs.Prelude.{pos, Bool, true, false}
 use Rattle.semantics.specs.Word.{Relation, Less, AtMost, More, AtLeast, Equal, Unequal}
 use Rattle.facts.specs.Symbols.{Fact, minus}
 use Rattle.walk_trees.specs.Trees.{Tree}
-use Rattle.walk_trees.specs.Walks.{Setting, State, fork, know_test, know_two}
-use Rattle.walk_trees.specs.Tests.{Outcomes, below, split_below}
+use Rattle.walk_trees.specs.Walks.{Setting, State}
+use Rattle.walk_trees.specs.Joined.{are_joined, told_apart}
+use Rattle.walk_trees.specs.Tests.{Outcomes, below, split_below, split_apart}
 
 -- for equality the two ways on which one is below the other
 abbrev pub side : Relation → (first : Bool) → Fact → Fact → Fact
@@ -24,6 +25,14 @@ side Unequal false x y = below y x
 abbrev pub split_sides : {E : Type 0} → Setting E → (by_elements : Bool) → Relation → Fact → Fact → State E → Outcomes E → Tree E
 split_sides s w r x y st go = split_below s w true false (side r true x y) (side r false x y) st go
 
--- one fact, another one, or two
-abbrev pub three_ways : {E : Type 0} → Setting E → (p q f g : Fact) → State E → Outcomes E → Tree E
-three_ways s p q f g st go = fork st (λ a. know_test s s.is_wide p a (go true)) (λ a. fork a (λ b. know_test s s.is_wide q b (go true)) (λ b. know_two s s.is_wide f g b (go false)))
+-- one is below the other, or the other way round
+abbrev pub one_below : {E : Type 0} → Setting E → Fact → Fact → State E → Outcomes E → Tree E
+one_below s x y st go = split_below s s.is_wide false false (below x y) (below y x) st go
+
+-- two numbers differ, by their differences
+abbrev pub one_way : {E : Type 0} → Setting E → (more less : Fact) → State E → Outcomes E → Tree E
+one_way s f g st go = told_apart s f g st (go false)
+
+-- the ways on which two numbers differ
+abbrev pub apart : {E : Type 0} → Setting E → Fact → Fact → State E → Outcomes E → Tree E
+apart s x y st go = split_apart s (are_joined s (pos 1) (minus x y) (minus y x) st) x y st go

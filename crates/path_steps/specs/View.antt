@@ -5,10 +5,9 @@ use Rattle.arrivals.specs.Trees as arrivals
 use Rattle.domain.specs.declared.Domain.{Ghosts}
 use Rattle.words.specs.View.{kind}
 use Rattle.core_code.specs.View.{array, site, local_array}
-use Rattle.facts.specs.View.{known_seen, three}
+use Rattle.facts.specs.View.{known_seen, three, buffer_bound}
 use Rattle.linear.specs.Forms.{form, forms}
 use Rattle.facts.specs.Symbols.{Fact}
-use Rattle.linear.specs.declared.form.Form.{Form}
 use Rattle.walk_trees.specs.Held as held
 use Rattle.walk_trees.specs.Shares as shares
 use Rattle.walk_trees.specs.Trees as trees
@@ -45,6 +44,7 @@ sort sorts.OfQuotient = trees.OfQuotient
 sort sorts.OfRanking = trees.OfRanking
 sort sorts.OfFact = trees.OfFact
 sort sorts.OfCongruence = trees.OfCongruence
+sort sorts.OfContent = trees.OfContent
 sort sorts.OfPair = trees.OfPair
 sort sorts.OfSame = trees.OfSame
 sort sorts.OfMeeting = trees.OfMeeting
@@ -108,10 +108,6 @@ abbrev pub maybe_shared : Option Shared → Option shares.Shared
 maybe_shared None = None
 maybe_shared (Some q) = Some (shared_seen q)
 
-abbrev pub maybe_form : Option Form → Option Fact
-maybe_form None = None
-maybe_form (Some f) = Some (form f)
-
 unfoldable pub followed : {E : Type 0} → Path E → Followed E
 followed p = record {
   found = record {
@@ -138,10 +134,12 @@ followed p = record {
 abbrev pub setting : {E : Type 0} → Ghosts E → Setting E → walks.Setting E
 setting g s = record {
   is_wide = s.is_wide;
+  joins = s.joins;
   domain = g;
   known = known_seen s.known;
   sizes = three s.sizes;
   buffers = map kind s.buffers.items;
   arrays = map local_array s.arrays.items;
+  contents = map buffer_bound s.contents.items;
   has_entry = λ n. slice_index_or s.entries.items n false;
 }

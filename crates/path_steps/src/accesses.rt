@@ -13,6 +13,7 @@ ghost use Rattle.path_steps.specs.Leads.{Steps, Leads};
 ghost use Rattle.path_steps.specs.Refusals.{StopsAtStep, Stops};
 ghost use Rattle.path_steps.specs.View.{followed, setting as seen, value as value_seen};
 
+use crate::contents::{keep_contents, know_contents};
 use crate::path::{Path, Sort, Target, Value};
 use crate::ranges::{claim_form, unknown};
 use crate::setting::Setting;
@@ -112,7 +113,20 @@ fn array_kind<D: Domain>(setting: &Setting<D>, array: Array) -> Kind
     }
 }
 
-/// A load: the access, then any number of the array's kind.
+/// Any number of an array's kind that the array may hold.
+fn element<D: Domain>(
+    setting: &Setting<D>,
+    path: &mut Path<D>,
+    array: Array,
+) -> Result<Value, WalkError>
+    ensures { MatchResult result (λ v. Leads (followed path.old) (followed path.new) (terms.element (seen D.Domain setting.now) (array_seen array)) (value_seen v)) (λ e. Stops (followed path.old) e (terms.element (seen D.Domain setting.now) (array_seen array))) }
+{
+    let value = unknown(setting, path, array_kind(setting, array))?;
+    know_contents(setting, path, array, &value.form)?;
+    Ok(value)
+}
+
+/// A load: the access, then any number that the array may hold.
 pub fn load<D: Domain>(
     setting: &Setting<D>,
     path: &mut Path<D>,
@@ -123,5 +137,21 @@ pub fn load<D: Domain>(
     ensures { MatchResult result (λ v. Leads (followed path.old) (followed path.new) (terms.load (seen D.Domain setting.now) (array_seen array) (site_seen site) (form_seen index)) (value_seen v)) (λ e. Stops (followed path.old) e (terms.load (seen D.Domain setting.now) (array_seen array) (site_seen site) (form_seen index))) }
 {
     access(setting, path, false, array, site, index)?;
-    unknown(setting, path, array_kind(setting, array))
+    element(setting, path, array)
+}
+
+/// A store of a value: it keeps what the array holds, then comes the access.
+pub fn stored<D: Domain>(
+    setting: &Setting<D>,
+    path: &mut Path<D>,
+    array: Array,
+    site: Site,
+    index: Value,
+    value: Value,
+) -> Result<(), WalkError>
+    ensures { MatchResult result (λ _. Steps (followed path.old) (followed path.new) (terms.stored (seen D.Domain setting.now) (array_seen array) (site_seen site) (value_seen index) (value_seen value))) (λ e. StopsAtStep (followed path.old) e (terms.stored (seen D.Domain setting.now) (array_seen array) (site_seen site) (value_seen index) (value_seen value))) }
+{
+    let kind = array_kind(setting, array);
+    keep_contents(setting, path, array, kind, site, value)?;
+    access(setting, path, true, array, site, index.form)
 }

@@ -8,6 +8,7 @@
 
 mod accesses;
 mod bounds;
+mod contents;
 mod dividends;
 mod dividing;
 mod divisors;
@@ -16,6 +17,7 @@ mod exact;
 mod halt;
 mod held;
 mod ids;
+mod joins;
 pub mod laws;
 mod narrowing;
 mod path;
@@ -27,7 +29,7 @@ mod steps;
 mod telling;
 mod tests;
 
-pub use accesses::{access, load};
+pub use accesses::{access, load, stored};
 pub use bounds::{bounds_of, is_natural, is_refuted, known_form};
 pub use dividends::{asks_dividend, claim_dividend, is_exact, is_positive};
 pub use dividing::{left_by, name_left, quotient, sized_quotient, times};
@@ -39,6 +41,7 @@ pub use exact::{
 pub use halt::Halt;
 pub use held::{element_at, element_from, settles};
 pub use ids::id_form;
+pub use joins::{Differences, joined_differences, pick_joined};
 pub use narrowing::narrow;
 pub use path::{
     Access, Arrived, Choice, Claim, Goal, Invented, Narrowed, Path, Ranked, Shared, Sort, Spot,

@@ -9,8 +9,9 @@ use linear::{Form, Symbol};
 use words::Kind;
 
 /// The sorts of obligations: an end of a kind's range, a place in an array, that a divisor is not 0, that a quotient is an `int`, that a
-/// loop's ranking is as it was said, that a fact or a congruence of a place holds where an item comes to it; of two items, that they do not
-/// meet in an element, that they have a variable alike at a barrier, or that they do not come to two stops.
+/// loop's ranking is as it was said, that a fact or a congruence of a place holds where an item comes to it, that a store keeps what its
+/// buffer holds; of two items, that they do not meet in an element, that they have a variable alike at a barrier, or that they do not come
+/// to two stops.
 #[derive(Clone, Copy)]
 pub enum Sort {
     OfRange(Kind),
@@ -20,6 +21,7 @@ pub enum Sort {
     OfRanking,
     OfFact,
     OfCongruence,
+    OfContent,
     OfPair,
     OfSame,
     OfMeeting,

@@ -15,7 +15,8 @@ ghost use Rattle.path_steps.specs.Paths.{collect};
 ghost use Rattle.path_steps.specs.Sharing.{found_or_made, made};
 ghost use Rattle.path_steps.specs.Leads.{Leads};
 ghost use Rattle.path_steps.specs.Refusals.{Refused, Stops};
-ghost use Rattle.path_steps.specs.View.{followed, maybe_form, maybe_shared, setting as seen, shared_seen};
+ghost use Rattle.facts.specs.View.{maybe_form};
+ghost use Rattle.path_steps.specs.View.{followed, maybe_shared, setting as seen, shared_seen};
 
 use crate::bounds::bounds_of;
 use crate::dividing::named_by;

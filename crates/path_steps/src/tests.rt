@@ -11,11 +11,12 @@ ghost use Rattle.walk_trees.specs.Walks as walks;
 ghost use Rattle.walk_trees.specs.Tests as tests;
 ghost use Rattle.path_steps.specs.Leads.{Steps, Leads};
 ghost use Rattle.path_steps.specs.Halts.{HaltsAtStep, Halts};
-ghost use Rattle.path_steps.specs.Sides.{side, split_sides};
+ghost use Rattle.path_steps.specs.Sides.{side, split_sides, one_below, one_way, apart};
 ghost use Rattle.path_steps.specs.View.{followed, setting as seen};
 
 use crate::bounds::is_refuted;
 use crate::halt::Halt;
+use crate::joins::{joined_differences, joined_negation, tell_apart};
 use crate::narrowing::narrow;
 use crate::path::Path;
 use crate::setting::Setting;
@@ -190,7 +191,49 @@ fn split_sides<D: Domain>(
     Ok(first)
 }
 
-/// The ways of equality: equal, below, above.
+/// One form is below another, or the other way round.
+fn split_below<D: Domain>(
+    setting: &Setting<D>,
+    path: &mut Path<D>,
+    left: &Form,
+    right: &Form,
+) -> Result<bool, Halt>
+    ensures { MatchResult result (λ b. Leads (followed path.old) (followed path.new) (one_below (seen D.Domain setting.now) (form_seen left.now) (form_seen right.now)) b) (λ h. Halts (followed path.old) (followed path.new) h (one_below (seen D.Domain setting.now) (form_seen left.now) (form_seen right.now))) }
+{
+    let first = path.choose()?;
+    know_apart(setting, path, Relation::Equal, first, left, right)?;
+    Ok(false)
+}
+
+/// Two forms differ, by their differences.
+fn one_way<D: Domain>(
+    setting: &Setting<D>,
+    path: &mut Path<D>,
+    more: &Form,
+    less: &Form,
+) -> Result<bool, Halt>
+    ensures { MatchResult result (λ b. Leads (followed path.old) (followed path.new) (one_way (seen D.Domain setting.now) (form_seen more.now) (form_seen less.now)) b) (λ h. Halts (followed path.old) (followed path.new) h (one_way (seen D.Domain setting.now) (form_seen more.now) (form_seen less.now))) }
+{
+    tell_apart(setting, path, more, less)?;
+    Ok(false)
+}
+
+/// Two forms differ: one is below the other, or, where these ways are joined, one way.
+fn split_apart<D: Domain>(
+    setting: &Setting<D>,
+    path: &mut Path<D>,
+    left: &Form,
+    right: &Form,
+) -> Result<bool, Halt>
+    ensures { MatchResult result (λ b. Leads (followed path.old) (followed path.new) (apart (seen D.Domain setting.now) (form_seen left.now) (form_seen right.now)) b) (λ h. Halts (followed path.old) (followed path.new) h (apart (seen D.Domain setting.now) (form_seen left.now) (form_seen right.now))) }
+{
+    match joined_differences(setting, path, true, left, right)? {
+        Some(differences) => one_way(setting, path, &differences.more, &differences.less),
+        None => split_below(setting, path, left, right),
+    }
+}
+
+/// The ways of equality: equal, then those on which the forms differ.
 fn split_equal<D: Domain>(
     setting: &Setting<D>,
     path: &mut Path<D>,
@@ -203,19 +246,17 @@ fn split_equal<D: Domain>(
         know_equal(setting, path, left, right)?;
         return Ok(true);
     }
-    let first = path.choose()?;
-    know_apart(setting, path, Relation::Equal, first, left, right)?;
-    Ok(false)
+    split_apart(setting, path, left, right)
 }
 
-/// The ways of inequality: below, above, equal.
-fn split_unequal<D: Domain>(
+/// The ways of inequality where none are joined: below, above, equal.
+fn split_order<D: Domain>(
     setting: &Setting<D>,
     path: &mut Path<D>,
     left: &Form,
     right: &Form,
 ) -> Result<bool, Halt>
-    ensures { MatchResult result (λ b. Leads (followed path.old) (followed path.new) (tests.split (seen D.Domain setting.now) setting.now.is_wide Unequal (form_seen left.now) (form_seen right.now)) b) (λ h. Halts (followed path.old) (followed path.new) h (tests.split (seen D.Domain setting.now) setting.now.is_wide Unequal (form_seen left.now) (form_seen right.now))) }
+    ensures { MatchResult result (λ b. Leads (followed path.old) (followed path.new) (tests.split_sign (seen D.Domain setting.now) (tests.below (form_seen left.now) (form_seen right.now)) (tests.below (form_seen right.now) (form_seen left.now)) (minus (form_seen left.now) (form_seen right.now)) (minus (form_seen right.now) (form_seen left.now))) b) (λ h. Halts (followed path.old) (followed path.new) h (tests.split_sign (seen D.Domain setting.now) (tests.below (form_seen left.now) (form_seen right.now)) (tests.below (form_seen right.now) (form_seen left.now)) (minus (form_seen left.now) (form_seen right.now)) (minus (form_seen right.now) (form_seen left.now)))) }
 {
     if path.choose()? {
         know_apart(setting, path, Relation::Unequal, true, left, right)?;
@@ -229,8 +270,25 @@ fn split_unequal<D: Domain>(
     Ok(false)
 }
 
+/// The ways of inequality: below, above, equal; or, where the first two are joined, unequal, equal.
+fn split_unequal<D: Domain>(
+    setting: &Setting<D>,
+    path: &mut Path<D>,
+    left: &Form,
+    right: &Form,
+) -> Result<bool, Halt>
+    ensures { MatchResult result (λ b. Leads (followed path.old) (followed path.new) (tests.split (seen D.Domain setting.now) setting.now.is_wide Unequal (form_seen left.now) (form_seen right.now)) b) (λ h. Halts (followed path.old) (followed path.new) h (tests.split (seen D.Domain setting.now) setting.now.is_wide Unequal (form_seen left.now) (form_seen right.now))) }
+{
+    match joined_differences(setting, path, true, left, right)? {
+        Some(differences) => {
+            split_from_zero(setting, path, &differences.more, &differences.less)
+        }
+        None => split_order(setting, path, left, right),
+    }
+}
+
 /// The ways of a comparison, in their order. The wide walk leaves out ways of `==` and `!=` that the elements refute, and others where it is
-/// asked to.
+/// asked to. Where ways are joined, one on which the operands of `==` or `!=` differ stands in the place of two.
 pub fn split<D: Domain>(
     setting: &Setting<D>,
     path: &mut Path<D>,
@@ -318,13 +376,43 @@ fn know_zero<D: Domain>(setting: &Setting<D>, path: &mut Path<D>, form: &Form) -
     know_negated(setting, path, form)
 }
 
-/// A number as a test: above 0, below 0, or 0. The wide walk leaves out ways that the elements refute.
-pub fn split_number<D: Domain>(
+/// Two facts of a test: a form and its negation are at least 0.
+fn know_both<D: Domain>(
+    setting: &Setting<D>,
+    path: &mut Path<D>,
+    form: &Form,
+    negation: &Form,
+) -> Result<(), Halt>
+    ensures { MatchResult result (λ _. Steps (followed path.old) (followed path.new) (walks.know_two (seen D.Domain setting.now) setting.now.is_wide (form_seen form.now) (form_seen negation.now))) (λ h. HaltsAtStep (followed path.old) (followed path.new) h (walks.know_two (seen D.Domain setting.now) setting.now.is_wide (form_seen form.now) (form_seen negation.now))) }
+{
+    know_form(setting, path, form)?;
+    know_form(setting, path, negation)
+}
+
+/// A form with its negation is not 0, or it is.
+fn split_from_zero<D: Domain>(
+    setting: &Setting<D>,
+    path: &mut Path<D>,
+    form: &Form,
+    negation: &Form,
+) -> Result<bool, Halt>
+    ensures { MatchResult result (λ b. Leads (followed path.old) (followed path.new) (tests.split_from_zero (seen D.Domain setting.now) (form_seen form.now) (form_seen negation.now)) b) (λ h. Halts (followed path.old) (followed path.new) h (tests.split_from_zero (seen D.Domain setting.now) (form_seen form.now) (form_seen negation.now))) }
+{
+    if path.choose()? {
+        tell_apart(setting, path, form, negation)?;
+        return Ok(true);
+    }
+    know_both(setting, path, form, negation)?;
+    Ok(false)
+}
+
+/// A number as a test, where no ways are joined: above 0, below 0, or 0.
+fn split_sign<D: Domain>(
     setting: &Setting<D>,
     path: &mut Path<D>,
     form: &Form,
 ) -> Result<bool, Halt>
-    ensures { MatchResult result (λ b. Leads (followed path.old) (followed path.new) (tests.split_number (seen D.Domain setting.now) (form_seen form.now)) b) (λ h. Halts (followed path.old) (followed path.new) h (tests.split_number (seen D.Domain setting.now) (form_seen form.now))) }
+    ensures { MatchResult result (λ b. Leads (followed path.old) (followed path.new) (tests.split_sign (seen D.Domain setting.now) (minus (form_seen form.now) (constant (pos 1))) (minus (constant (negsuc 0)) (form_seen form.now)) (form_seen form.now) (multiple (negsuc 0) (form_seen form.now))) b) (λ h. Halts (followed path.old) (followed path.new) h (tests.split_sign (seen D.Domain setting.now) (minus (form_seen form.now) (constant (pos 1))) (minus (constant (negsuc 0)) (form_seen form.now)) (form_seen form.now) (multiple (negsuc 0) (form_seen form.now)))) }
 {
     if path.choose()? {
         know_above(setting, path, form)?;
@@ -336,4 +424,19 @@ pub fn split_number<D: Domain>(
     }
     know_zero(setting, path, form)?;
     Ok(false)
+}
+
+/// A number as a test: above 0, below 0, or 0; or, where the first two are joined, not 0, or 0. The wide walk leaves out ways that the
+/// elements refute.
+pub fn split_number<D: Domain>(
+    setting: &Setting<D>,
+    path: &mut Path<D>,
+    form: &Form,
+) -> Result<bool, Halt>
+    ensures { MatchResult result (λ b. Leads (followed path.old) (followed path.new) (tests.split_number (seen D.Domain setting.now) (form_seen form.now)) b) (λ h. Halts (followed path.old) (followed path.new) h (tests.split_number (seen D.Domain setting.now) (form_seen form.now))) }
+{
+    match joined_negation(setting, path, form)? {
+        Some(negation) => split_from_zero(setting, path, form, &negation),
+        None => split_sign(setting, path, form),
+    }
 }

@@ -1,15 +1,17 @@
 -- Operators at their sites, and the smaller or larger of two values.
-use Rattle.std.proofs.Common.{◌≡◌, Bool, sym, ap, subst, ◌∙◌}
-use Rattle.std.specs.Prelude.{Result, IsErr, IsErrAnd}
+use Rattle.std.proofs.Common.{◌≡◌, Bool, true, false, cond, sym, ap, subst, ◌∙◌}
+use Rattle.std.specs.Prelude.{Result, Ok, Err, IsErr, IsErrAnd}
 use Rattle.semantics.specs.Core.{Site}
 use Rattle.semantics.specs.Word.{Kind, Operator, Less}
 use Rattle.facts.specs.declared.error.WalkError.{WalkError}
+use Rattle.facts.specs.Symbols.{Fact, minus}
 use Rattle.walk_trees.specs.Trees.{Tree}
 use Rattle.walk_trees.specs.Values.{Value}
 use Rattle.walk_trees.specs.Walks.{Setting, State, Onward, spot_at, at_site, both_brought}
 use Rattle.walk_trees.specs.Operators.{binary}
 use Rattle.walk_trees.specs.Tests.{split}
-use Rattle.walk_trees.specs.Terms.{chosen, pick}
+use Rattle.walk_trees.specs.Joined.{pick_joined}
+use Rattle.walk_trees.specs.Terms.{chosen, pick, pick_split, is_joined_pick}
 use Rattle.path_steps.specs.Paths.{Followed, collect, with_spot}
 use Rattle.path_steps.specs.Leads.{Leads, LeadsTwo}
 use Rattle.path_steps.specs.Refusals.{Stops, StopsTwo}
@@ -17,7 +19,7 @@ use Rattle.path_steps.specs.Halts.{Halts}
 use Rattle.path_steps.specs.declared.halt.Halt.{Halt}
 use Rattle.path_steps.specs.declared.halt.Halt.TheVariants as halts
 use Rattle.path_steps.proofs.Refusing.{refused_from}
-use Rattle.path_steps.proofs.Testing.{halted}
+use Rattle.path_steps.proofs.Testing.{ended_from, halted}
 use Rattle.path_walk.specs.Parts.{binary_at}
 use Rattle.path_walk.proofs.Then.{Says}
 
@@ -47,10 +49,26 @@ both_stop {E} s op k site x y l m n view r e d i h =
     let walk : State E → Onward E → Tree E = λ st go. both_brought s k x y st (λ v w st'. binary s op k v.form w.form st' go) in
     site_stops walk site l m n d view r e i (λ go. h (λ v w st. binary s op k v.form w.form st go))
 
--- the smaller or the larger of two values
+-- the smaller or the larger of two values, each on a way of its own
 module _ {E : Type 0} (s : Setting E) (x y second first : Value) (l m : Followed E) where
-  pub picks : (b c : Bool) → Leads l m (split s s.is_wide Less x.form y.form) b → b ≡ c → Leads l m (pick s x y second first) (chosen c second first)
+  pub picks : (b c : Bool) → Leads l m (split s s.is_wide Less x.form y.form) b → b ≡ c → Leads l m (pick_split s x y second first) (chosen c second first)
   picks b c a d go = a (λ h st. go (chosen h second first) st) ∙ ap (λ h. collect m.found (go (chosen h second first) m.state)) d
 
-  pub pick_halts : {T : Type 0} (view : T → Value) (r : Result T Halt) (h : Halt) → IsErr r × IsErrAnd r (λ e. e ≡ h) → Halts l m h (split s s.is_wide Less x.form y.form) → Says l m (pick s x y second first) view r
+  pub pick_halts : {T : Type 0} (view : T → Value) (r : Result T Halt) (h : Halt) → IsErr r × IsErrAnd r (λ e. e ≡ h) → Halts l m h (split s s.is_wide Less x.form y.form) → Says l m (pick_split s x y second first) view r
   pick_halts view r h i a = halted r h _ _ i (λ go. a (λ b st. go (chosen b second first) st))
+
+-- the differences of two values whose ways are joined
+abbrev pub ArePicked : {E : Type 0} → Setting E → (x y : Value) → State E → (more less : Fact) → Type 0
+ArePicked s x y st more less = (is_joined_pick s x y st ≡ true) × (more ≡ minus y.form x.form) × (less ≡ minus x.form y.form)
+
+-- joined, or not
+module _ {E : Type 0} (s : Setting E) (g : Bool) (x y second first : Value) (l m : Followed E) where
+  pub joined_picks : (v : Value) → is_joined_pick s x y l.state ≡ true → Leads l m (pick_joined s g x.kind x.form y.form) v → Leads l m (pick s g x y second first) v
+  joined_picks v d a go = ap (λ b. collect l.found (cond b (pick_joined s g x.kind x.form y.form l.state go) (pick_split s x y second first l.state go))) d ∙ a go
+
+  pub joined_pick_stops : {T : Type 0} (view : T → Value) (r : Result T Halt) (e : WalkError) → is_joined_pick s x y l.state ≡ true → IsErr r × IsErrAnd r (λ h. h ≡ halts.Refused e) → Stops l e (pick_joined s g x.kind x.form y.form) → Says l m (pick s g x y second first) view r
+  joined_pick_stops view r e d i a = halted r (halts.Refused e) _ _ i (λ go. refused_from e _ _ (ap (λ b. collect l.found (cond b (pick_joined s g x.kind x.form y.form l.state go) (pick_split s x y second first l.state go))) d) (a go))
+
+  pub parted_picks : {T : Type 0} (view : T → Value) (r : Result T Halt) → is_joined_pick s x y l.state ≡ false → Says l m (pick_split s x y second first) view r → Says l m (pick s g x y second first) view r
+  parted_picks view (Ok v) d a = λ go. ap (λ b. collect l.found (cond b (pick_joined s g x.kind x.form y.form l.state go) (pick_split s x y second first l.state go))) d ∙ a go
+  parted_picks view (Err h) d a = λ go. ended_from m.found h _ _ (ap (λ b. collect l.found (cond b (pick_joined s g x.kind x.form y.form l.state go) (pick_split s x y second first l.state go))) d) (a go)

@@ -6,7 +6,7 @@ use Rattle.facts.specs.declared.error.WalkError.{WalkError}
 use Rattle.walk_trees.specs.Trees.{Tree}
 use Rattle.walk_trees.specs.Values.{Value}
 use Rattle.walk_trees.specs.Walks.{State, Onward, stand}
-use Rattle.walk_trees.specs.Terms.{walk, access, chosen}
+use Rattle.walk_trees.specs.Terms.{walk, stored, chosen}
 use Rattle.walk_trees.specs.Tests.{Outcomes}
 use Rattle.walk_trees.specs.Statements.{spot_of}
 use Rattle.obligations.specs.Walking.{Placed, is_lawful, refused}
@@ -74,11 +74,11 @@ module _ {E : Type 0} (w : Placed E) (n : ℕ) (e : Term) (b : Bool) (l : Follow
 
 -- a store
 module _ {E : Type 0} (w : Placed E) (n : ℕ) (a : Array) (site : Site) (index e : Term) (l m o : Followed E) (f g : Value) (p : Leads l m (value_at w n index) f) (q : Leads m o (value_at w n e) g) where
-  valued : (go : State E → Tree E) → collect l.found (store_at w n a site index e l.state go) ≡ collect o.found (access w.setting true a site f.form o.state go)
-  valued go = p (λ j st. value_at w n e st (λ v st'. access w.setting true a site j.form st' go)) ∙ q (λ v st. access w.setting true a site f.form st go)
+  valued : (go : State E → Tree E) → collect l.found (store_at w n a site index e l.state go) ≡ collect o.found (stored w.setting a site f g o.state go)
+  valued go = p (λ j st. value_at w n e st (λ v st'. stored w.setting a site j v st' go)) ∙ q (λ v st. stored w.setting a site f v st go)
 
-  pub store_steps : (x : Followed E) → Steps o x (access w.setting true a site f.form) → Steps l x (store_at w n a site index e)
+  pub store_steps : (x : Followed E) → Steps o x (stored w.setting a site f g) → Steps l x (store_at w n a site index e)
   store_steps x s go = valued go ∙ s go
 
-  pub store_stops : (x : Followed E) (b : WalkError) (r : Result (Unit {0}) Halt) → IsErr r × IsErrAnd r (λ h. h ≡ halts.Refused b) → StopsAtStep o b (access w.setting true a site f.form) → Does l x (store_at w n a site index e) r
+  pub store_stops : (x : Followed E) (b : WalkError) (r : Result (Unit {0}) Halt) → IsErr r × IsErrAnd r (λ h. h ≡ halts.Refused b) → StopsAtStep o b (stored w.setting a site f g) → Does l x (store_at w n a site index e) r
   store_stops x b r i s = halted r (halts.Refused b) _ _ i (λ go. refused_from b _ _ (valued go) (s go))

@@ -5,7 +5,7 @@ use Rattle.walk_trees.specs.Trees.{Tree}
 use Rattle.walk_trees.specs.Values.{Value}
 use Rattle.walk_trees.specs.Walks.{State, Onward}
 use Rattle.walk_trees.specs.Tests.{Outcomes}
-use Rattle.walk_trees.specs.Terms.{access}
+use Rattle.walk_trees.specs.Terms.{stored}
 use Rattle.walk_trees.specs.Statements.{assigned}
 use Rattle.obligations.specs.Walking.{Placed, course}
 use Rattle.path_steps.specs.Paths.{Followed}
@@ -20,7 +20,7 @@ abbrev pub set_at : {E : Type 0} → Placed E → ℕ → ℕ → Term → State
 set_at w n x e st go = value_at w n e st (λ f st'. go (assigned x f st'))
 
 abbrev pub store_at : {E : Type 0} → Placed E → ℕ → Array → Site → (index value : Term) → State E → (State E → Tree E) → Tree E
-store_at w n a site i e st go = value_at w n i st (λ f st1. value_at w n e st1 (λ g st2. access w.setting true a site f.form st2 go))
+store_at w n a site i e st go = value_at w n i st (λ f st1. value_at w n e st1 (λ g st2. stored w.setting a site f g st2 go))
 
 -- a path on which a variable has another value
 abbrev pub with_assigned : {E : Type 0} → Followed E → ℕ → Value → Followed E

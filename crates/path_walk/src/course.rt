@@ -13,7 +13,7 @@ use crate::terms::{test_of, value_of};
 use arrival_claims::{Placing, refuse, stand_before};
 use core_code::tree::{Array, Site, Term};
 use domain::Domain;
-use path_steps::{Halt, Path, Value, access};
+use path_steps::{Halt, Path, Value, stored};
 
 /// A term's value at a statement.
 pub fn value_at<D: Domain>(
@@ -91,7 +91,7 @@ pub struct Store<'a> {
     pub value: &'a Term,
 }
 
-/// A store: the index, the value, then the access.
+/// A store: the index, the value, then what the array holds, and the access.
 pub fn walk_store<D: Domain>(
     placing: &Placing<'_, D>,
     path: &mut Path<D>,
@@ -101,14 +101,8 @@ pub fn walk_store<D: Domain>(
     ensures { MatchResult result (λ _. Steps (followed path.old) (followed path.new) (steps.store_at (placed D.Domain placing.now) statement (array_seen store.entry.array) (site_seen store.entry.site) (term_seen store.entry.index.now) (term_seen store.entry.value.now))) (λ h. HaltsAtStep (followed path.old) (followed path.new) h (steps.store_at (placed D.Domain placing.now) statement (array_seen store.entry.array) (site_seen store.entry.site) (term_seen store.entry.index.now) (term_seen store.entry.value.now))) }
 {
     let place = value_at(placing, path, statement, store.index)?;
-    value_at(placing, path, statement, store.value)?;
-    access(
-        placing.setting,
-        path,
-        true,
-        store.array,
-        store.site,
-        place.form,
-    )?;
+    let value = value_at(placing, path, statement, store.value)?;
+    let setting = placing.setting;
+    stored(setting, path, store.array, store.site, place, value)?;
     Ok(())
 }

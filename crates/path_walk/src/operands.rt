@@ -1,12 +1,14 @@
 //! What becomes of the values of operands.
 
-ghost use Rattle.std.specs.Prelude.{◌≡◌, pos, true, map, slice_index_or, MatchResult};
+ghost use Rattle.std.specs.Prelude.{◌≡◌, pos, true, false, map, slice_index_or, MatchOption, MatchResult};
+ghost use Rattle.linear.specs.Forms.{form as form_seen};
 ghost use Rattle.words.specs.View.{kind as kind_seen};
 ghost use Rattle.core_code.specs.View.{array as array_seen, function as function_seen, operator as operator_seen, relation as relation_seen, site as site_seen, unary_operator as unary_seen};
 ghost use Rattle.semantics.specs.Word.{Uint};
 ghost use Rattle.facts.specs.Refusals.{IsMemory};
-ghost use Rattle.facts.specs.Symbols.{constant};
+ghost use Rattle.facts.specs.Symbols.{constant, minus};
 ghost use Rattle.walk_trees.specs.Covered.{is_covered_unary};
+ghost use Rattle.walk_trees.specs.Joined as joined;
 ghost use Rattle.walk_trees.specs.Terms as terms;
 ghost use Rattle.walk_trees.specs.Values as values;
 ghost use Rattle.walk_trees.specs.Walks as walks;
@@ -21,7 +23,10 @@ use core_code::tree::{Array, Function, Operator, Relation, Site, UnaryOperator};
 use domain::Domain;
 use facts::WalkError;
 use linear::Form;
-use path_steps::{Halt, Path, Setting, Value, both_brought, brought, id_form, load, split};
+use path_steps::{
+    Differences, Halt, Path, Setting, Value, both_brought, brought, id_form, joined_differences,
+    load, pick_joined, split,
+};
 use std::alloc::Global;
 use words::Kind;
 
@@ -187,14 +192,55 @@ pub fn compare_values<D: Domain>(
     split(setting, path, false, relation, &first.form, &second.form)
 }
 
-/// The smaller of two values (OpenCL 1.2, 6.12.3): the right one where it is less, else the left one.
+/// Both values are of one kind.
+fn are_alike(left: Kind, right: Kind) -> bool
+    ensures { result ≡ joined.same_kind (kind_seen left) (kind_seen right) }
+{
+    match (left, right) {
+        (Kind::Int, Kind::Int) | (Kind::Uint, Kind::Uint) => true,
+        (Kind::Int, Kind::Uint) | (Kind::Uint, Kind::Int) => false,
+    }
+}
+
+/// The differences of two values, if the ways on which one is less and on which it is not are joined.
+fn picked_differences<D: Domain>(
+    setting: &Setting<D>,
+    path: &Path<D>,
+    left: &Value,
+    right: &Value,
+) -> Result<Option<Differences>, WalkError>
+    ensures { MatchResult result (λ r. MatchOption r (terms.is_joined_pick (seen D.Domain setting.now) (value_seen left.now) (value_seen right.now) (followed path.now).state ≡ false) (λ d. (terms.is_joined_pick (seen D.Domain setting.now) (value_seen left.now) (value_seen right.now) (followed path.now).state ≡ true) × (form_seen d.more ≡ minus (value_seen right.now).form (value_seen left.now).form) × (form_seen d.less ≡ minus (value_seen left.now).form (value_seen right.now).form))) IsMemory }
+{
+    if !are_alike(left.kind, right.kind) {
+        return Ok(None);
+    }
+    joined_differences(setting, path, false, &right.form, &left.form)
+}
+
+/// The smaller of two values (OpenCL 1.2, 6.12.3): the right one where it is less, else the left one. Where ways are joined, one value.
 pub fn smaller<D: Domain>(
     setting: &Setting<D>,
     path: &mut Path<D>,
     left: Value,
     right: Value,
 ) -> Result<Value, Halt>
-    ensures { MatchResult result (λ v. Leads (followed path.old) (followed path.new) (terms.pick (seen D.Domain setting.now) (value_seen right) (value_seen left) (value_seen right) (value_seen left)) (value_seen v)) (λ h. Halts (followed path.old) (followed path.new) h (terms.pick (seen D.Domain setting.now) (value_seen right) (value_seen left) (value_seen right) (value_seen left))) }
+    ensures { MatchResult result (λ v. Leads (followed path.old) (followed path.new) (terms.pick (seen D.Domain setting.now) false (value_seen right) (value_seen left) (value_seen right) (value_seen left)) (value_seen v)) (λ h. Halts (followed path.old) (followed path.new) h (terms.pick (seen D.Domain setting.now) false (value_seen right) (value_seen left) (value_seen right) (value_seen left))) }
+{
+    if let Some(apart) = picked_differences(setting, path, &right, &left)? {
+        let value = pick_joined(setting, path, false, &right, &left, &apart)?;
+        return Ok(value);
+    }
+    smaller_split(setting, path, left, right)
+}
+
+/// The smaller of two values, each on a way of its own.
+fn smaller_split<D: Domain>(
+    setting: &Setting<D>,
+    path: &mut Path<D>,
+    left: Value,
+    right: Value,
+) -> Result<Value, Halt>
+    ensures { MatchResult result (λ v. Leads (followed path.old) (followed path.new) (terms.pick_split (seen D.Domain setting.now) (value_seen right) (value_seen left) (value_seen right) (value_seen left)) (value_seen v)) (λ h. Halts (followed path.old) (followed path.new) h (terms.pick_split (seen D.Domain setting.now) (value_seen right) (value_seen left) (value_seen right) (value_seen left))) }
 {
     let is_wide = setting.is_wide;
     let is_less = split(
@@ -208,14 +254,31 @@ pub fn smaller<D: Domain>(
     if is_less { Ok(right) } else { Ok(left) }
 }
 
-/// The larger of two values (OpenCL 1.2, 6.12.3): the right one where the left one is less, else the left one.
+/// The larger of two values (OpenCL 1.2, 6.12.3): the right one where the left one is less, else the left one. Where ways are joined, one
+/// value.
 pub fn larger<D: Domain>(
     setting: &Setting<D>,
     path: &mut Path<D>,
     left: Value,
     right: Value,
 ) -> Result<Value, Halt>
-    ensures { MatchResult result (λ v. Leads (followed path.old) (followed path.new) (terms.pick (seen D.Domain setting.now) (value_seen left) (value_seen right) (value_seen right) (value_seen left)) (value_seen v)) (λ h. Halts (followed path.old) (followed path.new) h (terms.pick (seen D.Domain setting.now) (value_seen left) (value_seen right) (value_seen right) (value_seen left))) }
+    ensures { MatchResult result (λ v. Leads (followed path.old) (followed path.new) (terms.pick (seen D.Domain setting.now) true (value_seen left) (value_seen right) (value_seen right) (value_seen left)) (value_seen v)) (λ h. Halts (followed path.old) (followed path.new) h (terms.pick (seen D.Domain setting.now) true (value_seen left) (value_seen right) (value_seen right) (value_seen left))) }
+{
+    if let Some(apart) = picked_differences(setting, path, &left, &right)? {
+        let value = pick_joined(setting, path, true, &left, &right, &apart)?;
+        return Ok(value);
+    }
+    larger_split(setting, path, left, right)
+}
+
+/// The larger of two values, each on a way of its own.
+fn larger_split<D: Domain>(
+    setting: &Setting<D>,
+    path: &mut Path<D>,
+    left: Value,
+    right: Value,
+) -> Result<Value, Halt>
+    ensures { MatchResult result (λ v. Leads (followed path.old) (followed path.new) (terms.pick_split (seen D.Domain setting.now) (value_seen left) (value_seen right) (value_seen right) (value_seen left)) (value_seen v)) (λ h. Halts (followed path.old) (followed path.new) h (terms.pick_split (seen D.Domain setting.now) (value_seen left) (value_seen right) (value_seen right) (value_seen left))) }
 {
     let is_wide = setting.is_wide;
     let is_less = split(

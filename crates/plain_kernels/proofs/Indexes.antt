@@ -63,9 +63,9 @@ near_two x y h i = (omega (arith, ints, h, i), omega (arith, ints, h, i))
 near_three : (x y z : ℤ) → IsNear x → IsNear y → IsNear z → IsEnd (x +ℤ y +ℤ z)
 near_three x y z h i j = (omega (arith, ints, h, i, j), omega (arith, ints, h, i, j))
 
-module _ (k : Kernel) (c : Conditions) (w : Bool) (h : ℕ → Bool) (m n : ℕ) (em : k.sizes.x ≡ suc m) (en : c.groups.x.high ≡ pos (suc n)) (lm : m ≤ 1023) (ln : n ≤ 65535) where
+module _ (k : Kernel) (c : Conditions) (w j : Bool) (h : ℕ → Bool) (m n : ℕ) (em : k.sizes.x ≡ suc m) (en : c.groups.x.high ≡ pos (suc n)) (lm : m ≤ 1023) (ln : n ≤ 65535) where
   abbrev s : Setting Both
-  s = setting domain k c w h
+  s = setting domain k c w j h
 
   abbrev element_now : State Both → ℕ → Both
   element_now st i = element_number domain s.known st.held i

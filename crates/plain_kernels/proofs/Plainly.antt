@@ -58,7 +58,7 @@ asked (inr p) n (inl a) = (p.0 a, p.1)
 asked (inr p) n (inr b) = (b, p.1)
 
 pub plain-met : (k : Kernel) (c : Conditions) → IsPlain k c → unmet k.body ≡ None
-plain-met k c plain = body-met k.arguments k.sizes.x c.groups.x.high k.body plain
+plain-met k c plain = body-met k.arguments k.sizes.x c.groups.x.high k.body plain.0
 
 module _ (k : Kernel) (c : Conditions) (n : Notes) (limits : HasLimits k c) (plain : IsPlain k c) where
   abbrev h : ℕ → Bool
@@ -78,13 +78,13 @@ module _ (k : Kernel) (c : Conditions) (n : Notes) (limits : HasLimits k c) (pla
   lone = planted domain k c n 0 (own_place None)
 
   pub plain-trees : all_trees domain k c n ≡ lone ∷ []
-  plain-trees = ap (planted_from domain k c n 0) (one-place k.arguments k.sizes.x c.groups.x.high k.body plain)
+  plain-trees = ap (planted_from domain k c n 0) (one-place k.arguments k.sizes.x c.groups.x.high k.body plain.0)
 
   found-tame : IsTame h signed marks 0 found
   found-tame =
       let x = before k.sizes.x limits.size_x.0 in
       let g = before_z c.groups.x.high limits.groups_x.0 limits.groups_x.1 in
-      tree-tame k c n x.0 g.0 x.1 g.1 (omega (arith, x.1, limits.size_x.1)) g.2 signed plain (λ e. e)
+      tree-tame k c n x.0 g.0 x.1 g.1 (omega (arith, x.1, limits.size_x.1)) g.2 signed plain.1 plain.0 (λ e. e)
 
   pub plain-path : (leaves 0 found ≡ 1) × (has_fork found ≡ false)
   plain-path = tame-path h signed marks 0 found found-tame

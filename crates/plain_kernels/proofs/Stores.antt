@@ -55,9 +55,9 @@ variable-is k st x o l =
     let e : 0 + x ≡ x = omega arith in
     ap (λ vs. slice_index_or vs x no_value) o.1 ∙ argument-value 0 k.arguments (map zero_value k.variables) x l ∙ ap (λ j. value (slice_index_or k.arguments x Int) (once (ArgumentOf j))) e
 
-module _ (k : Kernel) (c : Conditions) (w : Bool) (h : ℕ → Bool) (m n : ℕ) (em : k.sizes.x ≡ suc m) (en : c.groups.x.high ≡ pos (suc n)) (lm : m ≤ 1023) (ln : n ≤ 65535) (signed : Type 0) where
+module _ (k : Kernel) (c : Conditions) (w j : Bool) (h : ℕ → Bool) (m n : ℕ) (em : k.sizes.x ≡ suc m) (en : c.groups.x.high ≡ pos (suc n)) (lm : m ≤ 1023) (ln : n ≤ 65535) (signed : Type 0) where
   abbrev s : Setting Both
-  s = setting domain k c w h
+  s = setting domain k c w j h
 
   abbrev Tame : List Bool → State Both → Tree Both → Type 0
   Tame rs st t = IsTame h signed rs st.claims t
@@ -76,8 +76,8 @@ module _ (k : Kernel) (c : Conditions) (w : Bool) (h : ℕ → Bool) (m n : ℕ)
     multiple-tame : (rs : List Bool) (st : State Both) (go : Onward Both) → IsPlainState k st → GoesOn rs (value Uint form) go → Tame (true ∷ true ∷ rs) st (ranged s Uint form st go)
     multiple-tame rs st go o t =
         range-tame s h signed rs form st go
-        (ap (settles s st) (low-multiple (suc m) (pos f) (pos z)) ∙ settles_up k c w h m n em en lm ln f z lf b st o)
-        (ap (settles s st) (minus-multiple (suc m) (pos 4294967295) (pos f) (pos z)) ∙ settles_down k c w h m n em en lm ln f z lf b st o)
+        (ap (settles s st) (low-multiple (suc m) (pos f) (pos z)) ∙ settles_up k c w j h m n em en lm ln f z lf b st o)
+        (ap (settles s st) (minus-multiple (suc m) (pos 4294967295) (pos f) (pos z)) ∙ settles_down k c w j h m n em en lm ln f z lf b st o)
         (less form (constant (pos 0)) most (omega (arith, small))) (less (constant (pos 4294967295)) form most (omega (arith, small))) (t (claimed_once (claimed_once st)) o)
 
   number-tame : (kd : Kind) (z : ℕ) → z ≤ 4294967295 → (rs : List Bool) (st : State Both) (go : Onward Both) → IsPlainState k st → GoesOn rs (value Uint (constant (pos z))) go → Tame (brings Uint kd rs) st (brought_from s Uint kd (constant (pos z)) st go)
@@ -108,8 +108,8 @@ module _ (k : Kernel) (c : Conditions) (w : Bool) (h : ℕ → Bool) (m n : ℕ)
   product-tame f lf b rs st go o t =
       let one = id_multiple (suc m) (pos 1) (pos 0) in
       subst (λ x. Tame (true ∷ true ∷ rs) st (operate s Multiply Uint (known_form s st x) (known_form s st (constant (pos f))) st go)) (sym (id-alone s m em))
-      (subst (λ x. Tame (true ∷ true ∷ rs) st (operate s Multiply Uint (known_form s st one) x st go)) (sym (number-known k c w h m n em en lm ln st f lf))
-      (product-known f lf b (known_form s st one) (id-known k c w h m n em en lm ln st o) rs st go o t))
+      (subst (λ x. Tame (true ∷ true ∷ rs) st (operate s Multiply Uint (known_form s st one) x st go)) (sym (number-known k c w j h m n em en lm ln st f lf))
+      (product-known f lf b (known_form s st one) (id-known k c w j h m n em en lm ln st o) rs st go o t))
 
   pub index-tame : (e : Term) (f z : ℕ) → IsPlainIndex e f z → f * m + f * suc m * n + z ≤ 4294967295 → (rs : List Bool) (st : State Both) (go : Onward Both) → IsPlainState k st → GoesOnWithin rs f z go → Tame (ranges k.arguments e rs) st ((walk s e).value st go)
   index-tame _ _ _ Alone b rs st go o t = subst (λ x. Tame rs st (go (value Uint x) st)) (sym (id-alone s m em)) (t 1 0 (omega arith) (omega arith) st o)

@@ -1,6 +1,6 @@
 -- Plain kernels: each statement is `a[get_global_id(0) * K + C] = V;` of a `uint` buffer, K and C numbers that may be left out, V a
 -- number or a value parameter, and the index is one that a `uint` has at each launch of at most so many groups.
-use Rattle.std.specs.Prelude.{◌≡◌, ℕ, ℤ, pos, ◌+ℤ◌, ◌-ℤ◌, ◌*ℤ◌, ◌≤ℤ◌, ◌<◌, ◌≤◌, List, length, Bool, true, false, ◌||◌, slice_index_or}
+use Rattle.std.specs.Prelude.{◌≡◌, ℕ, ℤ, pos, ◌+ℤ◌, ◌-ℤ◌, ◌*ℤ◌, ◌≤ℤ◌, ◌<◌, ◌≤◌, List, [], length, Bool, true, false, ◌||◌, slice_index_or}
 use Rattle.semantics.specs.Word.{Kind, Int, Uint, in_kind, Add, Multiply}
 use Rattle.semantics.specs.Core.{Site, Global, GlobalId, Term, Literal, Variable, Id, Binary, Convert, Statement, Store, Statements, none, one}
 use Rattle.semantics.specs.Launch.{Kernel}
@@ -34,8 +34,9 @@ abbrev pub ArePlain : (arguments : List Kind) (size : ℕ) (groups : ℤ) → St
 ArePlain ks size groups none = Unit {0}
 ArePlain ks size groups (one s others) = IsPlainStore ks size groups s × ArePlain ks size groups others
 
+-- and no line says what a buffer holds
 abbrev pub IsPlain : Kernel → Conditions → Type 0
-IsPlain k c = ArePlain k.arguments k.sizes.x c.groups.x.high k.body
+IsPlain k c = ArePlain k.arguments k.sizes.x c.groups.x.high k.body × (c.contents ≡ [])
 
 abbrev pub is_int : Kind → Bool
 is_int Int = true

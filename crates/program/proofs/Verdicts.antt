@@ -44,8 +44,8 @@ print_line k line (e, r, h) = (kernels.error_number e, place_seen (checks.at_pla
 migrate_line : (old line : List ℕ) → IsUnmigrated old line → IsRefusalLine line
 migrate_line old line (e, r, h) = (checks.error_number (errors.Certificate e), place_seen (checks.error_place (errors.Certificate e)), h)
 
-search_text : (workers : ℕ) (kernel conditions text : List ℕ) → IsUnproved workers kernel conditions text → IsRefusalText text
-search_text workers kernel conditions text (e, h) =
+search_text : (is_wide : Bool) (workers : ℕ) (kernel conditions text : List ℕ) → IsUnproved is_wide workers kernel conditions text → IsRefusalText text
+search_text is_wide workers kernel conditions text (e, h) =
     (refusal_line (searches.error_number e) (place_seen (searches.error_place e)), findings_text (map finding_seen (found e)), (searches.error_number e, place_seen (searches.error_place e), refl), h.lines)
 
 -- with nothing behind it
@@ -62,8 +62,8 @@ text_of : (r : Request) (t : Texts) (saved : Option Write) (text : List ℕ) →
 text_of CheckOwn t saved text h = alone text (check_line false _ _ _ text h)
 text_of (Check k c p wide) t saved text h = alone text (check_line wide t.kernel t.conditions t.certificate text h)
 text_of (Run k c p l workers wide) t saved text h = alone text (run_line wide workers t.kernel t.conditions t.certificate t.launch text h)
-text_of (Prove k c workers out wide) t saved text h = search_text workers t.kernel t.conditions text h.0
-text_of (Explain k c wide) t saved text h = begun (IsUnproved 1 t.kernel t.conditions) (search_text 1 t.kernel t.conditions) text h
+text_of (Prove k c workers out wide) t saved text h = search_text wide workers t.kernel t.conditions text h.0
+text_of (Explain k c wide) t saved text h = begun (IsUnproved wide 1 t.kernel t.conditions) (search_text wide 1 t.kernel t.conditions) text h
 text_of (ExplainCheck k c p wide) t saved text h =
     begun (IsRefusedText wide t.kernel t.conditions t.certificate) (λ line refusal. alone line (check_line wide t.kernel t.conditions t.certificate line refusal)) text h
 text_of (Print k) t saved text h = alone text (print_line t.kernel text h)
@@ -128,7 +128,7 @@ told_of : (k : Kernel) (m : Conditions) (written : List ℕ) (o : Option Launch)
 told_of k m written (Some l) h e = inl (l, h.0, h.1, e)
 told_of k m written None h e = inr e
 
-is_safe_text : (is_wide : Bool) (kernel conditions certificate written : List ℕ) → IsProvedText is_wide kernel conditions certificate written → IsSafeText kernel conditions written
+is_safe_text : (is_wide : Bool) (kernel conditions certificate written : List ℕ) → IsProvedText is_wide kernel conditions certificate written → IsSafeText is_wide kernel conditions written
 is_safe_text is_wide kernel conditions certificate written h = (h.0, conditions_seen h.1, h.2.safe, told_of h.0.core (conditions_seen h.1) written (probe h.1) h.2.least h.2.text)
 
 pub is_explained : (is_wide : Bool) (kernel conditions : List ℕ) (v : Verdict) → Explains is_wide v kernel conditions → Explained is_wide v kernel conditions

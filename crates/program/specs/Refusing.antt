@@ -12,8 +12,8 @@ abbrev pub Refuses : Request → Texts → Option Write → (line : List ℕ) �
 Refuses CheckOwn t saved line = IsRefusedText false first_kernel first_conditions first_certificate line
 Refuses (Check k c p wide) t saved line = IsRefusedText wide t.kernel t.conditions t.certificate line
 Refuses (Run k c p l workers wide) t saved line = IsUnanswered wide workers t.kernel t.conditions t.certificate t.launch line
-Refuses (Prove k c workers out wide) t saved line = IsUnproved workers t.kernel t.conditions line × (saved ≡ None)
-Refuses (Explain k c wide) t saved line = Begins (IsUnproved 1 t.kernel t.conditions) line
+Refuses (Prove k c workers out wide) t saved line = IsUnproved wide workers t.kernel t.conditions line × (saved ≡ None)
+Refuses (Explain k c wide) t saved line = Begins (IsUnproved wide 1 t.kernel t.conditions) line
 Refuses (ExplainCheck k c p wide) t saved line = Begins (IsRefusedText wide t.kernel t.conditions t.certificate) line
 Refuses (Print k) t saved line = IsRefusedKernel t.kernel line
 Refuses (Migrate o n) t saved line = IsUnmigrated t.certificate line × (saved ≡ None)

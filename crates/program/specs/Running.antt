@@ -132,18 +132,19 @@ pub record Answered (given : List Read → Option Write → Type 0) (ws : List (
   pub is_told : told request texts saved
 
 -- the headline holds at each launch that meets the conditions: `accepted` where some launch of the kernel does, or else a line more
-abbrev pub IsSafeText : (kernel conditions written : List ℕ) → Type 0
-IsSafeText kernel conditions written =
-    (k : Kernel) × (c : Conditions) × AreSafeTexts kernel conditions k c × (((l : Launch) × Fits k.core l × Meets c l × (written ≡ accepted_line)) ⊎ (written ≡ accepted_line ++ no_launch_line))
+abbrev pub IsSafeText : (is_wide : Bool) → (kernel conditions written : List ℕ) → Type 0
+IsSafeText is_wide kernel conditions written =
+    (k : Kernel) × (c : Conditions) × AreSafeTexts is_wide kernel conditions k c × (((l : Launch) × Fits k.core l × Meets c l × (written ≡ accepted_line)) ⊎ (written ≡ accepted_line ++ no_launch_line))
 
--- and what was found, a certificate, was written to the file behind `--out`, where there is one; `proof` says of it that it is one
-abbrev pub IsFound : (proof : (kernel conditions certificate written : List ℕ) → Type 0) (out : Option (List ℕ)) (kernel conditions written : List ℕ) → Option Write → Type 0
-IsFound proof out kernel conditions written saved =
-    IsSafeText kernel conditions written × ((certificate : List ℕ) × proof kernel conditions certificate written × (saved ≡ saving out certificate))
+-- and what was found, a certificate, was written to the file behind `--out`, where there is one; `proof` says of it that it is one, of a wide
+-- search or of one that is not
+abbrev pub IsFound : (proof : (is_wide : Bool) (kernel conditions certificate written : List ℕ) → Type 0) (is_wide : Bool) (out : Option (List ℕ)) (kernel conditions written : List ℕ) → Option Write → Type 0
+IsFound proof is_wide out kernel conditions written saved =
+    IsSafeText is_wide kernel conditions written × ((certificate : List ℕ) × proof is_wide kernel conditions certificate written × (saved ≡ saving out certificate))
 
 -- the same where no file is written
-abbrev pub IsSought : (proof : (kernel conditions certificate written : List ℕ) → Type 0) (kernel conditions written : List ℕ) → Type 0
-IsSought proof kernel conditions written = IsSafeText kernel conditions written × ((certificate : List ℕ) × proof kernel conditions certificate written)
+abbrev pub IsSought : (proof : (is_wide : Bool) (kernel conditions certificate written : List ℕ) → Type 0) (is_wide : Bool) (kernel conditions written : List ℕ) → Type 0
+IsSought proof is_wide kernel conditions written = IsSafeText is_wide kernel conditions written × ((certificate : List ℕ) × proof is_wide kernel conditions certificate written)
 
 -- the certificate of version 1 that was read was written in version 2 to the file of this name
 abbrev pub IsMoved : (name old written : List ℕ) → Option Write → Type 0
@@ -151,12 +152,12 @@ IsMoved name old written saved = (new : List ℕ) × IsMigrated old new written 
 
 -- what fulfils a request: `accepted`, the buffers of a launch, a canonical text, or `migrated`
 abbrev pub Fulfils : (proof : (is_wide : Bool) (kernel conditions certificate written : List ℕ) → Type 0) → Request → Texts → Option Write → (written : List ℕ) → Type 0
-Fulfils proof CheckOwn t saved written = IsAcceptedText first_kernel first_conditions written
-Fulfils proof (Check k c p wide) t saved written = IsAcceptedText t.kernel t.conditions written
-Fulfils proof (Run k c p l workers wide) t saved written = IsResultText t.kernel t.conditions t.launch written
-Fulfils proof (Prove k c workers out wide) t saved written = IsFound (proof wide) out t.kernel t.conditions written saved
-Fulfils proof (Explain k c wide) t saved written = IsSought (proof wide) t.kernel t.conditions written
-Fulfils proof (ExplainCheck k c p wide) t saved written = IsAcceptedText t.kernel t.conditions written
+Fulfils proof CheckOwn t saved written = IsAcceptedText false first_kernel first_conditions written
+Fulfils proof (Check k c p wide) t saved written = IsAcceptedText wide t.kernel t.conditions written
+Fulfils proof (Run k c p l workers wide) t saved written = IsResultText wide t.kernel t.conditions t.launch written
+Fulfils proof (Prove k c workers out wide) t saved written = IsFound proof wide out t.kernel t.conditions written saved
+Fulfils proof (Explain k c wide) t saved written = IsSought proof wide t.kernel t.conditions written
+Fulfils proof (ExplainCheck k c p wide) t saved written = IsAcceptedText wide t.kernel t.conditions written
 Fulfils proof (Print k) t saved written = IsPrintedText t.kernel written
 Fulfils proof (Migrate o n) t saved written = IsMoved n t.certificate written saved
 

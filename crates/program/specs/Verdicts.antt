@@ -13,20 +13,20 @@ use Rattle.program.specs.Running.{Read, Write, Request, CheckOwn, Check, Run, Pr
 
 -- of a search: what was found is in the file that the words name, if they name one; a refusal writes none
 abbrev pub Finds : (out : Option (List ℕ)) → Verdict → (is_wide : Bool) → (workers : ℕ) → (kernel conditions : List ℕ) → Option Write → Type 0
-Finds out (verdicts.Done text) is_wide workers kernel conditions saved = IsFound (IsProvedText is_wide) out kernel conditions text.items saved
-Finds out (verdicts.Refused line) is_wide workers kernel conditions saved = IsUnproved workers kernel conditions (string_bytes line) × (saved ≡ None)
+Finds out (verdicts.Done text) is_wide workers kernel conditions saved = IsFound IsProvedText is_wide out kernel conditions text.items saved
+Finds out (verdicts.Refused line) is_wide workers kernel conditions saved = IsUnproved is_wide workers kernel conditions (string_bytes line) × (saved ≡ None)
 Finds out verdicts.OutOfMemory is_wide workers kernel conditions saved = Unit {0}
 
 -- of a search whose refusal is explained
 abbrev pub Explained : (is_wide : Bool) → Verdict → (kernel conditions : List ℕ) → Type 0
-Explained is_wide (verdicts.Done text) kernel conditions = IsSought (IsProvedText is_wide) kernel conditions text.items
-Explained is_wide (verdicts.Refused text) kernel conditions = Begins (IsUnproved 1 kernel conditions) (string_bytes text)
+Explained is_wide (verdicts.Done text) kernel conditions = IsSought IsProvedText is_wide kernel conditions text.items
+Explained is_wide (verdicts.Refused text) kernel conditions = Begins (IsUnproved is_wide 1 kernel conditions) (string_bytes text)
 Explained is_wide verdicts.OutOfMemory kernel conditions = Unit {0}
 
 -- of a search, where what is found is put into a file of this name
 abbrev pub Kept : {F : Type 0} → (contents : F → List ℕ → Option (List ℕ)) → (before after : F) → (out : Option (List ℕ)) → (is_wide : Bool) → (workers : ℕ) → (kernel conditions : List ℕ) → Verdict → Type 0
 Kept contents before after out is_wide workers kernel conditions (verdicts.Done text) = (certificate : List ℕ) × IsProvedText is_wide kernel conditions certificate text.items × Saves contents before after (saving out certificate)
-Kept contents before after out is_wide workers kernel conditions (verdicts.Refused line) = IsUnproved workers kernel conditions (string_bytes line) × (after ≡ before)
+Kept contents before after out is_wide workers kernel conditions (verdicts.Refused line) = IsUnproved is_wide workers kernel conditions (string_bytes line) × (after ≡ before)
 Kept contents before after out is_wide workers kernel conditions verdicts.OutOfMemory = after ≡ before
 
 -- of a certificate of version 1: that of version 2 is in the file of this name; a refusal writes none

@@ -1,5 +1,5 @@
 -- What the findings of a search tell of a kernel under conditions.
-use Rattle.std.specs.Prelude.{ℕ, List, IfSome}
+use Rattle.std.specs.Prelude.{ℕ, List, Bool, IfSome}
 use Rattle.std.specs.List.{All}
 use Rattle.semantics.specs.Launch.{Launch, Fits}
 use Rattle.semantics.specs.Conditions.{Conditions, Meets}
@@ -26,14 +26,15 @@ pub record IsWitness (k : Kernel) (c : Conditions) (f : Finding) (l : Launch) : 
 abbrev pub IsTrue : Kernel → Conditions → Finding → Type 0
 IsTrue k c f = IfSome f.schedule (λ events. (l : Launch) × IsWitness k c f l)
 
--- of the kernel and the conditions that the bytes say, by the grammar and case by case
-abbrev pub IsTrueOf : (kernel conditions : List ℕ) → Finding → Type 0
-IsTrueOf kernel conditions f =
-    IfSome f.schedule (λ events. (k : Kernel) × (c : Conditions) × IsTextOf kernel k × IsConditionsText k.tree.parameters conditions c × ((l : Launch) × IsWitness k c f l))
+-- of the kernel and the conditions that the bytes say, by the grammar and case by case; the conditions are of version 2 only where the search is
+-- the wide one
+abbrev pub IsTrueOf : (is_wide : Bool) → (kernel conditions : List ℕ) → Finding → Type 0
+IsTrueOf is_wide kernel conditions f =
+    IfSome f.schedule (λ events. (k : Kernel) × (c : Conditions) × IsTextOf kernel k × IsConditionsText is_wide k.tree.parameters conditions c × ((l : Launch) × IsWitness k c f l))
 
 -- as code has them
 abbrev pub AreTrue : trees.Kernel × Core → code.Conditions → List findings.Finding → Type 0
 AreTrue t c fs = All (λ f. IsTrue (kernel_seen t) (conditions_seen c) (finding_seen f)) fs
 
-abbrev pub AreTrueOf : (kernel conditions : List ℕ) → List findings.Finding → Type 0
-AreTrueOf kernel conditions fs = All (λ f. IsTrueOf kernel conditions (finding_seen f)) fs
+abbrev pub AreTrueOf : (is_wide : Bool) → (kernel conditions : List ℕ) → List findings.Finding → Type 0
+AreTrueOf is_wide kernel conditions fs = All (λ f. IsTrueOf is_wide kernel conditions (finding_seen f)) fs

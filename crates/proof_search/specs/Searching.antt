@@ -6,16 +6,17 @@ use Rattle.core_code.specs.declared.tree.Core.{Core}
 use Rattle.launch.specs.declared.conditions.Conditions as code
 use Rattle.certificate_text.specs.Certificate.{Certificate}
 use Rattle.certificate_text.specs.NumberedText.{text_of_two, text_of_four}
-use Rattle.cert_check.specs.Refusing.{AreRead, AreMet, Refuses}
+use Rattle.cert_check.specs.Refusing.{AreRead, AreMet, RefusesBy}
 use Rattle.cert_check.specs.declared.error.CheckError.{CheckError}
 use Rattle.cert_check.specs.declared.error.CheckError.TheVariants as checks
 use Rattle.proof_search.specs.Findings.{AreTrue, AreTrueOf}
 use Rattle.proof_search.specs.declared.error.VerifyError.{VerifyError}
 use Rattle.proof_search.specs.declared.error.VerifyError.TheVariants as errors
 
--- the kernel and the conditions are read, and each loop with a barrier meets one on each way through: what stands before a search
-abbrev pub AreSearched : (kernel conditions : List ℕ) → Type 0
-AreSearched kernel conditions = (typed : trees.Kernel × Core) × (found : Lined) × AreRead typed found kernel conditions × AreMet typed
+-- the kernel and the conditions are read, and each loop with a barrier meets one on each way through: what stands before a search;
+-- conditions of version 2 are read where the search is the wide one
+abbrev pub AreSearched : (is_wide : Bool) → (kernel conditions : List ℕ) → Type 0
+AreSearched is_wide kernel conditions = (typed : trees.Kernel × Core) × (found : Lined) × AreRead is_wide typed found kernel conditions × AreMet typed
 
 -- 1 to 64
 abbrev pub IsCount : (workers : ℕ) → Type 0
@@ -26,21 +27,21 @@ IsNoCount workers = (workers ≡ 0) ⊎ (64 < workers)
 
 -- of the two texts, and of a loop that misses its barrier, what the check tells of them, which looks at no certificate there; the others
 -- come behind these, and nothing is promised of what the search did not show
-abbrev pub RefusesTexts : CheckError → (workers : ℕ) → (kernel conditions : List ℕ) → Type 0
-RefusesTexts (checks.Kernel e) workers kernel conditions = Refuses (checks.Kernel e) kernel conditions []
-RefusesTexts (checks.Conditions e) workers kernel conditions = Refuses (checks.Conditions e) kernel conditions []
-RefusesTexts (checks.Missed site) workers kernel conditions = Refuses (checks.Missed site) kernel conditions []
-RefusesTexts (checks.Certificate e) workers kernel conditions = IsCount workers × AreSearched kernel conditions
-RefusesTexts (checks.ManyPaths site) workers kernel conditions = IsCount workers × AreSearched kernel conditions
-RefusesTexts (checks.Show e) workers kernel conditions = IsCount workers × AreSearched kernel conditions
+abbrev pub RefusesTexts : (is_wide : Bool) → CheckError → (workers : ℕ) → (kernel conditions : List ℕ) → Type 0
+RefusesTexts is_wide (checks.Kernel e) workers kernel conditions = RefusesBy is_wide (checks.Kernel e) kernel conditions []
+RefusesTexts is_wide (checks.Conditions e) workers kernel conditions = RefusesBy is_wide (checks.Conditions e) kernel conditions []
+RefusesTexts is_wide (checks.Missed site) workers kernel conditions = RefusesBy is_wide (checks.Missed site) kernel conditions []
+RefusesTexts is_wide (checks.Certificate e) workers kernel conditions = IsCount workers × AreSearched is_wide kernel conditions
+RefusesTexts is_wide (checks.ManyPaths site) workers kernel conditions = IsCount workers × AreSearched is_wide kernel conditions
+RefusesTexts is_wide (checks.Show e) workers kernel conditions = IsCount workers × AreSearched is_wide kernel conditions
 
 -- what findings confirm is true of the texts, and 70 is told of workers outside 1 to 64 alone, behind the refusals of the texts
-abbrev pub TellsOf : VerifyError → (workers : ℕ) → (kernel conditions : List ℕ) → Type 0
-TellsOf (errors.Check e) workers kernel conditions = RefusesTexts e workers kernel conditions
-TellsOf errors.Workers workers kernel conditions = IsNoCount workers × AreSearched kernel conditions
-TellsOf (errors.NotShown findings) workers kernel conditions = IsCount workers × AreSearched kernel conditions × AreTrueOf kernel conditions findings.items
-TellsOf errors.TooLong workers kernel conditions = IsCount workers × AreSearched kernel conditions
-TellsOf errors.Memory workers kernel conditions = Unit {0}
+abbrev pub TellsOf : (is_wide : Bool) → VerifyError → (workers : ℕ) → (kernel conditions : List ℕ) → Type 0
+TellsOf is_wide (errors.Check e) workers kernel conditions = RefusesTexts is_wide e workers kernel conditions
+TellsOf is_wide errors.Workers workers kernel conditions = IsNoCount workers × AreSearched is_wide kernel conditions
+TellsOf is_wide (errors.NotShown findings) workers kernel conditions = IsCount workers × AreSearched is_wide kernel conditions × AreTrueOf is_wide kernel conditions findings.items
+TellsOf is_wide errors.TooLong workers kernel conditions = IsCount workers × AreSearched is_wide kernel conditions
+TellsOf is_wide errors.Memory workers kernel conditions = Unit {0}
 
 -- where the search of a kernel under conditions ends with nothing: it tells of no text
 abbrev pub Ends : trees.Kernel × Core → code.Conditions → VerifyError → Type 0

@@ -1,6 +1,6 @@
 //! The certificate that is looked for, with its text.
 
-ghost use Rattle.std.specs.Prelude.{◌≡◌, ℕ, List, true, IfOk, IfErr, IfSome, MatchResult};
+ghost use Rattle.std.specs.Prelude.{◌≡◌, ℕ, List, Bool, true, false, IfOk, IfErr, IfSome, MatchResult};
 ghost use Rattle.core_code.specs.View.{kernel as core_seen};
 ghost use Rattle.core_code.specs.declared.tree.Core.{Core};
 ghost use Rattle.syntax.specs.declared.tree.Kernel as trees;
@@ -27,7 +27,7 @@ use facts::WalkError;
 use guess_walk::Subject;
 use launch::conditions::Conditions;
 use launch_text::laws::what_is_read_of_conditions_is_their_text;
-use launch_text::read_conditions;
+use launch_text::read_conditions_as;
 use places::{Place, PlaceError, places};
 use reading::laws::{bytes_are_the_text_of_what_is_read, local_sizes_are_within_limits};
 use reading::read_kernel;
@@ -91,7 +91,7 @@ fn unfound(alloc: Global, typed: &Typed, conditions: &Conditions, error: SearchE
 /// The refusal by 55: a loop with a barrier can miss it; or want of memory.
 fn unplaced(typed: &Typed, error: PlaceError) -> VerifyError
     requires { IsRefused (core_seen typed.now.1).body error }
-    ensures { (found : Lined) (workers : ℕ) (kernel conditions : List ℕ) → AreRead typed.now found kernel conditions → TellsOf result workers kernel conditions }
+    ensures { (is_wide : Bool) (found : Lined) (workers : ℕ) (kernel conditions : List ℕ) → AreRead is_wide typed.now found kernel conditions → TellsOf is_wide result workers kernel conditions }
 {
     match error {
         PlaceError::Missed(number) => {
@@ -218,6 +218,7 @@ fn found_widely<R: Threads + Sync>(
         conditions: subject.conditions,
         places: subject.places,
         is_wide: true,
+        joins: false,
     };
     let Ok(certificate) = search(rt, alloc, wide, workers) else {
         return None;
@@ -262,10 +263,11 @@ fn found_by_either<R: Threads + Sync>(
     }
 }
 
-/// How a search is made: by so many workers, and whether the wide walk may be tried.
+/// How a search is made: by so many workers, whether conditions of version 2 are read, and whether the wide walk may be tried.
 #[derive(Clone, Copy)]
 struct Effort {
     workers: u32,
+    is_wide: bool,
     may_widen: bool,
 }
 
@@ -281,7 +283,7 @@ fn searched<R: Threads + Sync>(
     requires sizes { are_sizes (core_seen typed.now.1).sizes ≡ true }
     requires proper { is_proper (core_seen typed.now.1) ≡ true }
     requires of { IsOf (core_seen typed.now.1) (lined conditions.now) }
-    ensures written { IfOk result (λ f. f.text.items ≡ text_by effort.may_widen (certificate_seen f.certificate)) }
+    ensures written { IfOk result (λ f. f.text.items ≡ text_by effort.is_wide (certificate_seen f.certificate)) }
     ensures ends { IfErr result (Ends typed.now conditions.now) }
 {
     let subject = Subject {
@@ -289,9 +291,14 @@ fn searched<R: Threads + Sync>(
         conditions,
         places,
         is_wide: false,
+        joins: false,
     };
-    if effort.may_widen {
-        found_by_either(rt, alloc, subject, effort.workers)
+    if effort.is_wide {
+        if effort.may_widen {
+            found_by_either(rt, alloc, subject, effort.workers)
+        } else {
+            found_by_walk(rt, alloc, subject, effort.workers)
+        }
     } else {
         found_narrowly(rt, alloc, subject, effort.workers)
     }
@@ -305,9 +312,9 @@ fn find_by<R: Threads + Sync>(
     conditions: &[u8],
     effort: Effort,
 ) -> Result<Found, VerifyError>
-    ensures written { IfOk result (λ f. f.text.items ≡ text_by effort.may_widen (certificate_seen f.certificate)) }
+    ensures written { IfOk result (λ f. f.text.items ≡ text_by effort.is_wide (certificate_seen f.certificate)) }
     ensures workers { IfOk result (λ _. IsCount effort.workers) }
-    ensures told { IfErr result (λ e. TellsOf e effort.workers kernel.now conditions.now) }
+    ensures told { IfErr result (λ e. TellsOf effort.is_wide e effort.workers kernel.now conditions.now) }
 {
     bytes_are_the_text_of_what_is_read();
     what_is_read_of_conditions_is_their_text();
@@ -316,7 +323,7 @@ fn find_by<R: Threads + Sync>(
         Ok(typed) => typed,
         Err(error) => return Err(VerifyError::Check(CheckError::Kernel(error))),
     };
-    let conditions = match read_conditions(alloc, &typed, conditions) {
+    let conditions = match read_conditions_as(alloc, &typed, conditions, effort.is_wide) {
         Ok(conditions) => conditions,
         Err(error) => return Err(VerifyError::Check(CheckError::Conditions(error))),
     };
@@ -333,7 +340,8 @@ fn find_by<R: Threads + Sync>(
 }
 
 /// A certificate with its text for a kernel and launch conditions, each by its text. What is refused first, in this order: the kernel, the
-/// conditions, a loop whose barrier an iteration can miss, the number of workers; and then what the search finds.
+/// conditions, a loop whose barrier an iteration can miss, the number of workers; and then what the search finds. Conditions are of
+/// version 1.
 pub fn find<R: Threads + Sync>(
     rt: &R,
     alloc: Global,
@@ -343,17 +351,38 @@ pub fn find<R: Threads + Sync>(
 ) -> Result<Found, VerifyError>
     ensures written { IfOk result (λ f. f.text.items ≡ text_of_two (certificate_seen f.certificate)) }
     ensures workers { IfOk result (λ _. IsCount workers) }
-    ensures told { IfErr result (λ e. TellsOf e workers kernel.now conditions.now) }
+    ensures told { IfErr result (λ e. TellsOf false e workers kernel.now conditions.now) }
 {
     let effort = Effort {
         workers,
+        is_wide: false,
         may_widen: false,
     };
     find_by(rt, alloc, kernel, conditions, effort)
 }
 
-/// What `find` finds; or, where that is refused for want of what is shown, for its size or by the budget, a certificate of the wide walk,
-/// with its text, which is of version 4. Where both fail, the answer of `find`.
+/// What `find` finds, also under conditions of version 2: the narrow walk, run to its end.
+pub fn find_narrowly<R: Threads + Sync>(
+    rt: &R,
+    alloc: Global,
+    kernel: &[u8],
+    conditions: &[u8],
+    workers: u32,
+) -> Result<Found, VerifyError>
+    ensures written { IfOk result (λ f. f.text.items ≡ text_found (certificate_seen f.certificate)) }
+    ensures workers { IfOk result (λ _. IsCount workers) }
+    ensures told { IfErr result (λ e. TellsOf true e workers kernel.now conditions.now) }
+{
+    let effort = Effort {
+        workers,
+        is_wide: true,
+        may_widen: false,
+    };
+    find_by(rt, alloc, kernel, conditions, effort)
+}
+
+/// What `find_narrowly` finds; or, where that is refused for want of what is shown, for its size or by the budget, a certificate of the wide
+/// walk, with its text, which is of version 4. Where both fail, the answer of `find_narrowly`.
 pub fn find_wide<R: Threads + Sync>(
     rt: &R,
     alloc: Global,
@@ -363,10 +392,11 @@ pub fn find_wide<R: Threads + Sync>(
 ) -> Result<Found, VerifyError>
     ensures written { IfOk result (λ f. f.text.items ≡ text_found (certificate_seen f.certificate)) }
     ensures workers { IfOk result (λ _. IsCount workers) }
-    ensures told { IfErr result (λ e. TellsOf e workers kernel.now conditions.now) }
+    ensures told { IfErr result (λ e. TellsOf true e workers kernel.now conditions.now) }
 {
     let effort = Effort {
         workers,
+        is_wide: true,
         may_widen: true,
     };
     find_by(rt, alloc, kernel, conditions, effort)

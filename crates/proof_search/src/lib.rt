@@ -11,4 +11,4 @@ mod shortfall;
 mod widening;
 
 pub use error::VerifyError;
-pub use finding::{Found, find, find_wide};
+pub use finding::{Found, find, find_narrowly, find_wide};

@@ -37,6 +37,7 @@ fn kind_of(sort: Sort) -> Option<diagnostics::FindingKind> {
         Sort::OfIndex => Some(diagnostics::FindingKind::Fault(Fault::OutOfBounds)),
         Sort::OfDivisor => Some(diagnostics::FindingKind::Fault(Fault::DivisionByZero)),
         Sort::OfRanking => Some(diagnostics::FindingKind::Bound),
+        Sort::OfContent => Some(diagnostics::FindingKind::Values),
         Sort::OfPair => Some(diagnostics::FindingKind::Race),
         Sort::OfSame | Sort::OfMeeting => Some(diagnostics::FindingKind::Divergence),
         Sort::OfRange(Kind::Uint) | Sort::OfFact | Sort::OfCongruence => None,

@@ -5,12 +5,13 @@ use Rattle.semantics.specs.Setup.{Setup, item_count}
 use Rattle.semantics.specs.Item.{Entry, Status, Running, Waiting, Ended, Stopped, enter, status_of}
 use Rattle.semantics.specs.Word.{Word}
 use Rattle.semantics.specs.Solo.{after, passed}
+use Rattle.semantics.specs.Contents.{IsHonest}
 use Rattle.arrivals.specs.Paths.{Held}
 use Rattle.arrivals.specs.Shown.{Notes, Shown, IsSound}
 use Rattle.arrivals.proofs.Controlled.{has_turned, Separate}
 use Rattle.arrivals.proofs.Ranked.{AtTest, Entering, Ran, AreRan}
 use Rattle.arrivals.proofs.Placing.{Stands, Placed}
-use Rattle.arrivals.proofs.Runs.{is_placed}
+use Rattle.arrivals.proofs.Runs.{is_placed, is_placed_then}
 use Rattle.rankings.specs.Limits.{Limit, Holds, Falls, turns_within}
 use Rattle.rankings.specs.Ranked.{Owes, RanksShown}
 use Rattle.rankings.specs.Within.{was_stopped, AreWithin}
@@ -74,14 +75,18 @@ module _ (s : Setup) (k : Notes) (limit : ℕ → Limit) (shown : RanksShown s k
     orderly : (n : ℕ) (r : List Entry) (vars : List Word) → Stands s k i n r vars → Orderly r
     orderly n r vars h = record { within = all_within h.ranks r h.ran; separate = h.control.separate }
 
-    by_status : (n : ℕ) (r : List Entry) (vars : List Word) (st : Status) → was_stopped st ≡ false → Placed s k i n r vars st → Orderly r
-    by_status n r vars Running e h = orderly n r vars h
-    by_status n r vars Waiting e h = orderly n r vars h.1
-    by_status n r vars Ended e h = orderly n r vars h.1
-    by_status n r vars (Stopped f site) e h = absurd cc
+    of_status : (n : ℕ) (r : List Entry) (vars : List Word) (st : Status) → was_stopped st ≡ false → Placed s k i n r vars st → Orderly r
+    of_status n r vars Running e h = orderly n r vars h
+    of_status n r vars Waiting e h = orderly n r vars h.1
+    of_status n r vars Ended e h = orderly n r vars h.1
+    of_status n r vars (Stopped f site) e h = absurd cc
 
-    pub always_orderly : IsSound s → Shown s k → (ws : List ℤ) → was_stopped (after s i ws).status ≡ false → Orderly (after s i ws).left
-    always_orderly sound known ws e = by_status (passed s i ws) (after s i ws).left (after s i ws).variables (after s i ws).status e (is_placed s k known i is_item sound ws)
+    pub always_orderly : IsSound s → Shown s k → (ws : List ℤ) → IsHonest s k.contents i ws → was_stopped (after s i ws).status ≡ false → Orderly (after s i ws).left
+    always_orderly sound known ws fair e = of_status (passed s i ws) (after s i ws).left (after s i ws).variables (after s i ws).status e (is_placed s k known i is_item sound ws fair)
 
-pub within_bounds : (s : Setup) (k : Notes) (limit : ℕ → Limit) → IsSound s → Shown s k → RanksShown s k limit → (i : ℕ) (ws : List ℤ) → i < item_count s → was_stopped (after s i ws).status ≡ false → AreWithin (λ n. turns_within (limit n)) (after s i ws).left
-within_bounds s k limit sound known shown i ws is_item e = (always_orderly s k limit shown i is_item (λ n. turns_within (limit n)) (λ n. omega arith) sound known ws e).within
+    -- whatever answers the newest load
+    pub orderly_then : IsSound s → Shown s k → (ws : List ℤ) → IsHonest s k.contents i ws → (z : ℤ) → was_stopped (after s i (z ∷ ws)).status ≡ false → Orderly (after s i (z ∷ ws)).left
+    orderly_then sound known ws fair z e = of_status (passed s i (z ∷ ws)) (after s i (z ∷ ws)).left (after s i (z ∷ ws)).variables (after s i (z ∷ ws)).status e (is_placed_then s k known i is_item sound ws fair z)
+
+pub within_bounds : (s : Setup) (k : Notes) (limit : ℕ → Limit) → IsSound s → Shown s k → RanksShown s k limit → (i : ℕ) (ws : List ℤ) → i < item_count s → IsHonest s k.contents i ws → was_stopped (after s i ws).status ≡ false → AreWithin (λ n. turns_within (limit n)) (after s i ws).left
+within_bounds s k limit sound known shown i ws is_item fair e = (always_orderly s k limit shown i is_item (λ n. turns_within (limit n)) (λ n. omega arith) sound known ws fair e).within

@@ -35,7 +35,7 @@ abbrev pub rank : Ranking
 rank n i here = counted (is_zero (value_of here.variables).value)
 
 abbrev pub notes : Notes
-notes = record { same = λ n. []; rank = rank; line = λ p i a b. true }
+notes = record { same = λ n. []; rank = rank; line = λ p i a b. true; contents = [] }
 
 abbrev pub limit : ℕ → Limit
 limit n = Down 1 (pos 1)

@@ -23,7 +23,7 @@ at_most_one : (b : Bool) → counted b ≤ℤ pos 1
 at_most_one true = omega (arith, ints)
 at_most_one false = omega (arith, ints)
 
-is_value : (l : Launch) (i : ℕ) (vars : List Word) (v : Word) → CanBe (at_one l) i (Variable 0) vars v → value_of vars ≡ v
+is_value : (l : Launch) (i : ℕ) (vars : List Word) (v : Word) → CanBe (at_one l) [] i (Variable 0) vars v → value_of vars ≡ v
 unfolding evaluate
 is_value l i vars v c = by c.answers c.rest c.is
   where
@@ -31,14 +31,14 @@ is_value l i vars v c = by c.answers c.rest c.is
     by answers rest e = cc
 
 -- where the test was true
-some : (l : Launch) (i : ℕ) (root here : Held) → Follows (at_one l) rank i (Tests (Variable 0) true ∷ []) root here → rank 1 i here ≡ pos 1
+some : (l : Launch) (i : ℕ) (root here : Held) → Follows (at_one l) [] rank i (Tests (Variable 0) true ∷ []) root here → rank 1 i here ≡ pos 1
 some l i root here (mid, (f, (v, (can, (z, e))))) = subst (λ (h : Held). rank 1 i h ≡ pos 1) (sym e) (ap (λ (v : Word). counted (is_zero v.value)) (is_value l i mid.variables v can) ∙ ap counted z)
 
 set_first : (vars : List Word) (v : Word) → is_zero v.value ≡ true → is_zero (value_of (slice_set vars 0 v)).value ≡ true
 set_first [] v h = refl
 set_first (x ∷ xs) v h = h
 
-is_literal : (l : Launch) (i : ℕ) (vars : List Word) (v : Word) → CanBe (at_one l) i (Literal Uint (pos 0)) vars v → is_zero v.value ≡ true
+is_literal : (l : Launch) (i : ℕ) (vars : List Word) (v : Word) → CanBe (at_one l) [] i (Literal Uint (pos 0)) vars v → is_zero v.value ≡ true
 unfolding evaluate
 is_literal l i vars v c = by c.answers c.rest c.is
   where
@@ -46,7 +46,7 @@ is_literal l i vars v c = by c.answers c.rest c.is
     by answers rest e = let e : word Uint (pos 0) ≡ v = cc in ap (λ (v : Word). is_zero v.value) (sym e)
 
 -- behind a turn x is 0
-fallen : (l : Launch) (i : ℕ) (root here : Held) → Follows (at_one l) rank i (Sets 0 (Literal Uint (pos 0)) ∷ Enters 1 ∷ Tests (Variable 0) true ∷ []) root here → Owes notes limit 1 i true here
+fallen : (l : Launch) (i : ℕ) (root here : Held) → Follows (at_one l) [] rank i (Sets 0 (Literal Uint (pos 0)) ∷ Enters 1 ∷ Tests (Variable 0) true ∷ []) root here → Owes notes limit 1 i true here
 fallen l i root here (mid, ((old, (f, e)), (v, (can, e')))) =
     let new : rank 1 i here ≡ pos 0 = ap (λ (h : Held). rank 1 i h) e' ∙ ap counted (set_first mid.variables v (is_literal l i mid.variables v can)) in
     let was : here.ranks 1 ≡ pos 1 = ap (λ (h : Held). h.ranks 1) e' ∙ ap (λ (h : Held). h.ranks 1) e ∙ some l i root old f in
@@ -76,7 +76,7 @@ module _ (l : Launch) (i : ℕ) (n : ℕ) (anchor here : Held) where
       at_own e = owes_of 1 false again (sym (ap (λ (u : End). u.stop) e) ∙ stops) (at_most_one (is_zero (value_of here.variables).value))
 
       at_head : IsEnd u [] (tree body head_place) → Owes notes limit n i again here
-      at_head (inl e) = owes_of 1 true again (sym (ap (λ (u : End). u.stop) e) ∙ stops) (fallen l i came.root here (subst (λ (u : End). Follows (at_one l) rank i u.path came.root here) e came.follows))
+      at_head (inl e) = owes_of 1 true again (sym (ap (λ (u : End). u.stop) e) ∙ stops) (fallen l i came.root here (subst (λ (u : End). Follows (at_one l) [] rank i u.path came.root here) e came.follows))
       at_head (inr e) = let f : AtEnd ≡ AtHead n again = sym (ap (λ (u : End). u.stop) e) ∙ stops in cc
 
       by : (p ≡ own_place None) ⊎ (p ≡ head_place) → Owes notes limit n i again here
@@ -88,7 +88,7 @@ module _ (l : Launch) (i : ℕ) (n : ℕ) (anchor here : Held) where
     where
       at_head : IsEntering n path [] (tree body head_place) → pos 1 ≤ℤ rank n i here
       at_head (inl (inl e)) = let f : Tests (Variable 0) true ≡ Enters n = e.0 in cc
-      at_head (inl (inr (inl e))) = omega (arith, ints, some l i came.root here (subst (λ path. Follows (at_one l) rank i path came.root here) e.1 came.follows))
+      at_head (inl (inr (inl e))) = omega (arith, ints, some l i came.root here (subst (λ path. Follows (at_one l) [] rank i path came.root here) e.1 came.follows))
       at_head (inl (inr (inr (inl e)))) = let f : Sets 0 (Literal Uint (pos 0)) ≡ Enters n = e.0 in cc
       at_head (inl (inr (inr (inr e)))) = absurd e
       at_head (inr (inl e)) = let f : Tests (Variable 0) false ≡ Enters n = e.0 in cc
@@ -107,7 +107,7 @@ one_loop-ranked l = record {
 }
 
 -- three steps at most
-pub one_loop-short : (l : Launch) → IsShort (at_one l) 3
+pub one_loop-short : (l : Launch) → IsShort (at_one l) [] 3
 one_loop-short l = ranked_short (at_one l) notes limit (one_loop-sound l) (one_loop-shown l) (one_loop-ranked l)
 
 -- and three where x is 1: two tests and an assignment

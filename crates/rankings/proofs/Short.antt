@@ -4,6 +4,7 @@ use Rattle.semantics.specs.Setup.{Setup, item_count}
 use Rattle.semantics.specs.Item.{Entry, Status, Running, Waiting, Ended, Stopped, Item, enter}
 use Rattle.semantics.specs.Ask.{Ask, Loads, Stores, Goes, Waits, Rests, front, passes, by_status, ask}
 use Rattle.semantics.specs.Solo.{moved, opening, after}
+use Rattle.semantics.specs.Contents.{IsHonest}
 use Rattle.loop_bounds.specs.Costs.{cost}
 use Rattle.loop_bounds.specs.Turns.{turns_of}
 use Rattle.loop_bounds.specs.declared.bound.LoopBound.{LoopBound}
@@ -13,7 +14,7 @@ use Rattle.arrivals.proofs.Controlled.{Separate}
 use Rattle.rankings.specs.Limits.{Limit, limits, turns_within}
 use Rattle.rankings.specs.Ranked.{RanksShown}
 use Rattle.rankings.specs.Within.{was_stopped, AreWithin, AlwaysWithin}
-use Rattle.rankings.proofs.Bounded.{always_orderly}
+use Rattle.rankings.proofs.Bounded.{always_orderly, orderly_then}
 use Rattle.rankings.proofs.Listed.{limits-turns}
 use Rattle.rankings.proofs.Remaining.{remaining, behind, remaining-enter}
 use Rattle.rankings.proofs.Ready.{Ready, ready-body}
@@ -47,20 +48,20 @@ module _ (s : Setup) (turns : ℕ → ℕ) (i most : ℕ) where
   no_more left n steps (Stopped x site) h = h
 
 module _ (s : Setup) (k : Notes) (limit : ℕ → Limit) (turns : ℕ → ℕ) (sound : IsSound s) (known : Shown s k) (shown : RanksShown s k limit) (enough : (n : ℕ) → turns_within (limit n) ≤ turns n) where
-  kept : (i : ℕ) → i < item_count s → (ws : List ℤ) → Within s turns i (cost turns s.kernel.body) (after s i ws)
+  kept : (i : ℕ) → i < item_count s → (ws : List ℤ) → IsHonest s k.contents i ws → Within s turns i (cost turns s.kernel.body) (after s i ws)
   unfolding opening
-  kept i is_item [] = (ready-body turns s.kernel.body sound.formed, begins s turns i (cost turns s.kernel.body) (enter s.kernel.body []) 0 (omega (arith, remaining-enter turns s.kernel.body [])))
-  kept i is_item (z ∷ ws) = moves_keep s turns i (cost turns s.kernel.body) (after s i ws) z
-      (λ e. (always_orderly s k limit shown i is_item turns enough sound known ws e).separate)
-      (λ y e. (always_orderly s k limit shown i is_item turns enough sound known (y ∷ ws) e).within) (kept i is_item ws)
+  kept i is_item [] fair = (ready-body turns s.kernel.body sound.formed, begins s turns i (cost turns s.kernel.body) (enter s.kernel.body []) 0 (omega (arith, remaining-enter turns s.kernel.body [])))
+  kept i is_item (z ∷ ws) fair = moves_keep s turns i (cost turns s.kernel.body) (after s i ws) z
+      (λ e. (always_orderly s k limit shown i is_item turns enough sound known ws fair.0 e).separate)
+      (λ y e. (orderly_then s k limit shown i is_item turns enough sound known ws fair.0 y e).within) (kept i is_item ws fair.0)
 
-  pub short : IsShort s (cost turns s.kernel.body)
-  short i ws is_item = let it = after s i ws in no_more s turns i (cost turns s.kernel.body) it.left (length it.answers) it.steps it.status (kept i is_item ws).1
+  pub short : IsShort s k.contents (cost turns s.kernel.body)
+  short i ws is_item fair = let it = after s i ws in no_more s turns i (cost turns s.kernel.body) it.left (length it.answers) it.steps it.status (kept i is_item ws fair).1
 
-pub ranked_short : (s : Setup) (k : Notes) (limit : ℕ → Limit) → IsSound s → Shown s k → RanksShown s k limit → IsShort s (cost (λ n. turns_within (limit n)) s.kernel.body)
+pub ranked_short : (s : Setup) (k : Notes) (limit : ℕ → Limit) → IsSound s → Shown s k → RanksShown s k limit → IsShort s k.contents (cost (λ n. turns_within (limit n)) s.kernel.body)
 ranked_short s k limit sound known shown = short s k limit (λ n. turns_within (limit n)) sound known shown (λ n. omega arith)
 
-pub listed_short : (s : Setup) (k : Notes) (bounds : List LoopBound) → IsSound s → Shown s k → RanksShown s k (limits bounds) → IsShort s (cost (turns_of bounds) s.kernel.body)
+pub listed_short : (s : Setup) (k : Notes) (bounds : List LoopBound) → IsSound s → Shown s k → RanksShown s k (limits bounds) → IsShort s k.contents (cost (turns_of bounds) s.kernel.body)
 listed_short s k bounds sound known shown = short s k (limits bounds) (turns_of bounds) sound known shown (λ n. omega (arith, limits-turns bounds n))
 
 -- what a loop's turns are does not hang on the answer of a move

@@ -1,14 +1,17 @@
 -- Two events that can both happen lead to one state in either order.
-use Rattle.std.proofs.Common.{◌≡◌, ◌≢◌, ℕ, zero, suc, ◌<◌, ◌⊎◌, ℤ, pos, ◌∷◌, Bool, true, false, cond, Some, refl, sym, ap, ◌∙◌, inl, inr, subst, arith, nat_eq, eqb-true}
+use Rattle.std.proofs.Common.{◌≡◌, ◌≢◌, ℕ, zero, suc, ◌<◌, ◌⊎◌, ℤ, ◌∷◌, Bool, true, false, cond, Some, refl, sym, ap, ◌∙◌, inl, inr, subst, arith, nat_eq, eqb-true, List}
 use Rattle.std.proofs.lemmas.Bool.{cases_eq}
 use Rattle.std.proofs.lemmas.Bool.Decides.{nat_tests}
+use Rattle.semantics.specs.Conditions.{Content}
 use Rattle.semantics.specs.Setup.{Setup, group_of, group_size, item_count, member}
 use Rattle.semantics.specs.Memory.{Cell, Memory, same_cell, put}
 use Rattle.semantics.specs.Item.{Item, Running, Waiting}
 use Rattle.semantics.specs.Ask.{Ask, Loads, Stores, Goes, Waits, Rests, ask}
 use Rattle.semantics.specs.Solo.{after, moved, touch, Access, Touched, epoch}
 use Rattle.semantics.specs.World.{World, Event, Step, Release, put_item, past, may_go}
-use Rattle.semantics.specs.Safety.{IsPairSafe}
+use Rattle.semantics.specs.Contents.{IsHonest, IsKept, Heeds}
+use Rattle.semantics.specs.Safety.{IsPairSafeWithin}
+use Rattle.semantics.proofs.HonestRuns.{kept-answers}
 use Rattle.semantics.proofs.Updates.{put_item-same, put_item-other, put-other, same_cell-is}
 use Rattle.semantics.proofs.Groups.{every-at, every-by, group_of-member}
 use Rattle.reduction.proofs.Epochs.{Level, epochs}
@@ -97,18 +100,34 @@ pub let_items-other : (s : Setup) (g j : ℕ) (items : ℕ → Item) → group_o
 unfolding let_items
 let_items-other s g j items ne = grind (arith, nat_tests)
 
+-- what a step reads of a kept memory is an honest answer
+read-heeds : (s : Setup) (cs : List Content) (i : ℕ) (it : Item) (m : Memory) → IsKept s cs m → (k : Ask) → ask s i it ≡ k → Heeds s cs k (read k m)
+read-heeds s cs i it m h (Loads at kind site) e = kept-answers s cs m i it at kind site h e
+read-heeds s cs i it m h (Stores at site value next) e = tt
+read-heeds s cs i it m h (Goes next) e = tt
+read-heeds s cs i it m h (Waits next) e = tt
+read-heeds s cs i it m h Rests e = tt
+
 -- items of a group stand at equal epochs
-pub along-level : (s : Setup) (bound : ℕ) (p : IsPairSafe s bound) (w : World) (al : Along s w) (i j : ℕ) → i < item_count s → j < item_count s → group_of s i ≡ group_of s j → Level (after s i (al.words i)) (after s j (al.words j))
-along-level s bound p w al i j hi hj same = elim (cases_eq i j) [
+pub along-level : {cs : List Content} (s : Setup) (bound : ℕ) (p : IsPairSafeWithin cs s bound) (w : World) (al : Along cs s w) (i j : ℕ) → i < item_count s → j < item_count s → group_of s i ≡ group_of s j → Level (after s i (al.words i)) (after s j (al.words j))
+along-level {cs} s bound p w al i j hi hj same = elim (cases_eq i j) [
   | inl e ↦ record { local = ap (λ k. (after s k (al.words k)).local_epoch) e; global = ap (λ k. (after s k (al.words k)).global_epoch) e }
-  | inr ne ↦ epochs s bound i j (record { safe = p; first = hi; second = hj; distinct = ne; group = same }) (al.words i) (al.words j) (al.level i j hi hj same)
+  | inr ne ↦ epochs s bound i j (record { safe = p; first = hi; second = hj; distinct = ne; group = same }) (al.words i) (al.words j) (al.honest i hi) (al.honest j hj) (al.level i j hi hj same)
 ]
 
-module _ (s : Setup) (bound : ℕ) (full : 0 < group_size s) (p : IsPairSafe s bound) (w : World) (al : Along s w) where
+module _ {cs : List Content} (s : Setup) (bound : ℕ) (full : 0 < group_size s) (p : IsPairSafeWithin cs s bound) (w : World) (al : Along cs s w) where
   here : ℕ → Ask
   here i = ask s i (w.items i)
 
-  pub touched-here : (i : ℕ) (a : Access) → touch i (w.items i) (ask s i (w.items i)) ≡ Some a → Touched s i (pos 0 ∷ al.words i) a
+  -- what the next step reads is an honest answer
+  pub answer-here : ℕ → ℤ
+  answer-here i = read (ask s i (w.items i)) w.memory
+
+  pub honest-here : (i : ℕ) → i < item_count s → IsHonest s cs i (answer-here i ∷ al.words i)
+  unfolding answer-here
+  honest-here i hi = (al.honest i hi, subst (λ it. Heeds s cs (ask s i it) (read (ask s i (w.items i)) w.memory)) (al.stands i) (read-heeds s cs i (w.items i) w.memory al.kept (ask s i (w.items i)) refl))
+
+  pub touched-here : (i : ℕ) (a : Access) → touch i (w.items i) (ask s i (w.items i)) ≡ Some a → Touched s i (answer-here i ∷ al.words i) a
   touched-here i a h = let e = rw al.stands at h in inl e
 
   unordered-here : (i j : ℕ) (a b : Access) → i < item_count s → j < item_count s → a.item ≡ i → b.item ≡ j → a.epoch ≡ epoch (w.items i) a.at.owner → b.epoch ≡ epoch (w.items j) b.at.owner → a.at ≡ b.at → (group_of s a.item ≢ group_of s b.item) ⊎ (a.epoch ≡ b.epoch)
@@ -123,7 +142,7 @@ module _ (s : Setup) (bound : ℕ) (full : 0 < group_size s) (p : IsPairSafe s b
   free-here i j hi hj ne a b ha hb st e =
       let ia = touch-item i (w.items i) (ask s i (w.items i)) a ha in
       let jb = touch-item j (w.items j) (ask s j (w.items j)) b hb in
-      p.apart i j (pos 0 ∷ al.words i) (pos 0 ∷ al.words j) a b hi hj ne (touched-here i a ha) (touched-here j b hb)
+      p.apart i j (answer-here i ∷ al.words i) (answer-here j ∷ al.words j) a b hi hj ne (honest-here i hi) (honest-here j hj) (touched-here i a ha) (touched-here j b hb)
       (record {
         items = λ q. ne (sym ia ∙ q ∙ jb);
         element = e;

@@ -1,14 +1,16 @@
 -- All rounds of a group.
 use Rattle.std.proofs.Common.{Bool, ◌&&◌, ◌||◌, ◌≡◌, ◌≢◌, ℕ, zero, suc, ◌+◌, ◌%◌, ◌<◌, ◌≤◌, ◌⊎◌, ℤ, List, [], ◌++◌, true, false, refl, sym, ap, ap₂, ◌∙◌, inl, inr, subst, arith, append-nil, eq-eqb}
 use Rattle.std.proofs.lemmas.Bool.{cases_Bool}
+use Rattle.semantics.specs.Conditions.{Content}
 use Rattle.semantics.specs.Setup.{Setup, group_of, group_size, item_count, group_count, member}
 use Rattle.semantics.specs.Memory.{Cell, Memory}
 use Rattle.semantics.specs.Item.{Item, Status, Running, Waiting, Ended, Stopped, has_ended}
 use Rattle.semantics.specs.Solo.{is_waiting}
 use Rattle.semantics.specs.World.{Release, past, may_go, every}
 use Rattle.semantics.specs.Rounds.{applied, alone, round_stores, after_round, rounds, rounds_end}
-use Rattle.semantics.specs.Safety.{IsPairSafe}
+use Rattle.semantics.specs.Safety.{IsPairSafeWithin}
 use Rattle.semantics.proofs.Groups.{every-by, group_of-member, member-below, member-of, place-below, group_size-pos}
+use Rattle.reduction.specs.Budgets.{StaysBelow}
 use Rattle.reduction.proofs.Along.{may_go-waits}
 use Rattle.reduction.proofs.Counts.{past-is}
 use Rattle.reduction.proofs.Safe.{safe, group_goes}
@@ -18,32 +20,32 @@ use Rattle.reduction.proofs.Confluence.{Good, good-next, Onward, onward-first, o
 use Rattle.reduction.proofs.Alone.{Stored, Each, Each-map, Each-append}
 use Rattle.reduction.proofs.Round.{applied-append, applied-either, Foreign, From, advanced, advanced-other, advanced-at, Upto, round-way}
 
-pub good-short : (s : Setup) (bound : ℕ) (p : IsPairSafe s bound) (st : State) → Good s st → (i : ℕ) → i < item_count s → (st.items i).steps ≤ bound
-good-short s bound p st g i hi = subst (λ (x : State). (x.items i).steps ≤ bound) g.is ((safe s bound p g.world g.along).within_budget i hi)
+pub good-short : {cs : List Content} (s : Setup) (bound : ℕ) (p : IsPairSafeWithin cs s bound) (st : State) → Good cs s st → (i : ℕ) → i < item_count s → (st.items i).steps ≤ bound
+good-short {cs} s bound p st g i hi = subst (λ (x : State). (x.items i).steps ≤ bound) g.is ((safe s bound p g.world g.along).within_budget i hi)
 
-pub good-quiet : (s : Setup) (bound : ℕ) (p : IsPairSafe s bound) (st : State) → Good s st → (i : ℕ) → i < item_count s → (f : _) (site : _) → (st.items i).status ≢ Stopped f site
-good-quiet s bound p st g i hi f site = subst (λ (x : State). (x.items i).status ≢ Stopped f site) g.is ((safe s bound p g.world g.along).no_fault i f site hi)
+pub good-quiet : {cs : List Content} (s : Setup) (bound : ℕ) (p : IsPairSafeWithin cs s bound) (st : State) → Good cs s st → (i : ℕ) → i < item_count s → (f : _) (site : _) → (st.items i).status ≢ Stopped f site
+good-quiet {cs} s bound p st g i hi f site = subst (λ (x : State). (x.items i).status ≢ Stopped f site) g.is ((safe s bound p g.world g.along).no_fault i f site hi)
 
-good-goes : (s : Setup) (bound : ℕ) (p : IsPairSafe s bound) (st : State) → Good s st → (g : ℕ) → g < group_count s → 0 < group_size s → ((j : ℕ) → j < item_count s → group_of s j ≡ g → ((st.items j).status ≡ Waiting) ⊎ ((st.items j).status ≡ Ended)) → (i : ℕ) → i < item_count s → group_of s i ≡ g → (st.items i).status ≡ Waiting → may_go s st.items g ≡ true
-good-goes s bound p st good g hg full =
+good-goes : {cs : List Content} (s : Setup) (bound : ℕ) (p : IsPairSafeWithin cs s bound) (st : State) → Good cs s st → (g : ℕ) → g < group_count s → 0 < group_size s → ((j : ℕ) → j < item_count s → group_of s j ≡ g → ((st.items j).status ≡ Waiting) ⊎ ((st.items j).status ≡ Ended)) → (i : ℕ) → i < item_count s → group_of s i ≡ g → (st.items i).status ≡ Waiting → may_go s st.items g ≡ true
+good-goes {cs} s bound p st good g hg full =
     subst (λ (x : State). ((j : ℕ) → j < item_count s → group_of s j ≡ g → ((x.items j).status ≡ Waiting) ⊎ ((x.items j).status ≡ Ended)) → (i : ℕ) → i < item_count s → group_of s i ≡ g → (x.items i).status ≡ Waiting → may_go s x.items g ≡ true) good.is
     (λ settled i hi e a. group_goes s bound p good.world good.along g hg settled full i hi e a)
 
 -- stored by an item of this group
-pub record Own (s : Setup) (g : ℕ) (c : Cell) : Type 0 where
+pub record Own (cs : List Content) (s : Setup) (g : ℕ) (c : Cell) : Type 0 where
   pub other : ℕ
   pub when : ℕ
-  pub stored : Stored s other c when
+  pub stored : Stored cs s other c when
   pub group : group_of s other ≡ g
 
 -- the group has ended, after these stores
-pub record Done (s : Setup) (g : ℕ) (st : State) (xs : List (Cell × ℤ)) : Type 0 where
+pub record Done (cs : List Content) (s : Setup) (g : ℕ) (st : State) (xs : List (Cell × ℤ)) : Type 0 where
   pub to : State
   pub onward : Onward s st to
   pub memory : to.memory ≡ applied xs st.memory
   pub ended : (j : ℕ) → j < item_count s → group_of s j ≡ g → (to.items j).status ≡ Ended
   pub others : (j : ℕ) → group_of s j ≢ g → to.items j ≡ st.items j
-  pub each : Each (Own s g) xs
+  pub each : Each (Own cs s g) xs
 
 stores-same : (s : Setup) (g fuel : ℕ) (a b : ℕ → Item) (m : Memory) (k : ℕ) → k ≤ group_size s → ((l : ℕ) → l < group_size s → a (member s g l) ≡ b (member s g l)) → round_stores s g fuel a m k ≡ round_stores s g fuel b m k
 stores-same s g fuel a b m zero h e = refl
@@ -67,15 +69,15 @@ or_right false b h = h
 both_true : (a b : Bool) → a ≡ true → b ≡ true → (a && b) ≡ true
 both_true a b h k = rw (h, k) refl
 
-module _ (s : Setup) (bound : ℕ) (full : 0 < group_size s) (p : IsPairSafe s bound) (g : ℕ) (hg : g < group_count s) where
+module _ {cs : List Content} (s : Setup) (bound : ℕ) (full : 0 < group_size s) (p : IsPairSafeWithin cs s bound) (g : ℕ) (hg : g < group_count s) where
   fuel : ℕ
   fuel = bound + 1
 
   -- the round's beginning
   pub record Start (its : ℕ → Item) (m : Memory) (st : State) : Type 0 where
-    pub good : Good s st
+    pub good : Good cs s st
     pub agree : (k : ℕ) → k < group_size s → its (member s g k) ≡ st.items (member s g k)
-    pub memory : (c : Cell) → (st.memory c ≡ m c) ⊎ Foreign s g c
+    pub memory : (c : Cell) → (st.memory c ≡ m c) ⊎ Foreign cs s g c
     pub calm : (k : ℕ) → k < group_size s → is_waiting (st.items (member s g k)).status ≡ 0
 
   module _ (its : ℕ → Item) (m : Memory) (st : State) (b : Start its m st) where
@@ -95,7 +97,7 @@ module _ (s : Setup) (bound : ℕ) (full : 0 < group_size s) (p : IsPairSafe s b
     unfolding st1
     onward1 = subst (λ ys. Onward s st (record { memory = applied ys st.memory; items = advanced s g (bound + 1) st.items m (group_size s) })) xs-same upto.onward
 
-    good1 : Good s st1
+    good1 : Good cs s st1
     good1 = good-onward s st st1 b.good onward1
 
     at1 : (k : ℕ) → k < group_size s → st1.items (member s g k) ≡ (alone s (member s g k) (bound + 1) (st.items (member s g k)) m).item
@@ -133,8 +135,8 @@ module _ (s : Setup) (bound : ℕ) (full : 0 < group_size s) (p : IsPairSafe s b
       | inr d ↦ d
     ]
 
-    each1 : Each (Own s g) (round_stores s g (bound + 1) its m (group_size s))
-    each1 = subst (Each (Own s g)) xs-same (Each-map (From s g st (group_size s)) (Own s g) (round_stores s g (bound + 1) st.items m (group_size s))
+    each1 : Each (Own cs s g) (round_stores s g (bound + 1) its m (group_size s))
+    each1 = subst (Each (Own cs s g)) xs-same (Each-map (From cs s g st (group_size s)) (Own cs s g) (round_stores s g (bound + 1) st.items m (group_size s))
         (λ c f. record { other = member s g f.place; when = _; stored = f.stored; group = group_of-member s g f.place f.below }) upto.each)
 
     may-same : may_go s (after_round s (bound + 1) its m) g ≡ may_go s st1.items g
@@ -166,7 +168,7 @@ module _ (s : Setup) (bound : ℕ) (full : 0 < group_size s) (p : IsPairSafe s b
       start2 = record {
         good = good-next s st1 (Release g) good1 can;
         agree = λ k lt. ap (past s (member s g k)) (sym (after1 k lt)) ∙ sym (at2 k lt);
-        memory = applied-either (Foreign s g) (round_stores s g (bound + 1) its m (group_size s)) st.memory m b.memory;
+        memory = applied-either (Foreign cs s g) (round_stores s g (bound + 1) its m (group_size s)) st.memory m b.memory;
         calm = λ k lt. ap (λ (it : Item). is_waiting it.status) (at2 k lt) ∙ (past-is s (member s g k) (st1.items (member s g k)) (waits1 k lt)).1;
       }
 
@@ -181,7 +183,7 @@ module _ (s : Setup) (bound : ℕ) (full : 0 < group_size s) (p : IsPairSafe s b
             | inr more ↦ omega (arith, a, q, e, more)
           ]
 
-      done2 : (ys : List (Cell × ℤ)) → Done s g (next s st1 (Release g)) ys → Done s g st (round_stores s g (bound + 1) its m (group_size s) ++ ys)
+      done2 : (ys : List (Cell × ℤ)) → Done cs s g (next s st1 (Release g)) ys → Done cs s g st (round_stores s g (bound + 1) its m (group_size s) ++ ys)
       unfolding st1
       done2 ys d = record {
         to = d.to;
@@ -189,12 +191,12 @@ module _ (s : Setup) (bound : ℕ) (full : 0 < group_size s) (p : IsPairSafe s b
         memory = d.memory ∙ sym (applied-append (round_stores s g (bound + 1) its m (group_size s)) ys st.memory);
         ended = d.ended;
         others = λ j ne. d.others j ne ∙ let_items-other s g j st1.items ne ∙ other1 j ne;
-        each = Each-append (Own s g) (round_stores s g (bound + 1) its m (group_size s)) ys each1 d.each;
+        each = Each-append (Own cs s g) (round_stores s g (bound + 1) its m (group_size s)) ys each1 d.each;
       }
 
-    done1 : may_go s st1.items g ≡ false → Done s g st (round_stores s g (bound + 1) its m (group_size s) ++ [])
+    done1 : may_go s st1.items g ≡ false → Done cs s g st (round_stores s g (bound + 1) its m (group_size s) ++ [])
     unfolding st1
-    done1 no_go = subst (Done s g st) (sym (append-nil (round_stores s g (bound + 1) its m (group_size s)))) (record {
+    done1 no_go = subst (Done cs s g st) (sym (append-nil (round_stores s g (bound + 1) its m (group_size s)))) (record {
       to = st1;
       onward = onward1;
       memory = refl;
@@ -211,12 +213,12 @@ module _ (s : Setup) (bound : ℕ) (full : 0 < group_size s) (p : IsPairSafe s b
     ends_by n later (inl y) = or_right _ _ (both_true _ _ (may-same ∙ y) (later y))
     ends_by n later (inr y) = or_left _ _ (all_ended1 y)
 
-    next_by : (n : ℕ) → (may_go s st1.items g ≡ true → Done s g (next s st1 (Release g)) (rounds s g (bound + 1) n (λ i. past s i (after_round s (bound + 1) its m i)) (applied (round_stores s g (bound + 1) its m (group_size s)) m))) → (may_go s st1.items g ≡ true) ⊎ (may_go s st1.items g ≡ false) → Done s g st (rounds s g (bound + 1) (suc n) its m)
+    next_by : (n : ℕ) → (may_go s st1.items g ≡ true → Done cs s g (next s st1 (Release g)) (rounds s g (bound + 1) n (λ i. past s i (after_round s (bound + 1) its m i)) (applied (round_stores s g (bound + 1) its m (group_size s)) m))) → (may_go s st1.items g ≡ true) ⊎ (may_go s st1.items g ≡ false) → Done cs s g st (rounds s g (bound + 1) (suc n) its m)
     next_by n later (inl y) = rw (may-same, y) (done2 y _ (later y))
     next_by n later (inr y) = rw (may-same, y) (done1 y)
 
   -- all rounds of the group are a way in the world that leaves the group's stores in memory, and all its items ended
-  pub group-way : (n : ℕ) (its : ℕ → Item) (m : Memory) (st : State) → Start its m st → bound + 1 ≤ n + (st.items (member s g 0)).steps → Done s g st (rounds s g (bound + 1) n its m)
+  pub group-way : (n : ℕ) (its : ℕ → Item) (m : Memory) (st : State) → Start its m st → bound + 1 ≤ n + (st.items (member s g 0)).steps → Done cs s g st (rounds s g (bound + 1) n its m)
   group-way zero its m st b h = absurd (let q = good-short s bound p st b.good (member s g 0) (member-below s g 0 hg full) in omega (arith, q))
   group-way (suc n) its m st b h =
       next_by its m st b n (λ y. group-way n (λ i. past s i (after_round s (bound + 1) its m i)) _ (next s (st1 its m st b) (Release g)) (start2 its m st b y) (let q = more2 its m st b y in omega (arith, q))) (cases_Bool (may_go s (st1 its m st b).items g))
@@ -226,3 +228,14 @@ module _ (s : Setup) (bound : ℕ) (full : 0 < group_size s) (p : IsPairSafe s b
   ends-way zero its m st b h = absurd (let q = good-short s bound p st b.good (member s g 0) (member-below s g 0 hg full) in omega (arith, q))
   ends-way (suc n) its m st b h =
       ends_by its m st b n (λ y. ends-way n (λ i. past s i (after_round s (bound + 1) its m i)) _ (next s (st1 its m st b) (Release g)) (start2 its m st b y) (let q = more2 its m st b y in omega (arith, q))) (cases_Bool (may_go s (st1 its m st b).items g))
+
+  -- and in them no item takes more steps than the budget
+  pub below-way : (n : ℕ) (its : ℕ → Item) (m : Memory) (st : State) → Start its m st → StaysBelow s g (bound + 1) n its m
+  below-way zero its m st b = tt
+  below-way (suc n) its m st b = (
+    λ k lt.
+        let q = good-short s bound p (st1 its m st b) (good1 its m st b) (member s g k) (member-below s g k hg lt) in
+        let e = ap (λ (it : Item). it.steps) (after1 its m st b k lt) in
+        omega (arith, q, e),
+    λ may. below-way n (λ i. past s i (after_round s (bound + 1) its m i)) _ (next s (st1 its m st b) (Release g)) (start2 its m st b (sym (may-same its m st b) ∙ may)),
+  )

@@ -1,13 +1,14 @@
 -- One round of a group, item by item, in the world as in the definition of the result.
 use Rattle.std.proofs.Common.{◌≡◌, ◌≢◌, ℕ, zero, suc, ◌+◌, ◌<◌, ◌≤◌, ◌⊎◌, ℤ, List, [], ◌∷◌, ◌++◌, Bool, true, false, cond, refl, sym, ap, ◌∙◌, inl, inr, subst, arith}
 use Rattle.std.proofs.lemmas.Bool.{cases_eq}
+use Rattle.semantics.specs.Conditions.{Content}
 use Rattle.semantics.specs.Setup.{Setup, group_of, group_size, item_count, group_count, member}
 use Rattle.semantics.specs.Memory.{Cell, Memory, same_cell, put}
 use Rattle.semantics.specs.Item.{Item, Running}
 use Rattle.semantics.specs.Solo.{epoch}
 use Rattle.semantics.specs.World.{put_item}
 use Rattle.semantics.specs.Rounds.{Part, applied, alone, round_stores}
-use Rattle.semantics.specs.Safety.{IsPairSafe}
+use Rattle.semantics.specs.Safety.{IsPairSafeWithin}
 use Rattle.semantics.proofs.Updates.{put_item-same, put_item-other, same_cell-is}
 use Rattle.semantics.proofs.Groups.{group_of-member, member-below}
 use Rattle.reduction.proofs.Epochs.{Level}
@@ -43,8 +44,8 @@ pub member-inj : (s : Setup) (g k l : ℕ) → member s g k ≡ member s g l →
 member-inj s g k l e = omega arith
 
 -- items of a group are level in a state of a run
-pub good-level : (s : Setup) (bound : ℕ) (p : IsPairSafe s bound) (st : State) → Good s st → (i j : ℕ) → i < item_count s → j < item_count s → group_of s i ≡ group_of s j → Level (st.items i) (st.items j)
-good-level s bound p st g i j hi hj e =
+pub good-level : {cs : List Content} (s : Setup) (bound : ℕ) (p : IsPairSafeWithin cs s bound) (st : State) → Good cs s st → (i j : ℕ) → i < item_count s → j < item_count s → group_of s i ≡ group_of s j → Level (st.items i) (st.items j)
+good-level {cs} s bound p st g i j hi hj e =
     let al = g.along in
     let l = along-level s bound p g.world al i j hi hj e in
     let a = sym (ap (λ (x : State). x.items i) g.is) ∙ al.stands i in
@@ -55,17 +56,17 @@ good-level s bound p st g i j hi hj e =
     }
 
 -- stored by an item of another group
-pub record Foreign (s : Setup) (g : ℕ) (c : Cell) : Type 0 where
+pub record Foreign (cs : List Content) (s : Setup) (g : ℕ) (c : Cell) : Type 0 where
   pub other : ℕ
   pub when : ℕ
-  pub stored : Stored s other c when
+  pub stored : Stored cs s other c when
   pub group : group_of s other ≢ g
 
 -- stored in this round, by one of the first k items
-pub record From (s : Setup) (g : ℕ) (st : State) (k : ℕ) (c : Cell) : Type 0 where
+pub record From (cs : List Content) (s : Setup) (g : ℕ) (st : State) (k : ℕ) (c : Cell) : Type 0 where
   pub place : ℕ
   pub below : place < k
-  pub stored : Stored s (member s g place) c (epoch (st.items (member s g place)) c.owner)
+  pub stored : Stored cs s (member s g place) c (epoch (st.items (member s g place)) c.owner)
 
 -- the items when the first k have had their part
 abbrev pub advanced : Setup → ℕ → ℕ → (ℕ → Item) → Memory → ℕ → ℕ → Item
@@ -84,14 +85,14 @@ advanced-at s g fuel items m (suc k) l lt = elim (cases_eq l k) [
   | inr ne ↦ put_item-other (member s g k) (member s g l) _ (advanced s g fuel items m k) (λ q. ne (member-inj s g l k q)) ∙ advanced-at s g fuel items m k l (omega (arith, ne))
 ]
 
-module _ (s : Setup) (bound : ℕ) (full : 0 < group_size s) (p : IsPairSafe s bound) (g : ℕ) (hg : g < group_count s) (fuel : ℕ) (st : State) (good : Good s st) (m : Memory) (start : (c : Cell) → (st.memory c ≡ m c) ⊎ Foreign s g c) where
+module _ {cs : List Content} (s : Setup) (bound : ℕ) (full : 0 < group_size s) (p : IsPairSafeWithin cs s bound) (g : ℕ) (hg : g < group_count s) (fuel : ℕ) (st : State) (good : Good cs s st) (m : Memory) (start : (c : Cell) → (st.memory c ≡ m c) ⊎ Foreign cs s g c) where
   abbrev pub part_of : ℕ → Part
   part_of k = alone s (member s g k) fuel (st.items (member s g k)) m
 
   abbrev pub round_state : ℕ → State
   round_state k = record { memory = applied (round_stores s g fuel st.items m k) st.memory; items = advanced s g fuel st.items m k }
 
-  foreign-tainted : (k : ℕ) → k < group_size s → (it : Item) (c : Cell) → Foreign s g c → Tainted s (member s g k) it c
+  foreign-tainted : (k : ℕ) → k < group_size s → (it : Item) (c : Cell) → Foreign cs s g c → Tainted cs s (member s g k) it c
   foreign-tainted k lt it c f = record {
     other = f.other;
     when = f.when;
@@ -100,7 +101,7 @@ module _ (s : Setup) (bound : ℕ) (full : 0 < group_size s) (p : IsPairSafe s b
     unordered = inl (λ q. f.group (sym q ∙ group_of-member s g k lt));
   }
 
-  from-tainted : (k : ℕ) → k < group_size s → (c : Cell) → From s g st k c → Tainted s (member s g k) (st.items (member s g k)) c
+  from-tainted : (k : ℕ) → k < group_size s → (c : Cell) → From cs s g st k c → Tainted cs s (member s g k) (st.items (member s g k)) c
   from-tainted k lt c f =
       let place-lt : f.place < group_size s = let b = f.below in omega (arith, b, lt) in
       record {
@@ -113,8 +114,8 @@ module _ (s : Setup) (bound : ℕ) (full : 0 < group_size s) (p : IsPairSafe s b
       }
 
   -- before an item's part the world's memory and the round's agree, but for what is tainted for it
-  round-matches : (k : ℕ) → k < group_size s → Each (From s g st k) (round_stores s g fuel st.items m k) → Matches s (member s g k) (st.items (member s g k)) (round_state k).memory m
-  round-matches k lt each c = elim (applied-cases (From s g st k) (round_stores s g fuel st.items m k) st.memory c each) [
+  round-matches : (k : ℕ) → k < group_size s → Each (From cs s g st k) (round_stores s g fuel st.items m k) → Matches cs s (member s g k) (st.items (member s g k)) (round_state k).memory m
+  round-matches k lt each c = elim (applied-cases (From cs s g st k) (round_stores s g fuel st.items m k) st.memory c each) [
     | inl e ↦ elim (start c) [ inl q ↦ inl (e ∙ q) | inr f ↦ inr (foreign-tainted k lt (st.items (member s g k)) c f) ]
     | inr f ↦ inr (from-tainted k lt c f)
   ]
@@ -125,7 +126,7 @@ module _ (s : Setup) (bound : ℕ) (full : 0 < group_size s) (p : IsPairSafe s b
 
   pub record Upto (k : ℕ) : Type 0 where
     pub onward : Onward s st (round_state k)
-    pub each : Each (From s g st k) (round_stores s g fuel st.items m k)
+    pub each : Each (From cs s g st k) (round_stores s g fuel st.items m k)
     pub long : (l : ℕ) → l < k → Long (st.items (member s g l)) (part_of l)
 
   one_part : (k : ℕ) → k < group_size s → Upto k → Upto (suc k)
@@ -135,9 +136,9 @@ module _ (s : Setup) (bound : ℕ) (full : 0 < group_size s) (p : IsPairSafe s b
       let to : left_by (round_state k) (member s g k) (part_of k) ≡ round_state (suc k) = state-is _ _ _ _ (sym (applied-append (round_stores s g fuel st.items m k) (part_of k).stores st.memory)) refl in
       record {
         onward = onward-trans s st (round_state k) (round_state (suc k)) u.onward (subst (Onward s (round_state k)) to r.onward);
-        each = Each-append (From s g st (suc k)) (round_stores s g fuel st.items m k) (part_of k).stores
-            (Each-map (From s g st k) (From s g st (suc k)) (round_stores s g fuel st.items m k) (λ c f. record { place = f.place; below = let b = f.below in omega (arith, b); stored = f.stored }) u.each)
-            (Each-map (λ c. Stored s (member s g k) c (epoch (st.items (member s g k)) c.owner)) (From s g st (suc k)) (part_of k).stores (λ c f. record { place = k; below = omega arith; stored = f }) r.stored);
+        each = Each-append (From cs s g st (suc k)) (round_stores s g fuel st.items m k) (part_of k).stores
+            (Each-map (From cs s g st k) (From cs s g st (suc k)) (round_stores s g fuel st.items m k) (λ c f. record { place = f.place; below = let b = f.below in omega (arith, b); stored = f.stored }) u.each)
+            (Each-map (λ c. Stored cs s (member s g k) c (epoch (st.items (member s g k)) c.owner)) (From cs s g st (suc k)) (part_of k).stores (λ c f. record { place = k; below = omega arith; stored = f }) r.stored);
         long = λ l h. elim (cases_eq l k) [
           | inl e ↦ subst (λ n. Long (st.items (member s g n)) (part_of n)) (sym e) (record { long = r.long; moves = r.moves })
           | inr ne ↦ u.long l (omega (arith, ne))

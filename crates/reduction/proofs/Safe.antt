@@ -1,7 +1,8 @@
 -- What follows for each world of a run.
-use Rattle.std.proofs.Common.{◌≡◌, ◌≢◌, ℕ, ◌<◌, ◌≤◌, ◌⊎◌, true, None, refl, ap, ◌∙◌, sym, subst, inl, inr, arith, lt-ltb}
+use Rattle.std.proofs.Common.{◌≡◌, ◌≢◌, ℕ, ◌<◌, ◌≤◌, ◌⊎◌, true, None, refl, ap, ◌∙◌, sym, subst, inl, inr, arith, lt-ltb, List}
 use Rattle.std.proofs.lemmas.Bool.{cases_eq}
 use Rattle.std.proofs.lemmas.Slice.Eq.{bytes_eq-Decides}
+use Rattle.semantics.specs.Conditions.{Content}
 use Rattle.semantics.specs.Word.{Fault}
 use Rattle.semantics.specs.Core.{Site}
 use Rattle.semantics.specs.Setup.{Setup, group_size, group_count, group_of, item_count, member}
@@ -9,7 +10,7 @@ use Rattle.semantics.specs.Item.{Item, Status, Running, Waiting, Ended, Stopped,
 use Rattle.semantics.specs.Ask.{Ask, Loads, Stores, Goes, Waits, Rests, ask}
 use Rattle.semantics.specs.Solo.{after, is_waiting}
 use Rattle.semantics.specs.World.{World, Step, Release, stepped, happens, may_go}
-use Rattle.semantics.specs.Safety.{IsSafe, IsPairSafe}
+use Rattle.semantics.specs.Safety.{IsSafe, IsPairSafeWithin}
 use Rattle.semantics.specs.Headline.{IsOver}
 use Rattle.semantics.proofs.Steps.{Over, Fair, ask-fair}
 use Rattle.semantics.proofs.Groups.{every-by, group_of-member, member-below, group-below}
@@ -34,25 +35,25 @@ unfolding happens
 release_possible s w g lt h e =
     let q = rw (lt-ltb g (group_count s) lt, h) at e in cc
 
-module _ (s : Setup) (bound : ℕ) (p : IsPairSafe s bound) (w : World) (al : Along s w) where
+module _ {cs : List Content} (s : Setup) (bound : ℕ) (p : IsPairSafeWithin cs s bound) (w : World) (al : Along cs s w) where
   status-after : (i : ℕ) (st : Status) → (w.items i).status ≡ st → (after s i (al.words i)).status ≡ st
   status-after i st h = ap (λ (it : Item). it.status) (sym (al.stands i)) ∙ h
 
   pub quiet-here : (i : ℕ) (f : Fault) (site : Site) → i < item_count s → (w.items i).status ≢ Stopped f site
-  quiet-here i f site lt h = p.quiet i (al.words i) f site lt (status-after i (Stopped f site) h)
+  quiet-here i f site lt h = p.quiet i (al.words i) f site lt (al.honest i lt) (status-after i (Stopped f site) h)
 
   -- two waiting items of a group have equal lists left
   agree-here : (i j : ℕ) → i < item_count s → j < item_count s → group_of s i ≡ group_of s j → (w.items i).status ≡ Waiting → (w.items j).status ≡ Waiting → trail (w.items i).left ≡ trail (w.items j).left
   agree-here i j hi hj g a b = elim (cases_eq i j) [
     | inl e ↦ ap (λ k. trail (w.items k).left) e
-    | inr ne ↦ ap (λ (it : Item). trail it.left) (al.stands i) ∙ p.agree i j hi hj ne g (al.words i) (al.words j) (status-after i Waiting a) (status-after j Waiting b) (al.level i j hi hj g) ∙ ap (λ (it : Item). trail it.left) (sym (al.stands j))
+    | inr ne ↦ ap (λ (it : Item). trail it.left) (al.stands i) ∙ p.agree i j hi hj ne g (al.words i) (al.words j) (al.honest i hi) (al.honest j hj) (status-after i Waiting a) (status-after j Waiting b) (al.level i j hi hj g) ∙ ap (λ (it : Item). trail it.left) (sym (al.stands j))
   ]
 
   -- no item waits where another of its group has ended
   ends-here : (i j : ℕ) → i < item_count s → j < item_count s → group_of s i ≡ group_of s j → (w.items i).status ≡ Waiting → (w.items j).status ≡ Ended → ⊥
   ends-here i j hi hj g a b =
       let ne = λ (e : j ≡ i). let q : Ended ≡ Waiting = sym b ∙ ap (λ k. (w.items k).status) e ∙ a in let x : ⊥ = cc in x in
-      let e = p.ends j i hj hi ne (sym g) (al.words j) (al.words i) (status-after j Ended b) in
+      let e = p.ends j i hj hi ne (sym g) (al.words j) (al.words i) (al.honest j hj) (al.honest i hi) (status-after j Ended b) in
       let x : is_waiting (after s i (al.words i)).status ≡ 1 = ap is_waiting (status-after i Waiting a) in
       let y : is_waiting (after s j (al.words j)).status ≡ 0 = ap is_waiting (status-after j Ended b) in
       let z = al.level i j hi hj g in
@@ -62,9 +63,9 @@ module _ (s : Setup) (bound : ℕ) (p : IsPairSafe s bound) (w : World) (al : Al
   pub safe : IsSafe s bound w
   safe = record {
     no_fault = quiet-here;
-    no_data_race = λ a b ha hb c. p.apart a.item b.item (al.words a.item) (al.words b.item) a b (al.known a ha).0 (al.known b hb).0 c.items (al.known a ha).1 (al.known b hb).1 c;
+    no_data_race = λ a b ha hb c. p.apart a.item b.item (al.words a.item) (al.words b.item) a b (al.known a ha).0 (al.known b hb).0 c.items (al.honest a.item (al.known a ha).0) (al.honest b.item (al.known b hb).0) (al.known a ha).1 (al.known b hb).1 c;
     no_barrier_divergence = λ i j hi hj d. elim d.apart [ inl e ↦ ends-here i j hi hj d.group d.waits e | inr o ↦ o.1 (agree-here i j hi hj d.group d.waits o.0) ];
-    within_budget = λ i lt. subst (λ (it : Item). it.steps ≤ bound) (sym (al.stands i)) (p.short i (al.words i) lt);
+    within_budget = λ i lt. subst (λ (it : Item). it.steps ≤ bound) (sym (al.stands i)) (p.short i (al.words i) lt (al.honest i lt));
   }
 
   pub not_running : IsOver s w → (i : ℕ) → i < item_count s → ((w.items i).status ≡ Waiting) ⊎ ((w.items i).status ≡ Ended)

@@ -1,3 +1,4 @@
 pub mod Endless
 pub mod Store
 pub mod StoresRead
+pub mod Gathering

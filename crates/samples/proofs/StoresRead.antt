@@ -1,5 +1,5 @@
 -- Four stores, read by computation.
-use Rattle.std.proofs.Common.{◌≡◌, ℕ, ◌≤◌, arith, refl, sym, subst}
+use Rattle.std.proofs.Common.{◌≡◌, ℕ, ◌≤◌, arith, refl, sym, subst, []}
 use Rattle.std.specs.Prelude.{Ok, pos, ◌≤ℤ◌}
 use Rattle.std.proofs.lemmas.Int.{ints}
 use Rattle.semantics.specs.Launch.{Kernel}
@@ -46,5 +46,5 @@ are_plain = (
   ),
 )
 
-pub plain_there : (c : Conditions) → c.groups.x.high ≡ pos 1024 → IsPlain found c
-plain_there c e = subst (λ z. ArePlain found.arguments found.sizes.x z found.body) (sym e) are_plain
+pub plain_there : (c : Conditions) → c.groups.x.high ≡ pos 1024 → c.contents ≡ [] → IsPlain found c
+plain_there c e free = (subst (λ z. ArePlain found.arguments found.sizes.x z found.body) (sym e) are_plain, free)

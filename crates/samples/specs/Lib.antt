@@ -3,3 +3,4 @@ pub mod Kernels
 pub mod OneStore
 pub mod Surface
 pub mod Stores
+pub mod Bounded

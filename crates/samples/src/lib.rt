@@ -4,6 +4,7 @@
 //! pair-safe at every launch with room for it. Nothing stands on this crate.
 #![tactic(auto)]
 
+pub mod bounded;
 pub mod computed;
 pub mod one_store;
 pub mod texts_of_stores;

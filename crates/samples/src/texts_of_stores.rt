@@ -1,6 +1,6 @@
 //! What bytes say, by computation: from the text of a small kernel to its elaborated form.
 
-ghost use Rattle.std.specs.Prelude.{◌≡◌, pos, Ok};
+ghost use Rattle.std.specs.Prelude.{◌≡◌, pos, Ok, []};
 ghost use Rattle.semantics.specs.Conditions.{Conditions};
 ghost use Rattle.reading.specs.Kernels.{read};
 ghost use Rattle.reading.specs.Texts.{IsTextOf};
@@ -9,11 +9,12 @@ ghost use Rattle.samples.specs.Stores.{stores, kernel_of};
 
 use reading::laws::bytes_are_the_text_of_what_is_read;
 
-/// The bytes of five stores are the text of a kernel, which is plain wherever there are at most 1,024 groups: a store to the element of the
+/// The bytes of five stores are the text of a kernel, which is plain wherever there are at most 1,024 groups and no line says what
+/// a buffer holds: a store to the element of the
 /// global id, one with a factor, one with a number more, one with both, and an `int` number.
 pub fn stores_are_plain()
     ensures text { IsTextOf stores (kernel_of (read stores)) }
-    ensures plain { (c : Conditions) → c.groups.x.high ≡ pos 1024 → IsPlain (kernel_of (read stores)).core c }
+    ensures plain { (c : Conditions) → c.groups.x.high ≡ pos 1024 → c.contents ≡ [] → IsPlain (kernel_of (read stores)).core c }
 {
     bytes_are_the_text_of_what_is_read();
 }

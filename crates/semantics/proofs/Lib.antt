@@ -10,6 +10,8 @@ pub mod Arrivals
 pub mod Events
 pub mod Releases
 pub mod MoreAnswers
+pub mod HonestTerms
+pub mod HonestRuns
 pub mod LoadKinds
 pub mod Deciding
 pub mod MemoryKinds

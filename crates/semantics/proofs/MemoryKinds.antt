@@ -16,7 +16,7 @@ use Rattle.semantics.proofs.Updates.{same_cell-is}
 use Rattle.semantics.proofs.Events.{some-is, guarded-is, let_go}
 
 -- a store stores a number of its element's kind
-abbrev StoresKind : Setup → Ask → Type 0
+abbrev pub StoresKind : Setup → Ask → Type 0
 StoresKind s (Loads at kind site) = Unit {0}
 StoresKind s (Stores at site value next) = in_kind (kind_at s at) value ≡ true
 StoresKind s (Goes next) = Unit {0}
@@ -113,7 +113,7 @@ fill-kind : (k : Kind) (n : ℕ) → n < 2 ^ 31 → in_kind k (pos n) ≡ true
 fill-kind Int n h = lt-ltb n (2 ^ 31) h
 fill-kind Uint n h = lt-ltb n (2 ^ 32) (omega arith)
 
-opening-kind : (s : Setup) → Fits s.kernel s.launch → (o a n : ℕ) → in_kind (kind_in s o a) (opening_at s o a n) ≡ true
+pub opening-kind : (s : Setup) → Fits s.kernel s.launch → (o a n : ℕ) → in_kind (kind_in s o a) (opening_at s o a n) ≡ true
 opening-kind s f zero a n = buffers-kind s.kernel.buffers s.launch.buffers a n f.buffers
 opening-kind s f (suc g) a n = fill-kind (kind_in s (suc g) a) s.launch.fill f.fill
 

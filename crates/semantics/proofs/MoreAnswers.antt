@@ -7,13 +7,13 @@ use Rattle.semantics.specs.Memory.{extent}
 use Rattle.semantics.specs.Evaluation.{Outcome, Gives, Needs, Faults, and_then, settled, operate, compare, Index, At, Outside, within, asks, load, decide, evaluate}
 
 -- a reader of answers that hands on what it did not use
-record Grows (f : List Word → Outcome) : Type 0 where
-  by : (answers rest more : List Word) (v : Word) → f answers ≡ Gives v rest → f (answers ++ more) ≡ Gives v (rest ++ more)
+pub record Grows (f : List Word → Outcome) : Type 0 where
+  pub by : (answers rest more : List Word) (v : Word) → f answers ≡ Gives v rest → f (answers ++ more) ≡ Gives v (rest ++ more)
 
-gives-is : (v w : Word) (r q : List Word) → Gives v r ≡ Gives w q → (v ≡ w) × (r ≡ q)
+pub gives-is : (v w : Word) (r q : List Word) → Gives v r ≡ Gives w q → (v ≡ w) × (r ≡ q)
 gives-is v w r q h = (cc, cc)
 
-value-grows : (w : Word) → Grows (Gives w)
+pub value-grows : (w : Word) → Grows (Gives w)
 value-grows w = record { by = λ answers rest more v h. let e = gives-is w v answers rest h in rw (e.0, e.1) refl }
 
 pub then-by : (o : Outcome) (go : Word → List Word → Outcome) (v : Word) (r : List Word) → and_then o go ≡ Gives v r → (a : Word) × (rest : List Word) × (o ≡ Gives a rest) × (go a rest ≡ Gives v r)
@@ -21,18 +21,18 @@ then-by (Gives a rest) go v r h = (a, rest, refl, h)
 then-by (Needs a k site) go v r h = cc
 then-by (Faults f site) go v r h = cc
 
-then-grows : (f : List Word → Outcome) (go : Word → List Word → Outcome) → Grows f → ((a : Word) → Grows (go a)) → Grows (λ answers. and_then (f answers) go)
+pub then-grows : (f : List Word → Outcome) (go : Word → List Word → Outcome) → Grows f → ((a : Word) → Grows (go a)) → Grows (λ answers. and_then (f answers) go)
 then-grows f go hf hgo = record {
   by = λ answers rest more v h.
       let q = then-by (f answers) go v rest h in
       rw (hf.by answers q.1 more q.0 q.2) ((hgo q.0).by q.1 rest more v q.3);
 }
 
-settled-grows : (r : Result Word Fault) (site : Site) → Grows (settled r site)
+pub settled-grows : (r : Result Word Fault) (site : Site) → Grows (settled r site)
 settled-grows (Ok w) site = value-grows w
 settled-grows (Err f) site = record { by = λ answers rest more v h. cc }
 
-decide-grows : (b : Bool) (f g : List Word → Outcome) → Grows f → Grows g → Grows (λ r. decide b (f r) (g r))
+pub decide-grows : (b : Bool) (f g : List Word → Outcome) → Grows f → Grows g → Grows (λ r. decide b (f r) (g r))
 decide-grows true f g hf hg = record { by = hf.by }
 decide-grows false f g hf hg = record { by = hg.by }
 
@@ -44,7 +44,7 @@ load-by : (s : Setup) (a : Array) (site : Site) (z : ℤ) (answers rest more : L
 load-by s a site z [] rest more v h = absurd (asks-gives a (within (extent s a) z) site v rest h)
 load-by s a site z (w ∷ answers) rest more v h = (value-grows _).by answers rest more v h
 
-load-grows : (s : Setup) (a : Array) (site : Site) (z : ℤ) → Grows (load s a site z)
+pub load-grows : (s : Setup) (a : Array) (site : Site) (z : ℤ) → Grows (load s a site z)
 load-grows s a site z = record { by = load-by s a site z }
 
 abbrev reads : Setup → ℕ → List Word → Term → List Word → Outcome

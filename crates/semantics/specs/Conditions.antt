@@ -1,5 +1,5 @@
 -- Launch conditions, and the launches that meet them (ours). All sums are taken over whole numbers, without wrapping.
-use Rattle.std.specs.Prelude.{◌≡◌, ◌<◌, ℕ, ℤ, pos, ◌≤ℤ◌, ◌+ℤ◌, ◌*ℤ◌, List, [], ◌∷◌, length, slice_index_or}
+use Rattle.std.specs.Prelude.{◌≡◌, Bool, true, false, ◌<◌, ℕ, ℤ, pos, ◌≤ℤ◌, ◌+ℤ◌, ◌*ℤ◌, List, [], ◌∷◌, length, slice_index_or}
 use Rattle.std.specs.List.{All, AllZip}
 use Rattle.semantics.specs.Word.{Word, zero_word}
 use Rattle.semantics.specs.Launch.{Three, Kernel, Launch}
@@ -27,11 +27,18 @@ pub record Requirement : Type 0 where
   pub left : List Summand
   pub right : List Summand
 
+-- each element of a buffer is at most a sum, or at least: when the launch begins, and each store keeps it
+pub record Content : Type 0 where
+  pub buffer : ℕ
+  pub is_upper : Bool
+  pub sum : List Summand
+
 pub record Conditions : Type 0 where
   pub groups : Three Range
   pub arguments : List Range
   pub lengths : List (List Summand)
   pub requires : List Requirement
+  pub contents : List Content
   pub budget : ℕ
 
 abbrev pub factor_value : Launch → Factor → ℤ
@@ -58,6 +65,18 @@ IsLongEnough l sum b = sum_value l sum ≤ℤ pos (length b)
 abbrev pub IsRequired : Launch → Requirement → Type 0
 IsRequired l r = sum_value l r.right ≤ℤ sum_value l r.left
 
+-- a number that the line lets the buffer hold
+abbrev pub IsBounded : (is_upper : Bool) → (sum z : ℤ) → Type 0
+IsBounded true sum z = z ≤ℤ sum
+IsBounded false sum z = sum ≤ℤ z
+
+abbrev pub IsContent : Launch → Content → ℤ → Type 0
+IsContent l x z = IsBounded x.is_upper (sum_value l x.sum) z
+
+-- all elements of the line's buffer are such numbers
+abbrev pub IsHeld : Launch → Content → Type 0
+IsHeld l x = All (IsContent l x) (slice_index_or l.buffers x.buffer [])
+
 pub record Meets (c : Conditions) (l : Launch) : Type 0 where
   pub groups_x : IsIn c.groups.x (pos l.groups.x)
   pub groups_y : IsIn c.groups.y (pos l.groups.y)
@@ -65,6 +84,7 @@ pub record Meets (c : Conditions) (l : Launch) : Type 0 where
   pub arguments : AllZip (λ (r : Range) (w : Word). IsIn r w.value) c.arguments l.arguments
   pub lengths : AllZip (IsLongEnough l) c.lengths l.buffers
   pub requires : All (IsRequired l) c.requires
+  pub contents : All (IsHeld l) c.contents
 
 -- the conditions are of this kernel: a range for each value parameter, a sum for each buffer parameter, and no other names
 abbrev pub IsNamedFactor : Kernel → Factor → Type 0
@@ -82,3 +102,4 @@ pub record ConditionsFit (kernel : Kernel) (c : Conditions) : Type 0 where
   pub lengths : length c.lengths ≡ length kernel.buffers
   pub sums : All (All (IsNamed kernel)) c.lengths
   pub requires : All (λ (r : Requirement). All (IsNamed kernel) r.left × All (IsNamed kernel) r.right) c.requires
+  pub contents : All (λ (x : Content). (x.buffer < length kernel.buffers) × All (IsNamed kernel) x.sum) c.contents

@@ -8,6 +8,7 @@ pub mod Item
 pub mod Ask
 pub mod Solo
 pub mod World
+pub mod Contents
 pub mod Safety
 pub mod Tests
 pub mod Rounds

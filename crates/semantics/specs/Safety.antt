@@ -6,6 +6,9 @@ use Rattle.semantics.specs.Word.{Fault}
 use Rattle.semantics.specs.Setup.{Setup, group_of, item_count}
 use Rattle.semantics.specs.Item.{Waiting, Ended, Stopped, trail}
 use Rattle.semantics.specs.Solo.{Access, after, Touched, passed, arrived}
+use Rattle.semantics.specs.Ask.{ask}
+use Rattle.semantics.specs.Conditions.{Content}
+use Rattle.semantics.specs.Contents.{IsHonest, StoresKept}
 use Rattle.semantics.specs.World.{World}
 
 -- a data race: two accesses of different items to one element, one of them a store, that no barrier orders; a barrier
@@ -46,3 +49,19 @@ pub record IsPairSafe (s : Setup) (bound : ℕ) : Type 0 where
   pub apart : (i j : ℕ) (ws vs : List ℤ) (a b : Access) → i < item_count s → j < item_count s → i ≢ j → Touched s i ws a → Touched s j vs b → Clash s a b → ⊥
   pub agree : (i j : ℕ) → i < item_count s → j < item_count s → i ≢ j → group_of s i ≡ group_of s j → WaitAlike s i j
   pub ends : (i j : ℕ) → i < item_count s → j < item_count s → i ≢ j → group_of s i ≡ group_of s j → EndsLast s i j
+
+-- the same of the solo runs whose loads are answered by what the lines let buffers hold
+abbrev pub WaitAlikeWithin : List Content → Setup → ℕ → ℕ → Type 0
+WaitAlikeWithin cs s i j = (ws vs : List ℤ) → IsHonest s cs i ws → IsHonest s cs j vs → (after s i ws).status ≡ Waiting → (after s j vs).status ≡ Waiting → passed s i ws ≡ passed s j vs → trail (after s i ws).left ≡ trail (after s j vs).left
+
+abbrev pub EndsLastWithin : List Content → Setup → ℕ → ℕ → Type 0
+EndsLastWithin cs s i j = (ws vs : List ℤ) → IsHonest s cs i ws → IsHonest s cs j vs → (after s i ws).status ≡ Ended → arrived s j vs ≤ arrived s i ws
+
+-- and each store keeps it. Without lines that is `IsPairSafe`
+pub record IsPairSafeWithin (cs : List Content) (s : Setup) (bound : ℕ) : Type 0 where
+  pub quiet : (i : ℕ) (ws : List ℤ) (f : Fault) (site : Site) → i < item_count s → IsHonest s cs i ws → (after s i ws).status ≢ Stopped f site
+  pub short : (i : ℕ) (ws : List ℤ) → i < item_count s → IsHonest s cs i ws → (after s i ws).steps ≤ bound
+  pub apart : (i j : ℕ) (ws vs : List ℤ) (a b : Access) → i < item_count s → j < item_count s → i ≢ j → IsHonest s cs i ws → IsHonest s cs j vs → Touched s i ws a → Touched s j vs b → Clash s a b → ⊥
+  pub agree : (i j : ℕ) → i < item_count s → j < item_count s → i ≢ j → group_of s i ≡ group_of s j → WaitAlikeWithin cs s i j
+  pub ends : (i j : ℕ) → i < item_count s → j < item_count s → i ≢ j → group_of s i ≡ group_of s j → EndsLastWithin cs s i j
+  pub keeps : (i : ℕ) (ws : List ℤ) → i < item_count s → IsHonest s cs i ws → StoresKept s cs (ask s i (after s i ws))

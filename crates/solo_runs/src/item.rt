@@ -1,5 +1,6 @@
 //! A work-item, and the values of terms.
 
+use crate::holding::Span;
 use crate::operations::{calculated, changed, compared, settled, truth};
 use crate::random::Random;
 use core_code::tree::{Array, Core, Function, Space, Term};
@@ -8,7 +9,7 @@ use words::Kind;
 /// A number along each dimension.
 pub type Triple = [u32; 3];
 
-/// A work-item of a kernel: who it is, what its slots hold, and what it will load.
+/// A work-item of a kernel: who it is, what its slots hold, what it will load, and what buffers may hold, where lines speak of that.
 #[derive(Drop)]
 pub struct Item<'a> {
     pub core: &'a Core,
@@ -17,6 +18,7 @@ pub struct Item<'a> {
     pub local: Triple,
     pub slots: Vec<i64>,
     pub random: Random,
+    pub spans: Vec<Span>,
 }
 
 /// The number along a dimension.
@@ -72,9 +74,21 @@ impl Item<'_> {
         self.slots.get(slot as usize).copied().unwrap_or(0)
     }
 
+    /// What an array may hold, where lines speak of that.
+    fn span_of(&self, array: Array) -> Option<Span> {
+        match array.space {
+            Space::Global => self.spans.get(array.number as usize).copied(),
+            Space::Local => None,
+        }
+    }
+
     fn load(&mut self, array: Array) -> i64 {
         let kind = self.kind_of(array);
-        self.random.loaded(kind)
+        let number = self.random.loaded(kind);
+        match self.span_of(array) {
+            Some(span) => self.random.within(number, span.low, span.high),
+            None => number,
+        }
     }
 }
 

@@ -7,6 +7,7 @@
 
 mod basis;
 mod equalities;
+mod holding;
 mod item;
 mod launching;
 mod modular;

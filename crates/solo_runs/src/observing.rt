@@ -1,5 +1,6 @@
 //! The runs of a kernel.
 
+use crate::holding::spans_of;
 use crate::item::Triple;
 use crate::launching::launches;
 use crate::random::Random;
@@ -7,7 +8,7 @@ use crate::seen::{Arrival, Observed};
 use crate::solo::{Solo, run_all};
 use core_code::tree::Core;
 use guesses::{Ranking, Sight};
-use launch::conditions::Conditions;
+use launch::conditions::{Conditions, Content};
 use launch::launches::{Counts, Launch};
 use std::alloc::{AllocError, Global};
 use std::mem::replace;
@@ -64,9 +65,14 @@ fn run_pair(solo: &mut Solo<'_>, last: bool, arguments: &[Word]) -> Result<(), A
     solo.seen.compare(left.as_slice(), right.as_slice())
 }
 
-fn run_launch(solo: &mut Solo<'_>, launch: &Launch) -> Result<(), AllocError> {
+fn run_launch(
+    solo: &mut Solo<'_>,
+    contents: &[Content],
+    launch: &Launch,
+) -> Result<(), AllocError> {
     let Counts { x, y, z } = launch.groups;
     solo.item.counts = [x, y, z];
+    solo.item.spans = spans_of(solo.alloc, solo.item.core, contents, launch)?;
     run_pair(solo, true, launch.arguments.as_slice())?;
     run_pair(solo, false, launch.arguments.as_slice())
 }
@@ -84,7 +90,7 @@ pub fn observe<'a>(
     let launches = launches(alloc, conditions, &mut random)?;
     let mut solo = Solo::new(alloc, core, sights, rankings, random)?;
     for launch in launches.iter() {
-        run_launch(&mut solo, launch)?;
+        run_launch(&mut solo, conditions.contents.as_slice(), launch)?;
     }
     let none = Observed::new(alloc, &[])?;
     Ok(replace(&mut solo.seen, none))

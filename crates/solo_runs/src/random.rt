@@ -58,4 +58,18 @@ impl Random {
             _ => self.between(low, high),
         }
     }
+
+    /// A number where it is from `low` to `high`; else one that is, most often an end.
+    pub fn within(&mut self, number: i64, low: i64, high: i64) -> i64 {
+        if low <= number && number <= high {
+            return number;
+        }
+        match self.below(4) {
+            0 => low,
+            1 => high,
+            2 => self.between(low, high),
+            _ if number < low => low,
+            _ => high,
+        }
+    }
 }

@@ -157,6 +157,7 @@ impl<'a> Solo<'a> {
             local: [0, 0, 0],
             slots: Vec::new(alloc),
             random,
+            spans: Vec::new(alloc),
         };
         Ok(Solo {
             alloc,

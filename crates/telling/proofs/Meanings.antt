@@ -1,5 +1,5 @@
 -- What the code's kernel, conditions, launch and buffers are in the promise.
-use Rattle.std.proofs.Common.{◌≡◌, ℕ, List, [], ◌∷◌, map, refl, ap, sym, ◌∙◌, subst}
+use Rattle.std.proofs.Common.{◌≡◌, ℕ, List, Bool, [], ◌∷◌, map, refl, ap, sym, ◌∙◌, subst}
 use Rattle.std.specs.Prelude.{Vec}
 use Rattle.std.specs.declared.alloc.Global.{Global}
 use Rattle.semantics.specs.Launch.{Fits}
@@ -39,9 +39,9 @@ rows_seen : (bs : List (Vec Word Global)) → map (map number) (map view.words b
 rows_seen [] = refl
 rows_seen (b ∷ bs) = ap (λ x. x ∷ map (map number) (map view.words bs)) (row_seen b.items) ∙ ap (λ xs. buffer b ∷ xs) (rows_seen bs)
 
-pub is_safe : (kernel conditions : List ℕ) (t : Kernel × Core) (c : Conditions) → IsTextOf kernel (kernel_seen t) → IsConditionsText (tree_seen t.0).parameters conditions (meant (lined c)) → HasHeadline (core_seen t.1) (conditions_seen c)
-    → AreSafeTexts kernel conditions (kernel_seen t) (conditions_seen c)
-is_safe kernel conditions t c text said h = record { kernel_text = text; conditions_text = subst (IsConditionsText (tree_seen t.0).parameters conditions) (conditions_meant c) said; headline = h }
+pub is_safe : (is_wide : Bool) (kernel conditions : List ℕ) (t : Kernel × Core) (c : Conditions) → IsTextOf kernel (kernel_seen t) → IsConditionsText is_wide (tree_seen t.0).parameters conditions (meant (lined c)) → HasHeadline (core_seen t.1) (conditions_seen c)
+    → AreSafeTexts is_wide kernel conditions (kernel_seen t) (conditions_seen c)
+is_safe is_wide kernel conditions t c text said h = record { kernel_text = text; conditions_text = subst (IsConditionsText is_wide (tree_seen t.0).parameters conditions) (conditions_meant c) said; headline = h }
 
 pub is_run : (t : Kernel × Core) (c : Conditions) (launch written : List ℕ) (l : Launch) (b : Buffers) → IsLaunchText (tree_seen t.0).parameters launch (given.meant (view.launch l)) → Fits (core_seen t.1) (launch_seen l)
     → Meets (conditions_seen c) (launch_seen l) → IsDefined (at_launch (core_seen t.1) (launch_seen l)) c.budget → IsResultOf (at_launch (core_seen t.1) (launch_seen l)) c.budget (words_of b)

@@ -7,7 +7,6 @@ use Rattle.semantics.specs.Conditions.{Conditions, Meets}
 use Rattle.syntax.specs.declared.tree.Kernel.{Kernel}
 use Rattle.core_code.specs.declared.tree.Core.{Core}
 use Rattle.reading.specs.Answers.{kernel_seen}
-use Rattle.cert_check.specs.Breadth.{text_says}
 use Rattle.cert_check.specs.Refusing.{IsPassedBy, RefusesBy}
 use Rattle.cert_check.specs.Numbers as checks
 use Rattle.cert_check.specs.declared.error.CheckError.{CheckError}
@@ -17,7 +16,7 @@ use Rattle.telling.specs.declared.Verdict.TheVariants as verdicts
 use Rattle.telling.specs.Proving.{IsProof, IsUnproved}
 use Rattle.telling.specs.ProvingVerdicts.{GoesOn, Explains, ExplainsCheck}
 
-pub is_proof : (is_wide : Bool) (t : Kernel × Core) (c : Conditions) (certificate : List ℕ) → IsPassedBy (text_says is_wide) t c certificate → IsProof is_wide (kernel_seen t) c certificate
+pub is_proof : (is_wide : Bool) (t : Kernel × Core) (c : Conditions) (certificate : List ℕ) → IsPassedBy is_wide t c certificate → IsProof is_wide (kernel_seen t) c certificate
 is_proof is_wide t c certificate (met, cert, n, is, said, passes) = (met, cert, is, (n, said, passes))
 
 -- the launch at the least values is one of the kernel, and meets the conditions
@@ -26,12 +25,12 @@ fits_and_meets k c (Some l) f h = (f l refl, h)
 fits_and_meets k c None f h = tt
 
 -- what goes on behind a refusal explains it
-pub explains : (is_wide : Bool) (kernel conditions told : List ℕ) (v : Verdict) → IsUnproved 1 kernel conditions told → GoesOn told v → Explains is_wide v kernel conditions
+pub explains : (is_wide : Bool) (kernel conditions told : List ℕ) (v : Verdict) → IsUnproved is_wide 1 kernel conditions told → GoesOn told v → Explains is_wide v kernel conditions
 explains is_wide kernel conditions told (verdicts.Done text) r h = absurd h
 explains is_wide kernel conditions told (verdicts.Refused text) r h = (told, h.0, r, h.1)
 explains is_wide kernel conditions told verdicts.OutOfMemory r h = tt
 
-pub explains_check : (is_wide : Bool) (kernel conditions certificate told : List ℕ) (e : CheckError) (v : Verdict) → RefusesBy (text_says is_wide) e kernel conditions certificate → IsLineOf (checks.error_number e) (checks.error_place e) told → GoesOn told v → ExplainsCheck is_wide v kernel conditions certificate
+pub explains_check : (is_wide : Bool) (kernel conditions certificate told : List ℕ) (e : CheckError) (v : Verdict) → RefusesBy is_wide e kernel conditions certificate → IsLineOf (checks.error_number e) (checks.error_place e) told → GoesOn told v → ExplainsCheck is_wide v kernel conditions certificate
 explains_check is_wide kernel conditions certificate told e (verdicts.Done text) r is h = absurd h
 explains_check is_wide kernel conditions certificate told e (verdicts.Refused text) r is h = (told, h.0, (e, r, is), h.1)
 explains_check is_wide kernel conditions certificate told e verdicts.OutOfMemory r is h = tt

@@ -12,7 +12,6 @@ use Rattle.launch_text.specs.Answers as launches
 use Rattle.launch_text.specs.declared.error.LaunchTextError.{LaunchTextError}
 use Rattle.cert_check.specs.Numbers as checks
 use Rattle.cert_check.specs.Numbers.{at_line}
-use Rattle.cert_check.specs.Breadth.{text_says}
 use Rattle.cert_check.specs.Refusing.{RefusesBy}
 use Rattle.cert_check.specs.declared.error.CheckError.{CheckError}
 use Rattle.executor.specs.Numbers as runs
@@ -24,23 +23,23 @@ use Rattle.telling.specs.declared.Verdict.{Verdict}
 use Rattle.telling.specs.declared.Verdict.TheVariants as verdicts
 
 module _ (is_wide : Bool) (k c p l : List ℕ) where
-  pub of_check : (v : Verdict) (e : CheckError) → RefusesBy (text_says is_wide) e k c p → IsRefusal (checks.error_number e) (checks.error_place e) v → Checks is_wide v k c p
+  pub of_check : (v : Verdict) (e : CheckError) → RefusesBy is_wide e k c p → IsRefusal (checks.error_number e) (checks.error_place e) v → Checks is_wide v k c p
   of_check (verdicts.Done text) e r h = absurd h
   of_check (verdicts.Refused line) e r h = (e, r, h)
   of_check verdicts.OutOfMemory e r h = tt
 
-  pub unaccepted_run : (workers : ℕ) (v : Verdict) (e : CheckError) → RefusesBy (text_says is_wide) e k c p → IsRefusal (checks.error_number e) (checks.error_place e) v → Runs is_wide v workers k c p l
+  pub unaccepted_run : (workers : ℕ) (v : Verdict) (e : CheckError) → RefusesBy is_wide e k c p → IsRefusal (checks.error_number e) (checks.error_place e) v → Runs is_wide v workers k c p l
   unaccepted_run workers (verdicts.Done text) e r h = absurd h
   unaccepted_run workers (verdicts.Refused line) e r h = inl (e, r, h)
   unaccepted_run workers verdicts.OutOfMemory e r h = tt
 
-  pub unread_run : (workers : ℕ) (v : Verdict) (e : LaunchTextError) (kernel : Kernel) (conditions : meaning.Conditions) → AreSafeTexts k c kernel conditions → launches.Refuses e (launch_of kernel.tree.parameters l)
+  pub unread_run : (workers : ℕ) (v : Verdict) (e : LaunchTextError) (kernel : Kernel) (conditions : meaning.Conditions) → AreSafeTexts is_wide k c kernel conditions → launches.Refuses e (launch_of kernel.tree.parameters l)
       → IsRefusal (launches.error_number e) (at_line (launches.error_place e)) v → Runs is_wide v workers k c p l
   unread_run workers (verdicts.Done text) e kernel conditions s r h = absurd h
   unread_run workers (verdicts.Refused line) e kernel conditions s r h = inr (inl (e, kernel, conditions, s, r, h))
   unread_run workers verdicts.OutOfMemory e kernel conditions s r h = tt
 
-  pub not_run : (v : Verdict) (e : RunError) (kernel : Kernel) (conditions : Conditions) (launch : Launch) (workers : ℕ) → AreSafeTexts k c kernel (conditions_seen conditions) → launch_of kernel.tree.parameters l ≡ Ok (reading.launch launch)
+  pub not_run : (v : Verdict) (e : RunError) (kernel : Kernel) (conditions : Conditions) (launch : Launch) (workers : ℕ) → AreSafeTexts is_wide k c kernel (conditions_seen conditions) → launch_of kernel.tree.parameters l ≡ Ok (reading.launch launch)
       → Answers conditions (launch_seen launch) workers (Err e) → IsRefusal (runs.error_number e) (at_line (runs.error_line e)) v → Runs is_wide v workers k c p l
   not_run (verdicts.Done text) e kernel conditions launch workers s q r h = absurd h
   not_run (verdicts.Refused line) e kernel conditions launch workers s q r h = inr (inr (e, kernel, conditions, launch, s, q, r, h))

@@ -12,7 +12,7 @@ use Rattle.telling.specs.declared.proving.Sought.TheVariants as answers
 -- the search is the wide one, or it is not
 abbrev pub Proves : (is_wide : Bool) → Sought → (workers : ℕ) → (kernel conditions : List ℕ) → Type 0
 Proves is_wide (answers.Found text certificate) workers kernel conditions = IsProvedText is_wide kernel conditions certificate.items text.items
-Proves is_wide (answers.Refused text) workers kernel conditions = IsUnproved workers kernel conditions (string_bytes text)
+Proves is_wide (answers.Refused text) workers kernel conditions = IsUnproved is_wide workers kernel conditions (string_bytes text)
 Proves is_wide answers.OutOfMemory workers kernel conditions = Unit {0}
 
 -- a text that begins with what is told
@@ -28,11 +28,11 @@ GoesOn told verdicts.OutOfMemory = Unit {0}
 -- where a refusal of a search is explained: what `prove` tells, with one worker, comes first
 abbrev pub Explains : (is_wide : Bool) → Verdict → (kernel conditions : List ℕ) → Type 0
 Explains is_wide (verdicts.Done text) kernel conditions = (certificate : List ℕ) × IsProvedText is_wide kernel conditions certificate text.items
-Explains is_wide (verdicts.Refused text) kernel conditions = Begins (IsUnproved 1 kernel conditions) (string_bytes text)
+Explains is_wide (verdicts.Refused text) kernel conditions = Begins (IsUnproved is_wide 1 kernel conditions) (string_bytes text)
 Explains is_wide verdicts.OutOfMemory kernel conditions = Unit {0}
 
 -- where a refusal of a check is explained: what `check` tells comes first
 abbrev pub ExplainsCheck : (is_wide : Bool) → Verdict → (kernel conditions certificate : List ℕ) → Type 0
-ExplainsCheck is_wide (verdicts.Done text) kernel conditions certificate = IsAcceptedText kernel conditions text.items
+ExplainsCheck is_wide (verdicts.Done text) kernel conditions certificate = IsAcceptedText is_wide kernel conditions text.items
 ExplainsCheck is_wide (verdicts.Refused text) kernel conditions certificate = Begins (IsRefusedText is_wide kernel conditions certificate) (string_bytes text)
 ExplainsCheck is_wide verdicts.OutOfMemory kernel conditions certificate = Unit {0}

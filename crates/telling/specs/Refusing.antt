@@ -13,7 +13,6 @@ use Rattle.launch_text.specs.Answers as launches
 use Rattle.launch_text.specs.declared.error.LaunchTextError.{LaunchTextError}
 use Rattle.cert_check.specs.Numbers as checks
 use Rattle.cert_check.specs.Numbers.{at_line}
-use Rattle.cert_check.specs.Breadth.{text_says}
 use Rattle.cert_check.specs.Refusing.{RefusesBy}
 use Rattle.entry_check.specs.declared.error.Pointer as code
 use Rattle.cert_check.specs.declared.error.CheckError.{CheckError}
@@ -33,20 +32,20 @@ IsRefusedKernel kernel line = (e : KernelError) × kernels.Refuses e (read kerne
 
 -- the check, which is the wide one or is not, refuses the texts
 abbrev pub IsRefusedText : (is_wide : Bool) → (kernel conditions certificate line : List ℕ) → Type 0
-IsRefusedText is_wide kernel conditions certificate line = (e : CheckError) × RefusesBy (text_says is_wide) e kernel conditions certificate × IsLineOf (checks.error_number e) (checks.error_place e) line
+IsRefusedText is_wide kernel conditions certificate line = (e : CheckError) × RefusesBy is_wide e kernel conditions certificate × IsLineOf (checks.error_number e) (checks.error_place e) line
 
 -- the kernel is accepted, and the launch's text is refused
-abbrev pub IsUnreadText : (kernel conditions launch line : List ℕ) → Type 0
-IsUnreadText kernel conditions launch line =
-    (e : LaunchTextError) × (k : Kernel) × (c : meaning.Conditions) × AreSafeTexts kernel conditions k c × launches.Refuses e (launch_of k.tree.parameters launch)
+abbrev pub IsUnreadText : (is_wide : Bool) → (kernel conditions launch line : List ℕ) → Type 0
+IsUnreadText is_wide kernel conditions launch line =
+    (e : LaunchTextError) × (k : Kernel) × (c : meaning.Conditions) × AreSafeTexts is_wide kernel conditions k c × launches.Refuses e (launch_of k.tree.parameters launch)
     × IsLineOf (launches.error_number e) (at_line (launches.error_place e)) line
 
 -- the launch is read, and is not run with so many workers: the first condition that it does not meet, or their number
-abbrev pub IsUnrunText : (workers : ℕ) → (kernel conditions launch line : List ℕ) → Type 0
-IsUnrunText workers kernel conditions launch line =
-    (e : RunError) × (k : Kernel) × (c : Conditions) × (l : Launch) × AreSafeTexts kernel conditions k (conditions_seen c) × (launch_of k.tree.parameters launch ≡ Ok (reading.launch l))
+abbrev pub IsUnrunText : (is_wide : Bool) → (workers : ℕ) → (kernel conditions launch line : List ℕ) → Type 0
+IsUnrunText is_wide workers kernel conditions launch line =
+    (e : RunError) × (k : Kernel) × (c : Conditions) × (l : Launch) × AreSafeTexts is_wide kernel conditions k (conditions_seen c) × (launch_of k.tree.parameters launch ≡ Ok (reading.launch l))
     × Answers c (launch_seen l) workers (Err e) × IsLineOf (runs.error_number e) (at_line (runs.error_line e)) line
 
 -- one of these
 abbrev pub IsUnanswered : (is_wide : Bool) → (workers : ℕ) → (kernel conditions certificate launch line : List ℕ) → Type 0
-IsUnanswered is_wide workers kernel conditions certificate launch line = IsRefusedText is_wide kernel conditions certificate line ⊎ (IsUnreadText kernel conditions launch line ⊎ IsUnrunText workers kernel conditions launch line)
+IsUnanswered is_wide workers kernel conditions certificate launch line = IsRefusedText is_wide kernel conditions certificate line ⊎ (IsUnreadText is_wide kernel conditions launch line ⊎ IsUnrunText is_wide workers kernel conditions launch line)

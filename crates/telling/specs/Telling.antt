@@ -1,6 +1,6 @@
 -- What the program promises where it says that a kernel is accepted, where it gives the buffers of a launch, and where it gives a canonical
 -- text: all of it is said of bytes and of the definitions, and no type of the code stands in it.
-use Rattle.std.specs.Prelude.{◌≡◌, ℕ, List, map, codes}
+use Rattle.std.specs.Prelude.{◌≡◌, ℕ, List, Bool, map, codes}
 use Rattle.semantics.specs.Word.{Word}
 use Rattle.semantics.specs.Launch.{Launch, Fits}
 use Rattle.semantics.specs.Conditions.{Conditions, Meets}
@@ -16,11 +16,11 @@ use Rattle.reading.specs.Texts.{IsTextOf}
 use Rattle.cert_check.specs.Accepting.{at_launch, HasHeadline}
 use Rattle.executor.specs.Ends.{IsResultOf, EndsEvery, HaveKinds}
 
--- the bytes are the text of the kernel, by the grammar, and the text of the conditions, case by case; and at each launch that meets these
--- the headline holds
-pub record AreSafeTexts (kernel conditions : List ℕ) (k : Kernel) (c : Conditions) : Type 0 where
+-- the bytes are the text of the kernel, by the grammar, and the text of the conditions, case by case, which is of version 2 only
+-- where the check is the wide one; and at each launch that meets these the headline holds
+pub record AreSafeTexts (is_wide : Bool) (kernel conditions : List ℕ) (k : Kernel) (c : Conditions) : Type 0 where
   pub kernel_text : IsTextOf kernel k
-  pub conditions_text : IsConditionsText k.tree.parameters conditions c
+  pub conditions_text : IsConditionsText is_wide k.tree.parameters conditions c
   pub headline : HasHeadline k.core c
 
 abbrev pub accepted_line : List ℕ
@@ -42,12 +42,12 @@ pub record IsRun (k : Kernel) (c : Conditions) (launch written : List ℕ) (l : 
   pub kinds : HaveKinds k.core.buffers b
   pub text : written ≡ buffers_text k.tree.parameters b
 
-abbrev pub IsAcceptedText : (kernel conditions written : List ℕ) → Type 0
-IsAcceptedText kernel conditions written = (k : Kernel) × (c : Conditions) × AreSafeTexts kernel conditions k c × (written ≡ accepted_line)
+abbrev pub IsAcceptedText : (is_wide : Bool) → (kernel conditions written : List ℕ) → Type 0
+IsAcceptedText is_wide kernel conditions written = (k : Kernel) × (c : Conditions) × AreSafeTexts is_wide kernel conditions k c × (written ≡ accepted_line)
 
-abbrev pub IsResultText : (kernel conditions launch written : List ℕ) → Type 0
-IsResultText kernel conditions launch written =
-    (k : Kernel) × (c : Conditions) × (l : Launch) × (b : List (List Word)) × AreSafeTexts kernel conditions k c × IsRun k c launch written l b
+abbrev pub IsResultText : (is_wide : Bool) → (kernel conditions launch written : List ℕ) → Type 0
+IsResultText is_wide kernel conditions launch written =
+    (k : Kernel) × (c : Conditions) × (l : Launch) × (b : List (List Word)) × AreSafeTexts is_wide kernel conditions k c × IsRun k c launch written l b
 
 -- the bytes are the text of a kernel, by the grammar, and what is written is the canonical text of its tree
 abbrev pub IsPrintedText : (kernel written : List ℕ) → Type 0

@@ -2,7 +2,6 @@
 
 ghost use Rattle.std.specs.Prelude.{◌≡◌, ℕ, List, Bool};
 ghost use Rattle.std.specs.String.{string_bytes};
-ghost use Rattle.cert_check.specs.Breadth.{text_says};
 ghost use Rattle.cert_check.specs.Refusing.{RefusesBy};
 ghost use Rattle.proof_search.specs.Searching.{TellsOf};
 ghost use Rattle.telling.specs.ProvingVerdicts.{Explains, ExplainsCheck, GoesOn};
@@ -20,7 +19,7 @@ use reading::laws::bytes_are_the_text_of_what_is_read;
 use std::alloc::Global;
 use std::sync::Wait;
 use std::thread::Threads;
-use verify::{VerifyError, find_as};
+use verify::{VerifyError, find_first};
 
 /// The number of steps that pass the budget.
 const OVER_BUDGET: u8 = 56;
@@ -58,7 +57,7 @@ fn unfound(
     error: &VerifyError,
     over_budget: Option<&[u8]>,
 ) -> Verdict
-    ensures { (is_wide : Bool) (k c : List ℕ) → TellsOf error.now 1 k c → Explains is_wide result k c }
+    ensures { (is_wide : Bool) (k c : List ℕ) → TellsOf is_wide error.now 1 k c → Explains is_wide result k c }
 {
     let refused = Refused {
         number: error.number(),
@@ -72,7 +71,7 @@ fn unfound(
     }
 }
 
-/// The text of the certificate that is found, where a refusal of that number is of its steps.
+/// The text of the certificate of the narrow walk, where a refusal of that number is of its steps.
 fn found_over_budget<R: Threads + Sync>(
     rt: &R,
     alloc: Global,
@@ -84,7 +83,7 @@ fn found_over_budget<R: Threads + Sync>(
     if number != OVER_BUDGET {
         return None;
     }
-    match find_as(rt, alloc, kernel, conditions, 1, is_wide) {
+    match find_first(rt, alloc, kernel, conditions, 1, is_wide) {
         Ok(Found { text, .. }) => Some(text),
         Err(_) => None,
     }
@@ -112,7 +111,7 @@ pub fn explain_texts<R: Threads + Wait + Sync>(
 
 /// Tells and explains why `check` refuses.
 fn unaccepted(alloc: Global, texts: Texts, error: &CheckError) -> Verdict
-    ensures { (is_wide : Bool) (k c p : List ℕ) → RefusesBy (text_says is_wide) error.now k c p → ExplainsCheck is_wide result k c p }
+    ensures { (is_wide : Bool) (k c p : List ℕ) → RefusesBy is_wide error.now k c p → ExplainsCheck is_wide result k c p }
 {
     let number = error.number();
     let refusal = Refusal {

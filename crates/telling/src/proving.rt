@@ -88,7 +88,7 @@ fn push_lines(alloc: Global, text: &mut String, findings: &[Finding]) -> Result<
 
 /// The refusal where no certificate is found: a line of its number and place, and one for each finding.
 pub fn unproved(alloc: Global, error: &VerifyError) -> Sought
-    ensures { (is_wide : Bool) (workers : ℕ) (kernel conditions : List ℕ) → TellsOf error.now workers kernel conditions → Proves is_wide result workers kernel conditions }
+    ensures { (is_wide : Bool) (workers : ℕ) (kernel conditions : List ℕ) → TellsOf is_wide error.now workers kernel conditions → Proves is_wide result workers kernel conditions }
 {
     let refusal = Refusal {
         number: error.number(),
@@ -135,7 +135,7 @@ pub fn found<R: Threads + Wait + Sync>(
     is_wide: bool,
 ) -> Result<Proved, VerifyError>
     ensures proved { IfOk result (λ p. IsProvedText is_wide kernel.now conditions.now p.certificate.items p.written.items) }
-    ensures told { IfErr result (λ e. TellsOf e workers kernel.now conditions.now) }
+    ensures told { IfErr result (λ e. TellsOf is_wide e workers kernel.now conditions.now) }
 {
     bytes_are_the_text_of_what_is_read();
     what_is_read_of_conditions_is_their_text();

@@ -1,13 +1,13 @@
 -- Reading a conditions text: its lines in order, each condition with its line, or the first fault.
-use Rattle.std.specs.Prelude.{ℕ, zero, suc, ◌*◌, pos, List, [], ◌∷◌, ◌++◌, map, length, Bool, true, false, cond, nat_le, nat_lt, int_le, Option, None, Some, Ok, Err, bytes_eq, codes}
+use Rattle.std.specs.Prelude.{ℕ, ◌*◌, pos, List, [], map, length, Bool, true, false, cond, ◌&&◌, nat_le, nat_lt, int_le, Option, None, Some, Ok, Err, codes}
 use Rattle.semantics.specs.Word.{Kind, Word}
 use Rattle.semantics.specs.Launch.{Three}
 use Rattle.semantics.specs.Conditions as meaning
 use Rattle.semantics.specs.Conditions.{Summand}
 use Rattle.texts.specs.Surface.{Parameter, Buffer, Value}
 use Rattle.texts.specs.LaunchFaults.{EmptyRange, LimitPassed, Cursor, cursor, Step, refused, then, sees, past, expect, end_line}
-use Rattle.texts.specs.LaunchWords.{Conditions, natural_at, word_at, first_word, due, due_blank, due_parameter, each, end_text}
-use Rattle.texts.specs.LaunchSums.{sum_at}
+use Rattle.texts.specs.LaunchWords.{Conditions, natural_at, word_at, due, due_blank, due_parameter, each, several, end_text}
+use Rattle.texts.specs.LaunchSums.{sum_at, buffer_at}
 
 -- both ends belong to a range
 pub record CountRange : Type 0 where
@@ -30,6 +30,13 @@ pub record Requirement : Type 0 where
   pub right : List Summand
   pub line : ℕ
 
+-- each element of a buffer is at most a sum, or at least
+pub record ContentLine : Type 0 where
+  pub buffer : ℕ
+  pub is_upper : Bool
+  pub sum : List Summand
+  pub line : ℕ
+
 -- what a conditions text says, each condition with its line
 pub record Lined : Type 0 where
   pub groups : Three CountRange
@@ -37,6 +44,7 @@ pub record Lined : Type 0 where
   pub arguments : List ArgumentRange
   pub lengths : List Length
   pub requires : List Requirement
+  pub contents : List ContentLine
   pub budget : ℕ
 
 -- the conditions themselves
@@ -52,12 +60,16 @@ length_meant l = l.least
 abbrev pub requirement_meant : Requirement → meaning.Requirement
 requirement_meant r = record { left = r.left; right = r.right }
 
+abbrev pub content_meant : ContentLine → meaning.Content
+content_meant x = record { buffer = x.buffer; is_upper = x.is_upper; sum = x.sum }
+
 abbrev pub meant : Lined → meaning.Conditions
 meant c = record {
   groups = record { x = counts_meant c.groups.x; y = counts_meant c.groups.y; z = counts_meant c.groups.z };
   arguments = map argument_meant c.arguments;
   lengths = map length_meant c.lengths;
   requires = map requirement_meant c.requires;
+  contents = map content_meant c.contents;
   budget = c.budget;
 }
 
@@ -129,40 +141,55 @@ requirement_line has_products ps c =
     then (due_blank Conditions (codes "require") c) (λ a. then (sum_at has_products ps 8 [] a) (λ left. then (expect (codes " >= ") left.1) (λ b.
     then (sum_at has_products ps 8 [] b) (λ right. then (end_line right.1) (λ d. Ok (requirement_of left.0 right.0 c.line, d))))))
 
--- as many as there are, at most as many as there is room for
-unfoldable pub requirement_lines : (has_products : Bool) → List Parameter → (room : ℕ) → List Requirement → Cursor → Step (List Requirement × Cursor)
-requirement_lines has_products ps zero requires c = cond (bytes_eq (first_word c.rest) (codes "require")) (refused LimitPassed c) (Ok (requires, c))
-requirement_lines has_products ps (suc room) requires c =
-    cond (bytes_eq (first_word c.rest) (codes "require")) (then (requirement_line has_products ps c) (λ t. requirement_lines has_products ps room (requires ++ t.0 ∷ []) t.1)) (Ok (requires, c))
+-- as many as there are, at most 16
+abbrev pub requirement_lines : (has_products : Bool) → List Parameter → Cursor → Step (List Requirement × Cursor)
+requirement_lines has_products ps c = several (codes "require") (requirement_line has_products ps) 16 [] c
+
+-- whether the sum is the upper end
+unfoldable pub end_at : Cursor → Step (Bool × Cursor)
+end_at c = cond (sees (codes " <= ") c) (Ok (true, past 4 c)) (then (expect (codes " >= ") c) (λ d. Ok (false, d)))
+
+abbrev pub content_of : (buffer : ℕ) (is_upper : Bool) → List Summand → (line : ℕ) → ContentLine
+content_of buffer is_upper sum line = record { buffer = buffer; is_upper = is_upper; sum = sum; line = line }
+
+unfoldable pub content_line : List Parameter → Cursor → Step (ContentLine × Cursor)
+content_line ps c =
+    then (due_blank Conditions (codes "values") c) (λ a. then (buffer_at ps a) (λ b. then (end_at b.1) (λ e.
+    then (sum_at true ps 8 [] e.1) (λ t. then (end_line t.1) (λ d. Ok (content_of b.0 e.0 t.0 c.line, d))))))
+
+-- as many as there are, at most 16; in texts of version 1 there are none
+unfoldable pub content_lines : (is_two : Bool) → List Parameter → Cursor → Step (List ContentLine × Cursor)
+content_lines false ps c = Ok ([], c)
+content_lines true ps c = several (codes "values") (content_line ps) 16 [] c
 
 unfoldable pub budget_line : Cursor → Step (ℕ × Cursor)
 budget_line c =
     then (due_blank Conditions (codes "budget") c) (λ a. then (natural_at 1 1000000000000 a) (λ t. then (end_line t.1) (λ d. Ok (t.0, d))))
 
-abbrev pub lined : Three CountRange → (groups_line : ℕ) → List ArgumentRange → List Length → List Requirement → ℕ → Lined
-lined groups groups_line arguments lengths requires budget =
-    record { groups = groups; groups_line = groups_line; arguments = arguments; lengths = lengths; requires = requires; budget = budget }
+abbrev pub lined : Three CountRange → (groups_line : ℕ) → List ArgumentRange → List Length → List Requirement → List ContentLine → ℕ → Lined
+lined groups groups_line arguments lengths requires contents budget =
+    record { groups = groups; groups_line = groups_line; arguments = arguments; lengths = lengths; requires = requires; contents = contents; budget = budget }
 
--- in texts of version 2 sums may have products
-unfoldable pub version_at : Cursor → Step (Bool × Cursor)
-version_at c = cond (sees (codes " 2") c) (Ok (true, past 2 c)) (then (expect (codes " 1") c) (λ d. Ok (false, d)))
+-- in texts of version 2, which are read where they may be, sums may have products, and lines say what buffers hold
+unfoldable pub version_at : (may_be_two : Bool) → Cursor → Step (Bool × Cursor)
+version_at may_be_two c = cond (may_be_two && sees (codes " 2") c) (Ok (true, past 2 c)) (then (expect (codes " 1") c) (λ d. Ok (false, d)))
 
 -- the first line
-unfoldable pub version_line : Cursor → Step (Bool × Cursor)
-version_line c =
-    then (due Conditions (codes "conditions") c) (λ a. then (version_at a) (λ v. then (end_line v.1) (λ d. Ok (v.0, d))))
+unfoldable pub version_line : (may_be_two : Bool) → Cursor → Step (Bool × Cursor)
+version_line may_be_two c =
+    then (due Conditions (codes "conditions") c) (λ a. then (version_at may_be_two a) (λ v. then (end_line v.1) (λ d. Ok (v.0, d))))
 
 -- all lines
-unfoldable pub conditions_at : List Parameter → Cursor → Step Lined
-conditions_at ps c =
-    then (version_line c) (λ v. then (groups_line v.1) (λ groups. then (argument_lines ps groups.1) (λ arguments.
-    then (length_lines v.0 ps arguments.1) (λ lengths. then (requirement_lines v.0 ps 16 [] lengths.1) (λ requires. then (budget_line requires.1) (λ budget.
-    then (end_text budget.1) (λ _. Ok (lined groups.0 v.1.line arguments.0 lengths.0 requires.0 budget.0))))))))
+unfoldable pub conditions_at : (may_be_two : Bool) → List Parameter → Cursor → Step Lined
+conditions_at may_be_two ps c =
+    then (version_line may_be_two c) (λ v. then (groups_line v.1) (λ groups. then (argument_lines ps groups.1) (λ arguments.
+    then (length_lines v.0 ps arguments.1) (λ lengths. then (requirement_lines v.0 ps lengths.1) (λ requires. then (content_lines v.0 ps requires.1) (λ contents.
+    then (budget_line contents.1) (λ budget. then (end_text budget.1) (λ _. Ok (lined groups.0 v.1.line arguments.0 lengths.0 requires.0 contents.0 budget.0)))))))))
 
 -- the longest conditions text, in bytes
 abbrev pub conditions_limit : ℕ
 conditions_limit = 65536
 
 -- what a text says of a kernel with these parameters, or its first fault and the number of the line
-abbrev pub conditions_of : List Parameter → List ℕ → Step Lined
-conditions_of ps text = cond (nat_lt conditions_limit (length text)) (Err (LimitPassed, 1)) (conditions_at ps (cursor 1 text))
+abbrev pub conditions_of : (may_be_two : Bool) → List Parameter → List ℕ → Step Lined
+conditions_of may_be_two ps text = cond (nat_lt conditions_limit (length text)) (Err (LimitPassed, 1)) (conditions_at may_be_two ps (cursor 1 text))

@@ -4,10 +4,10 @@ use Rattle.std.specs.Fmt.{decimal, signed_decimal}
 use Rattle.semantics.specs.Core.{Site}
 use Rattle.semantics.specs.Word.{Kind, in_kind}
 use Rattle.semantics.specs.Launch.{Three}
-use Rattle.semantics.specs.Conditions.{Range, Factor, ArgumentFactor, GroupsFactor, Summand, Constant, Product, Requirement, Conditions}
+use Rattle.semantics.specs.Conditions.{Range, Factor, ArgumentFactor, GroupsFactor, Summand, Constant, Product, Requirement, Content, Conditions}
 use Rattle.texts.specs.Lines.{line_feed}
 use Rattle.texts.specs.Surface.{Parameter, Buffer, Value}
-use Rattle.texts.specs.LaunchSums.{value_number, times}
+use Rattle.texts.specs.LaunchSums.{value_number, buffer_number, times}
 
 -- a number of a sum: at most 4,294,967,295 in size
 abbrev pub IsFactor : ℤ → Type 0
@@ -77,6 +77,14 @@ length_text name sum = codes "length " ++ (name ++ (codes " >= " ++ (sum ++ line
 abbrev pub requirement_text : (left right : List ℕ) → List ℕ
 requirement_text left right = codes "require " ++ (left ++ (codes " >= " ++ (right ++ line_feed ∷ [])))
 
+-- `values NAME <= SUM`, `values NAME >= SUM`
+abbrev pub end_text : (is_upper : Bool) → List ℕ
+end_text true = codes " <= "
+end_text false = codes " >= "
+
+abbrev pub content_text : (name : List ℕ) (is_upper : Bool) (sum : List ℕ) → List ℕ
+content_text name is_upper sum = codes "values " ++ (name ++ (end_text is_upper ++ (sum ++ line_feed ∷ [])))
+
 -- `budget N`
 abbrev pub budget_text : ℕ → List ℕ
 budget_text n = codes "budget " ++ (decimal n ++ line_feed ∷ [])
@@ -104,6 +112,13 @@ pub data AreRequirementLines (has_products : Bool) (ps : List Parameter) : List 
       IsShortSum has_products ps left r.left → IsShortSum has_products ps right r.right → AreRequirementLines has_products ps lines rs →
       AreRequirementLines has_products ps (requirement_text left right ++ lines) (r ∷ rs)
 
+-- in texts of version 2; the name is that of a buffer parameter, and several lines may have it
+pub data AreContentLines (is_two : Bool) (ps : List Parameter) : List ℕ → List Content → Type 0 where
+  no_content : AreContentLines is_two ps [] []
+  a_content : {sum lines : List ℕ} {xs : List Content} (name : List ℕ) (x : Content) →
+      is_two ≡ true → buffer_number 0 ps name ≡ Some x.buffer → IsShortSum true ps sum x.sum → AreContentLines is_two ps lines xs →
+      AreContentLines is_two ps (content_text name x.is_upper sum ++ lines) (x ∷ xs)
+
 -- the first line of a text whose sums may have products, and of one whose sums have none
 abbrev pub version_text : (has_products : Bool) → List ℕ
 version_text true = codes "conditions 2"
@@ -114,8 +129,9 @@ pub record AreConditionsLines (has_products : Bool) (ps : List Parameter) (text 
   pub argument_lines : List ℕ
   pub length_lines : List ℕ
   pub requirement_lines : List ℕ
+  pub content_lines : List ℕ
   pub is_text : text ≡ version_text has_products ++ (line_feed ∷
-      (groups_text c.groups ++ (argument_lines ++ (length_lines ++ (requirement_lines ++ budget_text c.budget)))))
+      (groups_text c.groups ++ (argument_lines ++ (length_lines ++ (requirement_lines ++ (content_lines ++ budget_text c.budget))))))
   pub counts_x : AreCounts c.groups.x
   pub counts_y : AreCounts c.groups.y
   pub counts_z : AreCounts c.groups.z
@@ -124,10 +140,13 @@ pub record AreConditionsLines (has_products : Bool) (ps : List Parameter) (text 
   pub lengths : AreLengthLines has_products ps ps length_lines c.lengths
   pub requires : AreRequirementLines has_products ps requirement_lines c.requires
   pub few_requires : length c.requires ≤ 16
+  pub contents : AreContentLines has_products ps content_lines c.contents
+  pub few_contents : length c.contents ≤ 16
   pub budget : (1 ≤ c.budget) × (c.budget ≤ 1000000000000)
 
--- in at most 65,536 bytes
-pub record IsConditionsText (ps : List Parameter) (text : List ℕ) (c : Conditions) : Type 0 where
+-- in at most 65,536 bytes; of version 2 only where it may be
+pub record IsConditionsText (may_be_two : Bool) (ps : List Parameter) (text : List ℕ) (c : Conditions) : Type 0 where
   pub has_products : Bool
+  pub may_have : has_products ≡ true → may_be_two ≡ true
   pub lines : AreConditionsLines has_products ps text c
   pub within_limit : length text ≤ 65536

@@ -12,6 +12,21 @@ value_number before [] name = None
 value_number before (Buffer constant kind site own ∷ ps) name = value_number before ps name
 value_number before (Value kind site own ∷ ps) name = cond (bytes_eq own name) (Some before) (value_number (before + 1) ps name)
 
+-- which of the buffer parameters has a name
+abbrev pub buffer_number : (before : ℕ) → List Parameter → List ℕ → Option ℕ
+buffer_number before [] name = None
+buffer_number before (Buffer constant kind site own ∷ ps) name = cond (bytes_eq own name) (Some before) (buffer_number (before + 1) ps name)
+buffer_number before (Value kind site own ∷ ps) name = buffer_number before ps name
+
+-- a value has no number among the buffers
+abbrev pub buffer_found : List Parameter → (name : List ℕ) → Option ℕ → Cursor → Step (ℕ × Cursor)
+buffer_found ps name (Some n) c = Ok (n, c)
+buffer_found ps name None c = cond (is_known ps name) (refused Expected c) (refused UnknownName c)
+
+-- the name of a buffer
+unfoldable pub buffer_at : List Parameter → Cursor → Step (ℕ × Cursor)
+buffer_at ps c = then (name_at c) (λ t. buffer_found ps t.0 (buffer_number 0 ps t.0) t.1)
+
 -- a buffer has no number
 abbrev pub argument_found : List Parameter → (name : List ℕ) → Option ℕ → Cursor → Step (Factor × Cursor)
 argument_found ps name (Some n) c = Ok (ArgumentFactor n, c)

@@ -1,5 +1,5 @@
 -- Numbers, names and first words of lines, read from the left.
-use Rattle.std.specs.Prelude.{ℕ, ◌+◌, ℤ, pos, negsuc, List, [], ◌∷◌, ◌++◌, length, take, drop, Bool, false, cond, not, nat_eq, nat_le, ◌&&◌, ◌||◌, Option, None, Some, Result, Ok, Err, bytes_eq, codes}
+use Rattle.std.specs.Prelude.{ℕ, zero, suc, ◌+◌, ℤ, pos, negsuc, List, [], ◌∷◌, ◌++◌, length, take, drop, Bool, false, cond, not, nat_eq, nat_le, ◌&&◌, ◌||◌, Option, None, Some, Result, Ok, Err, bytes_eq, codes}
 use Rattle.std.specs.List.{prefix_len, starts_with}
 use Rattle.semantics.specs.Word.{Kind, Word, word, in_kind}
 use Rattle.texts.specs.Numbers.{is_decimal_digit}
@@ -115,6 +115,12 @@ go_on (Some line) done c others = then (line c) (λ t. others (done ++ t.0 ∷ [
 unfoldable pub each : {A : Type 0} → (line : List A → Parameter → Option (Cursor → Step (A × Cursor))) → List A → List Parameter → Cursor → Step (List A × Cursor)
 each line done [] c = Ok (done, c)
 each line done (p ∷ ps) c = go_on (line done p) done c (λ more d. each line more ps d)
+
+-- lines of this first word, as many as there are, behind those before them; at most as many as there is room for
+unfoldable pub several : {A : Type 0} → (keyword : List ℕ) → (line : Cursor → Step (A × Cursor)) → (room : ℕ) → List A → Cursor → Step (List A × Cursor)
+several keyword line zero done c = cond (bytes_eq (first_word c.rest) keyword) (refused LimitPassed c) (Ok (done, c))
+several keyword line (suc room) done c =
+    cond (bytes_eq (first_word c.rest) keyword) (then (line c) (λ t. several keyword line room (done ++ t.0 ∷ []) t.1)) (Ok (done, c))
 
 -- the text's end
 unfoldable pub end_text : Cursor → Step (Unit {0})

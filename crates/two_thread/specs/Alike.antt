@@ -22,4 +22,5 @@ notes_of as' = record {
   quotient = λ n. constant (pos 0);
   has_entry = λ n. false;
   is_wide = false;
+  joins = false;
 }

@@ -1,9 +1,7 @@
 -- What is promised of a kernel that is proved.
-use Rattle.std.specs.Prelude.{◌≡◌, ℕ, List, Ok}
+use Rattle.std.specs.Prelude.{◌≡◌, ℕ, List, Bool, false, Ok}
 use Rattle.certificate_text.specs.Certificate.{Certificate}
 use Rattle.certificate_text.specs.NumberedText.{text_of_two}
-use Rattle.certificate_text.specs.Reading.{Read}
-use Rattle.certificate_text.specs.Versions.{certificate_in}
 use Rattle.texts.specs.ConditionsReading.{conditions_of}
 use Rattle.syntax.specs.View.{kernel as tree_seen}
 use Rattle.core_code.specs.View.{kernel as core_seen}
@@ -11,20 +9,20 @@ use Rattle.launch.specs.View.{conditions as conditions_seen}
 use Rattle.launch_text.specs.View.{lined}
 use Rattle.reading.specs.Kernels.{read}
 use Rattle.reading.specs.Answers.{kernel_seen}
-use Rattle.cert_check.specs.Accepting.{IsAccepted, HasHeadline}
+use Rattle.cert_check.specs.Accepting.{IsAcceptedBy, HasHeadline}
 use Rattle.cert_check.specs.Refusing.{IsPassedBy}
 use Rattle.cert_check.specs.View.{typed_of, kept}
 use Rattle.cert_check.specs.declared.accepted.Accepted.{Accepted}
 
 -- what is accepted are the kernel and the conditions of these bytes; the third text says a certificate, and with that no obligation stops
--- the check; so at each launch that meets the conditions the kernel is pair-safe, and the headline holds; `says` is what texts say
-pub record IsVerifiedBy (says : List ℕ → Read) (kernel_text conditions_text certificate_text : List ℕ) (a : Accepted) : Type 0 where
+-- the check, which is the wide one or is not; so at each launch that meets the conditions the kernel is pair-safe, and the headline holds
+pub record IsVerifiedBy (is_wide : Bool) (kernel_text conditions_text certificate_text : List ℕ) (a : Accepted) : Type 0 where
   pub kernel : read kernel_text ≡ Ok (kernel_seen (typed_of a))
-  pub conditions : conditions_of (tree_seen (typed_of a).0).parameters conditions_text ≡ Ok (lined (kept a))
-  pub passed : IsPassedBy says (typed_of a) (conditions_seen (kept a)) certificate_text
-  pub pair : IsAccepted (core_seen (typed_of a).1) (conditions_seen (kept a))
+  pub conditions : conditions_of is_wide (tree_seen (typed_of a).0).parameters conditions_text ≡ Ok (lined (kept a))
+  pub passed : IsPassedBy is_wide (typed_of a) (conditions_seen (kept a)) certificate_text
+  pub pair : IsAcceptedBy is_wide (core_seen (typed_of a).1) (conditions_seen (kept a))
   pub headline : HasHeadline (core_seen (typed_of a).1) (conditions_seen (kept a))
 
--- of the certificate's text of version 2
+-- of conditions of version 1, and the certificate's text of version 2
 abbrev pub IsVerified : (kernel_text conditions_text : List ℕ) (certificate : Certificate) (a : Accepted) → Type 0
-IsVerified kernel_text conditions_text certificate a = IsVerifiedBy certificate_in kernel_text conditions_text (text_of_two certificate) a
+IsVerified kernel_text conditions_text certificate a = IsVerifiedBy false kernel_text conditions_text (text_of_two certificate) a

@@ -7,4 +7,4 @@
 mod verifying;
 
 pub use proof_search::VerifyError;
-pub use verifying::{Verified, find_as, verify, verify_as, verify_wide};
+pub use verifying::{Verified, find_first, verify, verify_as, verify_wide};

@@ -1,10 +1,7 @@
 //! The search for a certificate, and its check, narrow or wide.
 
-ghost use Rattle.std.specs.Prelude.{◌≡◌, ℕ, List, IfOk, IfErr};
-ghost use Rattle.certificate_text.specs.Reading.{Read};
-ghost use Rattle.certificate_text.specs.Versions.{certificate_any};
+ghost use Rattle.std.specs.Prelude.{◌≡◌, ℕ, List, Bool, true, false, IfOk, IfErr};
 ghost use Rattle.certificate.specs.Certificates.{certificate as certificate_seen};
-ghost use Rattle.cert_check.specs.Breadth.{text_says};
 ghost use Rattle.cert_check.specs.Refusing.{RefusesBy};
 ghost use Rattle.proof_search.specs.Searching.{AreSearched, IsCount, TellsOf, text_by, text_found};
 ghost use Rattle.verify.specs.Verifying.{IsVerified, IsVerifiedBy};
@@ -12,10 +9,13 @@ ghost use Rattle.verify.specs.Verifying.{IsVerified, IsVerifiedBy};
 use cert_check::error::{CheckError, ShowError};
 use cert_check::{Accepted, check_as};
 use certificate::Certificate;
-use proof_search::{Found, VerifyError, find, find_wide};
+use proof_search::{Found, VerifyError, find, find_narrowly, find_wide};
 use std::alloc::Global;
 use std::sync::Wait;
 use std::thread::Threads;
+
+/// The number of want of memory.
+const MEMORY: u8 = 90;
 
 /// A kernel that is accepted, and the certificate with which it is.
 #[derive(Drop)]
@@ -26,7 +26,7 @@ pub struct Verified {
 
 /// The error of `prove` where a certificate that was found does not show what it has to: no findings stand in it.
 fn unshown(alloc: Global, error: ShowError) -> VerifyError
-    ensures { (workers : ℕ) (k c : List ℕ) → IsCount workers → AreSearched k c → TellsOf result workers k c }
+    ensures { (is_wide : Bool) (workers : ℕ) (k c : List ℕ) → IsCount workers → AreSearched is_wide k c → TellsOf is_wide result workers k c }
 {
     match error {
         ShowError::NotShown(_) => VerifyError::NotShown(Vec::new(alloc)),
@@ -37,7 +37,7 @@ fn unshown(alloc: Global, error: ShowError) -> VerifyError
 /// The error of `prove` where the check refuses the certificate that was found.
 #[tactic(auto, using(crate::proofs::Unproved::told))]
 fn unproved(alloc: Global, error: CheckError) -> VerifyError
-    ensures { (says : List ℕ → Read) (workers : ℕ) (k c p : List ℕ) → IsCount workers → RefusesBy says error k c p → TellsOf result workers k c }
+    ensures { (is_wide : Bool) (workers : ℕ) (k c p : List ℕ) → IsCount workers → RefusesBy is_wide error k c p → TellsOf is_wide result workers k c }
 {
     match error {
         CheckError::Show(error) => unshown(alloc, error),
@@ -46,7 +46,7 @@ fn unproved(alloc: Global, error: CheckError) -> VerifyError
 }
 
 /// The certificate that `find` finds, or `find_wide`.
-pub fn find_as<R: Threads + Sync>(
+fn find_as<R: Threads + Sync>(
     rt: &R,
     alloc: Global,
     kernel: &[u8],
@@ -56,7 +56,7 @@ pub fn find_as<R: Threads + Sync>(
 ) -> Result<Found, VerifyError>
     ensures written { IfOk result (λ f. f.text.items ≡ text_by is_wide (certificate_seen f.certificate)) }
     ensures workers { IfOk result (λ _. IsCount workers) }
-    ensures told { IfErr result (λ e. TellsOf e workers kernel.now conditions.now) }
+    ensures told { IfErr result (λ e. TellsOf is_wide e workers kernel.now conditions.now) }
 {
     if is_wide {
         find_wide(rt, alloc, kernel, conditions, workers)
@@ -65,7 +65,73 @@ pub fn find_as<R: Threads + Sync>(
     }
 }
 
-/// A kernel that is proved as by `verify`, or as by `verify_wide`.
+/// The certificate that `find` finds, or `find_narrowly`.
+pub fn find_first<R: Threads + Sync>(
+    rt: &R,
+    alloc: Global,
+    kernel: &[u8],
+    conditions: &[u8],
+    workers: u32,
+    is_wide: bool,
+) -> Result<Found, VerifyError>
+    ensures written { IfOk result (λ f. f.text.items ≡ text_by is_wide (certificate_seen f.certificate)) }
+    ensures workers { IfOk result (λ _. IsCount workers) }
+    ensures told { IfErr result (λ e. TellsOf is_wide e workers kernel.now conditions.now) }
+{
+    if is_wide {
+        find_narrowly(rt, alloc, kernel, conditions, workers)
+    } else {
+        find(rt, alloc, kernel, conditions, workers)
+    }
+}
+
+/// A kernel that is proved with this certificate, as the check has it; or why it is not.
+fn verify_with(
+    alloc: Global,
+    kernel: &[u8],
+    conditions: &[u8],
+    found: Found,
+    is_wide: bool,
+) -> Result<Verified, CheckError>
+    requires { found.text.items ≡ text_by is_wide (certificate_seen found.certificate) }
+    ensures verified { IfOk result (λ v. IsVerifiedBy is_wide kernel.now conditions.now (text_by is_wide (certificate_seen v.certificate)) v.accepted) }
+    ensures refused { IfErr result (λ e. RefusesBy is_wide e kernel.now conditions.now found.text.items) }
+{
+    let Found { certificate, text } = found;
+    match check_as(alloc, kernel, conditions, &text, is_wide) {
+        Ok(accepted) => Ok(Verified {
+            accepted,
+            certificate,
+        }),
+        Err(error) => Err(error),
+    }
+}
+
+/// A kernel that is proved with a certificate of the narrow walk, or what its search comes to.
+fn verify_first<R: Threads + Wait + Sync>(
+    rt: &R,
+    alloc: Global,
+    kernel: &[u8],
+    conditions: &[u8],
+    workers: u32,
+    is_wide: bool,
+) -> Result<Verified, VerifyError>
+    ensures verified { IfOk result (λ v. IsVerifiedBy is_wide kernel.now conditions.now (text_by is_wide (certificate_seen v.certificate)) v.accepted) }
+    ensures workers { IfOk result (λ _. IsCount workers) }
+    ensures told { IfErr result (λ e. TellsOf is_wide e workers kernel.now conditions.now) }
+{
+    let found = match find_first(rt, alloc, kernel, conditions, workers, is_wide) {
+        Ok(found) => found,
+        Err(error) => return Err(error),
+    };
+    match verify_with(alloc, kernel, conditions, found, is_wide) {
+        Ok(verified) => Ok(verified),
+        Err(error) => Err(unproved(alloc, error)),
+    }
+}
+
+/// A kernel that is proved as by `verify`, or as by `verify_wide`. Where the check does not take what the wide walk found, the answer is what
+/// the narrow walk comes to.
 pub fn verify_as<R: Threads + Wait + Sync>(
     rt: &R,
     alloc: Global,
@@ -74,22 +140,24 @@ pub fn verify_as<R: Threads + Wait + Sync>(
     workers: u32,
     is_wide: bool,
 ) -> Result<Verified, VerifyError>
-    ensures verified { IfOk result (λ v. IsVerifiedBy (text_says is_wide) kernel.now conditions.now (text_by is_wide (certificate_seen v.certificate)) v.accepted) }
+    ensures verified { IfOk result (λ v. IsVerifiedBy is_wide kernel.now conditions.now (text_by is_wide (certificate_seen v.certificate)) v.accepted) }
     ensures workers { IfOk result (λ _. IsCount workers) }
-    ensures told { IfErr result (λ e. TellsOf e workers kernel.now conditions.now) }
+    ensures told { IfErr result (λ e. TellsOf is_wide e workers kernel.now conditions.now) }
 {
-    let Found { certificate, text } = match find_as(
-        rt, alloc, kernel, conditions, workers, is_wide,
-    ) {
+    let found = match find_as(rt, alloc, kernel, conditions, workers, is_wide) {
         Ok(found) => found,
         Err(error) => return Err(error),
     };
-    match check_as(alloc, kernel, conditions, &text, is_wide) {
-        Ok(accepted) => Ok(Verified {
-            accepted,
-            certificate,
-        }),
-        Err(error) => Err(unproved(alloc, error)),
+    let is_widely_found = found.certificate.is_wide();
+    match verify_with(alloc, kernel, conditions, found, is_wide) {
+        Ok(verified) => Ok(verified),
+        Err(error) => {
+            if is_widely_found && error.number() != MEMORY {
+                verify_first(rt, alloc, kernel, conditions, workers, is_wide)
+            } else {
+                Err(unproved(alloc, error))
+            }
+        }
     }
 }
 
@@ -105,13 +173,13 @@ pub fn verify<R: Threads + Wait + Sync>(
 ) -> Result<Verified, VerifyError>
     ensures verified { IfOk result (λ v. IsVerified kernel.now conditions.now (certificate_seen v.certificate) v.accepted) }
     ensures workers { IfOk result (λ _. IsCount workers) }
-    ensures told { IfErr result (λ e. TellsOf e workers kernel.now conditions.now) }
+    ensures told { IfErr result (λ e. TellsOf false e workers kernel.now conditions.now) }
 {
     verify_as(rt, alloc, kernel, conditions, workers, false)
 }
 
-/// As `verify`, with a certificate that is wide where one that is not shows too little: it is found by `find_wide`, and checked as by
-/// `check_wide`.
+/// As `verify`, also under conditions of version 2, with a certificate that is wide where one that is not shows too little: it is found by
+/// `find_wide`, and checked as by `check_wide`.
 pub fn verify_wide<R: Threads + Wait + Sync>(
     rt: &R,
     alloc: Global,
@@ -119,9 +187,9 @@ pub fn verify_wide<R: Threads + Wait + Sync>(
     conditions: &[u8],
     workers: u32,
 ) -> Result<Verified, VerifyError>
-    ensures verified { IfOk result (λ v. IsVerifiedBy certificate_any kernel.now conditions.now (text_found (certificate_seen v.certificate)) v.accepted) }
+    ensures verified { IfOk result (λ v. IsVerifiedBy true kernel.now conditions.now (text_found (certificate_seen v.certificate)) v.accepted) }
     ensures workers { IfOk result (λ _. IsCount workers) }
-    ensures told { IfErr result (λ e. TellsOf e workers kernel.now conditions.now) }
+    ensures told { IfErr result (λ e. TellsOf true e workers kernel.now conditions.now) }
 {
     verify_as(rt, alloc, kernel, conditions, workers, true)
 }

@@ -9,9 +9,9 @@ use Rattle.arrivals.specs.Places as arrivals
 use Rattle.words.specs.View.{kind}
 use Rattle.core_code.specs.View.{kernel, local_array}
 use Rattle.core_code.specs.declared.tree.Core.{Core}
-use Rattle.facts.specs.Launching.{launch_facts, known}
+use Rattle.facts.specs.Launching.{launch_facts, known, buffer_bounds}
 use Rattle.facts.specs.Symbols.{Fact}
-use Rattle.facts.specs.View.{known_seen, three}
+use Rattle.facts.specs.View.{known_seen, three, buffer_bound}
 use Rattle.facts.specs.declared.error.WalkError.{WalkError}
 use Rattle.facts.specs.declared.error.WalkError.TheVariants as walks
 use Rattle.facts.proofs.Tests.{and_left}
@@ -45,13 +45,13 @@ use Rattle.walk.specs.declared.error.FindError.{FindError}
 use Rattle.walk.specs.declared.error.FindError.TheVariants as errors
 use Rattle.walk.proofs.Trees.{claims_are, accesses_are, ends_are, fits_are, few_are, goals_same, crossings_same}
 
-all_by_is : {E : Type 0} (g : Ghosts E) (k : Kernel) (c : Conditions) (n : Notes) (m : ℕ) (ps : List arrivals.Place) → all_by g (setting g k c n.is_wide n.has_entry) k n m ps ≡ planted_from g k c n m ps
+all_by_is : {E : Type 0} (g : Ghosts E) (k : Kernel) (c : Conditions) (n : Notes) (m : ℕ) (ps : List arrivals.Place) → all_by g (setting g k c n.is_wide n.joins n.has_entry) k n m ps ≡ planted_from g k c n m ps
 all_by_is g k c n m [] = refl
 all_by_is g k c n m (p ∷ ps) = ap (λ l. planted g k c n m p ∷ l) (all_by_is g k c n (after m (tree_of g k c n m p)) ps)
 
 -- the code's setting
 module _ {E : Type 0} (g : Ghosts E) (core : Core) (c : Conditions) (said : code_notes.Notes) (entries : List Bool) (s : code.Setting E)
-    (has_wide : s.is_wide ≡ said.is_wide) (has_known : known_seen s.known ≡ known g (kernel core).sizes c) (has_sizes : s.sizes ≡ core.sizes) (has_buffers : map kind s.buffers.items ≡ (kernel core).buffers) (has_arrays : map local_array s.arrays.items ≡ (kernel core).arrays) (has_entries : s.entries.items ≡ entries)
+    (has_wide : s.is_wide ≡ said.is_wide) (has_joins : s.joins ≡ said.joins) (has_known : known_seen s.known ≡ known g (kernel core).sizes c) (has_sizes : s.sizes ≡ core.sizes) (has_buffers : map kind s.buffers.items ≡ (kernel core).buffers) (has_arrays : map local_array s.arrays.items ≡ (kernel core).arrays) (has_contents : map buffer_bound s.contents.items ≡ buffer_bounds c) (has_entries : s.entries.items ≡ entries)
     (all : List code_place.Place) (are : map places.place all ≡ arrivals.places (kernel core).body) where
   abbrev k : Kernel
   k = kernel core
@@ -64,7 +64,7 @@ module _ {E : Type 0} (g : Ghosts E) (core : Core) (c : Conditions) (said : code
 
   trees_are : found ≡ all_trees g k c n
   trees_are =
-      (λ i. all_by g (record { is_wide = has_wide i; domain = g; known = has_known i; sizes = ap three has_sizes i; buffers = has_buffers i; arrays = has_arrays i; has_entry = λ m. slice_index_or (has_entries i) m false }) k (seen said (has_entries i)) 0 (are i))
+      (λ i. all_by g (record { is_wide = has_wide i; joins = has_joins i; domain = g; known = has_known i; sizes = ap three has_sizes i; buffers = has_buffers i; arrays = has_arrays i; contents = has_contents i; has_entry = λ m. slice_index_or (has_entries i) m false }) k (seen said (has_entries i)) 0 (are i))
       ∙ all_by_is g k c n 0 (arrivals.places k.body)
 
   stuck_at : (x : FindError) → IsAnyStuck (all_trees g k c n) x → IsUnfound g k c n x

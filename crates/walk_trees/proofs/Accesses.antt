@@ -1,27 +1,29 @@
 -- An access is inside its buffer, and the tree has it. A load is asked for, or gives any number of its buffer's kind.
-use Rattle.std.proofs.Common.{◌≡◌, ℕ, ◌<◌, Bool, true, false, cond, List, [], ◌∷◌, arith, refl, ap, ◌∙◌, inl, lt-ltb}
+use Rattle.std.proofs.Common.{◌≡◌, ℕ, ◌<◌, Bool, true, false, cond, List, [], ◌∷◌, arith, refl, ap, ◌∙◌, subst, inl, lt-ltb}
 use Rattle.std.specs.Prelude.{ℤ, pos, negsuc, ◌-ℤ◌, ◌≤ℤ◌}
 use Rattle.std.proofs.lemmas.Int.{ints}
 use Rattle.semantics.specs.Word.{Word, word, as_kind}
 use Rattle.semantics.specs.Core.{Site, Space, Global, Local, Array}
 use Rattle.semantics.specs.Memory.{extent, extent_in, element_kind, element_kind_in}
+use Rattle.semantics.specs.Contents.{HoldsOf, FirstHeld}
 use Rattle.semantics.specs.Evaluation.{Gives, At, Outside, within, asks as asked, load as loaded}
 use Rattle.semantics.proofs.Words.{as_kind-in_kind}
 use Rattle.facts.specs.Symbols.{Length, Fact, constant, minus}
 use Rattle.facts.proofs.Worlds.{View, setup, length_at}
 use Rattle.walk_trees.specs.Trees.{OfIndex, Tree, Touch, accesses}
-use Rattle.walk_trees.specs.Walks.{State, Onward, claimed_once, at_site, claim_form, unknown}
-use Rattle.walk_trees.specs.Terms.{target_at, length_in, length_form, kind_in, array_kind, access, load}
+use Rattle.walk_trees.specs.Walks.{State, Onward, claimed_once, at_site, claim_form}
+use Rattle.walk_trees.specs.Terms.{target_at, length_in, length_form, kind_in, array_kind, access, element, load}
 use Rattle.walk_trees.proofs.Holding.{fits_itself}
 use Rattle.walk_trees.proofs.Shares.{keeping}
 use Rattle.walk_trees.proofs.Standing.{walks, Seen, Stands, Comes, Goes, gives, asks, way_then, over_claim, over_access, past_claim, past_access, at_once, comes_from, onward, Owns, owns}
-use Rattle.walk_trees.proofs.Ranges.{IsForm, IsValue, form_once, form_constant, form-minus, unknown_sound, told_by}
+use Rattle.walk_trees.proofs.Ranges.{IsForm, IsValue, form_once, form_constant, form-minus, told_by}
+use Rattle.walk_trees.proofs.Contents.{element_sound}
 
 pub within-at : (n k : ℕ) (x : ℤ) → x ≡ pos k → k < n → within n x ≡ At k
 within-at n k x e h = ap (within n) e ∙ ap (λ b. cond b (At k) Outside) (lt-ltb k n h)
 
 module _ {E : Type 0} (c : View E) (launch : List Fact) where
-  kind-is : (sp : Space) (b : ℕ) → element_kind_in (setup c) sp b ≡ kind_in (walks c) sp b
+  pub kind-is : (sp : Space) (b : ℕ) → element_kind_in (setup c) sp b ≡ kind_in (walks c) sp b
   kind-is Global b = refl
   kind-is Local b = refl
 
@@ -79,15 +81,16 @@ module _ {E : Type 0} (c : View E) (launch : List Fact) where
           }
       by (negsuc k) low left m p = absurd (omega (arith, ints))
 
-  -- a load
-  pub load_sound : (answers : List Word) (a : Array) (site : Site) {facts : List Fact} {n : ℕ} {news : List ℤ} (f : Fact) (x : ℤ) (st : State E) (go : Onward E) → c.spaces a.space ≡ true → IsForm c news f x → Stands c launch facts n (load (walks c) a site f st go) news (keeping st) → Goes c launch facts n (load (walks c) a site f st go) go news (owns st) (λ w more v. IsValue c more w v) (loaded (setup c) a site x answers)
-  load_sound [] a site f x st go there m s =
-      let i = inside false a site f x st (λ st'. unknown (walks c) (array_kind (walks c) a) st' go) there m s in
+  -- a load, of which an answer that there is is a number that the array may hold
+  pub load_sound : (answers : List Word) (a : Array) (site : Site) {facts : List Fact} {n : ℕ} {news : List ℤ} (f : Fact) (x : ℤ) (st : State E) (go : Onward E) → c.spaces a.space ≡ true → IsForm c news f x → FirstHeld (setup c) c.conditions.contents a answers → Stands c launch facts n (load (walks c) a site f st go) news (keeping st) → Goes c launch facts n (load (walks c) a site f st go) go news (owns st) (λ w more v. IsValue c more w v) (loaded (setup c) a site x answers)
+  load_sound [] a site f x st go there m held s =
+      let i = inside false a site f x st (λ st'. element (walks c) a st' go) there m s in
       asks a i.index site (ap (λ p. asked a p site) (within-at (extent (setup c) a) i.index x i.same i.below)) i.seen
-  load_sound (w ∷ answers) a site f x st go there m s =
-      let next : State E → Tree E = λ st'. unknown (walks c) (array_kind (walks c) a) st' go in
+  load_sound (w ∷ answers) a site f x st go there m held s =
+      let next : State E → Tree E = λ st'. element (walks c) a st' go in
       let i = inside false a site f x st next there m s in
       let k = array_kind (walks c) a in
       let z = as_kind k w.value in
       let is : element_kind (setup c) a ≡ k = kind-is a.space a.number in
-      gives (word k z) answers (ap (λ j. Gives (word j (as_kind j w.value)) answers) is) (as_kind-in_kind k w.value) (onward c launch i.comes (unknown_sound c launch k i.comes.state go z (as_kind-in_kind k w.value) i.comes.stands))
+      let may : HoldsOf (setup c) c.conditions.contents a.space a.number z = subst (λ j. HoldsOf (setup c) c.conditions.contents a.space a.number (as_kind j w.value)) is held in
+      gives (word k z) answers (ap (λ j. Gives (word j (as_kind j w.value)) answers) is) (as_kind-in_kind k w.value) (onward c launch i.comes (element_sound c launch a i.comes.state go z (as_kind-in_kind k w.value) may i.comes.stands))

@@ -4,6 +4,7 @@ use Rattle.std.specs.List.{All, Contains}
 use Rattle.semantics.specs.Word.{Word}
 use Rattle.semantics.specs.Core.{Term}
 use Rattle.semantics.specs.Solo.{opening}
+use Rattle.semantics.specs.Contents.{HonestTerm}
 use Rattle.semantics.specs.Evaluation.{Outcome, evaluate}
 use Rattle.arrivals.specs.Trees.{AtEnd}
 use Rattle.facts.specs.Symbols.{First, Fact}
@@ -60,5 +61,5 @@ module _ {E : Type 0} (c : View E) (laws : DividesLawfully c.domain) (e : Term) 
     inside = s.inside;
   })
 
-  pub founded : (answers : List Word) → All IsShownWithProducts (claims launch facts 0 (tree_of (walks c) c.kernel e)) → IsFoundIn (tree_of (walks c) c.kernel e) (setup c) (evaluate (setup c) c.item e (opening (setup c) c.item).variables answers)
-  founded answers shown = found ((term_sound c launch laws e covered).value facts 0 [] (beginning c.kernel) with_value (opening (setup c) c.item).variables answers (opening_forms c) (record { fit = held_opening c; counted = refl; shared = tt; launched = launch_known c []; known = item_known c []; shown = shown }))
+  pub founded : (answers : List Word) → HonestTerm (setup c) c.conditions.contents c.item e (opening (setup c) c.item).variables answers → All IsShownWithProducts (claims launch facts 0 (tree_of (walks c) c.kernel e)) → IsFoundIn (tree_of (walks c) c.kernel e) (setup c) (evaluate (setup c) c.item e (opening (setup c) c.item).variables answers)
+  founded answers honest shown = found ((term_sound c launch laws e covered).value facts 0 [] (beginning c.kernel) with_value (opening (setup c) c.item).variables answers honest (opening_forms c) (record { fit = held_opening c; counted = refl; shared = tt; launched = launch_known c []; known = item_known c []; shown = shown }))

@@ -5,11 +5,14 @@ pub mod Shares
 pub mod Standing
 pub mod Showing
 pub mod Ranges
+pub mod Contents
 pub mod Splits
+pub mod Picks
 pub mod Narrow
 pub mod Divisions
 pub mod QuotientSound
 pub mod SharedSound
+pub mod JoinedSound
 pub mod BitNumbers
 pub mod BitTests
 pub mod BitSound
@@ -30,4 +33,5 @@ pub mod Products
 pub mod OwnForms
 pub mod OwnQuotients
 pub mod OwnBits
+pub mod OwnContents
 pub mod OwnTrees

@@ -96,7 +96,7 @@ own-merged : (fs gs : List ℕ) → AreOwnFactors fs → AreOwnFactors gs → Ar
 own-merged [] gs h k = k
 own-merged (a ∷ fs) gs h k = own-merged fs (insert_rising a gs) h.1 (own-insert a gs h.0 k)
 
-own-times : (m n k : ℕ) → times m n ≡ Some k → IsOwnSymbol m → IsOwnSymbol n → IsOwnSymbol k
+pub own-times : (m n k : ℕ) → times m n ≡ Some k → IsOwnSymbol m → IsOwnSymbol n → IsOwnSymbol k
 own-times m n k e p q = (subst AreOwnFactors (sym (times-factors m n k e)) (own-merged (factors m) (factors n) p.0 q.0), whole-times m n k e)
 
 own-plus : (f : Fact) (k : ℤ) (g h : Fact) → plus_multiple f k g ≡ Some h → IsOwn f → IsOwn g → IsOwn h

@@ -10,20 +10,24 @@ use Rattle.linear.specs.Exact.{Terms, sum, multiple}
 use Rattle.linear.specs.Products.{factors, product as form_product}
 use Rattle.facts.specs.Symbols as symbols
 use Rattle.facts.specs.Symbols.{First, Local, Group, Fact, constant, once, minus}
+use Rattle.facts.specs.Launching.{BufferBound}
 use Rattle.walk_trees.specs.Trees.{OfRange, Tree, Leaf, Dead, Claim, Know, Touch, Fork, Access, after, accesses}
 use Rattle.walk_trees.specs.Values.{Value, value}
-use Rattle.walk_trees.specs.Walks.{Setting, State, Onward, claimed_once, counted, bounds_of, newest, claim_form, unknown, any_of, is_kept, kept_or_new, ranged, brought_from, both_brought, at_site, fork, is_dead, unless_dead, is_refuted, know_test, know_two, one_number, known_form}
+use Rattle.walk_trees.specs.Walks.{Setting, State, Onward, claimed_once, counted, bounds_of, newest, know_all, claim_form, unknown, any_of, is_kept, kept_or_new, ranged, brought_from, both_brought, at_site, fork, is_dead, unless_dead, is_refuted, know_test, know_two, one_number, known_form}
 use Rattle.walk_trees.specs.SharedQuotients.{quotient_or_new, left_or_new}
 use Rattle.walk_trees.specs.Operators.{small_product, product_in, product, claim_divisor, claim_quotient, is_exact, asks_dividend, claim_dividend, divided, remaining, is_mask, are_from_zero, masked_by, masked, operate, known_operands, binary, complement, shifted, unary}
 use Rattle.walk_trees.specs.Bits.{meet, join, differ}
-use Rattle.walk_trees.specs.Tests.{Outcomes, below, split_below, split, split_number}
-use Rattle.walk_trees.specs.Terms.{Walks, walk, no_value, truth_value, id_inside, id_outside, id_form, access, array_kind, chosen, pick}
+use Rattle.walk_trees.specs.Joined.{are_joined, excess, know_product, invent_excesses, apart_facts, told_apart, picked_element, picked_facts, pick_joined}
+use Rattle.walk_trees.specs.Tests.{Outcomes, below, split_below, split_apart, split_from_zero, split_sign, split, split_number}
+use Rattle.walk_trees.specs.Terms.{Walks, walk, no_value, truth_value, id_inside, id_outside, id_form, access, array_kind, element, keep_contents, stored, chosen, pick_split, is_joined_pick, pick}
+use Rattle.walk_trees.specs.Contents.{contents_of}
 use Rattle.walk_trees.specs.Statements.{argument_values, zero_value}
 use Rattle.walk_trees.specs.Seconds.{are_own_factors, is_whole, is_own_symbol, are_own_terms, is_own, are_own}
 use Rattle.walk_trees.proofs.Each.{Each}
 use Rattle.walk_trees.proofs.Products.{product_by}
 use Rattle.walk_trees.proofs.OwnForms.{AreOwnFactors, IsOwnSymbol, IsOwn, AreOwn, own-sum, own-multiple, own-product, own-minus, own-new, own-groups, own-given, own-local, own-group}
 use Rattle.walk_trees.proofs.OwnQuotients.{IsOwnValue, AreOwnValues, HasOwn, IsOwnTree, GoesOn, GoesOnBy, GoesEither, invents, multiplieds, quotients, leaves_by, own-shares, quotients_or_new, lefts_or_new}
+use Rattle.walk_trees.proofs.OwnContents.{IsOwnBound, own-in, knows, claims_on}
 use Rattle.walk_trees.proofs.OwnBits.{own_meet, own_join, own_differ}
 
 module _ {E : Type 0} (s : Setting E) where
@@ -69,6 +73,43 @@ module _ {E : Type 0} (s : Setting E) where
   splits_below : (w a b : Bool) (f g : Fact) (st : State E) (go : Outcomes E) → IsOwn f → IsOwn g → HasOwn st → GoesEither go → IsOwnTree (split_below s w a b f g st go)
   splits_below w a b f g st go i j h k = forks st _ _ h (λ c hc. tests w f c (go a) i hc (k a)) (λ c hc. tests w g c (go b) j hc (k b))
 
+  -- one of two trees
+  one_of : (b : Bool) (t u : Tree E) → IsOwnTree t → IsOwnTree u → IsOwnTree (cond b t u)
+  one_of true t u i j = i
+  one_of false t u i j = j
+
+  own-multiplied : (f k m : Fact) → IsOwn f → IsOwn k → small_product f k ≡ Some m → IsOwn m
+  own-multiplied f k m i j e = own-product f k m (product_by (form_product f k) m e) i j
+
+  knows_all : (fs : List Fact) (t : Tree E) → Each IsOwn fs → IsOwnTree t → IsOwnTree (know_all fs t)
+  unfolding IsOwnTree
+  knows_all [] t i h = h
+  knows_all (f ∷ fs) t i h = (i.0, knows_all fs t i.1 h)
+
+  knows_product : (o : Option Fact) (t : Tree E) → ((m : Fact) → o ≡ Some m → IsOwn m) → IsOwnTree t → IsOwnTree (know_product o t)
+  unfolding IsOwnTree
+  knows_product None t i h = h
+  knows_product (Some m) t i h = (own-multiple (negsuc 0) m (i m refl), h)
+
+  -- two new symbols
+  excesses : (f k : Fact) (st : State E) (go : (p q : Fact) → State E → Tree E) → HasOwn st → ((p q : Fact) (a : State E) → IsOwn p → IsOwn q → HasOwn a → IsOwnTree (go p q a)) → IsOwnTree (invent_excesses s f k st go)
+  excesses f k st go h g = invents s (excess s st f) st _ h (λ p st1 i h1. invents s (excess s st1 k) st1 _ h1 (λ q st2 j h2. knows_product (small_product p q) (go p q st2) (λ m e. own-multiplied p q m i j e) (g p q st2 i j h2)))
+
+  tells_apart : (f k : Fact) (st : State E) (go : State E → Tree E) → IsOwn f → HasOwn st → ((a : State E) → HasOwn a → IsOwnTree (go a)) → IsOwnTree (told_apart s f k st go)
+  tells_apart f k st go i h g = excesses f k st _ h (λ p q a u v ha. knows_all (apart_facts f p q) (go a)
+      (own-minus f (minus p q) i (own-minus p q u v), (own-minus (minus p q) f (own-minus p q u v) i, (own-minus (sum p q) (constant (pos 1)) (own-sum p q u v) tt, tt))) (g a ha))
+
+  splits_apart : (b : Bool) (x y : Fact) (st : State E) (go : Outcomes E) → IsOwn x → IsOwn y → HasOwn st → GoesEither go → IsOwnTree (split_apart s b x y st go)
+  splits_apart true x y st go i j h g = tells_apart (minus x y) (minus y x) st (go false) (own-minus x y i j) h (g false)
+  splits_apart false x y st go i j h g = splits_below s.is_wide false false (below x y) (below y x) st go (own-below x y i j) (own-below y x j i) h g
+
+  from_zero : (f k : Fact) (st : State E) (go : Outcomes E) → IsOwn f → IsOwn k → HasOwn st → GoesEither go → IsOwnTree (split_from_zero s f k st go)
+  from_zero f k st go i j h g = forks st _ _ h (λ a ha. tells_apart f k a (go true) i ha (g true)) (λ a ha. tests_two s.is_wide f k a (go false) i j ha (g false))
+
+  by_sign : (p n f k : Fact) (st : State E) (go : Outcomes E) → IsOwn p → IsOwn n → IsOwn f → IsOwn k → HasOwn st → GoesEither go → IsOwnTree (split_sign s p n f k st go)
+  by_sign p n f k st go ip jn i j h g =
+      forks st _ _ h (λ a ha. tests s.is_wide p a (go true) ip ha (g true)) (λ a ha. forks a _ _ ha (λ b hb. tests s.is_wide n b (go true) jn hb (g true)) (λ b hb. tests_two s.is_wide f k b (go false) i j hb (g false)))
+
   splits : (w : Bool) (r : Relation) (x y : Fact) (st : State E) (go : Outcomes E) → IsOwn x → IsOwn y → HasOwn st → GoesEither go → IsOwnTree (split s w r x y st go)
   splits w Less x y st go i j h g = splits_below w true false (below x y) (minus x y) st go (own-below x y i j) (own-minus x y i j) h g
   splits w AtMost x y st go i j h g = splits_below w true false (minus y x) (below y x) st go (own-minus y x j i) (own-below y x j i) h g
@@ -76,19 +117,17 @@ module _ {E : Type 0} (s : Setting E) where
   splits w AtLeast x y st go i j h g = splits_below w true false (minus x y) (below x y) st go (own-minus x y i j) (own-below x y i j) h g
   splits w Equal x y st go i j h g =
       forks st _ _ h (λ a ha. tests_two s.is_wide (minus x y) (minus y x) a (go true) (own-minus x y i j) (own-minus y x j i) ha (g true))
-      (λ a ha. splits_below s.is_wide false false (below x y) (below y x) a go (own-below x y i j) (own-below y x j i) ha g)
+      (λ a ha. splits_apart (are_joined s (pos 1) (minus x y) (minus y x) a) x y a go i j ha g)
   splits w Unequal x y st go i j h g =
-      forks st _ _ h (λ a ha. tests s.is_wide (below x y) a (go true) (own-below x y i j) ha (g true))
-      (λ a ha. forks a _ _ ha (λ b hb. tests s.is_wide (below y x) b (go true) (own-below y x j i) hb (g true)) (λ b hb. tests_two s.is_wide (minus x y) (minus y x) b (go false) (own-minus x y i j) (own-minus y x j i) hb (g false)))
+      one_of (are_joined s (pos 1) (minus x y) (minus y x) st) (split_from_zero s (minus x y) (minus y x) st go) (split_sign s (below x y) (below y x) (minus x y) (minus y x) st go)
+      (from_zero (minus x y) (minus y x) st go (own-minus x y i j) (own-minus y x j i) h g)
+      (by_sign (below x y) (below y x) (minus x y) (minus y x) st go (own-below x y i j) (own-below y x j i) (own-minus x y i j) (own-minus y x j i) h g)
 
   splits_number : (f : Fact) (st : State E) (go : Outcomes E) → IsOwn f → HasOwn st → GoesEither go → IsOwnTree (split_number s f st go)
   splits_number f st go i h g =
-      forks st _ _ h (λ a ha. tests s.is_wide (minus f (constant (pos 1))) a (go true) (own-minus f (constant (pos 1)) i tt) ha (g true))
-      (λ a ha. forks a _ _ ha (λ b hb. tests s.is_wide (minus (constant (negsuc 0)) f) b (go true) (own-minus (constant (negsuc 0)) f tt i) hb (g true))
-      (λ b hb. tests_two s.is_wide f (multiple (negsuc 0) f) b (go false) i (own-multiple (negsuc 0) f i) hb (g false)))
-
-  own-multiplied : (f k m : Fact) → IsOwn f → IsOwn k → small_product f k ≡ Some m → IsOwn m
-  own-multiplied f k m i j e = own-product f k m (product_by (form_product f k) m e) i j
+      one_of (are_joined s (pos 1) f (multiple (negsuc 0) f) st) (split_from_zero s f (multiple (negsuc 0) f) st go) (split_sign s (minus f (constant (pos 1))) (minus (constant (negsuc 0)) f) f (multiple (negsuc 0) f) st go)
+      (from_zero f (multiple (negsuc 0) f) st go i (own-multiple (negsuc 0) f i) h g)
+      (by_sign (minus f (constant (pos 1))) (minus (constant (negsuc 0)) f) f (multiple (negsuc 0) f) st go (own-minus f (constant (pos 1)) i tt) (own-minus (constant (negsuc 0)) f tt i) i (own-multiple (negsuc 0) f i) h g)
 
   product_ins : (b : Bool) (f k : Fact) (e : E) (st : State E) (go : Fact → State E → Tree E) → IsOwn f → IsOwn k → HasOwn st → GoesOn go → IsOwnTree (product_in s b f k e st go)
   product_ins true f k e st go i j h g = multiplieds s (small_product f k) e st go (λ m p. own-multiplied f k m i j p) h g
@@ -136,11 +175,6 @@ module _ {E : Type 0} (s : Setting E) where
 
   claims_dividend : (k : Kind) (x y : Fact) (st : State E) (go : Bool → State E → Tree E) → HasOwn st → GoesEither go → IsOwnTree (claim_dividend s k x y st go)
   claims_dividend k x y st go h g = asks (asks_dividend s st k x y) k x y st go h g
-
-  -- one of two trees
-  one_of : (b : Bool) (t u : Tree E) → IsOwnTree t → IsOwnTree u → IsOwnTree (cond b t u)
-  one_of true t u i j = i
-  one_of false t u i j = j
 
   operates : (op : Operator) (k : Kind) (x y : Fact) (st : State E) (go : Onward E) → IsOwn x → IsOwn y → HasOwn st → GoesOnBy go → IsOwnTree (operate s op k x y st go)
   operates Add k x y st go i j h g = ranges k (sum x y) st go (own-sum x y i j) h g
@@ -221,12 +255,40 @@ module _ {E : Type 0} (s : Setting E) where
   unfolding IsOwnTree
   accesses_on b a site i st go j h g = (j, g (claimed_once (claimed_once (at_site site st))) h)
 
-  picks : (x y second first : Value) (st : State E) (go : Onward E) → IsOwnValue x → IsOwnValue y → IsOwnValue second → IsOwnValue first → HasOwn st → GoesOnBy go → IsOwnTree (pick s x y second first st go)
-  picks x y second first st go i j k l h g = splits s.is_wide Less x.form y.form st _ i j h (λ b a ha. g (chosen b second first) a (of b) ha)
+  picks_split : (x y second first : Value) (st : State E) (go : Onward E) → IsOwnValue x → IsOwnValue y → IsOwnValue second → IsOwnValue first → HasOwn st → GoesOnBy go → IsOwnTree (pick_split s x y second first st go)
+  picks_split x y second first st go i j k l h g = splits s.is_wide Less x.form y.form st _ i j h (λ b a ha. g (chosen b second first) a (of b) ha)
     where
       of : (b : Bool) → IsOwnValue (chosen b second first)
       of true = k
       of false = l
+
+  elements : (a : Array) (st : State E) (go : Onward E) → Each IsOwnBound s.contents → HasOwn st → GoesOnBy go → IsOwnTree (element s a st go)
+  elements a st go o h g = unknowns (array_kind s a) st _ h (λ v st1 i h1. knows s (contents_of s a) v.form st1 _ (own-in s a.space a.number o) i h1 (λ st2 h2. g v st2 i h2))
+
+  keeps : (xs : List BufferBound) (k : Kind) (site : Site) (v : Value) (st : State E) (go : State E → Tree E) → IsOwnValue v → HasOwn st → ((c : State E) → HasOwn c → IsOwnTree (go c)) → IsOwnTree (keep_contents s xs k site v st go)
+  keeps [] k site v st go i h g = g st h
+  keeps (x ∷ xs) k site v st go i h g = brings_from k v.kind v.form (at_site site st) _ i h (λ v' st1 j h1. claims_on s (x ∷ xs) v'.form st1 go h1 g)
+
+  pub stores_on : (a : Array) (site : Site) (x v : Value) (st : State E) (go : State E → Tree E) → IsOwnValue x → IsOwnValue v → HasOwn st → ((c : State E) → HasOwn c → IsOwnTree (go c)) → IsOwnTree (stored s a site x v st go)
+  stores_on a site x v st go i j h g = keeps (contents_of s a) (array_kind s a) site v st _ j h (λ st1 h1. accesses_on true a site x.form st1 go i h1 g)
+
+  own-picked : (b : Bool) (x y m p q : Fact) → IsOwn x → IsOwn y → IsOwn m → IsOwn p → IsOwn q → Each IsOwn (picked_facts b x y m p q)
+  own-picked false x y m p q i j k u v =
+      let mp = own-sum m p k u in
+      let mq = own-sum m q k v in
+      (own-minus y (sum m p) j mp, (own-minus (sum m p) y mp j, (own-minus x (sum m q) i mq, (own-minus (sum m q) x mq i, tt))))
+  own-picked true x y m p q i j k u v =
+      let mp = own-minus m p k u in
+      let mq = own-minus m q k v in
+      (own-minus x (minus m p) i mp, (own-minus (minus m p) x mp i, (own-minus y (minus m q) j mq, (own-minus (minus m q) y mq j, tt))))
+
+  picks_joined : (b : Bool) (k : Kind) (x y : Fact) (st : State E) (go : Onward E) → IsOwn x → IsOwn y → HasOwn st → GoesOnBy go → IsOwnTree (pick_joined s b k x y st go)
+  picks_joined b k x y st go i j h g =
+      invents s (picked_element s b st x y) st _ h (λ m st1 l h1.
+      excesses (minus y x) (minus x y) st1 _ h1 (λ p q st2 u v h2. knows_all (picked_facts b x y m p q) (go (value k m) st2) (own-picked b x y m p q i j l u v) (g (value k m) st2 l h2)))
+
+  picks : (b : Bool) (x y second first : Value) (st : State E) (go : Onward E) → IsOwnValue x → IsOwnValue y → IsOwnValue second → IsOwnValue first → HasOwn st → GoesOnBy go → IsOwnTree (pick s b x y second first st go)
+  picks b x y second first st go i j k l h g = one_of (is_joined_pick s x y st) (pick_joined s b x.kind x.form y.form st go) (pick_split s x y second first st go) (picks_joined b x.kind x.form y.form st go i j h g) (picks_split x y second first st go i j k l h g)
 
   pub record Own (w : Walks E) : Type 0 where
     pub as_value : (st : State E) (go : Onward E) → HasOwn st → GoesOnBy go → IsOwnTree (w.value st go)
@@ -245,23 +307,23 @@ module _ {E : Type 0} (s : Setting E) where
   selects true t u h k = h
   selects false t u h k = k
 
-  pub own : (e : Term) → Own (walk s e)
-  own (Literal k z) = of_value _ (λ st go h g. g (value k (constant z)) st tt h)
-  own (Variable x) = of_value _ (λ st go h g. g _ st (own-variable st.variables x h.0) h)
-  own (Id f d) = of_value _ (λ st go h g. g (value Uint (id_form s f d)) st (either (nat_lt d 3) (id_inside s f d) (id_outside f) (own-inside f d) (own-outside f)) h)
-  own (Load a site e) = of_value _ (λ st go h g. (own e).as_value st _ h (λ x st1 i h1. accesses_on false a site x.form st1 (λ st2. unknown s (array_kind s a) st2 go) i h1 (λ st2 h2. unknowns (array_kind s a) st2 go h2 g)))
-  own (Unary op k site e) = of_value _ (λ st go h g. (own e).as_value st _ h (λ x st1 i h1. unaries op k x (at_site site st1) go i h1 g))
-  own (Binary op k site a b) = of_value _ (λ st go h g. (own a).as_value st _ h (λ x st1 i h1. (own b).as_value st1 _ h1 (λ y st2 j h2.
+  pub own : Each IsOwnBound s.contents → (e : Term) → Own (walk s e)
+  own o (Literal k z) = of_value _ (λ st go h g. g (value k (constant z)) st tt h)
+  own o (Variable x) = of_value _ (λ st go h g. g _ st (own-variable st.variables x h.0) h)
+  own o (Id f d) = of_value _ (λ st go h g. g (value Uint (id_form s f d)) st (either (nat_lt d 3) (id_inside s f d) (id_outside f) (own-inside f d) (own-outside f)) h)
+  own o (Load a site e) = of_value _ (λ st go h g. (own o e).as_value st _ h (λ x st1 i h1. accesses_on false a site x.form st1 (λ st2. element s a st2 go) i h1 (λ st2 h2. elements a st2 go o h2 g)))
+  own o (Unary op k site e) = of_value _ (λ st go h g. (own o e).as_value st _ h (λ x st1 i h1. unaries op k x (at_site site st1) go i h1 g))
+  own o (Binary op k site a b) = of_value _ (λ st go h g. (own o a).as_value st _ h (λ x st1 i h1. (own o b).as_value st1 _ h1 (λ y st2 j h2.
       brings_both k x y (at_site site st2) _ i j h2 (λ v w st3 p q h3. binaries op k v.form w.form st3 go p q h3 g))))
-  own (Convert k site e) = of_value _ (λ st go h g. (own e).as_value st _ h (λ x st1 i h1. brings_from k x.kind x.form (at_site site st1) go i h1 g))
-  own (Compare r k a b) = of_test _ (λ st go h g. (own a).as_value st _ h (λ x st1 i h1. (own b).as_value st1 _ h1 (λ y st2 j h2.
+  own o (Convert k site e) = of_value _ (λ st go h g. (own o e).as_value st _ h (λ x st1 i h1. brings_from k x.kind x.form (at_site site st1) go i h1 g))
+  own o (Compare r k a b) = of_test _ (λ st go h g. (own o a).as_value st _ h (λ x st1 i h1. (own o b).as_value st1 _ h1 (λ y st2 j h2.
       brings_both k x y st2 _ i j h2 (λ v w st3 p q h3. splits false r v.form w.form st3 go p q h3 g))))
-  own (Not e) = of_test _ (λ st go h g. (own e).as_test st _ h (λ b st1 h1. g (not b) st1 h1))
-  own (And a b) = of_test _ (λ st go h g. (own a).as_test st _ h (λ t st1 h1. selects t _ _ ((own b).as_test st1 go h1 g) (g false st1 h1)))
-  own (Or a b) = of_test _ (λ st go h g. (own a).as_test st _ h (λ t st1 h1. selects t _ _ (g true st1 h1) ((own b).as_test st1 go h1 g)))
-  own (Select t a b) = of_value _ (λ st go h g. (own t).as_test st _ h (λ c st1 h1. selects c _ _ ((own a).as_value st1 go h1 g) ((own b).as_value st1 go h1 g)))
-  own (Minimum a b) = of_value _ (λ st go h g. (own a).as_value st _ h (λ x st1 i h1. (own b).as_value st1 _ h1 (λ y st2 j h2. picks y x y x st2 go j i j i h2 g)))
-  own (Maximum a b) = of_value _ (λ st go h g. (own a).as_value st _ h (λ x st1 i h1. (own b).as_value st1 _ h1 (λ y st2 j h2. picks x y y x st2 go i j j i h2 g)))
+  own o (Not e) = of_test _ (λ st go h g. (own o e).as_test st _ h (λ b st1 h1. g (not b) st1 h1))
+  own o (And a b) = of_test _ (λ st go h g. (own o a).as_test st _ h (λ t st1 h1. selects t _ _ ((own o b).as_test st1 go h1 g) (g false st1 h1)))
+  own o (Or a b) = of_test _ (λ st go h g. (own o a).as_test st _ h (λ t st1 h1. selects t _ _ (g true st1 h1) ((own o b).as_test st1 go h1 g)))
+  own o (Select t a b) = of_value _ (λ st go h g. (own o t).as_test st _ h (λ c st1 h1. selects c _ _ ((own o a).as_value st1 go h1 g) ((own o b).as_value st1 go h1 g)))
+  own o (Minimum a b) = of_value _ (λ st go h g. (own o a).as_value st _ h (λ x st1 i h1. (own o b).as_value st1 _ h1 (λ y st2 j h2. picks false y x y x st2 go j i j i h2 g)))
+  own o (Maximum a b) = of_value _ (λ st go h g. (own o a).as_value st _ h (λ x st1 i h1. (own o b).as_value st1 _ h1 (λ y st2 j h2. picks true x y y x st2 go i j j i h2 g)))
 
   pub own-set : (vs : List Value) (x : ℕ) (v : Value) → AreOwnValues vs → IsOwnValue v → AreOwnValues (slice_set vs x v)
   own-set [] x v h i = tt

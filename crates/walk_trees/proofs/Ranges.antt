@@ -113,10 +113,10 @@ module _ {E : Type 0} (c : View E) (launch : List Fact) where
       let high : pos 0 ≤ℤ (greatest k -ℤ y) = told_by (OfRange k) (high_end k f) (greatest k -ℤ y) (claimed_once st) go (past_claim c launch s) (form-minus c (constant (greatest k)) f (greatest k) y (greatest k -ℤ y) (form_constant c news (greatest k)) m (omega (arith, ints))).means in
       in_kind-between k y (omega (arith, ints)) (omega (arith, ints))
 
-  past_range : {facts : List Fact} {n : ℕ} {news : List ℤ} (needed : Bool) (k : Kind) (f : Fact) (st : State E) (go : State E → Tree E) → Stands c launch facts n (in_range (walks c) needed k f st go) news (keeping st) → Stands c launch facts (suc (suc n)) (go (claimed_once (claimed_once st))) news (keeping st)
+  pub past_range : {facts : List Fact} {n : ℕ} {news : List ℤ} (needed : Bool) (k : Kind) (f : Fact) (st : State E) (go : State E → Tree E) → Stands c launch facts n (in_range (walks c) needed k f st go) news (keeping st) → Stands c launch facts (suc (suc n)) (go (claimed_once (claimed_once st))) news (keeping st)
   past_range needed k f st go s = past_claim c launch (past_claim c launch s)
 
-  over_range : {facts : List Fact} {n : ℕ} {news : List ℤ} (needed : Bool) (k : Kind) (f : Fact) (st : State E) (go : State E → Tree E) → Way c facts n (in_range (walks c) needed k f st go) news facts (suc (suc n)) (go (claimed_once (claimed_once st))) news
+  pub over_range : {facts : List Fact} {n : ℕ} {news : List ℤ} (needed : Bool) (k : Kind) (f : Fact) (st : State E) (go : State E → Tree E) → Way c facts n (in_range (walks c) needed k f st go) news facts (suc (suc n)) (go (claimed_once (claimed_once st))) news
   over_range needed k f st go = way_then c launch (over_claim c launch) (over_claim c launch)
 
   kept_sound : (b : Bool) {facts : List Fact} {n : ℕ} {news : List ℤ} (f : Fact) (st : State E) (go : Onward E) (y : ℤ) → Stands c launch facts n (in_range (walks c) b Uint f st (λ st'. kept_or_new (walks c) b f st' go)) news (keeping st) → IsForm c news f y →

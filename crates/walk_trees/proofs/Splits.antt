@@ -1,6 +1,6 @@
 -- Tests: the way of the outcome is gone along, its facts hold, and it is no dead one.
-use Rattle.std.proofs.Common.{◌≡◌, ℕ, Bool, true, false, not, ◌&&◌, ◌||◌, Option, Some, None, inl, inr, List, [], ◌∷◌, arith, refl, sym, ap, ◌∙◌}
-use Rattle.std.specs.Prelude.{ℤ, pos, negsuc, ◌-ℤ◌, ◌*ℤ◌, ◌≤ℤ◌, ◌<ℤ◌, int_lt, int_le}
+use Rattle.std.proofs.Common.{◌≡◌, ℕ, Bool, true, false, not, cond, ◌&&◌, ◌||◌, Option, Some, None, inl, inr, List, [], ◌∷◌, arith, refl, sym, ap, ◌∙◌}
+use Rattle.std.specs.Prelude.{ℤ, pos, negsuc, ◌+ℤ◌, ◌-ℤ◌, ◌*ℤ◌, ◌≤ℤ◌, ◌<ℤ◌, int_lt, int_le}
 use Rattle.std.specs.Ordering.{int_eq}
 use Rattle.std.proofs.lemmas.Int.{ints, by_lt_z}
 use Rattle.std.proofs.lemmas.Bool.{and_parts, or_cases}
@@ -17,11 +17,13 @@ use Rattle.facts.proofs.Worlds.{View, Agrees, own, agrees_itself}
 use Rattle.walk_trees.specs.Held.{narrow}
 use Rattle.walk_trees.specs.Trees.{Tree}
 use Rattle.walk_trees.specs.Walks.{State, element_of, bounds_of, counted, holding, fork, is_none, is_number, is_dead, unless_dead, is_refuted, know_test, know_two}
-use Rattle.walk_trees.specs.Tests.{Outcomes, below, split_below, split, split_number}
+use Rattle.walk_trees.specs.Joined.{are_joined, told_apart}
+use Rattle.walk_trees.specs.Tests.{Outcomes, below, split_below, split_apart, split_from_zero, split_sign, split, split_number}
 use Rattle.walk_trees.proofs.Holding.{known_of, IsHeld, form-has}
 use Rattle.walk_trees.proofs.Shares.{keeping}
 use Rattle.walk_trees.proofs.Standing.{walks, Stands, Comes, over_fact, over_first, over_second, past_fact, narrowed, past_first, past_second, at_once, comes_from, onward, restated, owns}
-use Rattle.walk_trees.proofs.Ranges.{IsForm, form_kept, form_constant, form-multiple, form-minus}
+use Rattle.walk_trees.proofs.Ranges.{IsForm, form_kept, form_constant, form-is, form-multiple, form-minus}
+use Rattle.walk_trees.proofs.JoinedSound.{apart_sound}
 
 pub alone : (ts : List (Weighted ℕ)) → is_none ts ≡ true → (v : ℕ → ℤ) → terms_value v ts ≡ pos 0
 alone [] h v = refl
@@ -51,6 +53,14 @@ data Order (a b : ℤ) : Type 0 where
 
 order : (a b : ℤ) → Order a b
 order a b = by_lt_z a b (λ l. IsBelow l) (λ l. by_lt_z b a (λ k. IsAbove k) (λ k. IsSame (omega (arith, ints, l, k))))
+
+-- two tests that say the same
+int_eq-alike : (a b x y : ℤ) → (a ≡ b → x ≡ y) → (x ≡ y → a ≡ b) → int_eq a b ≡ int_eq x y
+int_eq-alike a b x y f g = elim (order a b) [
+  | IsBelow l ↦ int_eq-not a b (λ e. omega (arith, ints, e, l)) ∙ sym (int_eq-not x y (λ e. let h = g e in omega (arith, ints, h, l)))
+  | IsSame e ↦ int_eq-same a b e ∙ sym (int_eq-same x y (f e))
+  | IsAbove l ↦ int_eq-not a b (λ e. omega (arith, ints, e, l)) ∙ sym (int_eq-not x y (λ e. let h = g e in omega (arith, ints, h, l)))
+]
 
 module _ {E : Type 0} (c : View E) (launch : List Fact) where
   pub value-known : {news : List ℤ} (f : Fact) (z : ℤ) → IsForm c news f z → is_number f ≡ true → f.constant ≡ z
@@ -124,6 +134,43 @@ module _ {E : Type 0} (c : View E) (launch : List Fact) where
   form_from : {news : List ℤ} (f g : Fact) (x y : ℤ) → IsForm c news f x → IsForm c news g y → IsForm c news (minus f g) (x -ℤ y)
   form_from f g x y mf mg = form-minus c f g x y (x -ℤ y) mf mg (omega (arith, ints))
 
+  -- one way, or two, on which two numbers differ
+  split_apart_sound : (b : Bool) {facts : List Fact} {n : ℕ} {news : List ℤ} (f g : Fact) (x y : ℤ) (st : State E) (go : Outcomes E) → (x ≡ y → ⊥) → IsForm c news f x → IsForm c news g y → Stands c launch facts n (split_apart (walks c) b f g st go) news (keeping st) → Comes c launch facts n (split_apart (walks c) b f g st go) go news (owns st) (λ more t. t ≡ false)
+  split_apart_sound true f g x y st go d mf mg s = apart_sound c launch (minus f g) (minus g f) (x -ℤ y) (y -ℤ x) st false go (omega (arith, ints)) (λ e. d (omega (arith, ints, e))) (form_from f g x y mf mg) (form_from g f y x mg mf) s
+  split_apart_sound false f g x y st go d mf mg s = elim (order x y) [
+    | IsBelow l ↦ split_below_first c.is_wide false false (below f g) (below g f) ((y -ℤ x) -ℤ pos 1) st go (form_below f g x y mf mg) (omega (arith, ints, l)) s
+    | IsSame e ↦ absurd (d e)
+    | IsAbove l ↦ split_below_other c.is_wide false false (below f g) (below g f) ((x -ℤ y) -ℤ pos 1) st go (form_below g f y x mg mf) (omega (arith, ints, l)) s
+  ]
+
+  -- not 0, or 0
+  from_zero_sound : {facts : List Fact} {n : ℕ} {news : List ℤ} (f g : Fact) (d e : ℤ) (st : State E) (go : Outcomes E) → d +ℤ e ≡ pos 0 → IsForm c news f d → IsForm c news g e → Stands c launch facts n (split_from_zero (walks c) f g st go) news (keeping st) → Comes c launch facts n (split_from_zero (walks c) f g st go) go news (owns st) (λ more t. t ≡ not (int_eq d (pos 0)))
+  from_zero_sound f g d e st go h mf mg s =
+      let first : State E → Tree E = λ a. told_apart (walks c) f g a (go true) in
+      let second : State E → Tree E = λ a. know_two (walks c) c.is_wide f g a (go false) in
+      let P : List ℤ → Bool → Type 0 = λ more t. t ≡ not (int_eq d (pos 0)) in
+      let apart : (d ≡ pos 0 → ⊥) → Comes c launch _ _ (split_from_zero (walks c) f g st go) go _ (owns st) P = λ k. fork_first st first second go P s (λ u. restated c launch (λ more t kept q. q ∙ ap not (sym (int_eq-not d (pos 0) k))) (apart_sound c launch f g d e st true go h k mf mg u)) in
+      elim (order d (pos 0)) [
+        | IsBelow l ↦ apart (λ q. omega (arith, ints, q, l))
+        | IsSame q ↦ fork_second st first second go P s (λ k u. restated c launch (λ more t kept r. r ∙ ap not (sym (int_eq-same d (pos 0) q))) (know_two_sound c.is_wide f g d e (counted k st) false go mf (omega (arith, ints, q)) mg (omega (arith, ints, q, h)) u))
+        | IsAbove l ↦ apart (λ q. omega (arith, ints, q, l))
+      ]
+
+  -- above, below, or 0
+  sign_sound : {facts : List Fact} {n : ℕ} {news : List ℤ} (p q f g : Fact) (z y x : ℤ) (st : State E) (go : Outcomes E) → (z ≡ pos 0 → pos 0 ≤ℤ y) → (z ≡ pos 0 → pos 0 ≤ℤ x) → IsForm c news p (z -ℤ pos 1) → IsForm c news q (negsuc 0 -ℤ z) → IsForm c news f y → IsForm c news g x → Stands c launch facts n (split_sign (walks c) p q f g st go) news (keeping st) →
+      Comes c launch facts n (split_sign (walks c) p q f g st go) go news (owns st) (λ more t. t ≡ not (int_eq z (pos 0)))
+  sign_sound p q f g z y x st go hy hx mp mq mf mg s =
+      let late : State E → Tree E = λ b. know_two (walks c) c.is_wide f g b (go false) in
+      let under : State E → Tree E = λ b. know_test (walks c) c.is_wide q b (go true) in
+      let first : State E → Tree E = λ a. know_test (walks c) c.is_wide p a (go true) in
+      let second : State E → Tree E = λ a. fork a under late in
+      let P : List ℤ → Bool → Type 0 = λ more t. t ≡ not (int_eq z (pos 0)) in
+      elim (order z (pos 0)) [
+        | IsBelow l ↦ fork_second st first second go P s (λ k u. fork_first (counted k st) under late go P u (λ w. restated c launch (λ more t kept e. e ∙ ap not (sym (int_eq-not z (pos 0) (λ r. omega (arith, ints, r, l))))) (know_sound c.is_wide q (negsuc 0 -ℤ z) (counted k st) true go mq (omega (arith, ints, l)) w)))
+        | IsSame r ↦ fork_second st first second go P s (λ k u. fork_second (counted k st) under late go P u (λ j w. restated c launch (λ more t kept e. e ∙ ap not (sym (int_eq-same z (pos 0) r))) (know_two_sound c.is_wide f g y x (counted j (counted k st)) false go mf (hy r) mg (hx r) w)))
+        | IsAbove l ↦ fork_first st first second go P s (λ u. restated c launch (λ more t kept e. e ∙ ap not (sym (int_eq-not z (pos 0) (λ r. omega (arith, ints, r, l))))) (know_sound c.is_wide p (z -ℤ pos 1) st true go mp (omega (arith, ints, l)) u))
+      ]
+
   -- a comparison
   pub split_sound : (w : Bool) (r : Relation) {facts : List Fact} {n : ℕ} {news : List ℤ} (f g : Fact) (x y : ℤ) (st : State E) (go : Outcomes E) → IsForm c news f x → IsForm c news g y → Stands c launch facts n (split (walks c) w r f g st go) news (keeping st) → Comes c launch facts n (split (walks c) w r f g st go) go news (owns st) (λ more t. t ≡ holds r x y)
   split_sound w Less f g x y st go mf mg s = by_lt_z x y
@@ -139,35 +186,30 @@ module _ {E : Type 0} (c : View E) (launch : List Fact) where
       (λ l. restated c launch (λ more t kept e. e ∙ sym (int_le-not y x l)) (split_below_other w true false (minus f g) (below f g) ((y -ℤ x) -ℤ pos 1) st go (form_below f g x y mf mg) (omega (arith, ints, l)) s))
       (λ l. restated c launch (λ more t kept e. e ∙ sym (le_true y x l)) (split_below_first w true false (minus f g) (below f g) (x -ℤ y) st go (form_from f g x y mf mg) (omega (arith, ints, l)) s))
   split_sound w Equal f g x y st go mf mg s =
+      let joined : State E → Bool = λ a. are_joined (walks c) (pos 1) (minus f g) (minus g f) a in
       let first : State E → Tree E = λ a. know_two (walks c) c.is_wide (minus f g) (minus g f) a (go true) in
-      let second : State E → Tree E = λ a. split_below (walks c) c.is_wide false false (below f g) (below g f) a go in
+      let second : State E → Tree E = λ a. split_apart (walks c) (joined a) f g a go in
+      let P : List ℤ → Bool → Type 0 = λ more t. t ≡ int_eq x y in
       elim (order x y) [
-        | IsBelow l ↦ fork_second st first second go (λ more t. t ≡ int_eq x y) s (λ k u. restated c launch (λ more t kept e. e ∙ sym (int_eq-not x y (λ q. omega (arith, ints, q, l)))) (split_below_first c.is_wide false false (below f g) (below g f) ((y -ℤ x) -ℤ pos 1) (counted k st) go (form_below f g x y mf mg) (omega (arith, ints, l)) u))
-        | IsSame q ↦ fork_first st first second go (λ more t. t ≡ int_eq x y) s (λ u. restated c launch (λ more t kept e. e ∙ sym (int_eq-same x y q)) (know_two_sound c.is_wide (minus f g) (minus g f) (x -ℤ y) (y -ℤ x) st true go (form_from f g x y mf mg) (omega (arith, ints, q)) (form_from g f y x mg mf) (omega (arith, ints, q)) u))
-        | IsAbove l ↦ fork_second st first second go (λ more t. t ≡ int_eq x y) s (λ k u. restated c launch (λ more t kept e. e ∙ sym (int_eq-not x y (λ q. omega (arith, ints, q, l)))) (split_below_other c.is_wide false false (below f g) (below g f) ((x -ℤ y) -ℤ pos 1) (counted k st) go (form_below g f y x mg mf) (omega (arith, ints, l)) u))
+        | IsBelow l ↦ fork_second st first second go P s (λ k u. restated c launch (λ more t kept e. e ∙ sym (int_eq-not x y (λ q. omega (arith, ints, q, l)))) (split_apart_sound (joined (counted k st)) f g x y (counted k st) go (λ q. omega (arith, ints, q, l)) mf mg u))
+        | IsSame q ↦ fork_first st first second go P s (λ u. restated c launch (λ more t kept e. e ∙ sym (int_eq-same x y q)) (know_two_sound c.is_wide (minus f g) (minus g f) (x -ℤ y) (y -ℤ x) st true go (form_from f g x y mf mg) (omega (arith, ints, q)) (form_from g f y x mg mf) (omega (arith, ints, q)) u))
+        | IsAbove l ↦ fork_second st first second go P s (λ k u. restated c launch (λ more t kept e. e ∙ sym (int_eq-not x y (λ q. omega (arith, ints, q, l)))) (split_apart_sound (joined (counted k st)) f g x y (counted k st) go (λ q. omega (arith, ints, q, l)) mf mg u))
       ]
-  split_sound w Unequal f g x y st go mf mg s =
-      let late : State E → Tree E = λ b. know_two (walks c) c.is_wide (minus f g) (minus g f) b (go false) in
-      let above : State E → Tree E = λ b. know_test (walks c) c.is_wide (below g f) b (go true) in
-      let first : State E → Tree E = λ a. know_test (walks c) c.is_wide (below f g) a (go true) in
-      let second : State E → Tree E = λ a. fork a above late in
-      let P : List ℤ → Bool → Type 0 = λ more t. t ≡ not (int_eq x y) in
-      elim (order x y) [
-        | IsBelow l ↦ fork_first st first second go P s (λ u. restated c launch (λ more t kept e. e ∙ ap not (sym (int_eq-not x y (λ q. omega (arith, ints, q, l))))) (know_sound c.is_wide (below f g) ((y -ℤ x) -ℤ pos 1) st true go (form_below f g x y mf mg) (omega (arith, ints, l)) u))
-        | IsSame q ↦ fork_second st first second go P s (λ k u. fork_second (counted k st) above late go P u (λ j w. restated c launch (λ more t kept e. e ∙ ap not (sym (int_eq-same x y q))) (know_two_sound c.is_wide (minus f g) (minus g f) (x -ℤ y) (y -ℤ x) (counted j (counted k st)) false go (form_from f g x y mf mg) (omega (arith, ints, q)) (form_from g f y x mg mf) (omega (arith, ints, q)) w)))
-        | IsAbove l ↦ fork_second st first second go P s (λ k u. fork_first (counted k st) above late go P u (λ w. restated c launch (λ more t kept e. e ∙ ap not (sym (int_eq-not x y (λ q. omega (arith, ints, q, l))))) (know_sound c.is_wide (below g f) ((x -ℤ y) -ℤ pos 1) (counted k st) true go (form_below g f y x mg mf) (omega (arith, ints, l)) w)))
-      ]
+  split_sound w Unequal {facts = facts} {n = n} {news = news} f g x y st go mf mg s = by (are_joined (walks c) (pos 1) (minus f g) (minus g f) st) s
+    where
+      by : (b : Bool) → Stands c launch facts n (cond b (split_from_zero (walks c) (minus f g) (minus g f) st go) (split_sign (walks c) (below f g) (below g f) (minus f g) (minus g f) st go)) news (keeping st) →
+          Comes c launch facts n (cond b (split_from_zero (walks c) (minus f g) (minus g f) st go) (split_sign (walks c) (below f g) (below g f) (minus f g) (minus g f) st go)) go news (owns st) (λ more t. t ≡ not (int_eq x y))
+      by true s = restated c launch (λ more t kept e. e ∙ ap not (int_eq-alike (x -ℤ y) (pos 0) x y (λ h. omega (arith, ints, h)) (λ h. omega (arith, ints, h)))) (from_zero_sound (minus f g) (minus g f) (x -ℤ y) (y -ℤ x) st go (omega (arith, ints)) (form_from f g x y mf mg) (form_from g f y x mg mf) s)
+      by false s =
+          let is = form-is c (negsuc 0 -ℤ (y -ℤ x)) (omega (arith, ints)) (form_below g f y x mg mf) in
+          restated c launch (λ more t kept e. e ∙ ap not (int_eq-alike (y -ℤ x) (pos 0) x y (λ h. omega (arith, ints, h)) (λ h. omega (arith, ints, h))))
+          (sign_sound (below f g) (below g f) (minus f g) (minus g f) (y -ℤ x) (x -ℤ y) (y -ℤ x) st go (λ h. omega (arith, ints, h)) (λ h. omega (arith, ints, h)) (form_below f g x y mf mg) is (form_from f g x y mf mg) (form_from g f y x mg mf) s)
 
   -- a number as a test
   pub split_number_sound : {facts : List Fact} {n : ℕ} {news : List ℤ} (f : Fact) (z : ℤ) (st : State E) (go : Outcomes E) → IsForm c news f z → Stands c launch facts n (split_number (walks c) f st go) news (keeping st) → Comes c launch facts n (split_number (walks c) f st go) go news (owns st) (λ more t. t ≡ not (is_zero z))
-  split_number_sound {news = news} f z st go m s =
-      let late : State E → Tree E = λ b. know_two (walks c) c.is_wide f (multiple (negsuc 0) f) b (go false) in
-      let under : State E → Tree E = λ b. know_test (walks c) c.is_wide (minus (constant (negsuc 0)) f) b (go true) in
-      let first : State E → Tree E = λ a. know_test (walks c) c.is_wide (minus f (constant (pos 1))) a (go true) in
-      let second : State E → Tree E = λ a. fork a under late in
-      let P : List ℤ → Bool → Type 0 = λ more t. t ≡ not (is_zero z) in
-      elim (order z (pos 0)) [
-        | IsBelow l ↦ fork_second st first second go P s (λ k u. fork_first (counted k st) under late go P u (λ w. restated c launch (λ more t kept e. e ∙ ap not (sym (int_eq-not z (pos 0) (λ q. omega (arith, ints, q, l))))) (know_sound c.is_wide (minus (constant (negsuc 0)) f) (negsuc 0 -ℤ z) (counted k st) true go (form_from (constant (negsuc 0)) f (negsuc 0) z (form_constant c news (negsuc 0)) m) (omega (arith, ints, l)) w)))
-        | IsSame q ↦ fork_second st first second go P s (λ k u. fork_second (counted k st) under late go P u (λ j w. restated c launch (λ more t kept e. e ∙ ap not (sym (int_eq-same z (pos 0) q))) (know_two_sound c.is_wide f (multiple (negsuc 0) f) z (negsuc 0 *ℤ z) (counted j (counted k st)) false go m (omega (arith, ints, q)) (form-multiple c (negsuc 0) f z m) (omega (arith, ints, q)) w)))
-        | IsAbove l ↦ fork_first st first second go P s (λ u. restated c launch (λ more t kept e. e ∙ ap not (sym (int_eq-not z (pos 0) (λ q. omega (arith, ints, q, l))))) (know_sound c.is_wide (minus f (constant (pos 1))) (z -ℤ pos 1) st true go (form_from f (constant (pos 1)) z (pos 1) m (form_constant c news (pos 1))) (omega (arith, ints, l)) u))
-      ]
+  split_number_sound {facts = facts} {n = n} {news = news} f z st go m s = by (are_joined (walks c) (pos 1) f (multiple (negsuc 0) f) st) s
+    where
+      by : (b : Bool) → Stands c launch facts n (cond b (split_from_zero (walks c) f (multiple (negsuc 0) f) st go) (split_sign (walks c) (minus f (constant (pos 1))) (minus (constant (negsuc 0)) f) f (multiple (negsuc 0) f) st go)) news (keeping st) →
+          Comes c launch facts n (cond b (split_from_zero (walks c) f (multiple (negsuc 0) f) st go) (split_sign (walks c) (minus f (constant (pos 1))) (minus (constant (negsuc 0)) f) f (multiple (negsuc 0) f) st go)) go news (owns st) (λ more t. t ≡ not (is_zero z))
+      by true s = from_zero_sound f (multiple (negsuc 0) f) z (negsuc 0 *ℤ z) st go (omega (arith, ints)) m (form-multiple c (negsuc 0) f z m) s
+      by false s = sign_sound (minus f (constant (pos 1))) (minus (constant (negsuc 0)) f) f (multiple (negsuc 0) f) z z (negsuc 0 *ℤ z) st go (λ h. omega (arith, ints, h)) (λ h. omega (arith, ints, h)) (form_from f (constant (pos 1)) z (pos 1) m (form_constant c news (pos 1))) (form_from (constant (negsuc 0)) f (negsuc 0) z (form_constant c news (negsuc 0)) m) m (form-multiple c (negsuc 0) f z m) s

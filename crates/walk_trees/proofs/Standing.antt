@@ -28,7 +28,7 @@ use Rattle.walk_trees.proofs.Holding.{known_of, IsHeld, Fits, held_anew, held_na
 
 -- the walk of a kernel under conditions
 abbrev pub walks : {E : Type 0} → View E → Setting E
-walks c = setting c.domain c.kernel c.conditions c.is_wide c.has_entry
+walks c = setting c.domain c.kernel c.conditions c.is_wide c.joins c.has_entry
 
 pub has_left : {A : Type 0} (x : A) (a b : List A) → Has x a → Has x (a ++ b)
 has_left x [] b h = absurd h
@@ -231,9 +231,9 @@ module _ {E : Type 0} (c : View E) (launch : List Fact) where
   goes_on a (asks b k site is seen) = asks b k site is (seen_in c a.way.touched seen)
 
   pub goes_then : {A B : Type 0} {facts : List Fact} {n : ℕ} {tree : Tree E} {go : A → State E → Tree E} {onto : B → State E → Tree E} {news : List ℤ} {variables : Owns} {P : Word → List ℤ → A → Type 0} {Q : Word → List ℤ → B → Type 0} {o : Outcome} (f : Word → List Word → Outcome) → Goes c launch facts n tree go news variables P o →
-      ((w : Word) (rest : List Word) → in_kind w.kind w.value ≡ true → (p : Comes c launch facts n tree go news variables (P w)) → Goes c launch p.path p.count (go p.arrived p.state) onto p.more (owns p.state) Q (f w rest)) →
+      ((w : Word) (rest : List Word) → o ≡ Gives w rest → in_kind w.kind w.value ≡ true → (p : Comes c launch facts n tree go news variables (P w)) → Goes c launch p.path p.count (go p.arrived p.state) onto p.more (owns p.state) Q (f w rest)) →
       Goes c launch facts n tree onto news variables Q (and_then o f)
-  goes_then {facts = facts} {n = n} {tree = tree} {onto = onto} {news = news} {variables = variables} {Q = Q} f (gives w rest is right p) later = subst (λ q. Goes c launch facts n tree onto news variables Q (and_then q f)) (sym is) (goes_on p (later w rest right p))
+  goes_then {facts = facts} {n = n} {tree = tree} {onto = onto} {news = news} {variables = variables} {Q = Q} f (gives w rest is right p) later = subst (λ q. Goes c launch facts n tree onto news variables Q (and_then q f)) (sym is) (goes_on p (later w rest is right p))
   goes_then f (asks a k site is seen) later = asks a k site (ap (λ q. and_then q f) is) seen
 
   -- the item goes on from what arrived, or what goes on takes it as something else

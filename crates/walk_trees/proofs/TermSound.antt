@@ -1,10 +1,11 @@
 -- What the walk of a term promises, as a value and as a test: no fault, each load in the tree, and a form that has the term's value.
 use Rattle.std.proofs.Common.{◌≡◌, ℕ, ◌^◌, ◌&&◌, Bool, true, false, not, cond, List, length, slice_index_or, arith, refl, sym, ap, ◌∙◌, subst, lt-ltb}
-use Rattle.std.specs.Prelude.{ℤ, pos, int_lt, Result}
+use Rattle.std.specs.Prelude.{ℤ, pos, Result}
 use Rattle.std.proofs.lemmas.Bool.{and_parts}
-use Rattle.semantics.specs.Word.{Uint, Word, word, zero_word, Fault, Less, in_kind, as_kind, truth, is_zero, smaller, larger, calculate_unary, convert}
+use Rattle.semantics.specs.Word.{Uint, Word, word, zero_word, Fault, in_kind, as_kind, truth, is_zero, smaller, larger, calculate_unary, convert}
 use Rattle.semantics.specs.Core.{Site, Term, Literal, Variable, Id, Load, Unary, Binary, Convert, Compare, Not, And, Or, Select, Minimum, Maximum}
 use Rattle.semantics.specs.Setup.{identity}
+use Rattle.semantics.specs.Contents.{FirstHeld, Behind, HonestTerm}
 use Rattle.semantics.specs.Evaluation.{Outcome, Gives, and_then, settled, decide, operate, compare, evaluate, load as loaded}
 use Rattle.semantics.proofs.Words.{as_kind-in_kind}
 use Rattle.facts.specs.Symbols.{Fact, constant}
@@ -17,9 +18,10 @@ use Rattle.walk_trees.specs.Tests.{Outcomes, split, split_number}
 use Rattle.walk_trees.specs.Terms.{Walks, by_value, by_test, truth_value, no_value, variable, id_form, load, chosen, pick, walk}
 use Rattle.walk_trees.specs.Covered.{is_covered_unary, covers_term}
 use Rattle.walk_trees.proofs.Shares.{keeping}
-use Rattle.walk_trees.proofs.Standing.{walks, Stands, Comes, Goes, gives, at_once, onward, arriving, restated, goes_then, goes_further, goes_as, Owns, owns}
-use Rattle.walk_trees.proofs.Ranges.{IsForm, IsValue, value_kept, form_constant, brought_sound, both_sound}
+use Rattle.walk_trees.proofs.Standing.{walks, Stands, Comes, Goes, gives, at_once, onward, restated, goes_then, goes_further, goes_as, Owns, owns}
+use Rattle.walk_trees.proofs.Ranges.{IsValue, value_kept, form_constant, brought_sound, both_sound}
 use Rattle.walk_trees.proofs.Splits.{split_sound, split_number_sound}
+use Rattle.walk_trees.proofs.Picks.{picked_goes}
 use Rattle.walk_trees.proofs.QuotientSound.{DividesLawfully}
 use Rattle.walk_trees.proofs.Arithmetic.{Yields, settled_yields, binary_sound, unary_sound}
 use Rattle.walk_trees.proofs.Identities.{id-below, form_id}
@@ -47,6 +49,10 @@ not-not true false e = refl
 not-not false true e = refl
 not-not false false e = cc
 
+not-false : (a : Bool) → not a ≡ false → a ≡ true
+not-false true e = refl
+not-false false e = cc
+
 -- a value arrives as one of its kind with its number, a test as what number it is, a truth value as itself
 abbrev pub ArrivesAsValue : {E : Type 0} → View E → Word → List ℤ → Value → Type 0
 ArrivesAsValue c w more x = IsValue c more w x
@@ -65,47 +71,52 @@ truth-test w more b e = by b ∙ ap (λ (x : Word). not (is_zero x.value)) (sym 
     by false = refl
 
 module _ {E : Type 0} (c : View E) (launch : List Fact) (laws : DividesLawfully c.domain) where
-  -- what is promised of a walk as a value, as a test, and of one whose value is a truth value
-  abbrev pub IsValueWalk : (State E → Onward E → Tree E) → (List Word → List Word → Outcome) → Type 0
-  IsValueWalk walk ev = (facts : List Fact) (n : ℕ) (news : List ℤ) (st : State E) (go : Onward E) (vars answers : List Word) → AreForms c news vars st.variables → Stands c launch facts n (walk st go) news (keeping st) → Goes c launch facts n (walk st go) go news (owns st) (ArrivesAsValue c) (ev vars answers)
+  -- what is promised of a walk as a value, as a test, and of one whose value is a truth value, where the answers to its loads are numbers
+  -- that buffers may hold
+  abbrev pub IsValueWalk : (State E → Onward E → Tree E) → (List Word → List Word → Outcome) → (honest : List Word → List Word → Type 0) → Type 0
+  IsValueWalk walk ev honest = (facts : List Fact) (n : ℕ) (news : List ℤ) (st : State E) (go : Onward E) (vars answers : List Word) → honest vars answers → AreForms c news vars st.variables → Stands c launch facts n (walk st go) news (keeping st) → Goes c launch facts n (walk st go) go news (owns st) (ArrivesAsValue c) (ev vars answers)
 
-  abbrev pub IsTestWalk : (State E → Outcomes E → Tree E) → (List Word → List Word → Outcome) → Type 0
-  IsTestWalk walk ev = (facts : List Fact) (n : ℕ) (news : List ℤ) (st : State E) (go : Outcomes E) (vars answers : List Word) → AreForms c news vars st.variables → Stands c launch facts n (walk st go) news (keeping st) → Goes c launch facts n (walk st go) go news (owns st) ArrivesAsTest (ev vars answers)
+  abbrev pub IsTestWalk : (State E → Outcomes E → Tree E) → (List Word → List Word → Outcome) → (honest : List Word → List Word → Type 0) → Type 0
+  IsTestWalk walk ev honest = (facts : List Fact) (n : ℕ) (news : List ℤ) (st : State E) (go : Outcomes E) (vars answers : List Word) → honest vars answers → AreForms c news vars st.variables → Stands c launch facts n (walk st go) news (keeping st) → Goes c launch facts n (walk st go) go news (owns st) ArrivesAsTest (ev vars answers)
 
-  abbrev IsTruthWalk : (State E → Outcomes E → Tree E) → (List Word → List Word → Outcome) → Type 0
-  IsTruthWalk walk ev = (facts : List Fact) (n : ℕ) (news : List ℤ) (st : State E) (go : Outcomes E) (vars answers : List Word) → AreForms c news vars st.variables → Stands c launch facts n (walk st go) news (keeping st) → Goes c launch facts n (walk st go) go news (owns st) ArrivesAsTruth (ev vars answers)
+  abbrev IsTruthWalk : (State E → Outcomes E → Tree E) → (List Word → List Word → Outcome) → (honest : List Word → List Word → Type 0) → Type 0
+  IsTruthWalk walk ev honest = (facts : List Fact) (n : ℕ) (news : List ℤ) (st : State E) (go : Outcomes E) (vars answers : List Word) → honest vars answers → AreForms c news vars st.variables → Stands c launch facts n (walk st go) news (keeping st) → Goes c launch facts n (walk st go) go news (owns st) ArrivesAsTruth (ev vars answers)
 
-  pub record IsSound (w : Walks E) (ev : List Word → List Word → Outcome) : Type 0 where
-    pub value : IsValueWalk w.value ev
-    pub test : IsTestWalk w.test ev
+  pub record IsSound (w : Walks E) (ev : List Word → List Word → Outcome) (honest : List Word → List Word → Type 0) : Type 0 where
+    pub value : IsValueWalk w.value ev honest
+    pub test : IsTestWalk w.test ev honest
 
-  value_sound : (walk : State E → Onward E → Tree E) (ev : List Word → List Word → Outcome) → IsValueWalk walk ev → IsSound (by_value (walks c) walk) ev
-  value_sound walk ev h = record {
+  value_sound : (walk : State E → Onward E → Tree E) (ev : List Word → List Word → Outcome) (honest : List Word → List Word → Type 0) → IsValueWalk walk ev honest → IsSound (by_value (walks c) walk) ev honest
+  value_sound walk ev honest h = record {
     value = h;
-    test = λ facts n news st go vars answers m s.
+    test = λ facts n news st go vars answers hq m s.
         let between : Onward E = λ x st'. split_number (walks c) x.form st' go in
-        goes_further c launch go ArrivesAsTest (h facts n news st between vars answers m s) (λ w i p. split_number_sound c launch p.arrived.form w.value p.state go p.right.form p.stands);
+        goes_further c launch go ArrivesAsTest (h facts n news st between vars answers hq m s) (λ w i p. split_number_sound c launch p.arrived.form w.value p.state go p.right.form p.stands);
   }
 
-  truth_sound : (walk : State E → Outcomes E → Tree E) (ev : List Word → List Word → Outcome) → IsTruthWalk walk ev → IsSound (by_test walk) ev
-  truth_sound walk ev h = record {
-    value = λ facts n news st go vars answers m s.
-        goes_as c launch go truth_value (ArrivesAsValue c) (λ w more b e. subst (λ (x : Word). IsValue c more x (truth_value b)) (sym e) (record { kind = refl; form = form_constant c more (cond b (pos 1) (pos 0)) })) (h facts n news st (λ b st'. go (truth_value b) st') vars answers m s);
-    test = λ facts n news st go vars answers m s. goes_as c launch go (λ b. b) ArrivesAsTest truth-test (h facts n news st go vars answers m s);
+  truth_sound : (walk : State E → Outcomes E → Tree E) (ev : List Word → List Word → Outcome) (honest : List Word → List Word → Type 0) → IsTruthWalk walk ev honest → IsSound (by_test walk) ev honest
+  truth_sound walk ev honest h = record {
+    value = λ facts n news st go vars answers hq m s.
+        goes_as c launch go truth_value (ArrivesAsValue c) (λ w more b e. subst (λ (x : Word). IsValue c more x (truth_value b)) (sym e) (record { kind = refl; form = form_constant c more (cond b (pos 1) (pos 0)) })) (h facts n news st (λ b st'. go (truth_value b) st') vars answers hq m s);
+    test = λ facts n news st go vars answers hq m s. goes_as c launch go (λ b. b) ArrivesAsTest truth-test (h facts n news st go vars answers hq m s);
   }
 
   -- the slots where the item came to
   forms_at : {A : Type 0} {facts : List Fact} {n : ℕ} {tree : Tree E} {go : A → State E → Tree E} {news : List ℤ} {variables : Owns} {P : List ℤ → A → Type 0} (p : Comes c launch facts n tree go news variables P) (vars : List Word) → AreForms c news vars variables.variables → AreForms c p.more vars p.state.variables
   forms_at p vars m = forms_same c (ap (λ o. o.variables) p.same) (forms_kept c p.way.kept m)
 
+  -- what is so behind a term whose value is known
+  behind : (o : Outcome) (P : Word → List Word → Type 0) (v : Word) (rest : List Word) → o ≡ Gives v rest → Behind o P → P v rest
+  behind o P v rest is h = subst (λ q. Behind q P) is h
+
   -- two operands, one after the other
-  pair_sound : (wa wb : Walks E) (ea eb : List Word → List Word → Outcome) → IsSound wa ea → IsSound wb eb → {B : Type 0} (facts : List Fact) (n : ℕ) (news : List ℤ) (st : State E) (go : Value → Value → State E → Tree E) (onto : B → State E → Tree E) (Q : Word → List ℤ → B → Type 0) (op : Word → Word → List Word → Outcome) (vars answers : List Word) → AreForms c news vars st.variables →
+  pair_sound : (wa wb : Walks E) (ea eb : List Word → List Word → Outcome) (ha hb : List Word → List Word → Type 0) → IsSound wa ea ha → IsSound wb eb hb → {B : Type 0} (facts : List Fact) (n : ℕ) (news : List ℤ) (st : State E) (go : Value → Value → State E → Tree E) (onto : B → State E → Tree E) (Q : Word → List ℤ → B → Type 0) (op : Word → Word → List Word → Outcome) (vars answers : List Word) → ha vars answers × Behind (ea vars answers) (λ a rest. hb vars rest) → AreForms c news vars st.variables →
       ((path : List Fact) (k : ℕ) (more : List ℤ) (st2 : State E) (x y : Value) (a b : Word) (rest : List Word) → in_kind a.kind a.value ≡ true → in_kind b.kind b.value ≡ true → IsValue c more a x → IsValue c more b y → Stands c launch path k (go x y st2) more (keeping st2) → Goes c launch path k (go x y st2) onto more (owns st2) Q (op a b rest)) →
       Stands c launch facts n (wa.value st (λ x st1. wb.value st1 (λ y st2. go x y st2))) news (keeping st) →
       Goes c launch facts n (wa.value st (λ x st1. wb.value st1 (λ y st2. go x y st2))) onto news (owns st) Q (and_then (ea vars answers) (λ a r. and_then (eb vars r) (λ b r'. op a b r')))
-  pair_sound wa wb ea eb sa sb facts n news st go onto Q op vars answers m later s =
-      goes_then c launch (λ a r. and_then (eb vars r) (λ b r'. op a b r')) (sa.value facts n news st (λ x st1. wb.value st1 (λ y st2. go x y st2)) vars answers m s) (λ a r ia p.
-      goes_then c launch (λ b r'. op a b r') (sb.value p.path p.count p.more p.state (λ y st2. go p.arrived y st2) vars r (forms_at p vars m) p.stands) (λ b r' ib q.
+  pair_sound wa wb ea eb ha hb sa sb facts n news st go onto Q op vars answers hp m later s =
+      goes_then c launch (λ a r. and_then (eb vars r) (λ b r'. op a b r')) (sa.value facts n news st (λ x st1. wb.value st1 (λ y st2. go x y st2)) vars answers hp.0 m s) (λ a r is ia p.
+      goes_then c launch (λ b r'. op a b r') (sb.value p.path p.count p.more p.state (λ y st2. go p.arrived y st2) vars r (behind (ea vars answers) (λ a rest. hb vars rest) a r is hp.1) (forms_at p vars m) p.stands) (λ b r' is' ib q.
       later q.path q.count q.more q.state p.arrived q.arrived a b r' ia ib (value_kept c q.way.kept p.right) q.right q.stands))
 
   -- a result is an outcome
@@ -113,16 +124,16 @@ module _ {E : Type 0} (c : View E) (launch : List Fact) (laws : DividesLawfully 
   yields_goes site rest y = gives y.result rest (ap (λ q. settled q site rest) y.is) y.right y.comes
 
   -- one of two, by a test
-  chosen_goes : {A : Type 0} (z t : Bool) (st : State E) {facts : List Fact} {n : ℕ} {news : List ℤ} {go : A → State E → Tree E} {P : Word → List ℤ → A → Type 0} {u v : Outcome} (first second : Tree E) → t ≡ z → Stands c launch facts n (chosen t first second) news (keeping st) → (Stands c launch facts n first news (keeping st) → Goes c launch facts n first go news (owns st) P u) → (Stands c launch facts n second news (keeping st) → Goes c launch facts n second go news (owns st) P v) → Goes c launch facts n (chosen t first second) go news (owns st) P (decide z u v)
-  chosen_goes true true st first second e s yes' no' = yes' s
+  chosen_goes : {A : Type 0} (z t : Bool) (st : State E) {facts : List Fact} {n : ℕ} {news : List ℤ} {go : A → State E → Tree E} {P : Word → List ℤ → A → Type 0} {u v : Outcome} (first second : Tree E) → t ≡ z → Stands c launch facts n (chosen t first second) news (keeping st) → (z ≡ true → Stands c launch facts n first news (keeping st) → Goes c launch facts n first go news (owns st) P u) → (z ≡ false → Stands c launch facts n second news (keeping st) → Goes c launch facts n second go news (owns st) P v) → Goes c launch facts n (chosen t first second) go news (owns st) P (decide z u v)
+  chosen_goes true true st first second e s yes' no' = yes' refl s
   chosen_goes true false st first second e s yes' no' = cc
   chosen_goes false true st first second e s yes' no' = cc
-  chosen_goes false false st first second e s yes' no' = no' s
+  chosen_goes false false st first second e s yes' no' = no' refl s
 
-  other_goes : {A : Type 0} (z t : Bool) (st : State E) {facts : List Fact} {n : ℕ} {news : List ℤ} {go : A → State E → Tree E} {P : Word → List ℤ → A → Type 0} {u v : Outcome} (first second : Tree E) → t ≡ not z → Stands c launch facts n (chosen t first second) news (keeping st) → (Stands c launch facts n first news (keeping st) → Goes c launch facts n first go news (owns st) P u) → (Stands c launch facts n second news (keeping st) → Goes c launch facts n second go news (owns st) P v) → Goes c launch facts n (chosen t first second) go news (owns st) P (decide z v u)
+  other_goes : {A : Type 0} (z t : Bool) (st : State E) {facts : List Fact} {n : ℕ} {news : List ℤ} {go : A → State E → Tree E} {P : Word → List ℤ → A → Type 0} {u v : Outcome} (first second : Tree E) → t ≡ not z → Stands c launch facts n (chosen t first second) news (keeping st) → (z ≡ false → Stands c launch facts n first news (keeping st) → Goes c launch facts n first go news (owns st) P u) → (z ≡ true → Stands c launch facts n second news (keeping st) → Goes c launch facts n second go news (owns st) P v) → Goes c launch facts n (chosen t first second) go news (owns st) P (decide z v u)
   other_goes true true st first second e s yes' no' = cc
-  other_goes true false st first second e s yes' no' = no' s
-  other_goes false true st first second e s yes' no' = yes' s
+  other_goes true false st first second e s yes' no' = no' refl s
+  other_goes false true st first second e s yes' no' = yes' refl s
   other_goes false false st first second e s yes' no' = cc
 
   -- a truth value that is known
@@ -130,120 +141,106 @@ module _ {E : Type 0} (c : View E) (launch : List Fact) (laws : DividesLawfully 
   truth_goes z b st go rest e s = gives (truth z) rest refl (truth-in z) (at_once c launch go (ArrivesAsTruth (truth z)) b st (ap truth (sym e)) s)
 
   -- a test's value as a truth value
-  tested_goes : (w : Walks E) (ev : List Word → List Word → Outcome) → IsSound w ev → {facts : List Fact} {n : ℕ} {news : List ℤ} (st : State E) (go : Outcomes E) (vars answers : List Word) → AreForms c news vars st.variables → Stands c launch facts n (w.test st go) news (keeping st) → Goes c launch facts n (w.test st go) go news (owns st) ArrivesAsTruth (and_then (ev vars answers) (λ b r. Gives (truth (not (is_zero b.value))) r))
-  tested_goes w ev h {facts = facts} {n = n} {news = news} st go vars answers m s =
-      goes_then c launch (λ b r. Gives (truth (not (is_zero b.value))) r) (h.test facts n news st go vars answers m s) (λ b r ib p. truth_goes (not (is_zero b.value)) p.arrived p.state go r p.right p.stands)
+  tested_goes : (w : Walks E) (ev : List Word → List Word → Outcome) (honest : List Word → List Word → Type 0) → IsSound w ev honest → {facts : List Fact} {n : ℕ} {news : List ℤ} (st : State E) (go : Outcomes E) (vars answers : List Word) → honest vars answers → AreForms c news vars st.variables → Stands c launch facts n (w.test st go) news (keeping st) → Goes c launch facts n (w.test st go) go news (owns st) ArrivesAsTruth (and_then (ev vars answers) (λ b r. Gives (truth (not (is_zero b.value))) r))
+  tested_goes w ev honest h {facts = facts} {n = n} {news = news} st go vars answers hq m s =
+      goes_then c launch (λ b r. Gives (truth (not (is_zero b.value))) r) (h.test facts n news st go vars answers hq m s) (λ b r is ib p. truth_goes (not (is_zero b.value)) p.arrived p.state go r p.right p.stands)
 
-  pick-is : (t q : Bool) (more : List ℤ) (a b : Word) (x y : Value) → t ≡ q → IsValue c more a x → IsValue c more b y → IsValue c more (cond q b a) (chosen t y x)
-  pick-is true true more a b x y e mx my = my
-  pick-is true false more a b x y e mx my = cc
-  pick-is false true more a b x y e mx my = cc
-  pick-is false false more a b x y e mx my = mx
+  -- the answers to the loads of a term are numbers that buffers may hold
+  abbrev pub Honest : Term → (vars answers : List Word) → Type 0
+  Honest e = HonestTerm (setup c) c.conditions.contents c.item e
 
-  pick-in : (q : Bool) (a b : Word) → in_kind a.kind a.value ≡ true → in_kind b.kind b.value ≡ true → in_kind (cond q b a).kind (cond q b a).value ≡ true
-  pick-in true a b ia ib = ib
-  pick-in false a b ia ib = ia
-
-  -- the second where one is less than another
-  picked : {facts : List Fact} {n : ℕ} {news : List ℤ} (x y : Fact) (u v : Word) (p q : Value) (a b : ℤ) (st : State E) (go : Onward E) (rest : List Word) → IsForm c news x a → IsForm c news y b → in_kind u.kind u.value ≡ true → in_kind v.kind v.value ≡ true → IsValue c news u p → IsValue c news v q →
-      Stands c launch facts n (split (walks c) c.is_wide Less x y st (λ t st'. go (chosen t q p) st')) news (keeping st) → Goes c launch facts n (split (walks c) c.is_wide Less x y st (λ t st'. go (chosen t q p) st')) go news (owns st) (ArrivesAsValue c) (Gives (cond (int_lt a b) v u) rest)
-  picked x y u v p q a b st go rest mx my iu iv mp mq s =
-      gives (cond (int_lt a b) v u) rest refl (pick-in (int_lt a b) u v iu iv)
-      (arriving c launch go (λ t. chosen t q p) (ArrivesAsValue c (cond (int_lt a b) v u)) (λ more t kept e. pick-is t (int_lt a b) more u v p q e (value_kept c kept mp) (value_kept c kept mq))
-      (split_sound c launch c.is_wide Less x y a b st (λ t st'. go (chosen t q p) st') mx my s))
-
-  pub term_sound : (e : Term) → covers_term c.spaces e ≡ true → IsSound (walk (walks c) e) (evaluate (setup c) c.item e)
+  pub term_sound : (e : Term) → covers_term c.spaces e ≡ true → IsSound (walk (walks c) e) (evaluate (setup c) c.item e) (Honest e)
   unfolding evaluate
-  term_sound (Literal k z) h = value_sound _ (evaluate (setup c) c.item (Literal k z)) (λ facts n news st go vars answers m s.
+  term_sound (Literal k z) h = value_sound _ (evaluate (setup c) c.item (Literal k z)) (Honest (Literal k z)) (λ facts n news st go vars answers hq m s.
       gives (word k z) answers refl h (at_once c launch go (ArrivesAsValue c (word k z)) (value k (constant z)) st (record { kind = refl; form = form_constant c news z }) s))
-  term_sound (Variable x) h = value_sound _ (evaluate (setup c) c.item (Variable x)) (λ facts n news st go vars answers m s.
+  term_sound (Variable x) h = value_sound _ (evaluate (setup c) c.item (Variable x)) (Honest (Variable x)) (λ facts n news st go vars answers hq m s.
       let w = slice_index_or vars x zero_word in
       gives w answers refl (m.right x) (at_once c launch go (ArrivesAsValue c w) (variable st x) st (m.each x) s))
-  term_sound (Id f d) h = value_sound _ (evaluate (setup c) c.item (Id f d)) (λ facts n news st go vars answers m s.
+  term_sound (Id f d) h = value_sound _ (evaluate (setup c) c.item (Id f d)) (Honest (Id f d)) (λ facts n news st go vars answers hq m s.
       let i = identity (setup c) c.item f d in
       gives (word Uint (pos i)) answers refl (lt-ltb i 4294967296 (id-below c f d)) (at_once c launch go (ArrivesAsValue c (word Uint (pos i))) (value Uint (id_form (walks c) f d)) st (record { kind = refl; form = form_id c news f d }) s))
   term_sound (Load a site e) h =
       let p = and_parts (c.spaces a.space) (covers_term c.spaces e) h in
       let t = term_sound e p.1 in
-      value_sound _ (evaluate (setup c) c.item (Load a site e)) (λ facts n news st go vars answers m s.
-      goes_then c launch (λ k r. loaded (setup c) a site k.value r) (t.value facts n news st (λ x st1. load (walks c) a site x.form st1 go) vars answers m s) (λ k r i p'.
-      load_sound c launch r a site p'.arrived.form k.value p'.state go p.0 p'.right.form p'.stands))
+      value_sound _ (evaluate (setup c) c.item (Load a site e)) (Honest (Load a site e)) (λ facts n news st go vars answers hq m s.
+      goes_then c launch (λ k r. loaded (setup c) a site k.value r) (t.value facts n news st (λ x st1. load (walks c) a site x.form st1 go) vars answers hq.0 m s) (λ k r is i p'.
+      load_sound c launch r a site p'.arrived.form k.value p'.state go p.0 p'.right.form (behind (evaluate (setup c) c.item e vars answers) (λ k' rest. FirstHeld (setup c) c.conditions.contents a rest) k r is hq.1) p'.stands))
   term_sound (Unary op k site e) h =
       let p = and_parts (is_covered_unary op k) (covers_term c.spaces e) h in
       let t = term_sound e p.1 in
-      value_sound _ (evaluate (setup c) c.item (Unary op k site e)) (λ facts n news st go vars answers m s.
-      goes_then c launch (λ a r. settled (calculate_unary op k a.value) site r) (t.value facts n news st (λ x st1. unary (walks c) op k x (at_site site st1) go) vars answers m s) (λ a r i q.
+      value_sound _ (evaluate (setup c) c.item (Unary op k site e)) (Honest (Unary op k site e)) (λ facts n news st go vars answers hq m s.
+      goes_then c launch (λ a r. settled (calculate_unary op k a.value) site r) (t.value facts n news st (λ x st1. unary (walks c) op k x (at_site site st1) go) vars answers hq m s) (λ a r is i q.
       yields_goes site r (unary_sound c launch op k p.0 a q.arrived (at_site site q.state) go i q.right q.stands)))
   term_sound (Binary op k site a b) h =
       let p = and_parts (covers_term c.spaces a) (covers_term c.spaces b) h in
       let ta = term_sound a p.0 in
       let tb = term_sound b p.1 in
-      value_sound _ (evaluate (setup c) c.item (Binary op k site a b)) (λ facts n news st go vars answers m s.
-      pair_sound (walk (walks c) a) (walk (walks c) b) (evaluate (setup c) c.item a) (evaluate (setup c) c.item b) ta tb facts n news st (λ x y st2. both_brought (walks c) k x y (at_site site st2) (λ x' y' st3. binary (walks c) op k x'.form y'.form st3 go)) go (ArrivesAsValue c) (λ u v r. settled (operate op k u v) site r) vars answers m
+      value_sound _ (evaluate (setup c) c.item (Binary op k site a b)) (Honest (Binary op k site a b)) (λ facts n news st go vars answers hq m s.
+      pair_sound (walk (walks c) a) (walk (walks c) b) (evaluate (setup c) c.item a) (evaluate (setup c) c.item b) (Honest a) (Honest b) ta tb facts n news st (λ x y st2. both_brought (walks c) k x y (at_site site st2) (λ x' y' st3. binary (walks c) op k x'.form y'.form st3 go)) go (ArrivesAsValue c) (λ u v r. settled (operate op k u v) site r) vars answers hq m
       (λ path j more st2 x y u v rest iu iv mx my s'.
       let q = both_sound c launch k u v x y (at_site site st2) (λ x' y' st3. binary (walks c) op k x'.form y'.form st3 go) iu iv mx my s' in
       let y' = binary_sound c launch op laws k q.arrived.0.form q.arrived.1.form (as_kind k u.value) (as_kind k v.value) q.state go (as_kind-in_kind k u.value) (as_kind-in_kind k v.value) q.right.0.form q.right.1.form q.stands in
       yields_goes site rest (record { result = y'.result; is = y'.is; right = y'.right; comes = onward c launch q y'.comes })) s)
   term_sound (Convert k site e) h =
       let t = term_sound e h in
-      value_sound _ (evaluate (setup c) c.item (Convert k site e)) (λ facts n news st go vars answers m s.
-      goes_then c launch (λ a r. settled (convert k a.value) site r) (t.value facts n news st (λ x st1. brought (walks c) k x (at_site site st1) go) vars answers m s) (λ a r i q.
+      value_sound _ (evaluate (setup c) c.item (Convert k site e)) (Honest (Convert k site e)) (λ facts n news st go vars answers hq m s.
+      goes_then c launch (λ a r. settled (convert k a.value) site r) (t.value facts n news st (λ x st1. brought (walks c) k x (at_site site st1) go) vars answers hq m s) (λ a r is i q.
       yields_goes site r (settled_yields c launch k a.value go (brought_sound c launch k a q.arrived (at_site site q.state) go i q.right q.stands))))
   term_sound (Compare r k a b) h =
       let p = and_parts (covers_term c.spaces a) (covers_term c.spaces b) h in
       let ta = term_sound a p.0 in
       let tb = term_sound b p.1 in
-      truth_sound _ (evaluate (setup c) c.item (Compare r k a b)) (λ facts n news st go vars answers m s.
-      pair_sound (walk (walks c) a) (walk (walks c) b) (evaluate (setup c) c.item a) (evaluate (setup c) c.item b) ta tb facts n news st (λ x y st2. both_brought (walks c) k x y st2 (λ x' y' st3. split (walks c) false r x'.form y'.form st3 go)) go ArrivesAsTruth (λ u v rest. Gives (truth (compare r k u v)) rest) vars answers m
+      truth_sound _ (evaluate (setup c) c.item (Compare r k a b)) (Honest (Compare r k a b)) (λ facts n news st go vars answers hq m s.
+      pair_sound (walk (walks c) a) (walk (walks c) b) (evaluate (setup c) c.item a) (evaluate (setup c) c.item b) (Honest a) (Honest b) ta tb facts n news st (λ x y st2. both_brought (walks c) k x y st2 (λ x' y' st3. split (walks c) false r x'.form y'.form st3 go)) go ArrivesAsTruth (λ u v rest. Gives (truth (compare r k u v)) rest) vars answers hq m
       (λ path j more st2 x y u v rest iu iv mx my s'.
       let q = both_sound c launch k u v x y st2 (λ x' y' st3. split (walks c) false r x'.form y'.form st3 go) iu iv mx my s' in
       let t = split_sound c launch false r q.arrived.0.form q.arrived.1.form (as_kind k u.value) (as_kind k v.value) q.state go q.right.0.form q.right.1.form q.stands in
       gives (truth (compare r k u v)) rest refl (truth-in (compare r k u v)) (onward c launch q (restated c launch (λ more b kept e. ap truth (sym e)) t))) s)
   term_sound (Not e) h =
       let t = term_sound e h in
-      truth_sound _ (evaluate (setup c) c.item (Not e)) (λ facts n news st go vars answers m s.
-      goes_then c launch (λ a r. Gives (truth (is_zero a.value)) r) (t.test facts n news st (λ b st1. go (not b) st1) vars answers m s) (λ a r i q.
+      truth_sound _ (evaluate (setup c) c.item (Not e)) (Honest (Not e)) (λ facts n news st go vars answers hq m s.
+      goes_then c launch (λ a r. Gives (truth (is_zero a.value)) r) (t.test facts n news st (λ b st1. go (not b) st1) vars answers hq m s) (λ a r is i q.
       truth_goes (is_zero a.value) (not q.arrived) q.state go r (sym (not-not (is_zero a.value) q.arrived q.right)) q.stands))
   term_sound (And a b) h =
       let p = and_parts (covers_term c.spaces a) (covers_term c.spaces b) h in
       let ta = term_sound a p.0 in
       let tb = term_sound b p.1 in
-      truth_sound _ (evaluate (setup c) c.item (And a b)) (λ facts n news st go vars answers m s.
-      goes_then c launch (λ u r. decide (is_zero u.value) (Gives (truth false) r) (and_then (evaluate (setup c) c.item b vars r) (λ v r'. Gives (truth (not (is_zero v.value))) r'))) (ta.test facts n news st (λ t st1. chosen t ((walk (walks c) b).test st1 go) (go false st1)) vars answers m s) (λ u r i q.
+      truth_sound _ (evaluate (setup c) c.item (And a b)) (Honest (And a b)) (λ facts n news st go vars answers hq m s.
+      goes_then c launch (λ u r. decide (is_zero u.value) (Gives (truth false) r) (and_then (evaluate (setup c) c.item b vars r) (λ v r'. Gives (truth (not (is_zero v.value))) r'))) (ta.test facts n news st (λ t st1. chosen t ((walk (walks c) b).test st1 go) (go false st1)) vars answers hq.0 m s) (λ u r is i q.
       other_goes (is_zero u.value) q.arrived q.state ((walk (walks c) b).test q.state go) (go false q.state) q.right q.stands
-      (λ s'. tested_goes (walk (walks c) b) (evaluate (setup c) c.item b) tb q.state go vars r (forms_at q vars m) s')
-      (λ s'. truth_goes false false q.state go r refl s')))
+      (λ z s'. tested_goes (walk (walks c) b) (evaluate (setup c) c.item b) (Honest b) tb q.state go vars r (behind (evaluate (setup c) c.item a vars answers) (λ w rest. is_zero w.value ≡ false → Honest b vars rest) u r is hq.1 z) (forms_at q vars m) s')
+      (λ z s'. truth_goes false false q.state go r refl s')))
   term_sound (Or a b) h =
       let p = and_parts (covers_term c.spaces a) (covers_term c.spaces b) h in
       let ta = term_sound a p.0 in
       let tb = term_sound b p.1 in
-      truth_sound _ (evaluate (setup c) c.item (Or a b)) (λ facts n news st go vars answers m s.
-      goes_then c launch (λ u r. decide (not (is_zero u.value)) (Gives (truth true) r) (and_then (evaluate (setup c) c.item b vars r) (λ v r'. Gives (truth (not (is_zero v.value))) r'))) (ta.test facts n news st (λ t st1. chosen t (go true st1) ((walk (walks c) b).test st1 go)) vars answers m s) (λ u r i q.
+      truth_sound _ (evaluate (setup c) c.item (Or a b)) (Honest (Or a b)) (λ facts n news st go vars answers hq m s.
+      goes_then c launch (λ u r. decide (not (is_zero u.value)) (Gives (truth true) r) (and_then (evaluate (setup c) c.item b vars r) (λ v r'. Gives (truth (not (is_zero v.value))) r'))) (ta.test facts n news st (λ t st1. chosen t (go true st1) ((walk (walks c) b).test st1 go)) vars answers hq.0 m s) (λ u r is i q.
       chosen_goes (not (is_zero u.value)) q.arrived q.state (go true q.state) ((walk (walks c) b).test q.state go) q.right q.stands
-      (λ s'. truth_goes true true q.state go r refl s')
-      (λ s'. tested_goes (walk (walks c) b) (evaluate (setup c) c.item b) tb q.state go vars r (forms_at q vars m) s')))
+      (λ z s'. truth_goes true true q.state go r refl s')
+      (λ z s'. tested_goes (walk (walks c) b) (evaluate (setup c) c.item b) (Honest b) tb q.state go vars r (behind (evaluate (setup c) c.item a vars answers) (λ w rest. is_zero w.value ≡ true → Honest b vars rest) u r is hq.1 (not-false (is_zero u.value) z)) (forms_at q vars m) s')))
   term_sound (Select t a b) h =
       let p = and_parts (covers_term c.spaces t) (covers_term c.spaces a && covers_term c.spaces b) h in
       let p' = and_parts (covers_term c.spaces a) (covers_term c.spaces b) p.1 in
       let tt' = term_sound t p.0 in
       let ta = term_sound a p'.0 in
       let tb = term_sound b p'.1 in
-      value_sound _ (evaluate (setup c) c.item (Select t a b)) (λ facts n news st go vars answers m s.
-      goes_then c launch (λ u r. decide (is_zero u.value) (evaluate (setup c) c.item b vars r) (evaluate (setup c) c.item a vars r)) (tt'.test facts n news st (λ b' st1. chosen b' ((walk (walks c) a).value st1 go) ((walk (walks c) b).value st1 go)) vars answers m s) (λ u r i q.
+      value_sound _ (evaluate (setup c) c.item (Select t a b)) (Honest (Select t a b)) (λ facts n news st go vars answers hq m s.
+      goes_then c launch (λ u r. decide (is_zero u.value) (evaluate (setup c) c.item b vars r) (evaluate (setup c) c.item a vars r)) (tt'.test facts n news st (λ b' st1. chosen b' ((walk (walks c) a).value st1 go) ((walk (walks c) b).value st1 go)) vars answers hq.0 m s) (λ u r is i q.
       other_goes (is_zero u.value) q.arrived q.state ((walk (walks c) a).value q.state go) ((walk (walks c) b).value q.state go) q.right q.stands
-      (λ s'. ta.value q.path q.count q.more q.state go vars r (forms_at q vars m) s')
-      (λ s'. tb.value q.path q.count q.more q.state go vars r (forms_at q vars m) s')))
+      (λ z s'. ta.value q.path q.count q.more q.state go vars r ((behind (evaluate (setup c) c.item t vars answers) (λ w rest. (is_zero w.value ≡ false → Honest a vars rest) × (is_zero w.value ≡ true → Honest b vars rest)) u r is hq.1).0 z) (forms_at q vars m) s')
+      (λ z s'. tb.value q.path q.count q.more q.state go vars r ((behind (evaluate (setup c) c.item t vars answers) (λ w rest. (is_zero w.value ≡ false → Honest a vars rest) × (is_zero w.value ≡ true → Honest b vars rest)) u r is hq.1).1 z) (forms_at q vars m) s')))
   term_sound (Minimum a b) h =
       let p = and_parts (covers_term c.spaces a) (covers_term c.spaces b) h in
       let ta = term_sound a p.0 in
       let tb = term_sound b p.1 in
-      value_sound _ (evaluate (setup c) c.item (Minimum a b)) (λ facts n news st go vars answers m s.
-      pair_sound (walk (walks c) a) (walk (walks c) b) (evaluate (setup c) c.item a) (evaluate (setup c) c.item b) ta tb facts n news st (λ x y st2. pick (walks c) y x y x st2 go) go (ArrivesAsValue c) (λ u v r. Gives (smaller u v) r) vars answers m
-      (λ path j more st2 x y u v rest iu iv mx my s'. picked y.form x.form u v x y v.value u.value st2 go rest my.form mx.form iu iv mx my s') s)
+      value_sound _ (evaluate (setup c) c.item (Minimum a b)) (Honest (Minimum a b)) (λ facts n news st go vars answers hq m s.
+      pair_sound (walk (walks c) a) (walk (walks c) b) (evaluate (setup c) c.item a) (evaluate (setup c) c.item b) (Honest a) (Honest b) ta tb facts n news st (λ x y st2. pick (walks c) false y x y x st2 go) go (ArrivesAsValue c) (λ u v r. Gives (smaller u v) r) vars answers hq m
+      (λ path j more st2 x y u v rest iu iv mx my s'. picked_goes c launch false v u y x st2 go rest iv iu my mx s') s)
   term_sound (Maximum a b) h =
       let p = and_parts (covers_term c.spaces a) (covers_term c.spaces b) h in
       let ta = term_sound a p.0 in
       let tb = term_sound b p.1 in
-      value_sound _ (evaluate (setup c) c.item (Maximum a b)) (λ facts n news st go vars answers m s.
-      pair_sound (walk (walks c) a) (walk (walks c) b) (evaluate (setup c) c.item a) (evaluate (setup c) c.item b) ta tb facts n news st (λ x y st2. pick (walks c) x y y x st2 go) go (ArrivesAsValue c) (λ u v r. Gives (larger u v) r) vars answers m
-      (λ path j more st2 x y u v rest iu iv mx my s'. picked x.form y.form u v x y u.value v.value st2 go rest mx.form my.form iu iv mx my s') s)
+      value_sound _ (evaluate (setup c) c.item (Maximum a b)) (Honest (Maximum a b)) (λ facts n news st go vars answers hq m s.
+      pair_sound (walk (walks c) a) (walk (walks c) b) (evaluate (setup c) c.item a) (evaluate (setup c) c.item b) (Honest a) (Honest b) ta tb facts n news st (λ x y st2. pick (walks c) true x y y x st2 go) go (ArrivesAsValue c) (λ u v r. Gives (larger u v) r) vars answers hq m
+      (λ path j more st2 x y u v rest iu iv mx my s'. picked_goes c launch true u v x y st2 go rest iu iv mx my s') s)

@@ -5,8 +5,10 @@ pub mod Shares
 pub mod Walks
 pub mod Quotients
 pub mod SharedQuotients
+pub mod Contents
 pub mod Bits
 pub mod Operators
+pub mod Joined
 pub mod Tests
 pub mod Terms
 pub mod Statements

@@ -6,7 +6,7 @@ use Rattle.semantics.specs.Launch.{Kernel}
 use Rattle.semantics.specs.Conditions.{Conditions}
 use Rattle.domain.specs.declared.Domain.{Ghosts}
 use Rattle.facts.specs.Symbols.{ArgumentOf, constant, once}
-use Rattle.facts.specs.Launching.{known}
+use Rattle.facts.specs.Launching.{buffer_bounds, known}
 use Rattle.walk_trees.specs.Trees.{Spot}
 use Rattle.walk_trees.specs.Values.{Value, value}
 use Rattle.walk_trees.specs.Walks.{Setting, State, with_variables}
@@ -34,5 +34,5 @@ abbrev pub opening_values : Kernel → List Value
 opening_values k = argument_values 0 k.arguments ++ map zero_value k.variables
 
 -- of this kernel under these conditions
-abbrev pub setting : {E : Type 0} → Ghosts E → Kernel → Conditions → (is_wide : Bool) → (has_entry : ℕ → Bool) → Setting E
-setting g k c is_wide has_entry = record { is_wide = is_wide; domain = g; known = known g k.sizes c; sizes = k.sizes; buffers = k.buffers; arrays = k.arrays; has_entry = has_entry }
+abbrev pub setting : {E : Type 0} → Ghosts E → Kernel → Conditions → (is_wide joins : Bool) → (has_entry : ℕ → Bool) → Setting E
+setting g k c is_wide joins has_entry = record { is_wide = is_wide; joins = joins; domain = g; known = known g k.sizes c; sizes = k.sizes; buffers = k.buffers; arrays = k.arrays; contents = buffer_bounds c; has_entry = has_entry }

@@ -1,5 +1,5 @@
 -- The walk of a term, as a value and as a test.
-use Rattle.std.specs.Prelude.{ℕ, pos, Bool, true, false, not, cond, nat_lt, slice_index_or}
+use Rattle.std.specs.Prelude.{ℕ, pos, List, [], ◌∷◌, Bool, true, false, not, ◌&&◌, cond, nat_lt, slice_index_or}
 use Rattle.semantics.specs.Word.{Kind, Int, Uint, Less}
 use Rattle.semantics.specs.Memory.{no_array}
 use Rattle.semantics.specs.Core.{Space, Global, Local, Array, Site, Function, GlobalId, LocalId, GroupId, GlobalSize, LocalSize, NumGroups, Term, Literal, Variable, Id, Load, Unary, Binary, Convert, Compare, Not, And, Or, Select, Minimum, Maximum}
@@ -7,10 +7,13 @@ use Rattle.semantics.specs.Setup.{along}
 use Rattle.linear.specs.Exact.{sum, multiple}
 use Rattle.facts.specs.Symbols as symbols
 use Rattle.facts.specs.Symbols.{First, Length, Fact, constant, once, minus}
+use Rattle.facts.specs.Launching.{BufferBound}
 use Rattle.walk_trees.specs.Trees.{OfIndex, Target, Tree, Touch}
 use Rattle.walk_trees.specs.Values.{Value, value}
 use Rattle.walk_trees.specs.Walks.{Setting, State, Onward, spot_at, at_site, claim_form, unknown, brought, both_brought}
+use Rattle.walk_trees.specs.Contents.{contents_of, know_contents, claim_contents}
 use Rattle.walk_trees.specs.Operators.{unary, binary}
+use Rattle.walk_trees.specs.Joined.{same_kind, are_joined, pick_joined}
 use Rattle.walk_trees.specs.Tests.{Outcomes, split, split_number}
 
 pub record Walks (E : Type 0) : Type 0 where
@@ -81,19 +84,40 @@ kind_in s Local b = (slice_index_or s.arrays b no_array).kind
 abbrev pub array_kind : {E : Type 0} → Setting E → Array → Kind
 array_kind s a = kind_in s a.space a.number
 
--- the access, then any number of the array's kind
+-- any number of the array's kind that it may hold
+abbrev pub element : {E : Type 0} → Setting E → Array → State E → Onward E → Tree E
+element s a st go = unknown s (array_kind s a) st (λ v st'. know_contents s (contents_of s a) v.form st' (λ st''. go v st''))
+
+-- the access, then such a number
 abbrev pub load : {E : Type 0} → Setting E → Array → Site → Fact → State E → Onward E → Tree E
-load s a site i st go = access s false a site i st (λ st'. unknown s (array_kind s a) st' go)
+load s a site i st go = access s false a site i st (λ st'. element s a st' go)
+
+-- a stored value keeps what the array holds
+abbrev pub keep_contents : {E : Type 0} → Setting E → List BufferBound → Kind → Site → Value → State E → (State E → Tree E) → Tree E
+keep_contents s [] k site v st go = go st
+keep_contents s (x ∷ xs) k site v st go = brought s k v (at_site site st) (λ v' st'. claim_contents s (x ∷ xs) v'.form st' go)
+
+-- then the access
+abbrev pub stored : {E : Type 0} → Setting E → Array → Site → (index value : Value) → State E → (State E → Tree E) → Tree E
+stored s a site i v st go = keep_contents s (contents_of s a) (array_kind s a) site v st (λ st'. access s true a site i.form st' go)
 
 -- one of two
 abbrev pub chosen : {A : Type 0} → Bool → A → A → A
 chosen true a b = a
 chosen false a b = b
 
+-- a value of one of two ways, by elements
+abbrev pub pick_split : {E : Type 0} → Setting E → (left right second first : Value) → State E → Onward E → Tree E
+pick_split s x y second first st go = split s s.is_wide Less x.form y.form st (λ b st'. go (chosen b second first) st')
+
+-- both values have one kind, and neither way is refuted by the elements
+abbrev pub is_joined_pick : {E : Type 0} → Setting E → (left right : Value) → State E → Bool
+is_joined_pick s x y st = same_kind x.kind y.kind && are_joined s (pos 0) (minus y.form x.form) (minus x.form y.form) st
+
 -- `min` and `max`: where one operand is less than another (OpenCL 1.2, 6.12.3) the second one, else the first; the wide walk leaves out a
--- way that the elements refute
-abbrev pub pick : {E : Type 0} → Setting E → (left right second first : Value) → State E → Onward E → Tree E
-pick s x y second first st go = split s s.is_wide Less x.form y.form st (λ b st'. go (chosen b second first) st')
+-- way that the elements refute. Where ways are joined, one value
+abbrev pub pick : {E : Type 0} → Setting E → (is_greater : Bool) → (left right second first : Value) → State E → Onward E → Tree E
+pick s g x y second first st go = cond (is_joined_pick s x y st) (pick_joined s g x.kind x.form y.form st go) (pick_split s x y second first st go)
 
 -- operands from left to right, then the operator at its own site; a choice walks what it evaluates
 abbrev pub walk : {E : Type 0} → Setting E → Term → Walks E
@@ -113,5 +137,5 @@ walk s (Not e) = by_test (λ st go. (walk s e).test st (λ b st1. go (not b) st1
 walk s (And a b) = by_test (λ st go. (walk s a).test st (λ t st1. chosen t ((walk s b).test st1 go) (go false st1)))
 walk s (Or a b) = by_test (λ st go. (walk s a).test st (λ t st1. chosen t (go true st1) ((walk s b).test st1 go)))
 walk s (Select t a b) = by_value s (λ st go. (walk s t).test st (λ c st1. chosen c ((walk s a).value st1 go) ((walk s b).value st1 go)))
-walk s (Minimum a b) = by_value s (λ st go. (walk s a).value st (λ x st1. (walk s b).value st1 (λ y st2. pick s y x y x st2 go)))
-walk s (Maximum a b) = by_value s (λ st go. (walk s a).value st (λ x st1. (walk s b).value st1 (λ y st2. pick s x y y x st2 go)))
+walk s (Minimum a b) = by_value s (λ st go. (walk s a).value st (λ x st1. (walk s b).value st1 (λ y st2. pick s false y x y x st2 go)))
+walk s (Maximum a b) = by_value s (λ st go. (walk s a).value st (λ x st1. (walk s b).value st1 (λ y st2. pick s true x y y x st2 go)))

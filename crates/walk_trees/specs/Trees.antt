@@ -8,8 +8,9 @@ use Rattle.walk_trees.specs.Held.{Held}
 use Rattle.walk_trees.specs.Values.{Arrived}
 
 -- what is to be shown: an end of a kind's range, a place in an array, that a divisor is not 0, that a quotient is an `int`, that a loop's
--- ranking is as it was said, that a fact or a congruence of a place holds where an item comes to it; of two items, that they do not meet
--- in an element, that they have a variable alike at a barrier, or that they do not come to two stops
+-- ranking is as it was said, that a fact or a congruence of a place holds where an item comes to it, that a store keeps what its buffer
+-- holds; of two items, that they do not meet in an element, that they have a variable alike at a barrier, or that they do not come to two
+-- stops
 pub data Sort : Type 0 where
   OfRange : (kind : Kind) → Sort
   OfIndex : Sort
@@ -18,6 +19,7 @@ pub data Sort : Type 0 where
   OfRanking : Sort
   OfFact : Sort
   OfCongruence : Sort
+  OfContent : Sort
   OfPair : Sort
   OfSame : Sort
   OfMeeting : Sort

@@ -8,6 +8,7 @@ use Rattle.linear.specs.Exact.{fits, fits_i64}
 use Rattle.domain.specs.declared.Domain.{Ghosts}
 use Rattle.domain.specs.declared.Bounds.{Bounds}
 use Rattle.facts.specs.Symbols.{First, New, Fact, constant, once, minus, Turns}
+use Rattle.facts.specs.Launching.{BufferBound}
 use Rattle.facts.specs.Elements.{Known, between, is_below_zero}
 use Rattle.walk_trees.specs.Values.{Value, value, Arrived}
 use Rattle.arrivals.specs.Trees as arrivals
@@ -16,15 +17,18 @@ use Rattle.walk_trees.specs.Held.{Held, with_new, element_at, is_settled_at, nar
 use Rattle.walk_trees.specs.Shares.{Shared}
 use Rattle.walk_trees.specs.Trees.{Sort, OfRange, Spot, Demand, Goal, AtLeastZero, Tree, Dead, Claim, Know, Fork}
 
--- what a walk is of: whether it is the wide one, a domain with what it knows, the local sizes, the kinds of the buffers, the local arrays,
--- and the numbers of the obligations that have an entry
+-- what a walk is of: whether it is the wide one, whether it joins ways where it can, a domain with what it knows, the local sizes, the
+-- kinds of the buffers, the local arrays, what lines of the conditions say that buffers hold, and the numbers of the obligations that have
+-- an entry
 pub record Setting (E : Type 0) : Type 1 where
   pub is_wide : Bool
+  pub joins : Bool
   pub domain : Ghosts E
   pub known : Known E
   pub sizes : Three ℕ
   pub buffers : List Kind
   pub arrays : List LocalArray
+  pub contents : List BufferBound
   pub has_entry : ℕ → Bool
 
 -- what ranked a loop when its test was last true on the path

@@ -27,7 +27,7 @@ returns-in-Ok-write_buffers g c =
       conditions (kept a),
       launch l,
       reading.buffers b.words,
-      is_safe k c.args.texts.conditions.now t (kept a) (c.bytes_are_the_text_of_what_is_read.ensures k (kernel_seen t) c.in-Ok.ensures.kernel) (c.what_is_read_of_conditions_is_their_text.ensures (kernel t.0).parameters c.args.texts.conditions.now (lined (kept a)) c.in-Ok.ensures.conditions) c.in-Ok.ensures.headline,
+      is_safe c.args.is_wide k c.args.texts.conditions.now t (kept a) (c.bytes_are_the_text_of_what_is_read.ensures k (kernel_seen t) c.in-Ok.ensures.kernel) (c.what_is_read_of_conditions_is_their_text.ensures c.args.is_wide (kernel t.0).parameters c.args.texts.conditions.now (lined (kept a)) c.in-Ok.ensures.conditions) c.in-Ok.ensures.headline,
       is_run t (kept a) c.args.launch.now c.into_bytes.result.items l b
           (c.what_is_read_of_a_launch_is_its_text.ensures (kernel t.0).parameters c.args.launch.now (reading.launch l)
           (subst (λ t. launch_of (kernel t.0).parameters c.args.launch.now ≡ Ok (reading.launch l)) c.typed.ensures.value c.in-Ok-read_launch.ensures.value))
@@ -49,7 +49,7 @@ pub returns-in-Err-read_launch : goal.returns-in-Err-read_launch
 returns-in-Err-read_launch g c =
     let t = typed_of c.in-Ok.accepted in
     let x = c.args.texts in
-    let safe = is_safe x.kernel.now x.conditions.now t (kept c.in-Ok.accepted) (c.bytes_are_the_text_of_what_is_read.ensures x.kernel.now (kernel_seen t) c.in-Ok.ensures.kernel) (c.what_is_read_of_conditions_is_their_text.ensures (kernel t.0).parameters x.conditions.now (lined (kept c.in-Ok.accepted)) c.in-Ok.ensures.conditions) c.in-Ok.ensures.headline in
+    let safe = is_safe c.args.is_wide x.kernel.now x.conditions.now t (kept c.in-Ok.accepted) (c.bytes_are_the_text_of_what_is_read.ensures x.kernel.now (kernel_seen t) c.in-Ok.ensures.kernel) (c.what_is_read_of_conditions_is_their_text.ensures c.args.is_wide (kernel t.0).parameters x.conditions.now (lined (kept c.in-Ok.accepted)) c.in-Ok.ensures.conditions) c.in-Ok.ensures.headline in
     unread_run c.args.is_wide x.kernel.now x.conditions.now x.certificate.now c.args.launch.now c.args.workers c.unread.result c.in-Err-read_launch.error (kernel_seen t) (conditions (kept c.in-Ok.accepted)) safe
     (subst (λ t. texts.Refuses c.in-Err-read_launch.error (launch_of (kernel t.0).parameters c.args.launch.now)) c.typed.ensures.value c.in-Err-read_launch.ensures.value) c.unread.ensures
 
@@ -57,6 +57,6 @@ pub returns-in-Err-run : goal.returns-in-Err-run
 returns-in-Err-run g c =
     let t = typed_of c.in-Ok.accepted in
     let x = c.args.texts in
-    let safe = is_safe x.kernel.now x.conditions.now t (kept c.in-Ok.accepted) (c.bytes_are_the_text_of_what_is_read.ensures x.kernel.now (kernel_seen t) c.in-Ok.ensures.kernel) (c.what_is_read_of_conditions_is_their_text.ensures (kernel t.0).parameters x.conditions.now (lined (kept c.in-Ok.accepted)) c.in-Ok.ensures.conditions) c.in-Ok.ensures.headline in
+    let safe = is_safe c.args.is_wide x.kernel.now x.conditions.now t (kept c.in-Ok.accepted) (c.bytes_are_the_text_of_what_is_read.ensures x.kernel.now (kernel_seen t) c.in-Ok.ensures.kernel) (c.what_is_read_of_conditions_is_their_text.ensures c.args.is_wide (kernel t.0).parameters x.conditions.now (lined (kept c.in-Ok.accepted)) c.in-Ok.ensures.conditions) c.in-Ok.ensures.headline in
     not_run c.args.is_wide x.kernel.now x.conditions.now x.certificate.now c.args.launch.now c.not_run.result c.in-Err-run.error (kernel_seen t) (kept c.in-Ok.accepted) c.in-Ok-read_launch.launch c.args.workers safe
     (subst (λ t. launch_of (kernel t.0).parameters c.args.launch.now ≡ Ok (reading.launch c.in-Ok-read_launch.launch)) c.typed.ensures.value c.in-Ok-read_launch.ensures.value) c.in-Err-run.ensures.answers c.not_run.ensures

@@ -4,7 +4,7 @@ use Rattle.facts.proofs.Unmade.{handed}
 use Rattle.obligations.specs.Walking.{claim_fact, claim_facts}
 use Rattle.path_steps.specs.View.{followed}
 use Rattle.arrival_claims.specs.View.{placed}
-use Rattle.arrival_claims.proofs.Each.{each_next, each_stops}
+use Rattle.path_steps.proofs.Each.{each_next, each_stops}
 use Rattle.arrival_claims.proofs.claiming.claim_facts.Goals as goal
 
 pub loop-fact-preserved : goal.loop-fact-preserved

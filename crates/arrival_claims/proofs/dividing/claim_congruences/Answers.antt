@@ -4,7 +4,7 @@ use Rattle.obligations.specs.Walking.{claim_congruence, claim_congruences}
 use Rattle.path_steps.specs.View.{followed}
 use Rattle.obligations.specs.View.{congruence}
 use Rattle.arrival_claims.specs.View.{placed}
-use Rattle.arrival_claims.proofs.Each.{each_next, each_stops}
+use Rattle.path_steps.proofs.Each.{each_next, each_stops}
 use Rattle.arrival_claims.proofs.dividing.claim_congruences.Goals as goal
 
 pub loop-congruence-preserved : goal.loop-congruence-preserved

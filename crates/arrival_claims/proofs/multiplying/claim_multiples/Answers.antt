@@ -4,7 +4,7 @@ use Rattle.obligations.specs.Walking.{claim_multiple, claim_multiples}
 use Rattle.path_steps.specs.View.{followed}
 use Rattle.obligations.specs.View.{multiple}
 use Rattle.arrival_claims.specs.View.{placed}
-use Rattle.arrival_claims.proofs.Each.{each_next, each_stops}
+use Rattle.path_steps.proofs.Each.{each_next, each_stops}
 use Rattle.arrival_claims.proofs.multiplying.claim_multiples.Goals as goal
 
 pub loop-multiple-preserved : goal.loop-multiple-preserved

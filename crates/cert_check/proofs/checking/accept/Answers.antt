@@ -7,7 +7,6 @@ use Rattle.arrivals.specs.Loops.{unmet}
 use Rattle.places.specs.View.{place}
 use Rattle.places.specs.Answers.{IsRefused}
 use Rattle.certificate.specs.Certificates.{certificate}
-use Rattle.cert_check.specs.Breadth.{text_says}
 use Rattle.cert_check.specs.Checked.{IsTold}
 use Rattle.cert_check.proofs.Stopped.{stopped}
 use Rattle.cert_check.proofs.checking.accept.Goals as goal
@@ -16,7 +15,7 @@ pub unplaced-requires : goal.unplaced-requires
 unplaced-requires c = subst (λ x. IsRefused (kernel x).body c.in-Err.error) c.core.ensures.value c.in-Err.ensures
 
 pub returns-in-Err-clause-stopped : goal.returns-in-Err-clause-stopped
-returns-in-Err-clause-stopped c = c.unplaced.ensures (text_says c.args.is_wide) (conditions c.args.conditions.now) c.args.certificate.now
+returns-in-Err-clause-stopped c = c.unplaced.ensures c.args.is_wide (conditions c.args.conditions.now) c.args.certificate.now
 
 pub returns-in-Err-read_as-clause-stopped : goal.returns-in-Err-read_as-clause-stopped
 returns-in-Err-read_as-clause-stopped c = (subst (λ x. unmet (kernel x).body ≡ None) c.core.ensures.value c.in-Ok.ensures.1, c.in-Err-read_as.ensures)
@@ -35,4 +34,4 @@ pub returns-in-Err-show-clause-stopped : goal.returns-in-Err-show-clause-stopped
 returns-in-Err-show-clause-stopped c =
     let met = subst (λ x. unmet (kernel x).body ≡ None) c.core.ensures.value c.in-Ok.ensures.1 in
     let told = subst (λ x. IsTold (tree x) c.in-Err-show.error c.unshown.result) c.kernel.ensures.value c.unshown.ensures in
-    stopped (text_says c.args.is_wide) c.args.typed.now (conditions c.args.conditions.now) c.args.certificate.now (certificate c.in-Ok-read_as.certificate) met c.in-Ok-read_as.ensures c.in-Err-show.error c.unshown.result told c.in-Err-show.ensures.lacks
+    stopped c.args.is_wide c.args.typed.now (conditions c.args.conditions.now) c.args.certificate.now (certificate c.in-Ok-read_as.certificate) met c.in-Ok-read_as.ensures c.in-Err-show.error c.unshown.result told c.in-Err-show.ensures.lacks

@@ -10,10 +10,10 @@ use Rattle.certificate.proofs.numbered_reader.read_numbered.Given as goal
 
 abbrev pub invariant-loop-line : goal.invariant-loop-line
 invariant-loop-line l = record {
-  room : l.number + length (left l.rest) ≤ 2 ^ 32 + 2;
+  room : l.number + length (left l.rest) ≤ 2 ^ 32 + 3;
   proper : IsRead (drafts.draft l.draft.read);
   used : l.draft.used ≤ length (table l.table);
-  same : reading.read_numbered (table l.table) l.start (reading.numbered_draft 0 (drafting.begun l.is_wide)) (left l.lines) ≡ reading.read_numbered (table l.table) l.number (numbered_draft l.draft) (left l.rest);
+  same : reading.read_numbered (table l.table) l.start (reading.numbered_draft 0 (drafting.begun l.is_wide l.joins)) (left l.lines) ≡ reading.read_numbered (table l.table) l.number (numbered_draft l.draft) (left l.rest);
 }
 
 abbrev pub decreases-loop-line : goal.decreases-loop-line

@@ -12,5 +12,5 @@ loop-line-preserved c =
     record {
       room = omega (arith, c.loop-line.invariant.room, ap length c.in-Some.ensures);
       good = add_form_keeps c.args.is_wide t ws more c.loop-line.invariant.good c.in-Ok.ensures;
-      same = c.loop-line.invariant.same ∙ table_row c.args.is_wide t c.loop-line.number (left c.loop-line.rest) c.in-Some.line.now (left c.in-Some.others) ws more c.in-Some.ensures (sym c.if-is_over.ensures) (sym c.in-Some-table_words.ensures) c.in-Ok.ensures;
+      same = c.loop-line.invariant.same ∙ table_row c.args.is_wide c.args.joins t c.loop-line.number (left c.loop-line.rest) c.in-Some.line.now (left c.in-Some.others) ws more c.in-Some.ensures (sym c.if-is_over.ensures) (sym c.in-Some-table_words.ensures) c.in-Ok.ensures;
     }

@@ -7,9 +7,9 @@ use Rattle.certificate.proofs.numbered_reader.read_table.Given as goal
 
 abbrev pub invariant-loop-line : goal.invariant-loop-line
 invariant-loop-line l = record {
-  room : l.number + length (left l.rest) ≤ 2 ^ 32 + 2;
+  room : l.number + length (left l.rest) ≤ 2 ^ 32 + 3;
   good : all is_form (table l.table) ≡ true;
-  same : reading.read_table l.is_wide [] 2 (left l.lines) ≡ reading.read_table l.is_wide (table l.table) l.number (left l.rest);
+  same : reading.read_table l.is_wide l.joins [] (reading.table_start l.joins) (left l.lines) ≡ reading.read_table l.is_wide l.joins (table l.table) l.number (left l.rest);
 }
 
 abbrev pub decreases-loop-line : goal.decreases-loop-line

@@ -2,7 +2,7 @@ use Rattle.std.proofs.Common.{◌≡◌, ◌∙◌, ℕ, ap, subst}
 use Rattle.std.specs.Prelude.{IfOk}
 use Rattle.std.proofs.lemmas.Result.{IfOk-weaker}
 use Rattle.core_code.specs.View.{kernel}
-use Rattle.launch.specs.View.{launch}
+use Rattle.launch.specs.View.{launch, conditions}
 use Rattle.semantics.specs.Rounds.{group_log}
 use Rattle.lane_groups.specs.Logs.{lane_log}
 use Rattle.cert_check.specs.Accepting.{at_launch}
@@ -22,11 +22,13 @@ returns c =
     let in_budget = subst (λ x. IfOk r (λ log. (buffer index : ℕ) → written log buffer index ≡ lane_log (at_launch (kernel c.core.result.now) l) x.budget g buffer index)) c.conditions.ensures.value c.run_group.ensures in
     let of_kernel = subst (λ x. IfOk r (λ log. (buffer index : ℕ) → written log buffer index ≡ lane_log (at_launch (kernel x) l) bound g buffer index)) (c.core.ensures.value ∙ ap (λ t. t.1) c.typed-typed.ensures.value) in_budget in
     let a = c.typed-typed.ensures.accepted in
+    let given = conditions (kept c.args.accepted.now) in
+    let begins = c.launches_begin_kept.ensures s given c.requires.fits c.requires.meets in
     IfOk-weaker
     r
     (λ log. (buffer index : ℕ) → written log buffer index ≡ lane_log s bound g buffer index)
     (λ log. (buffer index : ℕ) → written log buffer index ≡ group_log s bound g buffer index)
     (λ log h buffer index.
     h buffer index
-    ∙ c.lane_logs_are_by_rounds.ensures s bound g buffer index (some-items k l a.has_items) c.requires.group c.requires.fits c.typed-typed.ensures.orderly (a.is_pair_safe l c.requires.fits c.requires.meets))
+    ∙ c.lane_logs_are_by_rounds.ensures given.contents s bound g buffer index (some-items k l a.has_items) c.requires.group c.requires.fits c.typed-typed.ensures.orderly (a.is_pair_safe l c.requires.fits c.requires.meets) begins)
     of_kernel

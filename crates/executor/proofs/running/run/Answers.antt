@@ -32,7 +32,9 @@ returns-clause-value g c =
     let l = launch c.args.launch.now in
     let bound = (conditions (kept c.args.accepted.now)).budget in
     let m : Meets (conditions (kept c.args.accepted.now)) l = subst (λ x. Meets (conditions x) l) c.conditions.ensures.value (c.in_ok-meets.ensures.met.0 refl) in
-    let h = c.headline.ensures (at_launch k l) bound (some-items k l c.conditions.ensures.accepted.has_items) (c.conditions.ensures.accepted.is_pair_safe l c.requires m) in
+    let given = conditions (kept c.args.accepted.now) in
+    let begins = c.launches_begin_kept.ensures (at_launch k l) given c.requires m in
+    let h = c.headline_within.ensures given.contents (at_launch k l) bound (some-items k l c.conditions.ensures.accepted.has_items) (c.conditions.ensures.accepted.is_pair_safe l c.requires m) begins in
     stays-the-result (at_launch k l) bound c.in_ok-buffers.buffers c.in_ok-answer.answer c.requires h c.in_ok-buffers.ensures c.in_ok-answer.ensures
 
 pub returns-clause-kinds : goal.returns-clause-kinds
@@ -48,7 +50,9 @@ returns-clause-every g c =
     let l = launch c.args.launch.now in
     let bound = (conditions (kept c.args.accepted.now)).budget in
     let m : Meets (conditions (kept c.args.accepted.now)) l = subst (λ x. Meets (conditions x) l) c.conditions.ensures.value (c.in_ok-meets.ensures.met.0 refl) in
-    let h = c.headline.ensures (at_launch k l) bound (some-items k l c.conditions.ensures.accepted.has_items) (c.conditions.ensures.accepted.is_pair_safe l c.requires m) in
+    let given = conditions (kept c.args.accepted.now) in
+    let begins = c.launches_begin_kept.ensures (at_launch k l) given c.requires m in
+    let h = c.headline_within.ensures given.contents (at_launch k l) bound (some-items k l c.conditions.ensures.accepted.has_items) (c.conditions.ensures.accepted.is_pair_safe l c.requires m) begins in
     every-end (at_launch k l) bound (words_of c.in_ok-answer.answer) h
     (stays-the-result (at_launch k l) bound c.in_ok-buffers.buffers c.in_ok-answer.answer c.requires h c.in_ok-buffers.ensures c.in_ok-answer.ensures)
 
@@ -60,5 +64,7 @@ pub returns-clause-defined : goal.returns-clause-defined
 returns-clause-defined g c =
     let k = kernel (typed_of c.args.accepted.now).1 in
     let l = launch c.args.launch.now in
-    c.result_is_defined.ensures (at_launch k l) (conditions (kept c.args.accepted.now)).budget (some-items k l c.conditions.ensures.accepted.has_items)
-    (c.conditions.ensures.accepted.is_pair_safe l c.requires (returns-clause-meets g c))
+    let given = conditions (kept c.args.accepted.now) in
+    let m = returns-clause-meets g c in
+    c.result_is_defined_within.ensures given.contents (at_launch k l) given.budget (some-items k l c.conditions.ensures.accepted.has_items) (c.conditions.ensures.accepted.is_pair_safe l c.requires m)
+    (c.launches_begin_kept.ensures (at_launch k l) given c.requires m)

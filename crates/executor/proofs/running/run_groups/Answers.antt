@@ -1,6 +1,6 @@
 use Rattle.std.proofs.Common.{◌∙◌, ap, subst}
 use Rattle.core_code.specs.View.{kernel}
-use Rattle.launch.specs.View.{launch}
+use Rattle.launch.specs.View.{launch, conditions}
 use Rattle.semantics.specs.Setup.{group_count}
 use Rattle.semantics.specs.Rounds.{group_log}
 use Rattle.lane_groups.specs.Logs.{lane_log}
@@ -23,7 +23,9 @@ returns g c =
     let in_budget = subst (λ x. HasLogs (lane_log (at_launch (kernel c.core.result.now) l) x.budget) (group_count (at_launch (kernel c.core.result.now) l)) old new) c.conditions.ensures.value c.in_ok-run_groups.ensures in
     let of_kernel = subst (λ x. HasLogs (lane_log (at_launch (kernel x) l) bound) (group_count (at_launch (kernel x) l)) old new) (c.core.ensures.value ∙ ap (λ t. t.1) c.typed-typed.ensures.value) in_budget in
     let a = c.typed-typed.ensures.accepted in
+    let given = conditions (kept c.args.accepted.now) in
+    let begins = c.launches_begin_kept.ensures s given c.requires.fits c.requires.meets in
     let by_rounds = same-logs (lane_log s bound) (group_log s bound) (group_count s) old new
-    (λ n buffer index m. c.lane_logs_are_by_rounds.ensures s bound n buffer index (some-items k l a.has_items) m c.requires.fits c.typed-typed.ensures.orderly (a.is_pair_safe l c.requires.fits c.requires.meets))
+    (λ n buffer index m. c.lane_logs_are_by_rounds.ensures given.contents s bound n buffer index (some-items k l a.has_items) m c.requires.fits c.typed-typed.ensures.orderly (a.is_pair_safe l c.requires.fits c.requires.meets) begins)
     of_kernel in
     all-written s bound old new c.in_ok-buffers.ensures by_rounds

@@ -4,4 +4,4 @@ use Rattle.lanes.proofs.Whole.{safe-together}
 use Rattle.lanes.proofs.laws.lane_code_is_by_rounds.Goals as goal
 
 pub returns : goal.returns
-returns c = λ s bound g low high full hg fits num within p. lowered-together s bound g fits within ∙ safe-together s bound g low high full hg num p
+returns c = λ cs s bound g low high full hg fits num within p kept. lowered-together s bound g fits within ∙ safe-together cs s bound g low high full hg num p kept

@@ -7,10 +7,11 @@ returns g c = λ k conditions n l sized tell are shown fits meets sound.
     let d = g.met.D.Domain in
     whole_safe_within (record {
       domain = g.D.Domain;
-      lawful = record { top = d.top_holds; number = d.number_holds; add = d.add_holds; mul = d.mul_holds; at_least = d.at_least_holds; at_most = d.at_most_holds; bounds = d.bounds_hold; residue = d.residue_holds };
+      lawful = record { top = d.top_holds; number = d.number_holds; join = d.join_holds; add = d.add_holds; mul = d.mul_holds; at_least = d.at_least_holds; at_most = d.at_most_holds; bounds = d.bounds_hold; residue = d.residue_holds };
       kernel = k;
       conditions = conditions;
       is_wide = n.is_wide;
+      joins = n.joins;
       has_entry = n.has_entry;
       spaces = λ sp. true;
       launch = l;

@@ -1,5 +1,4 @@
 use Rattle.linear.specs.Forms.{form}
-use Rattle.words.specs.View.{kind}
 use Rattle.core_code.specs.View.{array, site}
 use Rattle.facts.proofs.Unmade.{handed}
 use Rattle.path_steps.specs.View.{followed, value, setting as seen}
@@ -7,7 +6,7 @@ use Rattle.path_steps.proofs.Accessing.{load_after, load_stops}
 use Rattle.path_steps.proofs.accesses.load.Goals as goal
 
 pub returns : goal.returns
-returns g c = load_after (seen g.D.Domain c.args.setting.now) (array c.args.array) (site c.args.site) (form c.args.index) (kind c.array_kind.result) (followed c.args.path.now) (followed c.access.new.path) (followed c.unknown.new.path) value c.unknown.result c.array_kind.ensures c.in_ok-access.ensures c.unknown.ensures
+returns g c = load_after (seen g.D.Domain c.args.setting.now) (array c.args.array) (site c.args.site) (form c.args.index) (followed c.args.path.now) (followed c.access.new.path) (followed c.element.new.path) value c.element.result c.in_ok-access.ensures c.element.ensures
 
 pub returns-in_err-access : goal.returns-in_err-access
 returns-in_err-access g c =

@@ -1,31 +1,21 @@
 use Rattle.std.specs.Prelude.{pos, negsuc}
+use Rattle.std.proofs.Common.{◌≡◌, true, refl}
 use Rattle.linear.specs.Exact.{multiple}
 use Rattle.linear.specs.Forms.{form}
 use Rattle.facts.specs.Symbols.{constant, minus}
+use Rattle.facts.proofs.Unmade.{matched_some}
+use Rattle.walk_trees.specs.Joined.{are_joined}
 use Rattle.path_steps.specs.View.{followed, setting as seen}
-use Rattle.path_steps.proofs.Testing.{ways_first, ways_first_halts, ways_second, ways_second_halts, ways_third, ways_third_halts, halted}
+use Rattle.path_steps.proofs.Testing.{joined_ways, parted_ways, matched_none}
 use Rattle.path_steps.proofs.tests.split_number.Goals as goal
 
-pub returns : goal.returns
-returns g c = ways_third (seen g.D.Domain c.args.setting.now) (minus (form c.args.form.now) (constant (pos 1))) (minus (constant (negsuc 0)) (form c.args.form.now)) (form c.args.form.now) (multiple (negsuc 0) (form c.args.form.now)) c.in_ok-choose.field-0 c.in_ok-choose-2.field-0 (followed c.args.path.now) (followed c.choose.new.self) (followed c.choose-2.new.self) (followed c.know_zero.new.path) c.in_ok-choose.ensures c.if-branch.false c.in_ok-choose-2.ensures c.if-branch-2.false c.in_ok-know_zero.ensures
+pub returns-in-Some : goal.returns-in-Some
+returns-in-Some g c =
+    let f = form c.args.form.now in
+    let d = matched_some _ c.in-Some.negation _ (λ x. (are_joined (seen g.D.Domain c.args.setting.now) (pos 1) f (multiple (negsuc 0) f) (followed c.args.path.now).state ≡ true) × (form x ≡ multiple (negsuc 0) f)) c.in-Some.is c.in_ok-negation.ensures in
+    joined_ways (seen g.D.Domain c.args.setting.now) f (multiple (negsuc 0) f) (minus f (constant (pos 1))) (minus (constant (negsuc 0)) f) f (form c.in-Some.negation) _ (followed c.args.path.now) (followed c.split_from_zero.new.path) c.split_from_zero.result d.0 refl d.1 c.split_from_zero.ensures
 
-pub returns-then-branch : goal.returns-then-branch
-returns-then-branch g c = ways_first (seen g.D.Domain c.args.setting.now) (minus (form c.args.form.now) (constant (pos 1))) (minus (constant (negsuc 0)) (form c.args.form.now)) (form c.args.form.now) (multiple (negsuc 0) (form c.args.form.now)) c.in_ok-choose.field-0 (followed c.args.path.now) (followed c.choose.new.self) (followed c.know_above.new.path) c.in_ok-choose.ensures c.if-branch.true c.in_ok-know_above.ensures
-
-pub returns-then-branch-2 : goal.returns-then-branch-2
-returns-then-branch-2 g c = ways_second (seen g.D.Domain c.args.setting.now) (minus (form c.args.form.now) (constant (pos 1))) (minus (constant (negsuc 0)) (form c.args.form.now)) (form c.args.form.now) (multiple (negsuc 0) (form c.args.form.now)) c.in_ok-choose.field-0 c.in_ok-choose-2.field-0 (followed c.args.path.now) (followed c.choose.new.self) (followed c.choose-2.new.self) (followed c.know_below.new.path) c.in_ok-choose.ensures c.if-branch.false c.in_ok-choose-2.ensures c.if-branch-2.true c.in_ok-know_below.ensures
-
-pub returns-in_err-know_zero : goal.returns-in_err-know_zero
-returns-in_err-know_zero g c =
-    let k = ways_third_halts (seen g.D.Domain c.args.setting.now) (minus (form c.args.form.now) (constant (pos 1))) (minus (constant (negsuc 0)) (form c.args.form.now)) (form c.args.form.now) (multiple (negsuc 0) (form c.args.form.now)) c.in_ok-choose.field-0 c.in_ok-choose-2.field-0 (followed c.args.path.now) (followed c.choose.new.self) (followed c.choose-2.new.self) (followed c.know_zero.new.path) c.in_err-know_zero.field-0.0 c.in_ok-choose.ensures c.if-branch.false c.in_ok-choose-2.ensures c.if-branch-2.false c.in_err-know_zero.ensures in
-    halted c.from_residual-in_err-know_zero.result c.in_err-know_zero.field-0.0 _ _ c.from_residual-in_err-know_zero.ensures k
-
-pub returns-in_err-know_above : goal.returns-in_err-know_above
-returns-in_err-know_above g c =
-    let k = ways_first_halts (seen g.D.Domain c.args.setting.now) (minus (form c.args.form.now) (constant (pos 1))) (minus (constant (negsuc 0)) (form c.args.form.now)) (form c.args.form.now) (multiple (negsuc 0) (form c.args.form.now)) c.in_ok-choose.field-0 (followed c.args.path.now) (followed c.choose.new.self) (followed c.know_above.new.path) c.in_err-know_above.field-0.0 c.in_ok-choose.ensures c.if-branch.true c.in_err-know_above.ensures in
-    halted c.from_residual-in_err-know_above.result c.in_err-know_above.field-0.0 _ _ c.from_residual-in_err-know_above.ensures k
-
-pub returns-in_err-know_below : goal.returns-in_err-know_below
-returns-in_err-know_below g c =
-    let k = ways_second_halts (seen g.D.Domain c.args.setting.now) (minus (form c.args.form.now) (constant (pos 1))) (minus (constant (negsuc 0)) (form c.args.form.now)) (form c.args.form.now) (multiple (negsuc 0) (form c.args.form.now)) c.in_ok-choose.field-0 c.in_ok-choose-2.field-0 (followed c.args.path.now) (followed c.choose.new.self) (followed c.choose-2.new.self) (followed c.know_below.new.path) c.in_err-know_below.field-0.0 c.in_ok-choose.ensures c.if-branch.false c.in_ok-choose-2.ensures c.if-branch-2.true c.in_err-know_below.ensures in
-    halted c.from_residual-in_err-know_below.result c.in_err-know_below.field-0.0 _ _ c.from_residual-in_err-know_below.ensures k
+pub returns-in-None : goal.returns-in-None
+returns-in-None g c =
+    let f = form c.args.form.now in
+    parted_ways (seen g.D.Domain c.args.setting.now) f (multiple (negsuc 0) f) (minus f (constant (pos 1))) (minus (constant (negsuc 0)) f) _ (followed c.args.path.now) (followed c.split_sign.new.path) c.split_sign.result (matched_none _ _ _ c.in-None.is c.in_ok-negation.ensures) c.split_sign.ensures

@@ -1,14 +1,20 @@
 use Rattle.std.proofs.Common.{true, false}
+use Rattle.linear.specs.Forms.{form}
+use Rattle.facts.proofs.Unmade.{matched_some}
 use Rattle.path_steps.specs.View.{followed, value, setting as seen}
-use Rattle.path_walk.proofs.AtSites.{picks, pick_halts}
+use Rattle.path_steps.proofs.Testing.{matched_none}
+use Rattle.path_walk.proofs.AtSites.{ArePicked, joined_picks, joined_pick_stops, parted_picks}
 use Rattle.path_walk.proofs.operands.smaller.Goals as goal
 
-pub returns-then-is_less : goal.returns-then-is_less
-returns-then-is_less g c = picks (seen g.D.Domain c.args.setting.now) (value c.args.right) (value c.args.left) (value c.args.right) (value c.args.left) (followed c.args.path.now) (followed c.split.new.path) c.in_ok-is_less.is_less true c.in_ok-is_less.ensures c.if-is_less.true
+pub returns : goal.returns
+returns g c = parted_picks (seen g.D.Domain c.args.setting.now) false (value c.args.right) (value c.args.left) (value c.args.right) (value c.args.left) (followed c.args.path.now) (followed c.smaller_split.new.path) value c.smaller_split.result (matched_none _ _ _ c.in_default.is c.in_ok-apart.ensures) c.smaller_split.ensures
 
-pub returns-else-is_less : goal.returns-else-is_less
-returns-else-is_less g c = picks (seen g.D.Domain c.args.setting.now) (value c.args.right) (value c.args.left) (value c.args.right) (value c.args.left) (followed c.args.path.now) (followed c.split.new.path) c.in_ok-is_less.is_less false c.in_ok-is_less.ensures c.if-is_less.false
+pub returns-in-Some : goal.returns-in-Some
+returns-in-Some g c =
+    let d = matched_some _ c.in-Some.apart _ (λ d. ArePicked (seen g.D.Domain c.args.setting.now) (value c.args.right) (value c.args.left) (followed c.args.path.now).state (form d.more) (form d.less)) c.in-Some.is c.in_ok-apart.ensures in
+    joined_picks (seen g.D.Domain c.args.setting.now) false (value c.args.right) (value c.args.left) (value c.args.right) (value c.args.left) (followed c.args.path.now) (followed c.pick_joined.new.path) (value c.in_ok-value.value) d.0 c.in_ok-value.ensures
 
-pub returns-in_err-is_less : goal.returns-in_err-is_less
-returns-in_err-is_less g c =
-    pick_halts (seen g.D.Domain c.args.setting.now) (value c.args.right) (value c.args.left) (value c.args.right) (value c.args.left) (followed c.args.path.now) (followed c.split.new.path) value c.from_residual.result c.in_err-is_less.field-0.0 c.from_residual.ensures c.in_err-is_less.ensures
+pub returns-in_err-value : goal.returns-in_err-value
+returns-in_err-value g c =
+    let d = matched_some _ c.in-Some.apart _ (λ d. ArePicked (seen g.D.Domain c.args.setting.now) (value c.args.right) (value c.args.left) (followed c.args.path.now).state (form d.more) (form d.less)) c.in-Some.is c.in_ok-apart.ensures in
+    joined_pick_stops (seen g.D.Domain c.args.setting.now) false (value c.args.right) (value c.args.left) (value c.args.right) (value c.args.left) (followed c.args.path.now) (followed c.pick_joined.new.path) value c.from_residual-in_err-value.result c.in_err-value.field-0.0 d.0 c.from_residual-in_err-value.ensures c.in_err-value.ensures

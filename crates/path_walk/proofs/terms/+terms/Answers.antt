@@ -1,4 +1,4 @@
-use Rattle.std.proofs.Common.{ap, refl, ◌∙◌}
+use Rattle.std.proofs.Common.{true, false, ap, refl, ◌∙◌}
 use Rattle.words.specs.View.{kind}
 use Rattle.semantics.specs.Core as core
 use Rattle.core_code.specs.View.{term, operator, relation, site}
@@ -61,7 +61,7 @@ value_of-returns-in_ok-first-in-Minimum g t c =
     let a = term c.deref-in-Minimum.result.now in
     let b = term c.deref-in-Minimum-2.result.now in
     let e = ap term c.in-Minimum.is ∙ pair_is core.Minimum c.deref-in-Minimum.result.now c.deref-in-Minimum-2.result.now c.in-Minimum.left.value c.in-Minimum.right.value c.deref-in-Minimum.ensures c.deref-in-Minimum-2.ensures in
-    two_go (both_values s a b) (λ x y. pick s y x y x) (walk s (term c.args.term.now)).value (followed c.args.path.now) (followed c.both_values-in-Minimum.new.path) value c.smaller.result (ap (λ u. (walk s u).value) e) (followed c.smaller.new.path) (value c.in_ok-first-in-Minimum.first) (value c.in_ok-first-in-Minimum.second) c.in_ok-first-in-Minimum.ensures c.smaller.ensures
+    two_go (both_values s a b) (λ x y. pick s false y x y x) (walk s (term c.args.term.now)).value (followed c.args.path.now) (followed c.both_values-in-Minimum.new.path) value c.smaller.result (ap (λ u. (walk s u).value) e) (followed c.smaller.new.path) (value c.in_ok-first-in-Minimum.first) (value c.in_ok-first-in-Minimum.second) c.in_ok-first-in-Minimum.ensures c.smaller.ensures
 
 pub value_of-returns-in_err-first-in-Minimum : goal.value_of-returns-in_err-first-in-Minimum
 value_of-returns-in_err-first-in-Minimum g t c =
@@ -69,7 +69,7 @@ value_of-returns-in_err-first-in-Minimum g t c =
     let a = term c.deref-in-Minimum.result.now in
     let b = term c.deref-in-Minimum-2.result.now in
     let e = ap term c.in-Minimum.is ∙ pair_is core.Minimum c.deref-in-Minimum.result.now c.deref-in-Minimum-2.result.now c.in-Minimum.left.value c.in-Minimum.right.value c.deref-in-Minimum.ensures c.deref-in-Minimum-2.ensures in
-    two_halt (both_values s a b) (λ x y. pick s y x y x) (walk s (term c.args.term.now)).value (followed c.args.path.now) (followed c.both_values-in-Minimum.new.path) value c.from_residual-in_err-first-in-Minimum.result (ap (λ u. (walk s u).value) e) c.in_err-first-in-Minimum.field-0.0 c.from_residual-in_err-first-in-Minimum.ensures c.in_err-first-in-Minimum.ensures
+    two_halt (both_values s a b) (λ x y. pick s false y x y x) (walk s (term c.args.term.now)).value (followed c.args.path.now) (followed c.both_values-in-Minimum.new.path) value c.from_residual-in_err-first-in-Minimum.result (ap (λ u. (walk s u).value) e) c.in_err-first-in-Minimum.field-0.0 c.from_residual-in_err-first-in-Minimum.ensures c.in_err-first-in-Minimum.ensures
 
 pub value_of-returns-in_ok-first-in-Maximum : goal.value_of-returns-in_ok-first-in-Maximum
 value_of-returns-in_ok-first-in-Maximum g t c =
@@ -77,7 +77,7 @@ value_of-returns-in_ok-first-in-Maximum g t c =
     let a = term c.deref-in-Maximum.result.now in
     let b = term c.deref-in-Maximum-2.result.now in
     let e = ap term c.in-Maximum.is ∙ pair_is core.Maximum c.deref-in-Maximum.result.now c.deref-in-Maximum-2.result.now c.in-Maximum.left.value c.in-Maximum.right.value c.deref-in-Maximum.ensures c.deref-in-Maximum-2.ensures in
-    two_go (both_values s a b) (λ x y. pick s x y y x) (walk s (term c.args.term.now)).value (followed c.args.path.now) (followed c.both_values-in-Maximum.new.path) value c.larger.result (ap (λ u. (walk s u).value) e) (followed c.larger.new.path) (value c.in_ok-first-in-Maximum.first) (value c.in_ok-first-in-Maximum.second) c.in_ok-first-in-Maximum.ensures c.larger.ensures
+    two_go (both_values s a b) (λ x y. pick s true x y y x) (walk s (term c.args.term.now)).value (followed c.args.path.now) (followed c.both_values-in-Maximum.new.path) value c.larger.result (ap (λ u. (walk s u).value) e) (followed c.larger.new.path) (value c.in_ok-first-in-Maximum.first) (value c.in_ok-first-in-Maximum.second) c.in_ok-first-in-Maximum.ensures c.larger.ensures
 
 pub value_of-returns-in_err-first-in-Maximum : goal.value_of-returns-in_err-first-in-Maximum
 value_of-returns-in_err-first-in-Maximum g t c =
@@ -85,4 +85,4 @@ value_of-returns-in_err-first-in-Maximum g t c =
     let a = term c.deref-in-Maximum.result.now in
     let b = term c.deref-in-Maximum-2.result.now in
     let e = ap term c.in-Maximum.is ∙ pair_is core.Maximum c.deref-in-Maximum.result.now c.deref-in-Maximum-2.result.now c.in-Maximum.left.value c.in-Maximum.right.value c.deref-in-Maximum.ensures c.deref-in-Maximum-2.ensures in
-    two_halt (both_values s a b) (λ x y. pick s x y y x) (walk s (term c.args.term.now)).value (followed c.args.path.now) (followed c.both_values-in-Maximum.new.path) value c.from_residual-in_err-first-in-Maximum.result (ap (λ u. (walk s u).value) e) c.in_err-first-in-Maximum.field-0.0 c.from_residual-in_err-first-in-Maximum.ensures c.in_err-first-in-Maximum.ensures
+    two_halt (both_values s a b) (λ x y. pick s true x y y x) (walk s (term c.args.term.now)).value (followed c.args.path.now) (followed c.both_values-in-Maximum.new.path) value c.from_residual-in_err-first-in-Maximum.result (ap (λ u. (walk s u).value) e) c.in_err-first-in-Maximum.field-0.0 c.from_residual-in_err-first-in-Maximum.ensures c.in_err-first-in-Maximum.ensures

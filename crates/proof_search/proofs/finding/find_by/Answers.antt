@@ -20,14 +20,14 @@ pub unplaced-requires : goal.unplaced-requires
 unplaced-requires g c = subst (λ x. IsRefused (kernel x).body c.in-Err-places.error) c.core.ensures.value c.in-Err-places.ensures
 
 pub returns-in-Err-places-clause-told : goal.returns-in-Err-places-clause-told
-returns-in-Err-places-clause-told g c = c.unplaced.ensures (lined c.in-Ok-read_conditions.conditions) c.args.effort.workers c.args.kernel.now c.args.conditions.now (c.in-Ok.ensures, c.in-Ok-read_conditions.ensures.value)
+returns-in-Err-places-clause-told g c = c.unplaced.ensures c.args.effort.is_wide (lined c.in-Ok-read_conditions_as.conditions) c.args.effort.workers c.args.kernel.now c.args.conditions.now (c.in-Ok.ensures, c.in-Ok-read_conditions_as.ensures.value)
 
 pub returns-in-Err-counted-clause-told : goal.returns-in-Err-counted-clause-told
 returns-in-Err-counted-clause-told g c =
     let t = c.in-Ok.typed in
-    let n = lined c.in-Ok-read_conditions.conditions in
+    let n = lined c.in-Ok-read_conditions_as.conditions in
     let met = subst (λ x. unmet (kernel x).body ≡ None) c.core.ensures.value c.in-Ok-places.ensures.1 in
-    uncounted c.in-Err-counted.error c.args.effort.workers c.args.kernel.now c.args.conditions.now c.in-Err-counted.ensures.0 c.in-Err-counted.ensures.1 (t, n, (c.in-Ok.ensures, c.in-Ok-read_conditions.ensures.value), met)
+    uncounted c.args.effort.is_wide c.in-Err-counted.error c.args.effort.workers c.args.kernel.now c.args.conditions.now c.in-Err-counted.ensures.0 c.in-Err-counted.ensures.1 (t, n, (c.in-Ok.ensures, c.in-Ok-read_conditions_as.ensures.value), met)
 
 pub returns-clause-workers : goal.returns-clause-workers
 returns-clause-workers g c = counted c.searched.result c.args.effort.workers c.in-Ok-counted.ensures
@@ -35,10 +35,10 @@ returns-clause-workers g c = counted c.searched.result c.args.effort.workers c.i
 pub returns-clause-told : goal.returns-clause-told
 returns-clause-told g c =
     let t = c.in-Ok.typed in
-    let n = c.in-Ok-read_conditions.conditions in
+    let n = c.in-Ok-read_conditions_as.conditions in
     let k = c.args.kernel.now in
     let o = c.args.conditions.now in
     let text = c.bytes_are_the_text_of_what_is_read.ensures k (kernel_seen t) c.in-Ok.ensures in
-    let said = c.what_is_read_of_conditions_is_their_text.ensures (tree_seen t.0).parameters o (lined n) c.in-Ok-read_conditions.ensures.value in
+    let said = c.what_is_read_of_conditions_is_their_text.ensures c.args.effort.is_wide (tree_seen t.0).parameters o (lined n) c.in-Ok-read_conditions_as.ensures.value in
     let met = subst (λ x. unmet (kernel x).body ≡ None) c.core.ensures.value c.in-Ok-places.ensures.1 in
-    all_told t n c.args.effort.workers k o text said c.in-Ok-counted.ensures (t, lined n, (c.in-Ok.ensures, c.in-Ok-read_conditions.ensures.value), met) c.searched.result c.searched.ensures.ends
+    all_told c.args.effort.is_wide t n c.args.effort.workers k o text said c.in-Ok-counted.ensures (t, lined n, (c.in-Ok.ensures, c.in-Ok-read_conditions_as.ensures.value), met) c.searched.result c.searched.ensures.ends

@@ -7,9 +7,9 @@ use Rattle.proof_search.proofs.Told.{none_placed}
 use Rattle.proof_search.proofs.finding.unplaced.Goals as goal
 
 pub returns-in-Missed : goal.returns-in-Missed
-returns-in-Missed c = λ found workers kernel conditions read.
+returns-in-Missed c = λ is_wide found workers kernel conditions read.
     let t = c.args.typed.now in
     let n = c.in-Missed.number in
-    none_placed t found workers kernel conditions n c.site_at.result read
+    none_placed is_wide t found workers kernel conditions n c.site_at.result read
     (subst (λ e. IsRefused (core_seen t.1).body e) c.in-Missed.is c.requires)
     (subst (λ k. site_seen c.site_at.result ≡ site_at (tree_seen k) (Some n)) c.kernel.ensures.value c.site_at.ensures)

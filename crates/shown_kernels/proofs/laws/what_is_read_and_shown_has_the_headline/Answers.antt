@@ -10,4 +10,4 @@ returns g c = λ bytes k conditions n l is met tell are shown fits meets.
     let s : Setup = record { kernel = k.core; launch = l } in
     let z = sizes k.core l (c.what_is_read_is_proper.ensures bytes k is) in
     let sound = c.what_is_read_is_sound_where_barriers_are_met.ensures bytes k s is refl met in
-    c.headline.ensures s (cost (turns_at n) k.core.body) z.1 (c.what_is_shown_by_places_is_safe_within_its_cost.ensures k.core conditions n l z.0 tell are shown fits meets sound)
+    c.headline_within.ensures conditions.contents s (cost (turns_at n) k.core.body) z.1 (c.what_is_shown_by_places_is_safe_within_its_cost.ensures k.core conditions n l z.0 tell are shown fits meets sound) (c.launches_begin_kept.ensures s conditions fits meets)

@@ -12,7 +12,7 @@ returns-in-Ok-from_slice c =
     let k = c.args.texts.kernel.now in (
       kernel_seen t,
       conditions (kept c.in-Ok.accepted),
-      is_safe k c.args.texts.conditions.now t (kept c.in-Ok.accepted) (c.bytes_are_the_text_of_what_is_read.ensures k (kernel_seen t) c.in-Ok.ensures.kernel) (c.what_is_read_of_conditions_is_their_text.ensures (kernel t.0).parameters c.args.texts.conditions.now (lined (kept c.in-Ok.accepted)) c.in-Ok.ensures.conditions) c.in-Ok.ensures.headline,
+      is_safe c.args.is_wide k c.args.texts.conditions.now t (kept c.in-Ok.accepted) (c.bytes_are_the_text_of_what_is_read.ensures k (kernel_seen t) c.in-Ok.ensures.kernel) (c.what_is_read_of_conditions_is_their_text.ensures c.args.is_wide (kernel t.0).parameters c.args.texts.conditions.now (lined (kept c.in-Ok.accepted)) c.in-Ok.ensures.conditions) c.in-Ok.ensures.headline,
       c.in-Ok-from_slice.ensures.items,
     )
 

@@ -1,0 +1,10 @@
+use Rattle.std.proofs.Common.{◌≡◌, ◌≤◌, drop, map}
+use Rattle.texts.specs.LaunchSums.{buffer_number}
+use Rattle.syntax.specs.View.{parameter}
+use Rattle.launch_text.proofs.contents.buffer_number.Given as goal
+
+abbrev pub invariant-loop-parameter : goal.invariant-loop-parameter
+invariant-loop-parameter l = record {
+  few : l.before ≤ l.parameter-index;
+  same : buffer_number 0 (map parameter l.parameters) l.word ≡ buffer_number l.before (map parameter (drop l.parameter-index l.parameters)) l.word;
+}

@@ -1,0 +1,8 @@
+use Rattle.linear.specs.Forms.{form}
+use Rattle.path_steps.specs.View.{followed, setting as seen}
+use Rattle.path_steps.proofs.Each.{Follows}
+use Rattle.path_steps.proofs.Lines.{all_known}
+use Rattle.path_steps.proofs.contents.know_of_buffer.Given as goal
+
+abbrev pub invariant-loop-bound : goal.invariant-loop-bound
+invariant-loop-bound g l = Follows (all_known (seen g.D.Domain l.setting) l.buffer (form l.form)) l.setting.contents.items (followed l.initial.path) (followed l.path) l.bound-index

@@ -2,6 +2,7 @@
 """Runs small kernels that `prove --wide` accepts, by an independent program, and compares with its search.
 
     wide.py run FOLDER COUNT SEED KERNELS ..        changed kernels of these folders; what is accepted is run
+    wide.py values FOLDER COUNT SEED KERNELS ..     the same, with lines of what buffers hold, their own and others that are made up
     wide.py search FOLDER COUNT SEED KERNELS ..     the same kernels; `prove --wide` and the other program's search answer
 
 FOLDER has the modules of the independent program, KERNELS files NAME.cl with NAME.cond or NAME.conditions. A kernel gets small groups, few
@@ -24,6 +25,7 @@ import traceback
 
 sys.path.insert(0, os.path.dirname(os.path.dirname(os.path.abspath(__file__))))
 from common import KVERIFY
+import held
 
 # Seconds for each call of the program; three times as many for a try.
 LIMIT = 240
@@ -32,6 +34,7 @@ CHUNK = 100
 FORGED = 4
 GROUPS = ("1..1", "1..2", "2..2", "1..3")
 LENGTHS = (4, 8, 12, 16, 24, 36, 64, 100, 150, 216)
+ENDS = (0, 1, 2, 3, 4, 7, 15, 63, 255)
 # Of the other program's search: what of the wide walk it knows.
 SWITCHES = ("MODF", "DOUBLE", "SINGLE", "DEAD", "DIVU", "DIVC", "MASKI", "BITS", "XORC", "REM", "SHARE", "NARROW")
 
@@ -43,10 +46,13 @@ def modules(folder):
     import cert
     import check
     import fuzz
+    import launch
     import prove
     import tool
 
     config.X_POLY = 3
+    config.X_VALUES = config.X_CELLS = True
+    held.teach(fuzz, launch)
     for name in SWITCHES:
         setattr(config, f"X_{name}", True)
     return config, cert, check, fuzz, prove, tool
@@ -84,8 +90,8 @@ def reader_of(cert):
     return read
 
 
-def bases_of(folders):
-    """Of each kernel its name, its text and its conditions."""
+def bases_of(folders, has_lines):
+    """Of each kernel its name, its text and its conditions; those with lines of what buffers hold only where that is asked for."""
     bases = []
     for folder in folders:
         for file in sorted(glob.glob(f"{folder}/*.cl")):
@@ -93,7 +99,7 @@ def bases_of(folders):
             told = f"{name}.cond" if os.path.exists(f"{name}.cond") else f"{name}.conditions"
             with open(file, encoding="ascii") as kernel, open(told, encoding="ascii") as conditions:
                 bases.append((os.path.basename(name), kernel.read(), conditions.read()))
-    return [it for it in bases if not re.search("(?m)^values ", it[2])]
+    return [it for it in bases if has_lines or not re.search("(?m)^values ", it[2])]
 
 
 def sizes_of(rng, kernel):
@@ -117,10 +123,19 @@ def line_of(rng, line):
         return f"length {words[1]} >= {rng.choice(LENGTHS)}"
     if words[0] == "require" and rng.random() < 0.25:
         return ""
+    if words[0] == "values" and rng.random() < 0.5:
+        return re.sub(r"= \d+$", f"= {rng.choice(ENDS)}", line)
     return "budget 1000000" if words[0] == "budget" else line
 
 
-def variant(rng, base, mutate):
+def made_up(rng, lines):
+    """The lines of conditions with some more, of what buffers hold, in front of the last one."""
+    names = [line.split(" ")[1] for line in lines if line.startswith("length ")]
+    ends = [("<=", it) for it in names if rng.random() < 0.4] + [(">=", it) for it in names if rng.random() < 0.15]
+    return [*lines[:-1], *(f"values {it} {sign} {rng.choice(ENDS) if sign == '<=' else 0}" for sign, it in ends), lines[-1]]
+
+
+def variant(rng, base, mutate, has_lines):
     """A small kernel with its conditions: of each one the text of the program, and of the conditions that of the other program too."""
     name, kernel, conditions = base
     large, small = sizes_of(rng, kernel)
@@ -131,8 +146,11 @@ def variant(rng, base, mutate):
     if rng.random() < 0.6:
         kernel = mutate(rng, kernel)
     lines = [line_of(rng, line) for line in conditions.splitlines()[1:]]
-    text = "".join(f"{it}\n" for it in lines if it)
-    version = 2 if re.search(r"[a-z_]\w*(\.\d)?\*[a-z_]", text) else 1
+    lines = [it for it in lines if it]
+    if has_lines:
+        lines = made_up(rng, lines)
+    text = "".join(f"{it}\n" for it in lines)
+    version = 2 if has_lines or re.search(r"[a-z_]\w*(\.\d)?\*[a-z_]", text) else 1
     return kernel, f"conditions {version}\n{text}", f"conditions 1\n{text}"
 
 
@@ -149,7 +167,8 @@ class Tries:
     def __init__(self, words):
         self.kind, self.folder, count, self.seed, *folders = words
         self.config, self.cert, self.check, self.fuzz, self.prove, self.tool = modules(self.folder)
-        self.read, self.bases = reader_of(self.cert), bases_of(folders)
+        self.has_lines = self.kind == "values"
+        self.read, self.bases = reader_of(self.cert), bases_of(folders, self.has_lines)
         self.only = count[5:] if count.startswith("only=") else None
         self.count = 0 if self.only else int(count)
         self.counts, self.names = collections.Counter(), collections.Counter()
@@ -218,13 +237,13 @@ class Tries:
         rng = random.Random(seed)
         base = rng.choice(self.bases)
         try:
-            kernel, mine, theirs = variant(rng, base, self.fuzz.mutate)
+            kernel, mine, theirs = variant(rng, base, self.fuzz.mutate, self.has_lines)
             front = self.check.front(kernel.encode(), theirs.encode())
         except self.config.Refused:
             return "no kernel", base[0], ""
         with tempfile.TemporaryDirectory() as folder:
             files = self.files(folder, kernel, mine)
-            if self.kind == "run":
+            if self.kind != "search":
                 what, broken = self.run_of(rng, folder, files, front)
             else:
                 what, broken = self.search_of(files, kernel, theirs), ""

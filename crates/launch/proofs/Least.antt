@@ -17,12 +17,13 @@ use Rattle.words.specs.declared.word.Word.{Word as Code}
 use Rattle.launch.specs.View.{argument_range, count_range, length_sum, requirement, conditions, buffer, launch}
 use Rattle.launch.specs.Differences.{above_zero}
 use Rattle.launch.specs.Unmet.{unmet_requirements, unmet_contents}
-use Rattle.launch.specs.Least.{low, least_with, least_length, brought, word_within, one_filled, in_front, follow, filled, number, met, with_buffers, probed, probe, words}
+use Rattle.launch.specs.Least.{low, least_with, least_length, brought, word_within, one_filled, in_front, follow, filled, number, met, with_buffers, probed, probe, words, words_seen}
 use Rattle.launch.specs.declared.conditions.ArgumentRange.{ArgumentRange}
 use Rattle.launch.specs.declared.conditions.CountRange.{CountRange}
 use Rattle.launch.specs.declared.conditions.Length.{Length}
 use Rattle.launch.specs.declared.conditions.Content.{Content}
 use Rattle.launch.specs.declared.conditions.Conditions.{Conditions}
+use Rattle.launch.specs.declared.launches.Buffers.{Buffers}
 use Rattle.launch.specs.declared.launches.Launch.{Launch}
 use Rattle.launch.proofs.Unmet.{requirements-met, contents-met}
 
@@ -185,6 +186,10 @@ pub probe-made : (c : Conditions) (l : launches.Launch) (ws : List (List Typed))
 probe-made c l ws e h k =
     ap (λ x. probed (unmet_requirements x c.requirements.items) c (filled x c.contents.items 0 1048576 c.lengths.items)) (sym e)
     ∙ ap (λ u. probed u c (filled l c.contents.items 0 1048576 c.lengths.items)) h ∙ ap (λ o. with_buffers c o) (sym k)
+
+pub words-kept : (r : Option Launch) (bs : Buffers) (o : Option (List (List Typed))) → IfSome r (λ l. l.buffers ≡ bs) → o ≡ Some (words_seen bs.words) → IfSome r (λ l. o ≡ Some (words_seen l.buffers.words))
+words-kept None bs o h k = tt
+words-kept (Some l) bs o h k = k ∙ ap (λ (b : Buffers). Some (words_seen b.words)) (sym h)
 
 pub probe-meets : (c : Conditions) (x : Option Launch) → option_map launch x ≡ probe c → IfSome x (λ l. Meets (conditions c) (launch l))
 probe-meets c None h = tt

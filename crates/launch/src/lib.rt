@@ -1,7 +1,7 @@
 //! Section: Launch. Promises whether a launch meets its conditions, and the least launch; stands on `words`.
 //!
-//! Launches of a kernel and the conditions on them: ranges of group counts and arguments, a least length for each buffer, and
-//! requirements between sums. All sums are taken over whole numbers, without wrapping.
+//! Launches of a kernel and the conditions on them: ranges of group counts and arguments, a least length for each buffer, requirements
+//! between sums, and bounds of what buffers hold. All sums are taken over whole numbers, without wrapping.
 #![tactic(auto)]
 
 pub mod conditions;

@@ -161,7 +161,8 @@ fn filled(
 
 /// The launch, where its buffers hold what their lines let them hold.
 fn held(launch: Launch, contents: &[Content]) -> Option<Launch>
-    ensures { option_map launch_of result ≡ least.met (unmet_contents (launch_of launch) contents.now) (launch_of launch) }
+    ensures value { option_map launch_of result ≡ least.met (unmet_contents (launch_of launch) contents.now) (launch_of launch) }
+    ensures buffers { IfSome result (λ l. l.buffers ≡ launch.buffers) }
 {
     if contents_meet(&launch, contents).is_err() {
         return None;
@@ -170,7 +171,8 @@ fn held(launch: Launch, contents: &[Content]) -> Option<Launch>
 }
 
 fn least_launch(alloc: Global, conditions: &Conditions) -> Result<Option<Launch>, AllocError>
-    ensures { IfOk result (λ found. option_map launch_of found ≡ least.probe conditions.now) }
+    ensures least { IfOk result (λ found. option_map launch_of found ≡ least.probe conditions.now) }
+    ensures words { IfOk result (λ found. IfSome found (λ l. least.filled (least_with conditions.now []) conditions.now.contents.items 0 1048576 conditions.now.lengths.items ≡ Some (words_seen l.buffers.words))) }
 {
     let mut launch = without_buffers(alloc, conditions)?;
     if requirements_meet(&launch, &conditions.requirements).is_err() {
@@ -189,6 +191,7 @@ fn least_launch(alloc: Global, conditions: &Conditions) -> Result<Option<Launch>
 #[tactic(auto, using(crate::proofs::Least::least))]
 pub fn probe(alloc: Global, conditions: &Conditions) -> Result<Option<Launch>, AllocError>
     ensures least { IfOk result (λ found. option_map launch_of found ≡ least.probe conditions.now) }
+    ensures words { IfOk result (λ found. IfSome found (λ l. least.filled (least_with conditions.now []) conditions.now.contents.items 0 1048576 conditions.now.lengths.items ≡ Some (words_seen l.buffers.words))) }
     ensures met { IfOk result (λ found. IfSome found (λ l. Meets (conditions_of conditions.now) (launch_of l))) }
 {
     let found = least_launch(alloc, conditions)?;

@@ -9,7 +9,7 @@ use Rattle.walk_trees.specs.Trees.{Sort, Spot, Demand, Goal, Target, Tree, Leaf,
 use Rattle.arrivals.specs.Trees.{Stop, Turns}
 use Rattle.walk_trees.specs.Values.{Value, Arrived}
 use Rattle.walk_trees.specs.Shares.{Shared}
-use Rattle.walk_trees.specs.Walks.{State, claimed_once, counted, holding, with_rank, with_quotient, arrived, stand, demand, fork}
+use Rattle.walk_trees.specs.Walks.{State, claimed_once, counted, holding, with_rank, with_quotient, arrived, stand, demand, fork, fork_unless}
 use Rattle.walk_trees.specs.Statements.{spot_of}
 
 -- the way that is taken at a fork: the first one, or the other one, with the number of claims before it
@@ -144,3 +144,7 @@ with_choice m (Other n) = record { found = take_other n m.found; state = counted
 -- a fork as a step that answers which way is taken
 abbrev pub choosing : {E : Type 0} → State E → (Bool → State E → Tree E) → Tree E
 choosing st go = fork st (go true) (go false)
+
+-- so is a test, of which ways may be left out
+abbrev pub choosing_unless : {E : Type 0} → (first_is_out second_is_out : Bool) → State E → (Bool → State E → Tree E) → Tree E
+choosing_unless out none st go = fork_unless out none st (go true) (go false)

@@ -1,11 +1,13 @@
 -- What holds on each way of a comparison other than equality.
-use Rattle.std.specs.Prelude.{pos, Bool, true, false}
+use Rattle.std.specs.Prelude.{◌≡◌, pos, Bool, true, false}
 use Rattle.semantics.specs.Word.{Relation, Less, AtMost, More, AtLeast, Equal, Unequal}
 use Rattle.facts.specs.Symbols.{Fact, minus}
 use Rattle.walk_trees.specs.Trees.{Tree}
-use Rattle.walk_trees.specs.Walks.{Setting, State}
+use Rattle.walk_trees.specs.Walks.{Setting, State, is_left_out, is_either_left_out, are_both_left_out}
 use Rattle.walk_trees.specs.Joined.{are_joined, told_apart}
 use Rattle.walk_trees.specs.Tests.{Outcomes, below, split_below, split_apart}
+use Rattle.path_steps.specs.Paths.{choosing_unless}
+use Rattle.path_steps.specs.declared.tests.LeftOut.{LeftOut}
 
 -- for equality the two ways on which one is below the other
 abbrev pub side : Relation → (first : Bool) → Fact → Fact → Fact
@@ -36,3 +38,15 @@ one_way s f g st go = told_apart s f g st (go false)
 -- the ways on which two numbers differ
 abbrev pub apart : {E : Type 0} → Setting E → Fact → Fact → State E → Outcomes E → Tree E
 apart s x y st go = split_apart s (are_joined s (pos 1) (minus x y) (minus y x) st) x y st go
+
+-- which of two ways is gone along, each with its fact
+abbrev pub choosing_side : {E : Type 0} → Setting E → (by_elements : Bool) → (first second : Fact) → State E → Outcomes E → Tree E
+choosing_side s w f g st go = choosing_unless (is_left_out s w f st) (is_left_out s w g st) st go
+
+-- whether two numbers are equal
+abbrev pub choosing_equal : {E : Type 0} → Setting E → Fact → Fact → State E → Outcomes E → Tree E
+choosing_equal s x y st go = choosing_unless (is_either_left_out s s.is_wide (minus x y) (minus y x) st) (are_both_left_out s s.is_wide (below x y) (below y x) st) st go
+
+-- which of three ways are left out: two, each with its fact, and a third one with two
+abbrev pub AreLeftOut : {E : Type 0} → Setting E → (first second third fourth : Fact) → State E → LeftOut → Type 0
+AreLeftOut s p q f g st o = (o.first ≡ is_left_out s s.is_wide p st) × (o.second ≡ is_left_out s s.is_wide q st) × (o.third ≡ is_either_left_out s s.is_wide f g st)

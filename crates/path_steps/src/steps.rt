@@ -5,7 +5,7 @@ ghost use Rattle.linear.specs.Forms.{form as form_seen, forms};
 ghost use Rattle.core_code.specs.View.{site as site_seen};
 ghost use Rattle.facts.specs.Refusals.{IsMemory};
 ghost use Rattle.walk_trees.specs.Walks.{spot_at, is_none};
-ghost use Rattle.path_steps.specs.Paths.{opening, with_claim, with_fact, with_element, with_narrowed, with_access, with_shared, with_spot, with_choice, front, choosing};
+ghost use Rattle.path_steps.specs.Paths.{opening, with_claim, with_fact, with_element, with_narrowed, with_access, with_shared, with_spot, with_choice, front, choosing, choosing_unless};
 ghost use Rattle.path_steps.specs.Refusals.{Refused};
 ghost use Rattle.path_steps.specs.Leads.{Leads};
 ghost use Rattle.path_steps.specs.View.{followed, sort as sort_seen, spot as spot_seen, target as target_seen, goal_seen, shared_seen, choice as choice_seen, value as value_seen};
@@ -186,5 +186,22 @@ impl<D: Copy> Path<D> {
                 Ok(false)
             }
         }
+    }
+
+    /// The way of a test, and whether it is the first. There is no fork where one of its two ways is left out.
+    pub fn choose_unless(
+        &mut self,
+        first_is_out: bool,
+        second_is_out: bool,
+    ) -> Result<bool, WalkError>
+        ensures { MatchResult result (Leads (followed self.old) (followed self.new) (choosing_unless first_is_out second_is_out)) IsMemory }
+    {
+        if first_is_out {
+            return Ok(false);
+        }
+        if second_is_out {
+            return Ok(true);
+        }
+        self.choose()
     }
 }

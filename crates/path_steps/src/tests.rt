@@ -1,17 +1,18 @@
 //! Tests: each way begins with the facts of its outcome.
 
-ghost use Rattle.std.specs.Prelude.{◌≡◌, ◌&&◌, ◌||◌, pos, negsuc, int_lt, MatchResult};
+ghost use Rattle.std.specs.Prelude.{◌≡◌, ◌&&◌, true, false, pos, negsuc, int_lt, MatchResult};
 ghost use Rattle.linear.specs.Exact.{fits_i64, multiple};
 ghost use Rattle.linear.specs.Forms.{form as form_seen};
 ghost use Rattle.semantics.specs.Word.{Equal, Unequal};
 ghost use Rattle.core_code.specs.View.{relation as relation_seen};
-ghost use Rattle.facts.specs.Symbols.{constant, minus};
+ghost use Rattle.facts.specs.Symbols.{Fact, constant, minus};
 ghost use Rattle.facts.specs.Refusals.{IsMemory, IsUnfit};
 ghost use Rattle.walk_trees.specs.Walks as walks;
 ghost use Rattle.walk_trees.specs.Tests as tests;
 ghost use Rattle.path_steps.specs.Leads.{Steps, Leads};
+ghost use Rattle.path_steps.specs.Paths.{choosing_unless};
 ghost use Rattle.path_steps.specs.Halts.{HaltsAtStep, Halts};
-ghost use Rattle.path_steps.specs.Sides.{side, split_sides, one_below, one_way, apart};
+ghost use Rattle.path_steps.specs.Sides.{side, split_sides, one_below, one_way, apart, choosing_side, choosing_equal, AreLeftOut};
 ghost use Rattle.path_steps.specs.View.{followed, setting as seen};
 
 use crate::bounds::is_refuted;
@@ -54,7 +55,7 @@ fn is_left_out<D: Domain>(
     by_elements: bool,
     form: &Form,
 ) -> bool
-    ensures { result ≡ ((by_elements && walks.is_refuted (seen D.Domain setting.now) (form_seen form.now) (followed path.now).state) || walks.is_dead (form_seen form.now)) }
+    ensures { result ≡ walks.is_left_out (seen D.Domain setting.now) by_elements (form_seen form.now) (followed path.now).state }
 {
     (by_elements && is_refuted(setting, path, form)) || is_dead(form)
 }
@@ -170,6 +171,167 @@ fn know_equal<D: Domain>(
     know_apart(setting, path, Relation::AtLeast, true, right, left)
 }
 
+/// A way is left out, by its fact. None is whose fact is too large for `i64`.
+fn leaves_out<D: Domain>(
+    setting: &Setting<D>,
+    path: &Path<D>,
+    by_elements: bool,
+    fact: Result<Form, WalkError>,
+) -> Result<bool, WalkError>
+    ensures { (f : Fact) → MatchResult fact (λ x. form_seen x ≡ f) (λ e. IsUnfit e f) → MatchResult result (λ b. b ≡ walks.is_left_out (seen D.Domain setting.now) by_elements f (followed path.now).state) IsMemory }
+{
+    match fact {
+        Ok(form) => Ok(is_left_out(setting, path, by_elements, &form)),
+        Err(WalkError::TooLarge) => Ok(false),
+        Err(WalkError::TooMany) => Err(WalkError::TooMany),
+        Err(WalkError::Memory) => Err(WalkError::Memory),
+    }
+}
+
+/// A way of a comparison is left out.
+fn leaves_out_side<D: Domain>(
+    setting: &Setting<D>,
+    path: &Path<D>,
+    way: Way,
+    left: &Form,
+    right: &Form,
+) -> Result<bool, WalkError>
+    ensures { MatchResult result (λ b. b ≡ walks.is_left_out (seen D.Domain setting.now) way.by_elements (side (relation_seen way.relation) way.first (form_seen left.now) (form_seen right.now)) (followed path.now).state) IsMemory }
+{
+    let fact = side_fact(setting.alloc, way.relation, way.first, left, right);
+    leaves_out(setting, path, way.by_elements, fact)
+}
+
+/// A way of `==` or `!=`, or, by its relation, of another comparison, is left out, where the wide walk asks the elements.
+fn leaves_out_apart<D: Domain>(
+    setting: &Setting<D>,
+    path: &Path<D>,
+    relation: Relation,
+    first: bool,
+    left: &Form,
+    right: &Form,
+) -> Result<bool, WalkError>
+    ensures { MatchResult result (λ b. b ≡ walks.is_left_out (seen D.Domain setting.now) setting.now.is_wide (side (relation_seen relation) first (form_seen left.now) (form_seen right.now)) (followed path.now).state) IsMemory }
+{
+    let way = Way {
+        relation,
+        first,
+        by_elements: setting.is_wide,
+    };
+    leaves_out_side(setting, path, way, left, right)
+}
+
+/// The way on which two forms are equal is left out.
+fn leaves_out_equal<D: Domain>(
+    setting: &Setting<D>,
+    path: &Path<D>,
+    left: &Form,
+    right: &Form,
+) -> Result<bool, WalkError>
+    ensures { MatchResult result (λ b. b ≡ walks.is_either_left_out (seen D.Domain setting.now) setting.now.is_wide (minus (form_seen left.now) (form_seen right.now)) (minus (form_seen right.now) (form_seen left.now)) (followed path.now).state) IsMemory }
+{
+    if leaves_out_apart(setting, path, Relation::AtLeast, true, left, right)? {
+        return Ok(true);
+    }
+    leaves_out_apart(setting, path, Relation::AtLeast, true, right, left)
+}
+
+/// The ways on which two forms differ are left out.
+fn leaves_out_unequal<D: Domain>(
+    setting: &Setting<D>,
+    path: &Path<D>,
+    left: &Form,
+    right: &Form,
+) -> Result<bool, WalkError>
+    ensures { MatchResult result (λ b. b ≡ walks.are_both_left_out (seen D.Domain setting.now) setting.now.is_wide (tests.below (form_seen left.now) (form_seen right.now)) (tests.below (form_seen right.now) (form_seen left.now)) (followed path.now).state) IsMemory }
+{
+    if leaves_out_apart(setting, path, Relation::Equal, true, left, right)? {
+        return leaves_out_apart(setting, path, Relation::Equal, false, left, right);
+    }
+    Ok(false)
+}
+
+/// The way of a comparison that is gone along, and whether it is the first.
+fn choose_side<D: Domain>(
+    setting: &Setting<D>,
+    path: &mut Path<D>,
+    by_elements: bool,
+    relation: Relation,
+    left: &Form,
+    right: &Form,
+) -> Result<bool, WalkError>
+    ensures { MatchResult result (Leads (followed path.old) (followed path.new) (choosing_side (seen D.Domain setting.now) by_elements (side (relation_seen relation) true (form_seen left.now) (form_seen right.now)) (side (relation_seen relation) false (form_seen left.now) (form_seen right.now)))) IsMemory }
+{
+    let one = Way {
+        relation,
+        first: true,
+        by_elements,
+    };
+    let other = Way {
+        relation,
+        first: false,
+        by_elements,
+    };
+    let first_is_out = leaves_out_side(setting, path, one, left, right)?;
+    let second_is_out = leaves_out_side(setting, path, other, left, right)?;
+    path.choose_unless(first_is_out, second_is_out)
+}
+
+/// Whether two forms are equal on the way that is gone along.
+fn choose_equal<D: Domain>(
+    setting: &Setting<D>,
+    path: &mut Path<D>,
+    left: &Form,
+    right: &Form,
+) -> Result<bool, WalkError>
+    ensures { MatchResult result (Leads (followed path.old) (followed path.new) (choosing_equal (seen D.Domain setting.now) (form_seen left.now) (form_seen right.now))) IsMemory }
+{
+    let equal_is_out = leaves_out_equal(setting, path, left, right)?;
+    let unequal_is_out = leaves_out_unequal(setting, path, left, right)?;
+    path.choose_unless(equal_is_out, unequal_is_out)
+}
+
+/// Which of three ways are left out.
+#[derive(Clone, Copy)]
+pub struct LeftOut {
+    pub first: bool,
+    pub second: bool,
+    pub third: bool,
+}
+
+/// The second way and the third one are left out.
+fn leaves_out_rest(out: LeftOut) -> bool
+    ensures { result ≡ (out.second && out.third) }
+{
+    out.second && out.third
+}
+
+/// The first of three ways is gone along.
+fn choose_first<D: Domain>(path: &mut Path<D>, out: LeftOut) -> Result<bool, WalkError>
+    ensures { MatchResult result (Leads (followed path.old) (followed path.new) (choosing_unless out.first (out.second && out.third))) IsMemory }
+{
+    path.choose_unless(out.first, leaves_out_rest(out))
+}
+
+/// Which of the ways of inequality are left out: below, above, equal.
+fn left_out_of_order<D: Domain>(
+    setting: &Setting<D>,
+    path: &Path<D>,
+    left: &Form,
+    right: &Form,
+) -> Result<LeftOut, WalkError>
+    ensures { MatchResult result (AreLeftOut (seen D.Domain setting.now) (tests.below (form_seen left.now) (form_seen right.now)) (tests.below (form_seen right.now) (form_seen left.now)) (minus (form_seen left.now) (form_seen right.now)) (minus (form_seen right.now) (form_seen left.now)) (followed path.now).state) IsMemory }
+{
+    let first = leaves_out_apart(setting, path, Relation::Unequal, true, left, right)?;
+    let second = leaves_out_apart(setting, path, Relation::Unequal, false, left, right)?;
+    let third = leaves_out_equal(setting, path, left, right)?;
+    Ok(LeftOut {
+        first,
+        second,
+        third,
+    })
+}
+
 /// The two ways of a relation, one form below the other on one of them.
 fn split_sides<D: Domain>(
     setting: &Setting<D>,
@@ -181,7 +343,7 @@ fn split_sides<D: Domain>(
 ) -> Result<bool, Halt>
     ensures { MatchResult result (λ b. Leads (followed path.old) (followed path.new) (split_sides (seen D.Domain setting.now) by_elements (relation_seen relation) (form_seen left.now) (form_seen right.now)) b) (λ h. Halts (followed path.old) (followed path.new) h (split_sides (seen D.Domain setting.now) by_elements (relation_seen relation) (form_seen left.now) (form_seen right.now))) }
 {
-    let first = path.choose()?;
+    let first = choose_side(setting, path, by_elements, relation, left, right)?;
     let way = Way {
         relation,
         first,
@@ -200,7 +362,7 @@ fn split_below<D: Domain>(
 ) -> Result<bool, Halt>
     ensures { MatchResult result (λ b. Leads (followed path.old) (followed path.new) (one_below (seen D.Domain setting.now) (form_seen left.now) (form_seen right.now)) b) (λ h. Halts (followed path.old) (followed path.new) h (one_below (seen D.Domain setting.now) (form_seen left.now) (form_seen right.now))) }
 {
-    let first = path.choose()?;
+    let first = choose_side(setting, path, setting.is_wide, Relation::Equal, left, right)?;
     know_apart(setting, path, Relation::Equal, first, left, right)?;
     Ok(false)
 }
@@ -242,7 +404,7 @@ fn split_equal<D: Domain>(
 ) -> Result<bool, Halt>
     ensures { MatchResult result (λ b. Leads (followed path.old) (followed path.new) (tests.split (seen D.Domain setting.now) setting.now.is_wide Equal (form_seen left.now) (form_seen right.now)) b) (λ h. Halts (followed path.old) (followed path.new) h (tests.split (seen D.Domain setting.now) setting.now.is_wide Equal (form_seen left.now) (form_seen right.now))) }
 {
-    if path.choose()? {
+    if choose_equal(setting, path, left, right)? {
         know_equal(setting, path, left, right)?;
         return Ok(true);
     }
@@ -258,11 +420,12 @@ fn split_order<D: Domain>(
 ) -> Result<bool, Halt>
     ensures { MatchResult result (λ b. Leads (followed path.old) (followed path.new) (tests.split_sign (seen D.Domain setting.now) (tests.below (form_seen left.now) (form_seen right.now)) (tests.below (form_seen right.now) (form_seen left.now)) (minus (form_seen left.now) (form_seen right.now)) (minus (form_seen right.now) (form_seen left.now))) b) (λ h. Halts (followed path.old) (followed path.new) h (tests.split_sign (seen D.Domain setting.now) (tests.below (form_seen left.now) (form_seen right.now)) (tests.below (form_seen right.now) (form_seen left.now)) (minus (form_seen left.now) (form_seen right.now)) (minus (form_seen right.now) (form_seen left.now)))) }
 {
-    if path.choose()? {
+    let out = left_out_of_order(setting, path, left, right)?;
+    if choose_first(path, out)? {
         know_apart(setting, path, Relation::Unequal, true, left, right)?;
         return Ok(true);
     }
-    if path.choose()? {
+    if path.choose_unless(out.second, out.third)? {
         know_apart(setting, path, Relation::Unequal, false, left, right)?;
         return Ok(true);
     }
@@ -406,6 +569,63 @@ fn split_from_zero<D: Domain>(
     Ok(false)
 }
 
+/// The way on which a form is above 0 is left out.
+fn leaves_out_above<D: Domain>(
+    setting: &Setting<D>,
+    path: &Path<D>,
+    form: &Form,
+) -> Result<bool, WalkError>
+    ensures { MatchResult result (λ b. b ≡ walks.is_left_out (seen D.Domain setting.now) setting.now.is_wide (minus (form_seen form.now) (constant (pos 1))) (followed path.now).state) IsMemory }
+{
+    let fact = less_number(setting.alloc, form, 1);
+    leaves_out(setting, path, setting.is_wide, fact)
+}
+
+/// The way on which a form is below 0 is left out.
+fn leaves_out_below<D: Domain>(
+    setting: &Setting<D>,
+    path: &Path<D>,
+    form: &Form,
+) -> Result<bool, WalkError>
+    ensures { MatchResult result (λ b. b ≡ walks.is_left_out (seen D.Domain setting.now) setting.now.is_wide (minus (constant (negsuc 0)) (form_seen form.now)) (followed path.now).state) IsMemory }
+{
+    let fact = number_less(setting.alloc, -1, form);
+    leaves_out(setting, path, setting.is_wide, fact)
+}
+
+/// The way on which a form is 0 is left out.
+fn leaves_out_zero<D: Domain>(
+    setting: &Setting<D>,
+    path: &Path<D>,
+    form: &Form,
+) -> Result<bool, WalkError>
+    ensures { MatchResult result (λ b. b ≡ walks.is_either_left_out (seen D.Domain setting.now) setting.now.is_wide (form_seen form.now) (multiple (negsuc 0) (form_seen form.now)) (followed path.now).state) IsMemory }
+{
+    if is_left_out(setting, path, setting.is_wide, form) {
+        return Ok(true);
+    }
+    let fact = negated(setting.alloc, form);
+    leaves_out(setting, path, setting.is_wide, fact)
+}
+
+/// Which of the ways of a number as a test are left out: above 0, below 0, or 0.
+fn left_out_of_sign<D: Domain>(
+    setting: &Setting<D>,
+    path: &Path<D>,
+    form: &Form,
+) -> Result<LeftOut, WalkError>
+    ensures { MatchResult result (AreLeftOut (seen D.Domain setting.now) (minus (form_seen form.now) (constant (pos 1))) (minus (constant (negsuc 0)) (form_seen form.now)) (form_seen form.now) (multiple (negsuc 0) (form_seen form.now)) (followed path.now).state) IsMemory }
+{
+    let first = leaves_out_above(setting, path, form)?;
+    let second = leaves_out_below(setting, path, form)?;
+    let third = leaves_out_zero(setting, path, form)?;
+    Ok(LeftOut {
+        first,
+        second,
+        third,
+    })
+}
+
 /// A number as a test, where no ways are joined: above 0, below 0, or 0.
 fn split_sign<D: Domain>(
     setting: &Setting<D>,
@@ -414,11 +634,12 @@ fn split_sign<D: Domain>(
 ) -> Result<bool, Halt>
     ensures { MatchResult result (λ b. Leads (followed path.old) (followed path.new) (tests.split_sign (seen D.Domain setting.now) (minus (form_seen form.now) (constant (pos 1))) (minus (constant (negsuc 0)) (form_seen form.now)) (form_seen form.now) (multiple (negsuc 0) (form_seen form.now))) b) (λ h. Halts (followed path.old) (followed path.new) h (tests.split_sign (seen D.Domain setting.now) (minus (form_seen form.now) (constant (pos 1))) (minus (constant (negsuc 0)) (form_seen form.now)) (form_seen form.now) (multiple (negsuc 0) (form_seen form.now)))) }
 {
-    if path.choose()? {
+    let out = left_out_of_sign(setting, path, form)?;
+    if choose_first(path, out)? {
         know_above(setting, path, form)?;
         return Ok(true);
     }
-    if path.choose()? {
+    if path.choose_unless(out.second, out.third)? {
         know_below(setting, path, form)?;
         return Ok(true);
     }

@@ -14,6 +14,7 @@ mod clashing;
 mod crossings;
 mod equal;
 mod fences;
+mod in_turn;
 mod limit;
 mod looking;
 mod manner;

@@ -120,7 +120,7 @@ impl<D: Domain> Obligations<D> {
     }
 
     /// Fails where a number that some meeting of two ends needs is too large for `i64`.
-    fn try_meetings(&self, alloc: Global) -> Result<(), WalkError>
+    pub(crate) fn try_meetings(&self, alloc: Global) -> Result<(), WalkError>
         ensures { MatchResult result (λ _. meetings_fit (found_meetings self.now.met self.now.meetings.items) ≡ true) (DoNotFit (meetings_fit (found_meetings self.now.met self.now.meetings.items))) }
     {
         for i in 0..self.meetings.len() {
@@ -131,7 +131,7 @@ impl<D: Domain> Obligations<D> {
     }
 
     /// The differences of each pair's indexes are, or an error.
-    fn try_crossings(&self, alloc: Global) -> Result<(), WalkError>
+    pub(crate) fn try_crossings(&self, alloc: Global) -> Result<(), WalkError>
         ensures { MatchResult result (λ _. crossings_fit (found_crossings self.now.met self.now.crossings.items) ≡ true) (DoNotFit (crossings_fit (found_crossings self.now.met self.now.crossings.items))) }
     {
         for i in 0..self.crossings.len() {

@@ -14,4 +14,4 @@ mod numbers;
 mod paths;
 
 pub use error::FindError;
-pub use finding::{find, setting_of};
+pub use finding::{find, find_claims, setting_of};

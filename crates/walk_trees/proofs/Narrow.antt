@@ -1,5 +1,5 @@
 -- Where the walk is not the wide one, where ways are not joined, and where no line says what buffers hold.
-use Rattle.std.proofs.Common.{◌≡◌, ℕ, ◌&&◌, Bool, true, false, [], Option, None, cond, refl, ap, ◌∙◌}
+use Rattle.std.proofs.Common.{◌≡◌, ℕ, ◌&&◌, ◌||◌, Bool, true, false, [], Option, None, cond, refl, ap, ◌∙◌}
 use Rattle.std.specs.Prelude.{ℤ, pos, negsuc}
 use Rattle.semantics.specs.Word.{Kind, Int, Equal, Unequal, Add, Subtract, Multiply, Divide, Remainder, BitAnd, BitOr, BitXor}
 use Rattle.semantics.specs.Core.{Site, Space, Global, Local, Array}
@@ -13,7 +13,7 @@ use Rattle.walk_trees.specs.Held.{narrow}
 use Rattle.walk_trees.specs.Trees.{Tree}
 use Rattle.walk_trees.specs.Values.{Value, value}
 use Rattle.walk_trees.specs.Shares.{Shared}
-use Rattle.walk_trees.specs.Walks.{Setting, State, Onward, element_of, bounds_of, holding, unknown, ranged, fork, invent, is_dead, unless_dead, know_test, know_two, known_form}
+use Rattle.walk_trees.specs.Walks.{Setting, State, Onward, element_of, bounds_of, holding, unknown, ranged, fork_unless, invent, is_dead, is_either_left_out, are_both_left_out, unless_dead, know_test, know_two, known_form}
 use Rattle.walk_trees.specs.Quotients.{quotient, left_by}
 use Rattle.walk_trees.specs.Operators.{product_in, product, claim_divisor, is_positive, is_exact, claim_dividend, share, divided, remaining, is_mask, are_from_zero, masked_by, masked, binary}
 use Rattle.walk_trees.specs.Joined.{may_reach, are_joined, same_kind, pick_joined}
@@ -30,8 +30,8 @@ module _ {E : Type 0} (g : Ghosts E) (kernel : Kernel) (c : Conditions) (has_ent
   narrow-test f st go = refl
 
   pub narrow-number : (f : Fact) (st : State E) (go : Outcomes E) → split_number s f st go ≡
-      fork st (λ a. know_test s false (minus f (constant (pos 1))) a (go true)) (λ a.
-      fork a (λ b. know_test s false (minus (constant (negsuc 0)) f) b (go true)) (λ b. know_two s false f (multiple (negsuc 0) f) b (go false)))
+      fork_unless (is_dead (minus f (constant (pos 1)))) (is_dead (minus (constant (negsuc 0)) f) && (is_dead f || is_dead (multiple (negsuc 0) f))) st (λ a. know_test s false (minus f (constant (pos 1))) a (go true)) (λ a.
+      fork_unless (is_dead (minus (constant (negsuc 0)) f)) (is_dead f || is_dead (multiple (negsuc 0) f)) a (λ b. know_test s false (minus (constant (negsuc 0)) f) b (go true)) (λ b. know_two s false f (multiple (negsuc 0) f) b (go false)))
   narrow-number f st go = refl
 
   pub narrow-form : (st : State E) (f : Fact) → known_form s st f ≡ f
@@ -101,8 +101,8 @@ module _ {E : Type 0} (s : Setting E) (apart : s.joins ≡ false) where
   none_joined_of least more less st = ap (λ b. b && (may_reach s (pos 1) more st && may_reach s least less st)) apart
 
   -- `==`, `!=` and a number as a test have a way on which one is less, and a way on which it is more
-  pub split-equal : (w : Bool) (x y : Fact) (st : State E) (go : Outcomes E) → split s w Equal x y st go ≡ fork st (λ a. know_two s s.is_wide (minus x y) (minus y x) a (go true)) (λ a. split_below s s.is_wide false false (below x y) (below y x) a go)
-  split-equal w x y st go = ap (λ (f : State E → Bool). fork st (λ a. know_two s s.is_wide (minus x y) (minus y x) a (go true)) (λ a. split_apart s (f a) x y a go)) (λ i a. none_joined_of (pos 1) (minus x y) (minus y x) a i)
+  pub split-equal : (w : Bool) (x y : Fact) (st : State E) (go : Outcomes E) → split s w Equal x y st go ≡ fork_unless (is_either_left_out s s.is_wide (minus x y) (minus y x) st) (are_both_left_out s s.is_wide (below x y) (below y x) st) st (λ a. know_two s s.is_wide (minus x y) (minus y x) a (go true)) (λ a. split_below s s.is_wide false false (below x y) (below y x) a go)
+  split-equal w x y st go = ap (λ (f : State E → Bool). fork_unless (is_either_left_out s s.is_wide (minus x y) (minus y x) st) (are_both_left_out s s.is_wide (below x y) (below y x) st) st (λ a. know_two s s.is_wide (minus x y) (minus y x) a (go true)) (λ a. split_apart s (f a) x y a go)) (λ i a. none_joined_of (pos 1) (minus x y) (minus y x) a i)
 
   pub split-unequal : (w : Bool) (x y : Fact) (st : State E) (go : Outcomes E) → split s w Unequal x y st go ≡ split_sign s (below x y) (below y x) (minus x y) (minus y x) st go
   split-unequal w x y st go = ap (λ b. cond b (split_from_zero s (minus x y) (minus y x) st go) (split_sign s (below x y) (below y x) (minus x y) (minus y x) st go)) (none_joined_of (pos 1) (minus x y) (minus y x) st)

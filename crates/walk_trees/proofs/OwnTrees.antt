@@ -1,5 +1,5 @@
 -- The trees of what an item does have its own symbols, and the launch's, alone.
-use Rattle.std.proofs.Common.{◌≡◌, ℕ, zero, suc, ◌+◌, ◌^◌, ◌%◌, ◌&&◌, ◌||◌, Bool, true, false, not, cond, nat_lt, List, [], ◌∷◌, ◌++◌, length, map, slice_index_or, Option, Some, None, refl, lt-ltb}
+use Rattle.std.proofs.Common.{◌≡◌, ℕ, zero, suc, ◌+◌, ◌^◌, ◌%◌, ◌&&◌, Bool, true, false, not, cond, nat_lt, List, [], ◌∷◌, ◌++◌, length, map, slice_index_or, Option, Some, None, refl, lt-ltb}
 use Rattle.std.proofs.lemmas.Bool.{and_from}
 use Rattle.std.specs.Prelude.{ℤ, pos, negsuc, ◌+ℤ◌, slice_set}
 use Rattle.std.specs.Ordering.{int_eq}
@@ -13,7 +13,7 @@ use Rattle.facts.specs.Symbols.{First, Local, Group, Fact, constant, once, minus
 use Rattle.facts.specs.Launching.{BufferBound}
 use Rattle.walk_trees.specs.Trees.{OfRange, Tree, Leaf, Dead, Claim, Know, Touch, Fork, Access, after, accesses}
 use Rattle.walk_trees.specs.Values.{Value, value}
-use Rattle.walk_trees.specs.Walks.{Setting, State, Onward, claimed_once, counted, bounds_of, newest, know_all, claim_form, unknown, any_of, is_kept, kept_or_new, ranged, brought_from, both_brought, at_site, fork, is_dead, unless_dead, is_refuted, know_test, know_two, one_number, known_form}
+use Rattle.walk_trees.specs.Walks.{Setting, State, Onward, claimed_once, counted, bounds_of, newest, know_all, claim_form, unknown, any_of, is_kept, kept_or_new, ranged, brought_from, both_brought, at_site, fork, fork_unless, is_left_out, is_either_left_out, are_both_left_out, unless_dead, know_test, know_two, one_number, known_form}
 use Rattle.walk_trees.specs.SharedQuotients.{quotient_or_new, left_or_new}
 use Rattle.walk_trees.specs.Operators.{small_product, product_in, product, claim_divisor, claim_quotient, is_exact, asks_dividend, claim_dividend, divided, remaining, is_mask, are_from_zero, masked_by, masked, operate, known_operands, binary, complement, shifted, unary}
 use Rattle.walk_trees.specs.Bits.{meet, join, differ}
@@ -56,13 +56,18 @@ module _ {E : Type 0} (s : Setting E) where
   unfolding IsOwnTree
   forks st first second h f g = (f st h, λ n. g (counted n st) h)
 
+  forks_unless : (p q : Bool) (st : State E) (first second : State E → Tree E) → HasOwn st → ((a : State E) → HasOwn a → IsOwnTree (first a)) → ((a : State E) → HasOwn a → IsOwnTree (second a)) → IsOwnTree (fork_unless p q st first second)
+  forks_unless true q st first second h f g = g st h
+  forks_unless false true st first second h f g = f st h
+  forks_unless false false st first second h f g = forks st first second h f g
+
   lives : (b : Bool) (f : Fact) (t : Tree E) → IsOwn f → IsOwnTree t → IsOwnTree (unless_dead b f t)
   unfolding IsOwnTree
   lives true f t i h = tt
   lives false f t i h = (i, h)
 
   tests : (w : Bool) (f : Fact) (st : State E) (go : State E → Tree E) → IsOwn f → HasOwn st → ((a : State E) → HasOwn a → IsOwnTree (go a)) → IsOwnTree (know_test s w f st go)
-  tests w f st go i h g = lives ((w && is_refuted s f st) || is_dead f) f _ i (g _ h)
+  tests w f st go i h g = lives (is_left_out s w f st) f _ i (g _ h)
 
   tests_two : (w : Bool) (f k : Fact) (st : State E) (go : State E → Tree E) → IsOwn f → IsOwn k → HasOwn st → ((a : State E) → HasOwn a → IsOwnTree (go a)) → IsOwnTree (know_two s w f k st go)
   tests_two w f k st go i j h g = tests w f st _ i h (λ a ha. tests w k a go j ha g)
@@ -71,7 +76,7 @@ module _ {E : Type 0} (s : Setting E) where
   own-below x y i j = own-minus (minus y x) (constant (pos 1)) (own-minus y x j i) tt
 
   splits_below : (w a b : Bool) (f g : Fact) (st : State E) (go : Outcomes E) → IsOwn f → IsOwn g → HasOwn st → GoesEither go → IsOwnTree (split_below s w a b f g st go)
-  splits_below w a b f g st go i j h k = forks st _ _ h (λ c hc. tests w f c (go a) i hc (k a)) (λ c hc. tests w g c (go b) j hc (k b))
+  splits_below w a b f g st go i j h k = forks_unless (is_left_out s w f st) (is_left_out s w g st) st _ _ h (λ c hc. tests w f c (go a) i hc (k a)) (λ c hc. tests w g c (go b) j hc (k b))
 
   -- one of two trees
   one_of : (b : Bool) (t u : Tree E) → IsOwnTree t → IsOwnTree u → IsOwnTree (cond b t u)
@@ -108,7 +113,8 @@ module _ {E : Type 0} (s : Setting E) where
 
   by_sign : (p n f k : Fact) (st : State E) (go : Outcomes E) → IsOwn p → IsOwn n → IsOwn f → IsOwn k → HasOwn st → GoesEither go → IsOwnTree (split_sign s p n f k st go)
   by_sign p n f k st go ip jn i j h g =
-      forks st _ _ h (λ a ha. tests s.is_wide p a (go true) ip ha (g true)) (λ a ha. forks a _ _ ha (λ b hb. tests s.is_wide n b (go true) jn hb (g true)) (λ b hb. tests_two s.is_wide f k b (go false) i j hb (g false)))
+      forks_unless (is_left_out s s.is_wide p st) (is_left_out s s.is_wide n st && is_either_left_out s s.is_wide f k st) st _ _ h
+      (λ a ha. tests s.is_wide p a (go true) ip ha (g true)) (λ a ha. forks_unless (is_left_out s s.is_wide n st) (is_either_left_out s s.is_wide f k st) a _ _ ha (λ b hb. tests s.is_wide n b (go true) jn hb (g true)) (λ b hb. tests_two s.is_wide f k b (go false) i j hb (g false)))
 
   splits : (w : Bool) (r : Relation) (x y : Fact) (st : State E) (go : Outcomes E) → IsOwn x → IsOwn y → HasOwn st → GoesEither go → IsOwnTree (split s w r x y st go)
   splits w Less x y st go i j h g = splits_below w true false (below x y) (minus x y) st go (own-below x y i j) (own-minus x y i j) h g
@@ -116,7 +122,8 @@ module _ {E : Type 0} (s : Setting E) where
   splits w More x y st go i j h g = splits_below w true false (below y x) (minus y x) st go (own-below y x j i) (own-minus y x j i) h g
   splits w AtLeast x y st go i j h g = splits_below w true false (minus x y) (below x y) st go (own-minus x y i j) (own-below x y i j) h g
   splits w Equal x y st go i j h g =
-      forks st _ _ h (λ a ha. tests_two s.is_wide (minus x y) (minus y x) a (go true) (own-minus x y i j) (own-minus y x j i) ha (g true))
+      forks_unless (is_either_left_out s s.is_wide (minus x y) (minus y x) st) (are_both_left_out s s.is_wide (below x y) (below y x) st) st _ _ h
+      (λ a ha. tests_two s.is_wide (minus x y) (minus y x) a (go true) (own-minus x y i j) (own-minus y x j i) ha (g true))
       (λ a ha. splits_apart (are_joined s (pos 1) (minus x y) (minus y x) a) x y a go i j ha g)
   splits w Unequal x y st go i j h g =
       one_of (are_joined s (pos 1) (minus x y) (minus y x) st) (split_from_zero s (minus x y) (minus y x) st go) (split_sign s (below x y) (below y x) (minus x y) (minus y x) st go)

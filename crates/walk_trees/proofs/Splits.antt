@@ -1,6 +1,6 @@
 -- Tests: the way of the outcome is gone along, its facts hold, and it is no dead one.
-use Rattle.std.proofs.Common.{◌≡◌, ℕ, Bool, true, false, not, cond, ◌&&◌, ◌||◌, Option, Some, None, inl, inr, List, [], ◌∷◌, arith, refl, sym, ap, ◌∙◌}
-use Rattle.std.specs.Prelude.{ℤ, pos, negsuc, ◌+ℤ◌, ◌-ℤ◌, ◌*ℤ◌, ◌≤ℤ◌, ◌<ℤ◌, int_lt, int_le}
+use Rattle.std.proofs.Common.{◌≡◌, ℕ, Bool, true, false, not, cond, ◌&&◌, Option, Some, None, inl, inr, List, [], ◌∷◌, arith, refl, sym, ap, ◌∙◌}
+use Rattle.std.specs.Prelude.{ℤ, pos, negsuc, ◌+ℤ◌, ◌-ℤ◌, ◌*ℤ◌, ◌≤ℤ◌, ◌<ℤ◌, ◌⊎◌, int_lt, int_le}
 use Rattle.std.specs.Ordering.{int_eq}
 use Rattle.std.proofs.lemmas.Int.{ints, by_lt_z}
 use Rattle.std.proofs.lemmas.Bool.{and_parts, or_cases}
@@ -16,9 +16,9 @@ use Rattle.facts.proofs.Members.{by_number}
 use Rattle.facts.proofs.Worlds.{View, Agrees, own, agrees_itself}
 use Rattle.walk_trees.specs.Held.{narrow}
 use Rattle.walk_trees.specs.Trees.{Tree}
-use Rattle.walk_trees.specs.Walks.{State, element_of, bounds_of, counted, holding, fork, is_none, is_number, is_dead, unless_dead, is_refuted, know_test, know_two}
+use Rattle.walk_trees.specs.Walks.{State, element_of, bounds_of, counted, holding, fork, fork_unless, is_none, is_number, is_dead, unless_dead, is_refuted, is_left_out, is_either_left_out, are_both_left_out, know_test, know_two}
 use Rattle.walk_trees.specs.Joined.{are_joined, told_apart}
-use Rattle.walk_trees.specs.Tests.{Outcomes, below, split_below, split_apart, split_from_zero, split_sign, split, split_number}
+use Rattle.walk_trees.specs.Tests.{Outcomes, below, split_below, split_apart, split_from_zero, split_rest, split_sign, split, split_number}
 use Rattle.walk_trees.proofs.Holding.{known_of, IsHeld, form-has}
 use Rattle.walk_trees.proofs.Shares.{keeping}
 use Rattle.walk_trees.proofs.Standing.{walks, Stands, Comes, over_fact, over_first, over_second, past_fact, narrowed, past_first, past_second, at_once, comes_from, onward, restated, owns}
@@ -87,20 +87,30 @@ module _ {E : Type 0} (c : View E) (launch : List Fact) where
       let p = and_parts (fits f) (is_below_zero b.high) e in
       at_most_below b.high z p.1 (and_parts (is_above b.low z) (is_below b.high z) (c.lawful.bounds (element_of (walks c) st f) z (form-has c news st.held f z k m.means))).1 h
 
-  goes_on_here : {news : List ℤ} (w : Bool) (f : Fact) (z : ℤ) (st : State E) → IsForm c news f z → pos 0 ≤ℤ z → IsHeld c news st.held → ((w && is_refuted (walks c) f st) || is_dead f) ≡ true → ⊥
+  goes_on_here : {news : List ℤ} (w : Bool) (f : Fact) (z : ℤ) (st : State E) → IsForm c news f z → pos 0 ≤ℤ z → IsHeld c news st.held → is_left_out (walks c) w f st ≡ true → ⊥
   goes_on_here w f z st m h k e = elim (or_cases (w && is_refuted (walks c) f st) (is_dead f) e) [
     | inl o ↦ is_possible f z st m h k (and_parts w (is_refuted (walks c) f st) o).1
     | inr o ↦ is_alive f z m h o
   ]
 
+  both_go_on_here : {news : List ℤ} (w : Bool) (f g : Fact) (y z : ℤ) (st : State E) → IsForm c news f y → pos 0 ≤ℤ y → IsForm c news g z → pos 0 ≤ℤ z → IsHeld c news st.held → is_either_left_out (walks c) w f g st ≡ true → ⊥
+  both_go_on_here w f g y z st mf hf mg hg k e = elim (or_cases (is_left_out (walks c) w f st) (is_left_out (walks c) w g st) e) [
+    | inl o ↦ goes_on_here w f y st mf hf k o
+    | inr o ↦ goes_on_here w g z st mg hg k o
+  ]
+
+  one_goes_on_here : {news : List ℤ} (w : Bool) (f g : Fact) (y z : ℤ) (st : State E) → IsForm c news f y → IsForm c news g z → (pos 0 ≤ℤ y) ⊎ (pos 0 ≤ℤ z) → IsHeld c news st.held → are_both_left_out (walks c) w f g st ≡ true → ⊥
+  one_goes_on_here w f g y z st mf mg (inl h) k e = goes_on_here w f y st mf h k (and_parts (is_left_out (walks c) w f st) (is_left_out (walks c) w g st) e).0
+  one_goes_on_here w f g y z st mf mg (inr h) k e = goes_on_here w g z st mg h k (and_parts (is_left_out (walks c) w f st) (is_left_out (walks c) w g st) e).1
+
   -- a fact of a test that holds
   pub know_sound : {A : Type 0} (w : Bool) {facts : List Fact} {n : ℕ} {news : List ℤ} (f : Fact) (z : ℤ) (st : State E) (x : A) (go : A → State E → Tree E) → IsForm c news f z → pos 0 ≤ℤ z → Stands c launch facts n (know_test (walks c) w f st (go x)) news (keeping st) → Comes c launch facts n (know_test (walks c) w f st (go x)) go news (owns st) (λ more y. y ≡ x)
-  know_sound w {facts = facts} {n = n} {news = news} f z st x go m h s = by ((w && is_refuted (walks c) f st) || is_dead f) refl s
+  know_sound w {facts = facts} {n = n} {news = news} f z st x go m h s = by (is_left_out (walks c) w f st) refl s
     where
       next : State E
       next = holding (narrow c.domain (known_of c) f st.held) st
 
-      by : (b : Bool) → ((w && is_refuted (walks c) f st) || is_dead f) ≡ b → Stands c launch facts n (unless_dead b f (go x (holding (narrow c.domain (known_of c) f st.held) st))) news (keeping st) → Comes c launch facts n (unless_dead b f (go x (holding (narrow c.domain (known_of c) f st.held) st))) go news (owns st) (λ more y. y ≡ x)
+      by : (b : Bool) → is_left_out (walks c) w f st ≡ b → Stands c launch facts n (unless_dead b f (go x (holding (narrow c.domain (known_of c) f st.held) st))) news (keeping st) → Comes c launch facts n (unless_dead b f (go x (holding (narrow c.domain (known_of c) f st.held) st))) go news (owns st) (λ more y. y ≡ x)
       by true e s = absurd (goes_on_here w f z st m h s.fit e)
       by false e s =
           let met : (v : ℕ → ℤ) → Agrees c news v → pos 0 ≤ℤ value_of v f = λ v a. omega (arith, ints, m.means v a, h) in
@@ -119,14 +129,25 @@ module _ {E : Type 0} (c : View E) (launch : List Fact) where
   fork_second : {A : Type 0} {facts : List Fact} {n : ℕ} {news : List ℤ} (st : State E) (first second : State E → Tree E) (go : A → State E → Tree E) (P : List ℤ → A → Type 0) → Stands c launch facts n (fork st first second) news (keeping st) → ((m : ℕ) → Stands c launch facts m (second (counted m st)) news (keeping st) → Comes c launch facts m (second (counted m st)) go news (owns st) P) → Comes c launch facts n (fork st first second) go news (owns st) P
   fork_second st first second go P s later = comes_from c launch (over_second c launch) (later _ (past_second c launch s))
 
+  -- the same of a test that makes no fork where a way is left out
+  unless_first : {A : Type 0} (p q : Bool) {facts : List Fact} {n : ℕ} {news : List ℤ} (st : State E) (first second : State E → Tree E) (go : A → State E → Tree E) (P : List ℤ → A → Type 0) → (p ≡ true → ⊥) → Stands c launch facts n (fork_unless p q st first second) news (keeping st) → (Stands c launch facts n (first st) news (keeping st) → Comes c launch facts n (first st) go news (owns st) P) → Comes c launch facts n (fork_unless p q st first second) go news (owns st) P
+  unless_first true q st first second go P h s later = absurd (h refl)
+  unless_first false true st first second go P h s later = later s
+  unless_first false false st first second go P h s later = fork_first st first second go P s later
+
+  unless_second : {A : Type 0} (p q : Bool) {facts : List Fact} {n : ℕ} {news : List ℤ} (st : State E) (first second : State E → Tree E) (go : A → State E → Tree E) (P : List ℤ → A → Type 0) → (q ≡ true → ⊥) → Stands c launch facts n (fork_unless p q st first second) news (keeping st) → ((k m : ℕ) → Stands c launch facts m (second (counted k st)) news (keeping st) → Comes c launch facts m (second (counted k st)) go news (owns st) P) → Comes c launch facts n (fork_unless p q st first second) go news (owns st) P
+  unless_second true q {n = n} st first second go P h s later = later st.claims n s
+  unless_second false true st first second go P h s later = absurd (h refl)
+  unless_second false false st first second go P h s later = fork_second st first second go P s (λ m. later m m)
+
   -- one is below the other, or not
   split_below_first : (w : Bool) {facts : List Fact} {n : ℕ} {news : List ℤ} (first otherwise : Bool) (f g : Fact) (z : ℤ) (st : State E) (go : Outcomes E) → IsForm c news f z → pos 0 ≤ℤ z → Stands c launch facts n (split_below (walks c) w first otherwise f g st go) news (keeping st) → Comes c launch facts n (split_below (walks c) w first otherwise f g st go) go news (owns st) (λ more t. t ≡ first)
   split_below_first w first otherwise f g z st go m h s =
-      fork_first st (λ a. know_test (walks c) w f a (go first)) (λ a. know_test (walks c) w g a (go otherwise)) go (λ more t. t ≡ first) s (know_sound w f z st first go m h)
+      unless_first (is_left_out (walks c) w f st) (is_left_out (walks c) w g st) st (λ a. know_test (walks c) w f a (go first)) (λ a. know_test (walks c) w g a (go otherwise)) go (λ more t. t ≡ first) (goes_on_here w f z st m h s.fit) s (know_sound w f z st first go m h)
 
   split_below_other : (w : Bool) {facts : List Fact} {n : ℕ} {news : List ℤ} (first otherwise : Bool) (f g : Fact) (z : ℤ) (st : State E) (go : Outcomes E) → IsForm c news g z → pos 0 ≤ℤ z → Stands c launch facts n (split_below (walks c) w first otherwise f g st go) news (keeping st) → Comes c launch facts n (split_below (walks c) w first otherwise f g st go) go news (owns st) (λ more t. t ≡ otherwise)
   split_below_other w first otherwise f g z st go m h s =
-      fork_second st (λ a. know_test (walks c) w f a (go first)) (λ a. know_test (walks c) w g a (go otherwise)) go (λ more t. t ≡ otherwise) s (λ k. know_sound w g z (counted k st) otherwise go m h)
+      unless_second (is_left_out (walks c) w f st) (is_left_out (walks c) w g st) st (λ a. know_test (walks c) w f a (go first)) (λ a. know_test (walks c) w g a (go otherwise)) go (λ more t. t ≡ otherwise) (goes_on_here w g z st m h s.fit) s (λ k j. know_sound w g z (counted k st) otherwise go m h)
 
   form_below : {news : List ℤ} (f g : Fact) (x y : ℤ) → IsForm c news f x → IsForm c news g y → IsForm c news (below f g) ((y -ℤ x) -ℤ pos 1)
   form_below {news = news} f g x y mf mg = form-minus c (minus g f) (constant (pos 1)) (y -ℤ x) (pos 1) _ (form-minus c g f y x (y -ℤ x) mg mf (omega (arith, ints))) (form_constant c news (pos 1)) (omega (arith, ints))
@@ -163,12 +184,16 @@ module _ {E : Type 0} (c : View E) (launch : List Fact) where
       let late : State E → Tree E = λ b. know_two (walks c) c.is_wide f g b (go false) in
       let under : State E → Tree E = λ b. know_test (walks c) c.is_wide q b (go true) in
       let first : State E → Tree E = λ a. know_test (walks c) c.is_wide p a (go true) in
-      let second : State E → Tree E = λ a. fork a under late in
+      let out : Bool = is_left_out (walks c) c.is_wide q st in
+      let none : Bool = is_either_left_out (walks c) c.is_wide f g st in
+      let second : State E → Tree E = λ a. split_rest (walks c) out none q f g a go in
       let P : List ℤ → Bool → Type 0 = λ more t. t ≡ not (int_eq z (pos 0)) in
+      let below : z <ℤ pos 0 → out ≡ true → ⊥ = λ l. goes_on_here c.is_wide q (negsuc 0 -ℤ z) st mq (omega (arith, ints, l)) s.fit in
+      let zero : z ≡ pos 0 → none ≡ true → ⊥ = λ r. both_go_on_here c.is_wide f g y x st mf (hy r) mg (hx r) s.fit in
       elim (order z (pos 0)) [
-        | IsBelow l ↦ fork_second st first second go P s (λ k u. fork_first (counted k st) under late go P u (λ w. restated c launch (λ more t kept e. e ∙ ap not (sym (int_eq-not z (pos 0) (λ r. omega (arith, ints, r, l))))) (know_sound c.is_wide q (negsuc 0 -ℤ z) (counted k st) true go mq (omega (arith, ints, l)) w)))
-        | IsSame r ↦ fork_second st first second go P s (λ k u. fork_second (counted k st) under late go P u (λ j w. restated c launch (λ more t kept e. e ∙ ap not (sym (int_eq-same z (pos 0) r))) (know_two_sound c.is_wide f g y x (counted j (counted k st)) false go mf (hy r) mg (hx r) w)))
-        | IsAbove l ↦ fork_first st first second go P s (λ u. restated c launch (λ more t kept e. e ∙ ap not (sym (int_eq-not z (pos 0) (λ r. omega (arith, ints, r, l))))) (know_sound c.is_wide p (z -ℤ pos 1) st true go mp (omega (arith, ints, l)) u))
+        | IsBelow l ↦ unless_second (is_left_out (walks c) c.is_wide p st) (out && none) st first second go P (λ e. below l (and_parts out none e).0) s (λ k i u. unless_first out none (counted k st) under late go P (below l) u (λ w. restated c launch (λ more t kept e. e ∙ ap not (sym (int_eq-not z (pos 0) (λ r. omega (arith, ints, r, l))))) (know_sound c.is_wide q (negsuc 0 -ℤ z) (counted k st) true go mq (omega (arith, ints, l)) w)))
+        | IsSame r ↦ unless_second (is_left_out (walks c) c.is_wide p st) (out && none) st first second go P (λ e. zero r (and_parts out none e).1) s (λ k i u. unless_second out none (counted k st) under late go P (zero r) u (λ j o w. restated c launch (λ more t kept e. e ∙ ap not (sym (int_eq-same z (pos 0) r))) (know_two_sound c.is_wide f g y x (counted j (counted k st)) false go mf (hy r) mg (hx r) w)))
+        | IsAbove l ↦ unless_first (is_left_out (walks c) c.is_wide p st) (out && none) st first second go P (goes_on_here c.is_wide p (z -ℤ pos 1) st mp (omega (arith, ints, l)) s.fit) s (λ u. restated c launch (λ more t kept e. e ∙ ap not (sym (int_eq-not z (pos 0) (λ r. omega (arith, ints, r, l))))) (know_sound c.is_wide p (z -ℤ pos 1) st true go mp (omega (arith, ints, l)) u))
       ]
 
   -- a comparison
@@ -190,10 +215,13 @@ module _ {E : Type 0} (c : View E) (launch : List Fact) where
       let first : State E → Tree E = λ a. know_two (walks c) c.is_wide (minus f g) (minus g f) a (go true) in
       let second : State E → Tree E = λ a. split_apart (walks c) (joined a) f g a go in
       let P : List ℤ → Bool → Type 0 = λ more t. t ≡ int_eq x y in
+      let equal : Bool = is_either_left_out (walks c) c.is_wide (minus f g) (minus g f) st in
+      let apart : Bool = are_both_left_out (walks c) c.is_wide (below f g) (below g f) st in
+      let differs : (pos 0 ≤ℤ ((y -ℤ x) -ℤ pos 1)) ⊎ (pos 0 ≤ℤ ((x -ℤ y) -ℤ pos 1)) → apart ≡ true → ⊥ = λ h. one_goes_on_here c.is_wide (below f g) (below g f) ((y -ℤ x) -ℤ pos 1) ((x -ℤ y) -ℤ pos 1) st (form_below f g x y mf mg) (form_below g f y x mg mf) h s.fit in
       elim (order x y) [
-        | IsBelow l ↦ fork_second st first second go P s (λ k u. restated c launch (λ more t kept e. e ∙ sym (int_eq-not x y (λ q. omega (arith, ints, q, l)))) (split_apart_sound (joined (counted k st)) f g x y (counted k st) go (λ q. omega (arith, ints, q, l)) mf mg u))
-        | IsSame q ↦ fork_first st first second go P s (λ u. restated c launch (λ more t kept e. e ∙ sym (int_eq-same x y q)) (know_two_sound c.is_wide (minus f g) (minus g f) (x -ℤ y) (y -ℤ x) st true go (form_from f g x y mf mg) (omega (arith, ints, q)) (form_from g f y x mg mf) (omega (arith, ints, q)) u))
-        | IsAbove l ↦ fork_second st first second go P s (λ k u. restated c launch (λ more t kept e. e ∙ sym (int_eq-not x y (λ q. omega (arith, ints, q, l)))) (split_apart_sound (joined (counted k st)) f g x y (counted k st) go (λ q. omega (arith, ints, q, l)) mf mg u))
+        | IsBelow l ↦ unless_second equal apart st first second go P (differs (inl (omega (arith, ints, l)))) s (λ k i u. restated c launch (λ more t kept e. e ∙ sym (int_eq-not x y (λ q. omega (arith, ints, q, l)))) (split_apart_sound (joined (counted k st)) f g x y (counted k st) go (λ q. omega (arith, ints, q, l)) mf mg u))
+        | IsSame q ↦ unless_first equal apart st first second go P (both_go_on_here c.is_wide (minus f g) (minus g f) (x -ℤ y) (y -ℤ x) st (form_from f g x y mf mg) (omega (arith, ints, q)) (form_from g f y x mg mf) (omega (arith, ints, q)) s.fit) s (λ u. restated c launch (λ more t kept e. e ∙ sym (int_eq-same x y q)) (know_two_sound c.is_wide (minus f g) (minus g f) (x -ℤ y) (y -ℤ x) st true go (form_from f g x y mf mg) (omega (arith, ints, q)) (form_from g f y x mg mf) (omega (arith, ints, q)) u))
+        | IsAbove l ↦ unless_second equal apart st first second go P (differs (inr (omega (arith, ints, l)))) s (λ k i u. restated c launch (λ more t kept e. e ∙ sym (int_eq-not x y (λ q. omega (arith, ints, q, l)))) (split_apart_sound (joined (counted k st)) f g x y (counted k st) go (λ q. omega (arith, ints, q, l)) mf mg u))
       ]
   split_sound w Unequal {facts = facts} {n = n} {news = news} f g x y st go mf mg s = by (are_joined (walks c) (pos 1) (minus f g) (minus g f) st) s
     where

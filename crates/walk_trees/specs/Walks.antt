@@ -189,6 +189,12 @@ at_site site st = stand (spot_at site st) st
 abbrev pub fork : {E : Type 0} → State E → (first second : State E → Tree E) → Tree E
 fork st first second = Fork (first st) (λ n. second (counted n st))
 
+-- the two ways of a test; where one of them is left out, the other one is gone along, and there is no fork
+abbrev pub fork_unless : {E : Type 0} → (first_is_out second_is_out : Bool) → State E → (first second : State E → Tree E) → Tree E
+fork_unless true out st first second = second st
+fork_unless false true st first second = first st
+fork_unless false false st first second = fork st first second
+
 abbrev pub is_none : {A : Type 0} → List A → Bool
 is_none [] = true
 is_none (x ∷ xs) = false
@@ -209,9 +215,20 @@ unless_dead false f rest = Know f rest
 abbrev pub is_refuted : {E : Type 0} → Setting E → Fact → State E → Bool
 is_refuted s f st = fits f && is_below_zero (bounds_of s st f).high
 
--- a fact of a test, which narrows; where elements are asked no item goes on if they refute it
+-- no item goes on where the form would have to be at least 0: it is a negative number or, where elements are asked, they refute it
+abbrev pub is_left_out : {E : Type 0} → Setting E → (by_elements : Bool) → Fact → State E → Bool
+is_left_out s w f st = (w && is_refuted s f st) || is_dead f
+
+-- so it is with one of two forms, or with both
+abbrev pub is_either_left_out : {E : Type 0} → Setting E → (by_elements : Bool) → (first second : Fact) → State E → Bool
+is_either_left_out s w f g st = is_left_out s w f st || is_left_out s w g st
+
+abbrev pub are_both_left_out : {E : Type 0} → Setting E → (by_elements : Bool) → (first second : Fact) → State E → Bool
+are_both_left_out s w f g st = is_left_out s w f st && is_left_out s w g st
+
+-- a fact of a test, which narrows
 abbrev pub know_test : {E : Type 0} → Setting E → (by_elements : Bool) → Fact → State E → (State E → Tree E) → Tree E
-know_test s w f st go = unless_dead ((w && is_refuted s f st) || is_dead f) f (go (holding (narrow s.domain s.known f st.held) st))
+know_test s w f st go = unless_dead (is_left_out s w f st) f (go (holding (narrow s.domain s.known f st.held) st))
 
 abbrev pub know_two : {E : Type 0} → Setting E → (by_elements : Bool) → (first second : Fact) → State E → (State E → Tree E) → Tree E
 know_two s w f g st go = know_test s w f st (λ st'. know_test s w g st' go)

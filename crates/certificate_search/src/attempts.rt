@@ -7,6 +7,7 @@ use crate::limits::least_limits;
 use crate::missing::Missing;
 use crate::needed::needed_only;
 use crate::picking::{MOST, Picked, pick, unrefuted, without_spare};
+use crate::progress::{Course, Watcher};
 use crate::rounds::{Rounds, push_all, settle};
 use candidates::guess_told;
 use certificate::Certificate;
@@ -25,22 +26,29 @@ const CHANCES: u32 = 12;
 /// In how many rounds guesses that are settled once more do not fall with others.
 const PATIENCE: u32 = 60;
 
-/// How an attempt ends: with a certificate, or with loops whose rankings are not shown, and all that is not.
+/// How an attempt ends: with a certificate, or with loops whose rankings are not shown, and what is not: all of it, or the claims and the
+/// pairs of ends alone.
 #[derive(Drop)]
 pub enum Attempt {
     Made(Certificate),
-    Failed {
-        loops: Vec<u32>,
-        missing: Vec<Missing>,
-    },
+    Failed(Failure),
 }
 
-/// The kernel, the names and the number of workers, which are the same in all attempts.
-#[derive(Clone, Copy)]
-pub struct Matter<'a> {
+/// What an attempt does not show: the loops whose rankings are among it, all that is not shown where it was looked at, and how many claims
+/// and pairs of ends are among it.
+#[derive(Drop)]
+pub struct Failure {
+    pub loops: Vec<u32>,
+    pub missing: Vec<Missing>,
+    pub is_whole: bool,
+}
+
+/// The kernel, the names, and the course of the search.
+#[derive(Drop)]
+pub struct Matter<'a, W> {
     pub subject: Subject<'a>,
     pub names: &'a Names<'a>,
-    pub workers: u32,
+    pub course: Course<'a, W>,
 }
 
 /// Guesses one after the other, without those that stand there already.
@@ -54,9 +62,9 @@ fn push_new(all: &mut Vec<Candidate>, more: Vec<Candidate>) -> Result<(), AllocE
 }
 
 /// The guesses up to a rank that no run refutes: those that paths, runs and the text tell.
-fn guesses(
+fn guesses<W: Watcher>(
     alloc: Global,
-    matter: &Matter<'_>,
+    matter: &Matter<'_, W>,
     hoped: &Hoped,
     rankings: &[Ranking],
     observed: &Observed,
@@ -89,9 +97,9 @@ type Standing = (Vec<Candidate>, Assembled);
 
 /// The guesses without those that nothing needs, assembled, where some fall and all stays shown. No use tells of a guess that it narrows
 /// elements: such guesses may be kept.
-fn without_needless(
+fn without_needless<W: Watcher>(
     alloc: Global,
-    plan: &Plan<'_>,
+    plan: &Plan<'_, W>,
     standing: &Standing,
     keeps_narrowing: bool,
     memory: &mut Memory,
@@ -101,7 +109,7 @@ fn without_needless(
     let Some(fewer) = needed_only(alloc, candidates, uses, keeps_narrowing)? else {
         return Ok(None);
     };
-    let Some(next) = assemble(alloc, plan, fewer.as_slice(), memory)? else {
+    let Some(next) = assemble(alloc, plan, fewer.as_slice(), false, memory)? else {
         return Ok(None);
     };
     if next.missing.is_empty() {
@@ -113,9 +121,9 @@ fn without_needless(
 
 /// Guesses that stand, assembled; then without those that nothing needs, as long as some fall and all stays shown. In the wide walk, where
 /// guesses narrow elements, those that may do so are kept where it is not shown without them.
-fn dropped(
+fn dropped<W: Watcher>(
     alloc: Global,
-    plan: &Plan<'_>,
+    plan: &Plan<'_, W>,
     candidates: Vec<Candidate>,
     assembled: Assembled,
     memory: &mut Memory,
@@ -133,9 +141,9 @@ fn dropped(
 }
 
 /// The certificate of what was assembled.
-fn written(
+fn written<W: Watcher>(
     alloc: Global,
-    plan: &Plan<'_>,
+    plan: &Plan<'_, W>,
     candidates: Vec<Candidate>,
     assembled: Assembled,
     memory: &mut Memory,
@@ -164,52 +172,82 @@ fn written(
 #[derive(Drop)]
 enum Conclusion {
     Made(Certificate),
-    Failed {
-        candidates: Vec<Candidate>,
-        loops: Vec<u32>,
-        missing: Vec<Missing>,
-    },
+    Failed(Vec<Candidate>, Failure),
 }
 
 /// Puts guesses that stand together as a certificate, or tells what it would not show; an error where they have no text.
-fn concluded(
+fn concluded<W: Watcher>(
     alloc: Global,
-    plan: &Plan<'_>,
+    plan: &Plan<'_, W>,
     candidates: Vec<Candidate>,
     memory: &mut Memory,
 ) -> Result<Conclusion, SearchError> {
-    let found = assemble(alloc, plan, candidates.as_slice(), memory)?;
+    let found = assemble(alloc, plan, candidates.as_slice(), false, memory)?;
     let Some(assembled) = found else {
         return Err(SearchError::Unsaid);
     };
     if assembled.missing.is_empty() {
         return written(alloc, plan, candidates, assembled, memory);
     }
-    let Assembled { loops, missing, .. } = assembled;
-    Ok(Conclusion::Failed {
-        candidates,
+    Ok(Conclusion::Failed(candidates, failure_of(assembled)))
+}
+
+/// What was assembled as a failure.
+fn failure_of(assembled: Assembled) -> Failure {
+    let Assembled {
         loops,
         missing,
-    })
+        is_whole,
+        ..
+    } = assembled;
+    Failure {
+        loops,
+        missing,
+        is_whole,
+    }
 }
 
-/// The rankings of the loops and the places, beside what all attempts share, with which guesses are settled.
-#[derive(Clone, Copy)]
-struct Setting<'a> {
-    matter: &'a Matter<'a>,
+/// The rankings of the loops and the places, beside what all attempts share, with which guesses are settled; and the fewest claims and pairs
+/// of ends that an attempt so far did not show.
+#[derive(Drop)]
+struct Setting<'a, W> {
+    matter: &'a Matter<'a, W>,
     sights: &'a [Sight],
     rankings: &'a [Ranking],
+    course: Course<'a, W>,
+    fewest: usize,
 }
 
-/// Settled guesses, put together with the least limits of the loops; and those that fell with others.
-fn settled_once<R: Threads + Sync>(
+impl<'a, W: Watcher> Setting<'a, W> {
+    fn plan<'b>(&'b self, limits: &'b [i64]) -> Plan<'b, W> {
+        Plan {
+            subject: self.matter.subject,
+            names: self.matter.names,
+            sights: self.sights,
+            rankings: self.rankings,
+            limits,
+            course: &self.course,
+        }
+    }
+}
+
+/// Settled guesses, put together with the least limits of the loops; those that fell with others, and the limits.
+#[derive(Drop)]
+struct Settling {
+    conclusion: Conclusion,
+    lost: Vec<Candidate>,
+    limits: Vec<i64>,
+}
+
+/// Guesses that are settled, and put together with the least limits of the loops.
+fn settled_once<R: Threads + Sync, W: Watcher>(
     rt: &R,
     alloc: Global,
-    setting: Setting<'_>,
+    setting: &Setting<'_, W>,
     candidates: Vec<Candidate>,
     patience: u32,
     memory: &mut Memory,
-) -> Result<(Conclusion, Vec<Candidate>), SearchError> {
+) -> Result<Settling, SearchError> {
     let matter = setting.matter;
     let most = unlimited(alloc, setting.rankings)?;
     let rounds = Rounds {
@@ -218,89 +256,128 @@ fn settled_once<R: Threads + Sync>(
         sights: setting.sights,
         rankings: setting.rankings,
         most: most.as_slice(),
-        workers: matter.workers,
+        course: &setting.course,
         patience,
     };
     let stands = settle(rt, alloc, &rounds, candidates, memory)?;
-    let limits = least_limits(
-        alloc,
-        &stands.resolved.walked.found,
-        setting.rankings,
-        memory,
-    )?;
-    let plan = Plan {
-        subject: matter.subject,
-        names: matter.names,
-        sights: setting.sights,
-        rankings: setting.rankings,
-        limits: limits.as_slice(),
-    };
+    let limits = least_limits(alloc, &stands.walked.found, setting.rankings, memory)?;
+    let plan = (&*setting).plan(limits.as_slice());
     let conclusion = concluded(alloc, &plan, stands.candidates, memory)?;
-    Ok((conclusion, stands.lost))
+    Ok(Settling {
+        conclusion,
+        lost: stands.lost,
+        limits,
+    })
 }
 
-/// Guesses that stand and those that fell with others, with as many of the others as there is room for; nothing where all of them stand.
+/// Guesses that are tried next, or, where no others are left, those that stand.
+#[derive(Drop)]
+enum Refill {
+    More(Picked),
+    Same(Vec<Candidate>),
+}
+
+/// Guesses that stand and those that fell with others, with as many of the others as there is room for.
 fn refilled(
     alloc: Global,
     standing: Vec<Candidate>,
     lost: Vec<Candidate>,
     later: Vec<Candidate>,
-) -> Result<Option<Picked>, AllocError> {
+) -> Result<Refill, AllocError> {
     let count = standing.len();
     let mut first = standing;
     push_all(&mut first, lost)?;
     let more = pick(alloc, later, MOST.saturating_sub(first.len()))?;
     push_all(&mut first, more.first)?;
     if first.len() == count {
-        return Ok(None);
+        return Ok(Refill::Same(first));
     }
-    Ok(Some(Picked {
+    Ok(Refill::More(Picked {
         first,
         later: more.later,
     }))
 }
 
+/// What an attempt does not show in the end: where fewer claims and pairs of ends are among it than so many, pairs of accesses are looked at
+/// as well.
+fn failed<W: Watcher>(
+    alloc: Global,
+    plan: &Plan<'_, W>,
+    candidates: &[Candidate],
+    failure: Failure,
+    fewest: usize,
+    memory: &mut Memory,
+) -> Result<Attempt, SearchError> {
+    if failure.is_whole || failure.missing.len() >= fewest {
+        return Ok(Attempt::Failed(failure));
+    }
+    match assemble(alloc, plan, candidates, true, memory)? {
+        Some(assembled) => Ok(Attempt::Failed(failure_of(assembled))),
+        None => Err(SearchError::Unsaid),
+    }
+}
+
 /// Settled guesses. Where they do not show all, those that fell with others are tried again beside those that stand, and so are those for
 /// which there was no room.
-fn settled<R: Threads + Sync>(
+fn settled<R: Threads + Sync, W: Watcher>(
     rt: &R,
     alloc: Global,
-    setting: Setting<'_>,
+    setting: &Setting<'_, W>,
     candidates: Vec<Candidate>,
     memory: &mut Memory,
 ) -> Result<Attempt, SearchError> {
+    let fewest = setting.fewest;
     let mut next = pick(alloc, candidates, MOST)?;
     for chance in 0..CHANCES {
         let Picked { first, later } = next;
         let patience = if chance == 0 { 0 } else { PATIENCE };
-        let (conclusion, lost) = settled_once(rt, alloc, setting, first, patience, memory)?;
-        match conclusion {
+        let Settling {
+            conclusion,
+            lost,
+            limits,
+        } = settled_once(rt, alloc, setting, first, patience, memory)?;
+        let (candidates, failure) = match conclusion {
             Conclusion::Made(certificate) => return Ok(Attempt::Made(certificate)),
-            Conclusion::Failed {
-                candidates,
-                loops,
-                missing,
-            } => {
-                let more = refilled(alloc, candidates, lost, later)?;
-                match more {
-                    Some(more) if chance + 1 < CHANCES => next = more,
-                    _ => return Ok(Attempt::Failed { loops, missing }),
-                }
+            Conclusion::Failed(candidates, failure) => (candidates, failure),
+        };
+        let plan = (&*setting).plan(limits.as_slice());
+        if chance + 1 == CHANCES || memory.is_spent() {
+            return failed(alloc, &plan, candidates.as_slice(), failure, fewest, memory);
+        }
+        match refilled(alloc, candidates, lost, later)? {
+            Refill::More(more) => next = more,
+            Refill::Same(candidates) => {
+                return failed(alloc, &plan, candidates.as_slice(), failure, fewest, memory);
             }
         }
     }
     Err(SearchError::Unsaid)
 }
 
+/// How an attempt is made: its number, from 1, with which rankings, with guesses up to which rank, and the fewest claims and pairs of ends that an attempt so far
+/// did not show.
+#[derive(Clone, Copy)]
+pub struct Trial<'a> {
+    pub number: u32,
+    pub rankings: &'a [Ranking],
+    pub rank: u32,
+    pub fewest: usize,
+}
+
 /// An attempt with guesses up to a rank.
-pub fn try_guesses<R: Threads + Sync>(
+pub fn try_guesses<R: Threads + Sync, W: Watcher>(
     rt: &R,
     alloc: Global,
-    matter: &Matter<'_>,
-    rankings: &[Ranking],
-    rank: u32,
+    matter: &Matter<'_, W>,
+    trial: Trial<'_>,
     memory: &mut Memory,
 ) -> Result<Attempt, SearchError> {
+    let Trial {
+        number,
+        rankings,
+        rank,
+        fewest,
+    } = trial;
     let Some(hoped) = hope(alloc, &matter.subject, matter.names, rankings, memory)? else {
         return Err(SearchError::Unsaid);
     };
@@ -312,6 +389,8 @@ pub fn try_guesses<R: Threads + Sync>(
         matter,
         sights,
         rankings,
+        course: matter.course.in_attempt(number),
+        fewest,
     };
-    settled(rt, alloc, setting, candidates, memory)
+    settled(rt, alloc, &setting, candidates, memory)
 }

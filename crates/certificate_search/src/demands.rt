@@ -4,15 +4,19 @@ ghost use Rattle.std.specs.Prelude.{◌≤◌, ◌<◌, length};
 ghost use Rattle.two_thread.specs.Listed.{listed};
 ghost use Rattle.plain_kernels.specs.Domains.{domain};
 
+use crate::progress::{Course, Watcher};
+use crate::stretches::{BatchSizes, Stretch, least_piece, left_behind, stretches_of};
 use crate::table::Demand;
 use crate::used::{Ground, used_guesses};
 use cut_proof::Derivation;
-use cut_search::{Answer, Memory, Point};
+use cut_search::{Answer, Memory, Point, Questions};
 use guess_walk::{Division, FormDivision, Shown, both_sides, both_sides_by, facts_of, reached};
 use guesses::{Line, has_product};
 use linear::{Form, Symbol};
 use path_steps::{Claim, Goal, Stop};
+use rayon::prelude::*;
 use std::alloc::{AllocError, Global};
+use std::thread::Threads;
 use two_thread::{About, Manner, OnPath, Part};
 use walk::FindError;
 
@@ -129,10 +133,10 @@ fn asked(
     ground: &Ground<'_>,
     part: Part,
     facts: &[Form],
-    memory: &mut Memory,
+    questions: &mut Questions<'_>,
     points: &mut Vec<Point>,
 ) -> Result<Option<Vec<u32>>, AllocError> {
-    match memory.ask(alloc, facts)? {
+    match questions.ask(alloc, facts)? {
         Answer::Proof(derivation) => support_of(alloc, ground, part, facts, &derivation),
         Answer::Model(point) => {
             points.push(point)?;
@@ -176,10 +180,10 @@ fn divided(
     ground: &Ground<'_>,
     at: OnPath,
     division: Division<'_>,
-    memory: &mut Memory,
+    questions: &mut Questions<'_>,
     points: &mut Vec<Point>,
 ) -> Result<Option<Vec<u32>>, AllocError> {
-    match both_sides(alloc, division, memory, points)? {
+    match both_sides(alloc, division, questions, points)? {
         Some(shown) => support_of_both(alloc, ground, at, division.facts, &shown),
         None => Ok(None),
     }
@@ -191,10 +195,10 @@ fn divided_by(
     ground: &Ground<'_>,
     at: OnPath,
     division: FormDivision<'_>,
-    memory: &mut Memory,
+    questions: &mut Questions<'_>,
     points: &mut Vec<Point>,
 ) -> Result<Option<Vec<u32>>, AllocError> {
-    match both_sides_by(alloc, division, memory, points)? {
+    match both_sides_by(alloc, division, questions, points)? {
         Some(shown) => support_of_both(alloc, ground, at, division.facts, &shown),
         None => Ok(None),
     }
@@ -214,7 +218,7 @@ fn claim_support(
     ground: &Ground<'_>,
     target: Target,
     at: OnPath,
-    memory: &mut Memory,
+    questions: &mut Questions<'_>,
     points: &mut Vec<Point>,
 ) -> Result<Option<Vec<u32>>, FindError>
     requires first { 0 < target.number }
@@ -234,7 +238,14 @@ fn claim_support(
             let Some(facts) = facts_of(alloc, ground.found, target.number, Manner::Plainly)? else {
                 return Ok(None);
             };
-            Ok(asked(alloc, ground, target.part, facts.as_slice(), memory, points)?)
+            Ok(asked(
+                alloc,
+                ground,
+                target.part,
+                facts.as_slice(),
+                questions,
+                points,
+            )?)
         }
         (Goal::Divided { form, .. }, Line::Multiple { modulus, .. }) => {
             let Some(mut facts) = facts_of(alloc, ground.found, target.number, Manner::ByQuotient)?
@@ -252,7 +263,7 @@ fn claim_support(
                 modulus: *modulus,
                 known: known.as_slice(),
             };
-            Ok(divided(alloc, ground, at, division, memory, points)?)
+            Ok(divided(alloc, ground, at, division, questions, points)?)
         }
         (Goal::Divided { form, .. }, Line::MultipleOf { of, .. }) => {
             let Some(mut facts) = facts_of(alloc, ground.found, target.number, Manner::ByQuotient)?
@@ -267,7 +278,7 @@ fn claim_support(
                 of,
                 known: known.as_slice(),
             };
-            Ok(divided_by(alloc, ground, at, division, memory, points)?)
+            Ok(divided_by(alloc, ground, at, division, questions, points)?)
         }
         _ => Ok(None),
     }
@@ -279,7 +290,7 @@ fn claim_demand(
     ground: &Ground<'_>,
     target: Target,
     at: OnPath,
-    memory: &mut Memory,
+    questions: &mut Questions<'_>,
     points: &mut Points,
 ) -> Result<Option<Demand>, FindError>
     requires first { 0 < target.number }
@@ -289,7 +300,7 @@ fn claim_demand(
         return Ok(None);
     }
     points.turn_to((at.path, at.path));
-    let support = claim_support(alloc, ground, target, at, memory, &mut points.points)?;
+    let support = claim_support(alloc, ground, target, at, questions, &mut points.points)?;
     Ok(Some(Demand {
         guess: target.guess,
         support,
@@ -317,7 +328,7 @@ fn agreement_demand(
     alloc: Global,
     ground: &Ground<'_>,
     target: Target,
-    memory: &mut Memory,
+    questions: &mut Questions<'_>,
     points: &mut Points,
 ) -> Result<Option<Demand>, FindError>
     requires first { 0 < target.number }
@@ -334,7 +345,14 @@ fn agreement_demand(
         }));
     };
     let found = &mut points.points;
-    let support = asked(alloc, ground, target.part, facts.as_slice(), memory, found)?;
+    let support = asked(
+        alloc,
+        ground,
+        target.part,
+        facts.as_slice(),
+        questions,
+        found,
+    )?;
     Ok(Some(Demand { guess, support }))
 }
 
@@ -349,7 +367,7 @@ fn demand_of(
     ground: &Ground<'_>,
     number: usize,
     lacking: &[bool],
-    memory: &mut Memory,
+    questions: &mut Questions<'_>,
     points: &mut Points,
 ) -> Result<Option<Demand>, FindError>
     requires first { 0 < number }
@@ -369,7 +387,7 @@ fn demand_of(
                 part,
                 guess,
             };
-            claim_demand(alloc, ground, target, at, memory, points)
+            claim_demand(alloc, ground, target, at, questions, points)
         }
         Part::Ends { first, about, .. } => {
             let Some(guess) = agreement_of(ground, first, about) else {
@@ -383,35 +401,96 @@ fn demand_of(
                 part,
                 guess,
             };
-            agreement_demand(alloc, ground, target, memory, points)
+            agreement_demand(alloc, ground, target, questions, points)
         }
         Part::Accesses { .. } => Ok(None),
     }
 }
 
-/// The obligations of all guesses of a walk, but those of guesses for which one was found that nothing shows.
-pub fn demands_of(
+/// What the obligations of a stretch rest on, and what the search found for them.
+#[derive(Drop)]
+struct Demanded {
+    demands: Vec<Demand>,
+    own: Memory,
+}
+
+/// Notes that nothing shows an obligation of a guess.
+fn note_lacking(lacking: &mut [bool], demand: &Demand) {
+    if demand.support.is_none() {
+        if let Some(flag) = lacking.get_mut(demand.guess as usize) {
+            *flag = true;
+        }
+    }
+}
+
+/// The obligations of guesses in a stretch of all obligations, but those of guesses for which one was found before that nothing shows.
+fn demands_in(
     alloc: Global,
     ground: &Ground<'_>,
+    stretch: Stretch,
+    known_lacking: &[bool],
+    memory: &Memory,
+) -> Result<Demanded, FindError> {
+    let mut questions = Questions::over(alloc, memory)?;
+    let mut lacking = Vec::from_slice(alloc, known_lacking)?;
+    let mut demands: Vec<Demand> = Vec::new(alloc);
+    let mut points = Points {
+        of: (usize::MAX, usize::MAX),
+        points: Vec::new(alloc),
+    };
+    let end = stretch.end.min(ground.found.len());
+    for i in stretch.first..end {
+        let flags = lacking.as_slice();
+        let Some(demand) = demand_of(alloc, ground, i + 1, flags, &mut questions, &mut points)?
+        else {
+            continue;
+        };
+        note_lacking(lacking.as_mut_slice(), &demand);
+        demands.push(demand)?;
+    }
+    Ok(Demanded {
+        demands,
+        own: questions.into_own(),
+    })
+}
+
+/// The obligations of all guesses of a walk, but those of guesses for which one was found that nothing shows. Stretches of obligations are
+/// asked side by side, a batch at a time, by so many workers at most; what is found is taken in between batches, in the order of the
+/// obligations, so it is the same for each number of workers.
+pub fn demands_of<R: Threads + Sync, W: Watcher>(
+    rt: &R,
+    alloc: Global,
+    ground: &Ground<'_>,
+    course: &Course<'_, W>,
     memory: &mut Memory,
 ) -> Result<Vec<Demand>, FindError> {
     let mut demands: Vec<Demand> = Vec::new(alloc);
     let mut lacking = vec![in alloc; false; ground.candidates.len()]?;
-    let mut points = Points {
-        of: (0, 0),
-        points: Vec::new(alloc),
-    };
-    for i in 0..ground.found.len() {
+    let all = stretches_of(alloc, ground.found)?;
+    let mut sizes = BatchSizes::new();
+    let mut begun: usize = 0;
+    for _ in 0..all.len() {
+        let batch = sizes.next_of(all.as_slice(), begun);
+        if batch.is_empty() {
+            break;
+        }
+        course.tell(left_behind(ground.found, batch));
+        begun = begun.saturating_add(batch.len());
         let flags = lacking.as_slice();
-        let Some(demand) = demand_of(alloc, ground, i + 1, flags, memory, &mut points)? else {
-            continue;
-        };
-        if demand.support.is_none() {
-            if let Some(flag) = lacking.get_mut(demand.guess as usize) {
-                *flag = true;
+        let known = &*memory;
+        let found = batch
+            .par_iter()
+            .with_min_len(least_piece(batch.len(), course.workers))
+            .map(|stretch: &Stretch| demands_in(alloc, ground, *stretch, flags, known))
+            .collect::<Vec<Result<Demanded, FindError>>>(rt, alloc)?;
+        for one in found {
+            let Demanded { demands: more, own } = one?;
+            memory.take(own)?;
+            for demand in more {
+                note_lacking(lacking.as_mut_slice(), &demand);
+                demands.push(demand)?;
             }
         }
-        demands.push(demand)?;
     }
     Ok(demands)
 }

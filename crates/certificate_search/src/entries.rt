@@ -7,7 +7,7 @@ ghost use Rattle.plain_kernels.specs.Domains.{domain};
 use crate::used::{Ground, used_guesses};
 use certificate::tree::{Entry, EntrySort};
 use cut_proof::Derivation;
-use cut_search::{Answer, Memory};
+use cut_search::{Answer, Questions};
 use guess_walk::{
     Division, FormDivision, Names, Shown, both_sides, both_sides_by, facts_of, lemmas_of, reached,
     steps_of,
@@ -77,9 +77,9 @@ fn made_of(
     names: &Names<'_>,
     heading: Heading,
     facts: &[Form],
-    memory: &mut Memory,
+    questions: &mut Questions<'_>,
 ) -> Result<Option<Made>, AllocError> {
-    match memory.ask(alloc, facts)? {
+    match questions.ask(alloc, facts)? {
         Answer::Proof(derivation) => entry_with(alloc, ground, names, heading, facts, &derivation),
         Answer::Model(_) | Answer::Undecided => Ok(None),
     }
@@ -92,7 +92,7 @@ fn made_by(
     names: &Names<'_>,
     number: usize,
     manner: Manner,
-    memory: &mut Memory,
+    questions: &mut Questions<'_>,
 ) -> Result<Option<Made>, FindError>
     requires first { 0 < number }
     requires last { number ≤ length (listed domain ground.now.found.now) }
@@ -110,7 +110,7 @@ fn made_by(
         part: ground.found.part(number),
         sort,
     };
-    Ok(made_of(alloc, ground, names, heading, facts.as_slice(), memory)?)
+    Ok(made_of(alloc, ground, names, heading, facts.as_slice(), questions)?)
 }
 
 fn outcome_of(found: Option<Made>) -> Outcome {
@@ -126,20 +126,20 @@ fn divisor(
     ground: &Ground<'_>,
     names: &Names<'_>,
     number: usize,
-    memory: &mut Memory,
+    questions: &mut Questions<'_>,
 ) -> Result<Outcome, FindError>
     requires first { 0 < number }
     requires last { number ≤ length (listed domain ground.now.found.now) }
 {
-    let positive = made_by(alloc, ground, names, number, Manner::ByPositive, memory)?;
+    let positive = made_by(alloc, ground, names, number, Manner::ByPositive, questions)?;
     if positive.is_some() {
         return Ok(outcome_of(positive));
     }
-    let negative = made_by(alloc, ground, names, number, Manner::ByNegative, memory)?;
+    let negative = made_by(alloc, ground, names, number, Manner::ByNegative, questions)?;
     if negative.is_some() {
         return Ok(outcome_of(negative));
     }
-    let plain = made_by(alloc, ground, names, number, Manner::Plainly, memory)?;
+    let plain = made_by(alloc, ground, names, number, Manner::Plainly, questions)?;
     Ok(outcome_of(plain))
 }
 
@@ -200,7 +200,7 @@ fn both_shown(
     ground: &Ground<'_>,
     at: OnPath,
     facts: &[Form],
-    memory: &mut Memory,
+    questions: &mut Questions<'_>,
 ) -> Result<Option<Shown>, AllocError> {
     let (Some(line), Some(form)) = (multiple_at(ground, at), divided_form(alloc, ground, at)?)
     else {
@@ -216,7 +216,7 @@ fn both_shown(
                 modulus: *modulus,
                 known: known.as_slice(),
             };
-            both_sides(alloc, division, memory, &mut points)
+            both_sides(alloc, division, questions, &mut points)
         }
         Line::MultipleOf { of, .. } => {
             let known = ground.known_by_form(alloc, at.path, of)?;
@@ -226,7 +226,7 @@ fn both_shown(
                 of,
                 known: known.as_slice(),
             };
-            both_sides_by(alloc, division, memory, &mut points)
+            both_sides_by(alloc, division, questions, &mut points)
         }
         Line::Same(_) | Line::Fact(_) => Ok(None),
     }
@@ -238,7 +238,7 @@ fn congruence(
     ground: &Ground<'_>,
     names: &Names<'_>,
     claim: Numbered,
-    memory: &mut Memory,
+    questions: &mut Questions<'_>,
 ) -> Result<Outcome, FindError>
     requires first { 0 < claim.number }
     requires last { claim.number ≤ length (listed domain ground.now.found.now) }
@@ -247,7 +247,7 @@ fn congruence(
         return Ok(Outcome::Unshown);
     };
     drop(facts.pop());
-    match both_shown(alloc, ground, claim.at, facts.as_slice(), memory)? {
+    match both_shown(alloc, ground, claim.at, facts.as_slice(), questions)? {
         Some(shown) => Ok(both_entries(alloc, ground, names, claim, facts.as_slice(), &shown)?),
         None => Ok(Outcome::Unshown),
     }
@@ -277,22 +277,22 @@ fn shown(
     ground: &Ground<'_>,
     names: &Names<'_>,
     number: usize,
-    memory: &mut Memory,
+    questions: &mut Questions<'_>,
 ) -> Result<Outcome, FindError>
     requires first { 0 < number }
     requires last { number ≤ length (listed domain ground.now.found.now) }
 {
     let part = ground.found.part(number);
     match (ground.found.sort(number), part) {
-        (Sort::OfDivisor, _) => divisor(alloc, ground, names, number, memory),
+        (Sort::OfDivisor, _) => divisor(alloc, ground, names, number, questions),
         (Sort::OfCongruence, Part::Claim(at)) => {
             if ground.found.is_second_claim(number) {
                 return Ok(Outcome::Nothing);
             }
-            congruence(alloc, ground, names, Numbered { number, at }, memory)
+            congruence(alloc, ground, names, Numbered { number, at }, questions)
         }
         _ => {
-            let found = made_by(alloc, ground, names, number, Manner::Plainly, memory)?;
+            let found = made_by(alloc, ground, names, number, Manner::Plainly, questions)?;
             Ok(outcome_of(found))
         }
     }
@@ -304,7 +304,7 @@ pub fn entry_of(
     ground: &Ground<'_>,
     names: &Names<'_>,
     number: usize,
-    memory: &mut Memory,
+    questions: &mut Questions<'_>,
 ) -> Result<Outcome, FindError>
     requires first { 0 < number }
     requires last { number ≤ length (listed domain ground.now.found.now) }
@@ -315,5 +315,5 @@ pub fn entry_of(
     if !ground.found.is_needed(number) {
         return Ok(Outcome::Nothing);
     }
-    shown(alloc, ground, names, number, memory)
+    shown(alloc, ground, names, number, questions)
 }

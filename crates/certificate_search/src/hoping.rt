@@ -4,7 +4,7 @@ use crate::limits::UNLIMITED;
 use cut_search::Memory;
 use facts::copy_all;
 use guess_walk::{
-    Begun, Limits, Names, Resolved, Subject, Trust, Walked, begun_of, certificate_of, leaves_of,
+    Begun, Extent, Limits, Names, Subject, Trust, Walked, begun_of, certificate_of, leaves_of,
     resolve, sights_of,
 };
 use guesses::{Leaf, Ranking, Sight, copied};
@@ -65,7 +65,7 @@ fn walked(
     names: &Names<'_>,
     rankings: &[Ranking],
     memory: &mut Memory,
-) -> Result<Option<Resolved>, FindError> {
+) -> Result<Option<Walked>, FindError> {
     let most = unlimited(alloc, rankings)?;
     let limits = Limits {
         rankings,
@@ -74,7 +74,10 @@ fn walked(
     let entries = Vec::new(alloc);
     let certificate = certificate_of(alloc, subject, names, &[], limits, entries)?;
     match certificate {
-        Some(certificate) => resolve(alloc, subject, &certificate, Trust::Hopeful, memory),
+        Some(certificate) => {
+            let trust = Trust::Hopeful;
+            resolve(alloc, subject, &certificate, trust, Extent::Claims, memory)
+        }
         None => Ok(None),
     }
 }
@@ -103,7 +106,7 @@ pub fn hope(
     memory: &mut Memory,
 ) -> Result<Option<Hoped>, FindError> {
     match walked(alloc, subject, names, rankings, memory)? {
-        Some(resolved) => Ok(Some(told_by(alloc, subject, &resolved.walked)?)),
+        Some(walked) => Ok(Some(told_by(alloc, subject, &walked)?)),
         None => Ok(None),
     }
 }

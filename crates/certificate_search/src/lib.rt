@@ -18,12 +18,15 @@ mod limits;
 mod missing;
 mod needed;
 mod picking;
+mod progress;
 mod ranked;
 mod rounds;
 mod searching;
+mod stretches;
 mod table;
 mod used;
 
 pub use error::SearchError;
 pub use missing::{Mark, Missing};
+pub use progress::{Progress, Unwatched, Watcher};
 pub use searching::search;

@@ -1,6 +1,6 @@
 //! What a loop's form is at most: where it opens, or, where it doubles, at its true tests.
 
-use cut_search::{Answer, Memory};
+use cut_search::{Answer, Memory, Questions};
 use domain::Elements;
 use guess_walk::facts_of;
 use guesses::{Ranking, copied, plus};
@@ -106,12 +106,12 @@ fn passes_at(
     alloc: Global,
     opening: &Opening,
     limit: i64,
-    memory: &mut Memory,
+    questions: &mut Questions<'_>,
 ) -> Result<Passing, FindError> {
     let Some(facts) = limited(alloc, opening.facts.as_slice(), limit)? else {
         return Ok(Passing::Perhaps);
     };
-    match memory.ask(alloc, facts.as_slice())? {
+    match questions.ask(alloc, facts.as_slice())? {
         Answer::Proof(_) => Ok(Passing::Never),
         Answer::Undecided => Ok(Passing::Perhaps),
         Answer::Model(point) => {
@@ -132,10 +132,10 @@ fn passes_somewhere(
     alloc: Global,
     openings: &[Opening],
     limit: i64,
-    memory: &mut Memory,
+    questions: &mut Questions<'_>,
 ) -> Result<Passing, FindError> {
     for opening in openings {
-        match passes_at(alloc, opening, limit, memory)? {
+        match passes_at(alloc, opening, limit, questions)? {
             Passing::Never => {}
             found => return Ok(found),
         }
@@ -149,7 +149,7 @@ fn least_between(
     openings: &[Opening],
     low: i64,
     high: i64,
-    memory: &mut Memory,
+    questions: &mut Questions<'_>,
 ) -> Result<i64, FindError> {
     let mut low = low;
     let mut high = high;
@@ -158,7 +158,7 @@ fn least_between(
             return Ok(high);
         }
         let middle = low.saturating_add(high.saturating_sub(low) / 2);
-        match passes_somewhere(alloc, openings, middle, memory)? {
+        match passes_somewhere(alloc, openings, middle, questions)? {
             Passing::Never => high = middle,
             Passing::To(value) => low = value.max(middle.saturating_add(1)),
             Passing::Perhaps => low = middle.saturating_add(1),
@@ -171,20 +171,20 @@ fn least_between(
 fn least_limit(
     alloc: Global,
     openings: &[Opening],
-    memory: &mut Memory,
+    questions: &mut Questions<'_>,
 ) -> Result<Option<i64>, FindError> {
     let mut low = 0;
     // Each point tells a value that the form may have; mostly the first ones tell the greatest.
     for _ in 0..8 {
-        match passes_somewhere(alloc, openings, low, memory)? {
+        match passes_somewhere(alloc, openings, low, questions)? {
             Passing::Never => return Ok(Some(low)),
             Passing::To(value) => low = value.max(low.saturating_add(1)),
             Passing::Perhaps => break,
         }
     }
     let high = UNLIMITED / 4;
-    match passes_somewhere(alloc, openings, high, memory)? {
-        Passing::Never => Ok(Some(least_between(alloc, openings, low.min(high), high, memory)?)),
+    match passes_somewhere(alloc, openings, high, questions)? {
+        Passing::Never => Ok(Some(least_between(alloc, openings, low.min(high), high, questions)?)),
         Passing::To(_) | Passing::Perhaps => Ok(None),
     }
 }
@@ -197,10 +197,13 @@ pub fn least_limits(
     memory: &mut Memory,
 ) -> Result<Vec<i64>, FindError> {
     let mut limits = Vec::new(alloc);
+    let mut questions = Questions::over(alloc, memory)?;
     for ranking in rankings {
         let openings = openings_of(alloc, found, ranking.number)?;
-        let limit = least_limit(alloc, openings.as_slice(), memory)?;
+        let limit = least_limit(alloc, openings.as_slice(), &mut questions)?;
         limits.push(limit.unwrap_or(0))?;
     }
+    let own = questions.into_own();
+    memory.take(own)?;
     Ok(limits)
 }

@@ -11,7 +11,7 @@ use two_thread::{OnPath, Part};
 
 /// The part of a kernel that an obligation is about: an access, an operator or an index by its site; a barrier or a loop by its statement's
 /// number; or the kernel's end.
-#[derive(Clone, Copy)]
+#[derive(Clone, Copy, PartialEq, Eq)]
 pub enum Mark {
     Store(Site),
     Load(Site),
@@ -27,6 +27,38 @@ pub struct Missing {
     pub sort: Sort,
     pub first: Mark,
     pub second: Option<Mark>,
+}
+
+impl Missing {
+    /// The obligation is a pair of accesses.
+    pub fn is_of_accesses(&self) -> bool {
+        matches!(self.sort, Sort::OfPair)
+    }
+
+    /// Two obligations are of one sort, and about the same parts of the kernel.
+    pub fn is_like(&self, other: &Missing) -> bool {
+        is_same_sort(self.sort, other.sort)
+            && self.first == other.first
+            && self.second == other.second
+    }
+}
+
+/// Two sorts of obligations are one.
+fn is_same_sort(left: Sort, right: Sort) -> bool {
+    match (left, right) {
+        (Sort::OfRange(one), Sort::OfRange(other)) => one == other,
+        (Sort::OfIndex, Sort::OfIndex)
+        | (Sort::OfDivisor, Sort::OfDivisor)
+        | (Sort::OfQuotient, Sort::OfQuotient)
+        | (Sort::OfRanking, Sort::OfRanking)
+        | (Sort::OfFact, Sort::OfFact)
+        | (Sort::OfCongruence, Sort::OfCongruence)
+        | (Sort::OfContent, Sort::OfContent)
+        | (Sort::OfPair, Sort::OfPair)
+        | (Sort::OfSame, Sort::OfSame)
+        | (Sort::OfMeeting, Sort::OfMeeting) => true,
+        _ => false,
+    }
 }
 
 /// The loop, the store or the site that a claim is about, by its sort and its spot.

@@ -1,11 +1,12 @@
 //! Rounds, until nothing falls.
 
 use crate::demands::demands_of;
+use crate::progress::{Course, Watcher};
 use crate::table::{BoardError, Demand, greatest};
 use crate::used::Ground;
 use cut_search::Memory;
 use guess_walk::{
-    Begun, Limits, LineTable, Names, Resolved, Subject, Trust, begun_of, certificate_of,
+    Extent, Limits, LineTable, Names, Subject, Trust, Walked, begun_of, certificate_of,
     places_of_paths, resolve,
 };
 use guesses::{Candidate, Ranking, Sight};
@@ -19,7 +20,7 @@ use walk::FindError;
 #[derive(Drop)]
 pub struct Settled {
     pub candidates: Vec<Candidate>,
-    pub resolved: Resolved,
+    pub walked: Walked,
     pub lost: Vec<Candidate>,
 }
 
@@ -54,24 +55,24 @@ impl From<BoardError> for SettlingError {
 }
 
 /// The kernel, the names, the places, and the loops' rankings with their limits, which are the same in all rounds.
-#[derive(Clone, Copy)]
-pub struct Rounds<'a> {
+#[derive(Drop)]
+pub struct Rounds<'a, W> {
     pub subject: Subject<'a>,
     pub names: &'a Names<'a>,
     pub sights: &'a [Sight],
     pub rankings: &'a [Ranking],
     pub most: &'a [i64],
-    pub workers: u32,
+    pub course: &'a Course<'a, W>,
     pub patience: u32,
 }
 
 /// The walk of a kernel with these guesses as what is said of its places; an error where they have no text.
-fn walked(
+fn walk_of<W: Watcher>(
     alloc: Global,
-    rounds: &Rounds<'_>,
+    rounds: &Rounds<'_, W>,
     candidates: &[Candidate],
     memory: &mut Memory,
-) -> Result<Resolved, SettlingError> {
+) -> Result<Walked, SettlingError> {
     let entries = Vec::new(alloc);
     let limits = Limits {
         rankings: rounds.rankings,
@@ -93,9 +94,10 @@ fn walked(
         &rounds.subject,
         &certificate,
         Trust::Searched,
+        Extent::Ends,
         memory,
     )? {
-        Some(resolved) => Ok(resolved),
+        Some(walked) => Ok(walked),
         None => Err(SettlingError::Unsaid),
     }
 }
@@ -149,53 +151,65 @@ fn any_lacks(demands: &[Demand]) -> bool {
 }
 
 /// The obligations of the guesses of a walk, each with the sets of guesses that suffice to show it.
-fn demands_in(
+fn demands_in<R: Threads + Sync, W: Watcher>(
+    rt: &R,
     alloc: Global,
-    rounds: &Rounds<'_>,
-    candidates: &[Candidate],
-    resolved: &Resolved,
-    begun: &[Begun],
+    rounds: &Rounds<'_, W>,
+    round: Round<'_>,
     memory: &mut Memory,
 ) -> Result<Vec<Demand>, SettlingError> {
+    let Round {
+        number,
+        candidates,
+        walked,
+    } = round;
+    let begun = begun_of(alloc, &rounds.subject, &walked.notes, rounds.sights)?;
     let table = LineTable::of(alloc, candidates, rounds.sights)?;
-    let places = places_of_paths(alloc, resolved.walked.found.paths())?;
+    let places = places_of_paths(alloc, walked.found.paths())?;
     let ground = Ground {
-        found: &resolved.walked.found,
+        found: &walked.found,
         sights: rounds.sights,
-        begun,
+        begun: begun.as_slice(),
         places: places.as_slice(),
         table: &table,
         candidates,
     };
-    Ok(demands_of(alloc, &ground, memory)?)
+    let course = rounds.course.in_round(number);
+    Ok(demands_of(rt, alloc, &ground, &course, memory)?)
+}
+
+/// A round by its number, with its guesses and the walk with them.
+#[derive(Clone, Copy)]
+struct Round<'a> {
+    number: u32,
+    candidates: &'a [Candidate],
+    walked: &'a Walked,
 }
 
 /// A walk with guesses, and what they rest on.
 #[derive(Drop)]
 struct Asked {
-    resolved: Resolved,
+    walked: Walked,
     demands: Vec<Demand>,
 }
 
 /// Walks with these guesses, and asks what they rest on.
-fn ask(
+fn ask<R: Threads + Sync, W: Watcher>(
+    rt: &R,
     alloc: Global,
-    rounds: &Rounds<'_>,
+    rounds: &Rounds<'_, W>,
+    number: u32,
     candidates: &[Candidate],
     memory: &mut Memory,
 ) -> Result<Asked, SettlingError> {
-    let resolved = walked(alloc, rounds, candidates, memory)?;
-    let notes = &resolved.walked.notes;
-    let begun = begun_of(alloc, &rounds.subject, notes, rounds.sights)?;
-    let demands = demands_in(
-        alloc,
-        rounds,
+    let walked = walk_of(alloc, rounds, candidates, memory)?;
+    let round = Round {
+        number,
         candidates,
-        &resolved,
-        begun.as_slice(),
-        memory,
-    )?;
-    Ok(Asked { resolved, demands })
+        walked: &walked,
+    };
+    let demands = demands_in(rt, alloc, rounds, round, memory)?;
+    Ok(Asked { walked, demands })
 }
 
 /// The guesses that are left of so many, where each that is not shown falls.
@@ -215,28 +229,43 @@ fn left_of<R: Threads + Sync>(
 /// How a round ends: with all guesses, or with some of them.
 #[derive(Drop)]
 enum Turn {
-    Stands(Vec<Candidate>, Resolved),
+    Stands(Vec<Candidate>, Walked),
     Falls(Parted),
 }
 
-/// One round. It is sure of what has an obligation that nothing shows, as long as nothing fell with others before.
-fn round<R: Threads + Sync>(
+/// Which round it is, counted from 1, and whether it is sure of what has an obligation that nothing shows: as long as nothing fell with others
+/// before.
+#[derive(Clone, Copy)]
+struct Step {
+    number: u32,
+    is_sure: bool,
+}
+
+/// One round.
+fn make_round<R: Threads + Sync, W: Watcher>(
     rt: &R,
     alloc: Global,
-    rounds: &Rounds<'_>,
+    rounds: &Rounds<'_, W>,
     candidates: Vec<Candidate>,
-    is_sure: bool,
+    step: Step,
     memory: &mut Memory,
 ) -> Result<Turn, SettlingError> {
-    let asked = ask(alloc, rounds, candidates.as_slice(), memory)?;
+    let asked = ask(
+        rt,
+        alloc,
+        rounds,
+        step.number,
+        candidates.as_slice(),
+        memory,
+    )?;
     let demands = asked.demands.as_slice();
     if any_lacks(demands) {
-        let set = left_of(rt, alloc, candidates.len(), demands, rounds.workers)?;
+        let set = left_of(rt, alloc, candidates.len(), demands, rounds.course.workers)?;
         let lacking = lacking_of(alloc, candidates.len(), demands)?;
-        let parted = part(alloc, candidates, &set, lacking.as_slice(), is_sure)?;
+        let parted = part(alloc, candidates, &set, lacking.as_slice(), step.is_sure)?;
         return Ok(Turn::Falls(parted));
     }
-    Ok(Turn::Stands(candidates, asked.resolved))
+    Ok(Turn::Stands(candidates, asked.walked))
 }
 
 /// Puts guesses behind others, in their order.
@@ -249,21 +278,25 @@ pub fn push_all(all: &mut Vec<Candidate>, more: Vec<Candidate>) -> Result<(), Al
 
 /// Guesses of which each is shown by those that are left, with these rankings; at most 512 go in. In the first rounds, as many as there is
 /// patience, only those fall of which an obligation is not shown; in the others those that rest on them as well.
-pub fn settle<R: Threads + Sync>(
+pub fn settle<R: Threads + Sync, W: Watcher>(
     rt: &R,
     alloc: Global,
-    rounds: &Rounds<'_>,
+    rounds: &Rounds<'_, W>,
     candidates: Vec<Candidate>,
     memory: &mut Memory,
 ) -> Result<Settled, SettlingError> {
     let mut left = candidates;
     let mut lost = Vec::new(alloc);
-    for turn in 0..600 {
-        match round(rt, alloc, rounds, left, lost.is_empty(), memory)? {
-            Turn::Stands(candidates, resolved) => {
+    for turn in 0..600u32 {
+        let step = Step {
+            number: turn + 1,
+            is_sure: lost.is_empty(),
+        };
+        match make_round(rt, alloc, rounds, left, step, memory)? {
+            Turn::Stands(candidates, walked) => {
                 return Ok(Settled {
                     candidates,
-                    resolved,
+                    walked,
                     lost,
                 });
             }

@@ -1,10 +1,11 @@
 //! All attempts in turn.
 
-use crate::attempts::{Attempt, Matter, try_guesses};
+use crate::attempts::{Attempt, Failure, Matter, Trial, try_guesses};
 use crate::error::SearchError;
 use crate::forks::{Order, order_of};
 use crate::hoping::{Hoped, hope};
 use crate::missing::Missing;
+use crate::progress::{Course, Watcher};
 use crate::ranked::{advance, all_unrefuted, chosen, is_hopeless};
 use candidates::guess_told;
 use certificate::Certificate;
@@ -78,20 +79,30 @@ fn find_ways(
     })
 }
 
-/// The obligations that the best attempt so far does not show; none before the first one.
+/// What the best attempt so far does not show, none before the first one; the fewest claims and pairs of ends that an attempt did not show;
+/// and how many attempts there were.
 #[derive(Drop)]
 struct Shortfall {
     least: Option<Vec<Missing>>,
+    fewest: usize,
+    attempts: u32,
 }
 
 impl Shortfall {
-    /// Takes up the obligations that another attempt does not show: the fewest are kept, and of equally many the first.
-    fn meet(&mut self, missing: Vec<Missing>) {
+    /// Takes up what another attempt does not show, where all of it is told: the fewest are kept, and of equally many the first.
+    fn meet(&mut self, failure: Failure) {
+        let Failure {
+            missing,
+            is_whole,
+            ..
+        } = failure;
+        let before_accesses = missing.iter().filter(|one| !one.is_of_accesses()).count();
+        self.fewest = self.fewest.min(before_accesses);
         let is_less = match &self.least {
             Some(least) => missing.len() < least.len(),
             None => true,
         };
-        if is_less {
+        if is_less && is_whole {
             self.least = Some(missing);
         }
     }
@@ -113,10 +124,10 @@ struct Stage<'a> {
 }
 
 /// Attempts with guesses up to a rank, with one choice of rankings after the other, eight at most.
-fn try_stage<R: Threads + Sync>(
+fn try_stage<R: Threads + Sync, W: Watcher>(
     rt: &R,
     alloc: Global,
-    matter: &Matter<'_>,
+    matter: &Matter<'_, W>,
     stage: Stage<'_>,
     memory: &mut Memory,
     shortfall: &mut Shortfall,
@@ -125,11 +136,19 @@ fn try_stage<R: Threads + Sync>(
     let mut choices = vec![in alloc; 0usize; options.len()]?;
     for _ in 0..8 {
         let rankings = chosen(alloc, options, choices.as_slice())?;
-        match try_guesses(rt, alloc, matter, rankings.as_slice(), rank, memory)? {
+        shortfall.attempts = shortfall.attempts.saturating_add(1);
+        let trial = Trial {
+            number: shortfall.attempts,
+            rankings: rankings.as_slice(),
+            rank,
+            fewest: shortfall.fewest,
+        };
+        match try_guesses(rt, alloc, matter, trial, memory)? {
             Attempt::Made(certificate) => return Ok(Some(certificate)),
-            Attempt::Failed { loops, missing } => {
-                shortfall.meet(missing);
-                if !advance(options, choices.as_mut_slice(), loops.as_slice()) {
+            Attempt::Failed(failure) => {
+                let is_next = advance(options, choices.as_mut_slice(), failure.loops.as_slice());
+                shortfall.meet(failure);
+                if !is_next || memory.is_spent() {
                     return Ok(None);
                 }
             }
@@ -139,29 +158,33 @@ fn try_stage<R: Threads + Sync>(
 }
 
 /// A certificate, with the names of the kernel.
-fn search_named<R: Threads + Sync>(
+fn search_named<R: Threads + Sync, W: Watcher>(
     rt: &R,
     alloc: Global,
     subject: Subject<'_>,
     names: &Names<'_>,
-    workers: u32,
+    course: &Course<'_, W>,
     memory: &mut Memory,
 ) -> Result<Certificate, SearchError> {
     let ways = find_ways(alloc, &subject, names, memory)?;
     let matter = Matter {
         subject,
         names,
-        workers,
+        course: course.in_attempt(1),
     };
     let options = ways.options.as_slice();
-    let mut shortfall = Shortfall { least: None };
+    let mut shortfall = Shortfall {
+        least: None,
+        fewest: usize::MAX,
+        attempts: 0,
+    };
     for rank in 2..5 {
         let stage = Stage { options, rank };
         let found = try_stage(rt, alloc, &matter, stage, memory, &mut shortfall)?;
         if let Some(certificate) = found {
             return Ok(certificate);
         }
-        if ways.is_hopeless || !ways.has_guesses {
+        if ways.is_hopeless || !ways.has_guesses || memory.is_spent() {
             return Err(shortfall.told());
         }
     }
@@ -177,48 +200,55 @@ fn is_endless(found: &Result<Certificate, SearchError>) -> bool {
 }
 
 /// A certificate of the wide walk, with ways that are joined, or without them.
-fn search_widely<R: Threads + Sync>(
+fn search_widely<R: Threads + Sync, W: Watcher>(
     rt: &R,
     alloc: Global,
     subject: Subject<'_>,
     names: &Names<'_>,
-    workers: u32,
+    course: &Course<'_, W>,
     memory: &mut Memory,
 ) -> Result<Certificate, SearchError> {
     let joining = subject.joining();
     match order_of(alloc, &subject, names)? {
         Order::Forked => {
-            let found = search_named(rt, alloc, subject, names, workers, memory);
+            let found = search_named(rt, alloc, subject, names, course, memory);
             if is_endless(&found) {
-                search_named(rt, alloc, joining, names, workers, memory)
+                search_named(rt, alloc, joining, names, course, memory)
             } else {
                 found
             }
         }
-        Order::Joined => search_named(rt, alloc, joining, names, workers, memory),
+        Order::Joined => search_named(rt, alloc, joining, names, course, memory),
         Order::JoinedFirst => {
-            match search_named(rt, alloc, joining, names, workers, memory) {
+            match search_named(rt, alloc, joining, names, course, memory) {
                 Ok(certificate) => Ok(certificate),
-                Err(_) => search_named(rt, alloc, subject, names, workers, memory),
+                Err(_) => search_named(rt, alloc, subject, names, course, memory),
             }
         }
     }
 }
 
-/// A certificate for a kernel under conditions, searched by so many workers. The walks of a wide subject join ways where that spares many
+/// A certificate for a kernel under conditions, searched by so many workers; whoever watches is told how far it is. The walks of a wide subject join ways where that spares many
 /// paths.
-pub fn search<R: Threads + Sync>(
+pub fn search<R: Threads + Sync, W: Watcher>(
     rt: &R,
     alloc: Global,
     subject: Subject<'_>,
     workers: u32,
+    watcher: &W,
 ) -> Result<Certificate, SearchError> {
+    let course = Course {
+        workers,
+        watcher,
+        attempt: 1,
+        round: 1,
+    };
     let names = names_of(alloc, subject.typed, subject.is_wide)?;
     let unnamed = names.unnamed(alloc)?;
     let mut memory = Memory::naming(alloc, subject.is_wide, unnamed);
     if subject.is_wide && !subject.joins {
-        search_widely(rt, alloc, subject, &names, workers, &mut memory)
+        search_widely(rt, alloc, subject, &names, &course, &mut memory)
     } else {
-        search_named(rt, alloc, subject, &names, workers, &mut memory)
+        search_named(rt, alloc, subject, &names, &course, &mut memory)
     }
 }

@@ -6,11 +6,9 @@ use linear::{Form, Symbol, Term};
 use std::alloc::{AllocError, Global};
 
 /// Quotients to be tried, the best first: of the form, where the modulus divides its coefficients; of the form less that of a
-/// congruence that is known where the path begins, and its quotient, the new symbol of its number; of the form with the
-/// equalities of the facts put in.
+/// congruence that is known where the path begins, and its quotient, the new symbol of its number.
 pub fn quotients(
     alloc: Global,
-    facts: &[Form],
     form: &Form,
     modulus: u64,
     known: &[(u64, Form)],
@@ -21,7 +19,6 @@ pub fn quotients(
     };
     push_divided(alloc, &mut found, form, divisor)?;
     push_known(alloc, &mut found, form, divisor, known)?;
-    push_reduced(alloc, &mut found, facts, form, divisor)?;
     Ok(found)
 }
 
@@ -114,18 +111,19 @@ fn quotient_of_difference(
     divided(alloc, &difference, divisor)
 }
 
-/// Adds the quotient of the form with the equalities put in that the facts hold.
-fn push_reduced(
+/// The quotient of the form with equalities put in; none where the modulus does not divide its coefficients.
+pub fn quotient_reduced(
     alloc: Global,
-    found: &mut Vec<Form>,
-    facts: &[Form],
+    equalities: &Equalities,
     form: &Form,
-    divisor: i64,
-) -> Result<(), AllocError> {
-    let equalities = Equalities::of_facts(alloc, facts)?;
+    modulus: u64,
+) -> Result<Option<Form>, AllocError> {
+    let Ok(divisor) = i64::try_from(modulus) else {
+        return Ok(None);
+    };
     match equalities.reduce(alloc, form)? {
-        Some(reduced) => push_divided(alloc, found, &reduced, divisor),
-        None => Ok(()),
+        Some(reduced) => divided(alloc, &reduced, divisor),
+        None => Ok(None),
     }
 }
 
@@ -133,21 +131,20 @@ fn push_reduced(
 /// new symbol of its index; of the form itself; each also with the equalities of the facts put in.
 pub fn quotients_by(
     alloc: Global,
-    facts: &[Form],
+    equalities: &Equalities,
     form: &Form,
     of: &Form,
     known: &[(u32, Form)],
 ) -> Result<Vec<Form>, AllocError> {
     let mut found = Vec::new(alloc);
-    let equalities = Equalities::of_facts(alloc, facts)?;
     for multiple in known {
         if let Some(difference) = try_difference(alloc, form, &multiple.1)? {
             let quotient = one_of(alloc, new_symbol(multiple.0))?;
-            push_by(alloc, &mut found, &equalities, &difference, of, &quotient)?;
+            push_by(alloc, &mut found, equalities, &difference, of, &quotient)?;
         }
     }
     let none = Form::constant(alloc, 0);
-    push_by(alloc, &mut found, &equalities, form, of, &none)?;
+    push_by(alloc, &mut found, equalities, form, of, &none)?;
     Ok(found)
 }
 

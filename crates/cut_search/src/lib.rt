@@ -44,6 +44,6 @@ mod whole;
 mod writing;
 
 pub use answer::{Answer, Point};
-pub use divisions::{quotients, quotients_by};
-pub use memory::Memory;
+pub use divisions::quotients;
+pub use memory::{Memory, Questions};
 pub use searching::{Start, find, search};

@@ -5,6 +5,8 @@ ghost use Rattle.linear.specs.Forms.{forms};
 ghost use Rattle.cut_search.specs.Answers.{IsAnswer};
 
 use crate::answer::{Answer, Point};
+use crate::divisions::{quotient_reduced, quotients_by};
+use crate::equalities::Equalities;
 use crate::found::Found;
 use crate::hashes::{first_place, hash_of_list, hashes_of};
 use crate::monomials::have_products;
@@ -14,9 +16,19 @@ use cut_proof::{Derivation, refutes};
 use guesses::copied;
 use linear::Form;
 use std::alloc::{AllocError, Global};
+use std::mem::replace;
 
 /// How many answers of a kind are remembered before all of them are forgotten.
 const LIMIT: usize = 4096;
+
+/// How many points with the number of a question are tried, the newest first.
+const POINTS: usize = 24;
+
+/// How much work is done before no more is begun: so many facts are asked about, and a search counts as many times the facts of its list.
+const WORK: u64 = 60_000_000;
+
+/// How many times the facts of its list a search counts.
+const SEARCH: u64 = 20;
 
 /// A point, and the number of the fact that was denied; of a list with products, where products of facts may still refute another list,
 /// that of all of it.
@@ -55,6 +67,7 @@ pub struct Memory {
     points: Vec<Seen>,
     undecided: Vec<u64>,
     searches: usize,
+    work: u64,
 }
 
 impl Memory {
@@ -72,7 +85,18 @@ impl Memory {
             points: Vec::new(alloc),
             undecided: Vec::new(alloc),
             searches: 0,
+            work: 0,
         }
+    }
+
+    /// Counts work: so many facts were gone over.
+    pub fn count(&mut self, facts: usize) {
+        self.work = self.work.saturating_add(facts as u64);
+    }
+
+    /// So much work was done that a search does not begin another attempt. It is counted, not timed, so it is the same on each machine.
+    pub fn is_spent(&self) -> bool {
+        self.work >= WORK
     }
 
     /// How many questions were not answered from memory.
@@ -80,11 +104,36 @@ impl Memory {
         self.searches
     }
 
+    /// Takes in what was found beside it, in that order.
+    pub fn take(&mut self, own: Memory) -> Result<(), AllocError> {
+        let Memory {
+            found,
+            points,
+            undecided,
+            searches,
+            work,
+            ..
+        } = own;
+        self.searches = self.searches.saturating_add(searches);
+        self.work = self.work.saturating_add(work);
+        for one in found {
+            self.push_found(one)?;
+        }
+        for seen in points {
+            self.keep_point(seen.key, seen.point)?;
+        }
+        for whole in undecided {
+            self.keep_undecided(whole)?;
+        }
+        Ok(())
+    }
+
     /// A derivation that refutes the facts, or whole numbers that meet them all, remembered or searched for. The last fact is
     /// the denial of what is to be shown; of equal facts a derivation names the first.
     pub fn ask(&mut self, alloc: Global, facts: &[Form]) -> Result<Answer, AllocError>
         ensures { IfOk result (λ a. IsAnswer (forms facts.now) a) }
     {
+        self.count(facts.len());
         let numbers = Numbers::of_facts(alloc, facts)?;
         if let Some(answer) = self.recall(alloc, facts, &numbers)? {
             return Ok(answer);
@@ -149,8 +198,13 @@ impl Memory {
     fn recall_point(&self, facts: &[Form], key: u64) -> Result<Option<Answer>, AllocError>
         ensures { IfOk result (λ r. IfSome r (λ a. IsAnswer (forms facts.now) a)) }
     {
-        for seen in self.points.as_slice() {
+        let mut tried: usize = 0;
+        for seen in self.points.iter().rev() {
+            if tried >= POINTS {
+                return Ok(None);
+            }
             if seen.key == key {
+                tried += 1;
                 let answer = checked_point(facts, seen.point.clone()?);
                 if answer.is_some() {
                     return Ok(answer);
@@ -163,6 +217,9 @@ impl Memory {
     /// Searches, and remembers what is found.
     fn seek(&mut self, alloc: Global, facts: &[Form], numbers: &Numbers) -> Result<(), AllocError> {
         self.searches = self.searches.saturating_add(1);
+        self.work = self
+            .work
+            .saturating_add((facts.len() as u64).saturating_mul(SEARCH));
         let distinct = distinct_of(alloc, facts, numbers.each.as_slice())?;
         match self.search(alloc, distinct.facts.as_slice())? {
             Answer::Proof(derivation) => self.keep_proof(alloc, numbers.key, &distinct, derivation),
@@ -195,10 +252,14 @@ impl Memory {
         distinct: &Distinct,
         derivation: Derivation,
     ) -> Result<(), AllocError> {
+        let found = Found::new(alloc, key, distinct.hashes.as_slice(), derivation)?;
+        self.push_found(found)
+    }
+
+    fn push_found(&mut self, found: Found) -> Result<(), AllocError> {
         if self.found.len() >= LIMIT {
             self.found.clear();
         }
-        let found = Found::new(alloc, key, distinct.hashes.as_slice(), derivation)?;
         self.found.push(found)?;
         Ok(())
     }
@@ -217,6 +278,125 @@ impl Memory {
         }
         self.undecided.push(whole)?;
         Ok(())
+    }
+}
+
+/// Questions beside a memory that others read too: it is asked first, and what is found is kept apart, until the memory takes it in. So what
+/// is found does not depend on what others find meanwhile. The last facts to which a denial was added are at hand, with their number, and the
+/// equalities that they hold, once these were asked for.
+#[derive(Drop)]
+pub struct Questions<'a> {
+    known: &'a Memory,
+    own: Memory,
+    held: u64,
+    facts: Vec<Form>,
+    equalities: Option<Equalities>,
+}
+
+impl<'a> Questions<'a> {
+    /// Questions of which none was asked.
+    pub fn over(alloc: Global, known: &'a Memory) -> Result<Questions<'a>, AllocError> {
+        let unnamed = known.unnamed.clone()?;
+        Ok(Questions {
+            known,
+            own: Memory::naming(alloc, known.multiplies, unnamed),
+            held: 0,
+            facts: Vec::new(alloc),
+            equalities: None,
+        })
+    }
+
+    /// What was found, for the memory.
+    pub fn into_own(self) -> Memory {
+        self.own
+    }
+
+    /// A derivation that refutes the facts, or whole numbers that meet them all, remembered or searched for, as of a memory.
+    pub fn ask(&mut self, alloc: Global, facts: &[Form]) -> Result<Answer, AllocError>
+        ensures { IfOk result (λ a. IsAnswer (forms facts.now) a) }
+    {
+        self.own.count(facts.len());
+        let numbers = Numbers::of_facts(alloc, facts)?;
+        if let Some(answer) = self.known.recall(alloc, facts, &numbers)? {
+            return Ok(answer);
+        }
+        if let Some(answer) = self.own.recall(alloc, facts, &numbers)? {
+            return Ok(answer);
+        }
+        self.own.seek(alloc, facts, &numbers)?;
+        self.own.recall_found(alloc, facts, &numbers)
+    }
+
+    /// Has these facts at hand.
+    fn hold(&mut self, alloc: Global, facts: &[Form]) -> Result<(), AllocError> {
+        let each = hashes_of(alloc, facts)?;
+        let whole = hash_of_list(each.as_slice());
+        if self.held == whole && self.facts.len() == facts.len() {
+            return Ok(());
+        }
+        self.facts.clear();
+        for fact in facts {
+            self.facts.push(copied(alloc, fact)?)?;
+        }
+        self.held = whole;
+        self.equalities = None;
+        Ok(())
+    }
+
+    /// Has the equalities of these facts at hand.
+    fn hold_equalities(&mut self, alloc: Global, facts: &[Form]) -> Result<(), AllocError> {
+        self.hold(alloc, facts)?;
+        if self.equalities.is_none() {
+            self.equalities = Some(Equalities::of_facts(alloc, facts)?);
+        }
+        Ok(())
+    }
+
+    /// The answer of `ask` to these facts and a denial behind them.
+    pub fn ask_denied(
+        &mut self,
+        alloc: Global,
+        facts: &[Form],
+        denial: Form,
+    ) -> Result<Answer, AllocError> {
+        self.hold(alloc, facts)?;
+        let mut list = replace(&mut self.facts, Vec::new(alloc));
+        list.push(denial)?;
+        let answer = self.ask(alloc, list.as_slice())?;
+        drop(list.pop());
+        self.facts = list;
+        Ok(answer)
+    }
+
+    /// The quotient of a form by a number with the equalities put in that the facts hold; none where the number does not divide it.
+    pub fn quotient(
+        &mut self,
+        alloc: Global,
+        facts: &[Form],
+        form: &Form,
+        modulus: u64,
+    ) -> Result<Option<Form>, AllocError> {
+        self.hold_equalities(alloc, facts)?;
+        match &self.equalities {
+            Some(equalities) => quotient_reduced(alloc, equalities, form, modulus),
+            None => Ok(None),
+        }
+    }
+
+    /// Quotients of a form by another one, the best first, by facts and the multiples of that one known where the path begins.
+    pub fn quotients_by(
+        &mut self,
+        alloc: Global,
+        facts: &[Form],
+        form: &Form,
+        of: &Form,
+        known: &[(u32, Form)],
+    ) -> Result<Vec<Form>, AllocError> {
+        self.hold_equalities(alloc, facts)?;
+        match &self.equalities {
+            Some(equalities) => quotients_by(alloc, equalities, form, of, known),
+            None => Ok(Vec::new(alloc)),
+        }
     }
 }
 

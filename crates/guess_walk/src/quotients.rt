@@ -1,8 +1,7 @@
 //! Congruences, shown from both sides with one quotient.
 
 use cut_proof::Derivation;
-use cut_search::{Answer, Memory, Point, quotients, quotients_by};
-use facts::copy_all;
+use cut_search::{Answer, Point, Questions, quotients};
 use guesses::{plus, try_difference, try_multiple, try_product};
 use linear::Form;
 use std::alloc::{AllocError, Global};
@@ -24,21 +23,12 @@ pub struct Division<'a> {
     pub known: &'a [(u64, Form)],
 }
 
-/// The facts with another denial as the last one: that the form is not at least 0.
-fn denied(alloc: Global, facts: &[Form], form: &Form) -> Result<Option<Vec<Form>>, AllocError> {
-    let Some(negative) = try_multiple(alloc, form, -1)? else {
-        return Ok(None);
-    };
-    let Some(denial) = plus(alloc, &negative, -1)? else {
-        return Ok(None);
-    };
-    let mut list = Vec::new(alloc);
-    match copy_all(alloc, &mut list, facts) {
-        Ok(()) => {}
-        Err(_) => return Err(AllocError),
+/// The denial that a form is at least 0; none where a number is too large.
+fn denial_of(alloc: Global, form: &Form) -> Result<Option<Form>, AllocError> {
+    match try_multiple(alloc, form, -1)? {
+        Some(negative) => plus(alloc, &negative, -1),
+        None => Ok(None),
     }
-    list.push(denial)?;
-    Ok(Some(list))
 }
 
 /// A derivation that the form is at least 0; a point where it is not goes to the points.
@@ -46,13 +36,13 @@ fn side(
     alloc: Global,
     facts: &[Form],
     form: &Form,
-    memory: &mut Memory,
+    questions: &mut Questions<'_>,
     points: &mut Vec<Point>,
 ) -> Result<Option<Derivation>, AllocError> {
-    let Some(list) = denied(alloc, facts, form)? else {
+    let Some(denial) = denial_of(alloc, form)? else {
         return Ok(None);
     };
-    match memory.ask(alloc, list.as_slice())? {
+    match questions.ask_denied(alloc, facts, denial)? {
         Answer::Proof(derivation) => Ok(Some(derivation)),
         Answer::Model(point) => {
             points.push(point)?;
@@ -68,16 +58,16 @@ fn tried(
     facts: &[Form],
     rest: &Form,
     quotient: Form,
-    memory: &mut Memory,
+    questions: &mut Questions<'_>,
     points: &mut Vec<Point>,
 ) -> Result<Option<Shown>, AllocError> {
-    let Some(least) = side(alloc, facts, rest, memory, points)? else {
+    let Some(least) = side(alloc, facts, rest, questions, points)? else {
         return Ok(None);
     };
     let Some(negative) = try_multiple(alloc, rest, -1)? else {
         return Ok(None);
     };
-    let Some(most) = side(alloc, facts, &negative, memory, points)? else {
+    let Some(most) = side(alloc, facts, &negative, questions, points)? else {
         return Ok(None);
     };
     Ok(Some(Shown {
@@ -108,7 +98,7 @@ fn remainder(
 pub fn both_sides(
     alloc: Global,
     division: Division<'_>,
-    memory: &mut Memory,
+    questions: &mut Questions<'_>,
     points: &mut Vec<Point>,
 ) -> Result<Option<Shown>, AllocError> {
     let Division {
@@ -117,17 +107,30 @@ pub fn both_sides(
         modulus,
         known,
     } = division;
-    let tries = quotients(alloc, facts, form, modulus, known)?;
-    for quotient in tries {
-        let Some(rest) = remainder(alloc, form, modulus, &quotient)? else {
-            continue;
-        };
-        let found = tried(alloc, facts, &rest, quotient, memory, points)?;
+    for quotient in quotients(alloc, form, modulus, known)? {
+        let found = tried_by(alloc, division, quotient, questions, points)?;
         if found.is_some() {
             return Ok(found);
         }
     }
-    Ok(None)
+    match questions.quotient(alloc, facts, form, modulus)? {
+        Some(quotient) => tried_by(alloc, division, quotient, questions, points),
+        None => Ok(None),
+    }
+}
+
+/// Derivations that a number divides a form this often; none where one is not found.
+fn tried_by(
+    alloc: Global,
+    division: Division<'_>,
+    quotient: Form,
+    questions: &mut Questions<'_>,
+    points: &mut Vec<Point>,
+) -> Result<Option<Shown>, AllocError> {
+    match remainder(alloc, division.form, division.modulus, &quotient)? {
+        Some(rest) => tried(alloc, division.facts, &rest, quotient, questions, points),
+        None => Ok(None),
+    }
 }
 
 /// Whether a form is a multiple of another one, by facts (without a denial), with the multiples of that one known where the path begins,
@@ -158,7 +161,7 @@ fn remainder_by(
 pub fn both_sides_by(
     alloc: Global,
     division: FormDivision<'_>,
-    memory: &mut Memory,
+    questions: &mut Questions<'_>,
     points: &mut Vec<Point>,
 ) -> Result<Option<Shown>, AllocError> {
     let FormDivision {
@@ -167,12 +170,12 @@ pub fn both_sides_by(
         of,
         known,
     } = division;
-    let tries = quotients_by(alloc, facts, form, of, known)?;
+    let tries = questions.quotients_by(alloc, facts, form, of, known)?;
     for quotient in tries {
         let Some(rest) = remainder_by(alloc, form, of, &quotient)? else {
             continue;
         };
-        let found = tried(alloc, facts, &rest, quotient, memory, points)?;
+        let found = tried(alloc, facts, &rest, quotient, questions, points)?;
         if found.is_some() {
             return Ok(found);
         }

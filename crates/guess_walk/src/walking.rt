@@ -13,7 +13,7 @@ use obligations::Notes;
 use places::{PlaceError, places};
 use std::alloc::{AllocError, Global};
 use two_thread::Obligations;
-use walk::{FindError, find};
+use walk::{FindError, find_claims};
 
 /// The notes of a kernel's places and loops, and the obligations that a walk with these notes has.
 #[derive(Drop)]
@@ -65,8 +65,8 @@ pub fn certificate_of(
     }
 }
 
-/// All that is to be shown with a certificate, where the obligations that are flagged have an entry; nothing where the kernel lacks what
-/// the certificate names, or has no places.
+/// The claims of a kernel's places with a certificate, where the obligations that are flagged have an entry; nothing where the kernel lacks
+/// what the certificate names, or has no places. Pairs of ends and of accesses are not among them.
 pub fn walk(
     alloc: Global,
     subject: &Subject<'_>,
@@ -85,7 +85,7 @@ pub fn walk(
         Err(NamesError::Memory) => return Err(FindError::from(AllocError)),
     };
     let entries = Vec::from_slice(alloc, flags)?;
-    let found = find::<Elements>(
+    let found = find_claims::<Elements>(
         alloc,
         core,
         subject.conditions,
@@ -94,4 +94,42 @@ pub fn walk(
         entries,
     )?;
     Ok(Some(Walked { notes, found }))
+}
+
+/// Which obligations are asked for: the claims, the pairs of ends with them, or all.
+#[derive(Clone, Copy, PartialEq, Eq)]
+pub enum Extent {
+    Claims,
+    Ends,
+    All,
+}
+
+/// The obligations of a walk that found the claims alone, with all that is asked for.
+pub fn extended(
+    alloc: Global,
+    subject: &Subject<'_>,
+    walked: Walked,
+    extent: Extent,
+) -> Result<Walked, FindError> {
+    let Walked { notes, found } = walked;
+    if extent == Extent::Claims {
+        return Ok(Walked { notes, found });
+    }
+    let found = found.with_meetings(alloc)?;
+    if extent == Extent::Ends {
+        return Ok(Walked { notes, found });
+    }
+    let found = found.with_crossings(alloc, subject.typed.core(), subject.conditions)?;
+    Ok(Walked { notes, found })
+}
+
+/// The obligations of a walk that found claims and pairs of ends, with the pairs of accesses.
+pub fn with_accesses(
+    alloc: Global,
+    subject: &Subject<'_>,
+    walked: Walked,
+) -> Result<Walked, FindError> {
+    let Walked { notes, found } = walked;
+    let found = found.with_crossings(alloc, subject.typed.core(), subject.conditions)?;
+    Ok(Walked { notes, found })
 }

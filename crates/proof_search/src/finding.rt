@@ -22,7 +22,7 @@ use crate::shortfall::findings_of;
 use crate::widening::{is_over, may_widen};
 use cert_check::error::{CheckError, ShowError};
 use certificate::{Certificate, LIMIT, write, write_wide};
-use certificate_search::{Missing, SearchError, search};
+use certificate_search::{Missing, SearchError, Unwatched, search};
 use facts::WalkError;
 use guess_walk::Subject;
 use launch::conditions::Conditions;
@@ -162,7 +162,7 @@ fn looked_for<R: Threads + Sync>(
     requires of { IsOf (core_seen subject.typed.now.1) (lined subject.conditions.now) }
     ensures { IfErr result (Ends subject.entry.typed.now subject.entry.conditions.now) }
 {
-    match search(rt, alloc, subject, workers) {
+    match search(rt, alloc, subject, workers, &Unwatched) {
         Ok(certificate) => Ok(certificate),
         Err(error) => Err(unfound(alloc, subject.typed, subject.conditions, error)),
     }
@@ -220,7 +220,7 @@ fn found_widely<R: Threads + Sync>(
         is_wide: true,
         joins: false,
     };
-    let Ok(certificate) = search(rt, alloc, wide, workers) else {
+    let Ok(certificate) = search(rt, alloc, wide, workers, &Unwatched) else {
         return None;
     };
     if is_over(alloc, &wide, &certificate) {

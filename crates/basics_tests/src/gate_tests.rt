@@ -1,6 +1,6 @@
 //! Workers that settle, watched and held by gates.
 
-use crate::tables::{CHAIN, ONE_STANDS, THREE_STAND, Table, members, supports};
+use crate::tables::{CHAIN, ONE_STANDS, SCAN, SCAN_LEFT, THREE_STAND, Table, members, supports};
 use board::BoardError;
 use houdini::{SettleError, settle};
 use std::alloc::Global;
@@ -25,7 +25,7 @@ fn settled<R: Threads + Sync, G: Gate>(
 
 #[test]
 fn each_number_of_workers_settles_one_set(rt: HostRuntime) -> Result<(), Fail> {
-    for workers in [1, 2, 64] {
+    for workers in [1, 2, 3, 64] {
         let three = settled(&rt, rt.alloc(), THREE_STAND, workers, &Open)?;
         let one = settled(&rt, rt.alloc(), ONE_STANDS, workers, &Open)?;
         let wanted = [
@@ -141,19 +141,36 @@ impl Gate for Holding {
     }
 }
 
-#[test]
-fn a_worker_is_held_at_each_moment(rt: HostRuntime) -> Result<(), Fail> {
-    for at in 0..50 {
-        for workers in [2, 3] {
-            let gate = Holding {
-                at,
-                told: AtomicU32::new(0),
-                ended: AtomicBool::new(false),
-            };
-            let set = settled(&rt, rt.alloc(), CHAIN, workers, &gate)?;
-            assert_eq!(rt; set, [false; 5], "{workers} workers, held at {at}");
+/// How many of 200 times so many workers leave other candidates below 64 of a table, the first held at another of its moments each time.
+fn others_of<R: Threads + Sync>(
+    rt: &R,
+    alloc: Global,
+    table: Table,
+    workers: u32,
+    left: u64,
+) -> Result<u32, Fail> {
+    let supports = supports(alloc, table)?;
+    let mut others = 0u32;
+    for at in 0..200 {
+        let gate = Holding {
+            at,
+            told: AtomicU32::new(0),
+            ended: AtomicBool::new(false),
+        };
+        let set = settle(rt, alloc, &supports, workers, &gate)?;
+        if set.words[0] != left {
+            others = others.saturating_add(1);
         }
     }
+    Ok(others)
+}
+
+#[test]
+fn a_worker_is_held_at_each_moment(rt: HostRuntime) -> Result<(), Fail> {
+    let two = others_of(&rt, rt.alloc(), CHAIN, 2, 0)?;
+    let three = others_of(&rt, rt.alloc(), CHAIN, 3, 0)?;
+    let scan = others_of(&rt, rt.alloc(), SCAN, 2, SCAN_LEFT)?;
+    assert_eq!(rt; [two, three, scan], [0; 3]);
     Ok(())
 }
 

@@ -31,6 +31,51 @@ pub const CHAIN: Table = &[
     &[&[]],
 ];
 
+/// What the search asks for a scan of 48 words by doubling distances, over two halves of a local array by turns, in its second round, each
+/// obligation once: the candidates of `SCAN_LEFT` stand.
+pub const SCAN: Table = &[
+    &[],
+    &[],
+    &[],
+    &[],
+    &[],
+    &[],
+    &[&[&[6]]],
+    &[&[&[6]]],
+    &[&[&[3]], &[&[8]]],
+    &[&[&[9]]],
+    &[&[&[3]], &[&[8]]],
+    &[],
+    &[],
+    &[&[&[]]],
+    &[],
+    &[],
+    &[&[&[0]], &[&[16]]],
+    &[&[&[1]], &[&[17]]],
+    &[&[]],
+    &[&[&[18]]],
+    &[],
+    &[],
+    &[],
+    &[&[&[21]], &[&[23]]],
+    &[&[&[22]], &[&[24]]],
+    &[&[&[2]], &[&[25]]],
+    &[&[&[2]], &[&[25]]],
+    &[&[]],
+    &[&[]],
+    &[&[]],
+    &[&[]],
+    &[&[&[2]], &[&[25]]],
+    &[&[&[2]], &[&[25]]],
+    &[&[]],
+    &[&[]],
+    &[&[]],
+    &[&[]],
+];
+
+/// All of the 37 but 18, which nothing shows, 19, which rests on it, 27 to 30 and 33 to 36.
+pub const SCAN_LEFT: u64 = 0x1_87f3_ffff;
+
 fn sets(alloc: Global, sets: &[&[u32]]) -> Result<Vec<Vec<u32>>, Fail> {
     let mut made = Vec::new(alloc);
     for set in sets {

@@ -207,8 +207,8 @@ fn failure_of(assembled: Assembled) -> Failure {
     }
 }
 
-/// The rankings of the loops and the places, beside what all attempts share, with which guesses are settled; and the fewest claims and pairs
-/// of ends that an attempt so far did not show.
+/// The rankings of the loops and the places, beside what all attempts share, with which guesses are settled; and the fewest claims and
+/// pairs of ends that an attempt so far did not show.
 #[derive(Drop)]
 struct Setting<'a, W> {
     matter: &'a Matter<'a, W>,
@@ -298,8 +298,8 @@ fn refilled(
     }))
 }
 
-/// What an attempt does not show in the end: where fewer claims and pairs of ends are among it than so many, pairs of accesses are looked at
-/// as well.
+/// What an attempt does not show in the end: where fewer claims and pairs of ends are among it than so many, pairs of accesses are looked
+/// at as well.
 fn failed<W: Watcher>(
     alloc: Global,
     plan: &Plan<'_, W>,
@@ -354,8 +354,8 @@ fn settled<R: Threads + Sync, W: Watcher>(
     Err(SearchError::Unsaid)
 }
 
-/// How an attempt is made: its number, from 1, with which rankings, with guesses up to which rank, and the fewest claims and pairs of ends that an attempt so far
-/// did not show.
+/// How an attempt is made: its number, from 1, with which rankings, with guesses up to which rank, and the fewest claims and pairs of ends
+/// that an attempt so far did not show.
 #[derive(Clone, Copy)]
 pub struct Trial<'a> {
     pub number: u32,

@@ -17,7 +17,8 @@ use guesses::{Candidate, Ranking, Sight};
 use std::alloc::{AllocError, Global};
 use walk::FindError;
 
-/// The kernel, the names, the places, and the loops' rankings with their limits, of which a certificate is made; and the course of the search.
+/// The kernel, the names, the places, and the loops' rankings with their limits, of which a certificate is made; and the course of the
+/// search.
 #[derive(Drop)]
 pub struct Plan<'a, W> {
     pub subject: Subject<'a>,

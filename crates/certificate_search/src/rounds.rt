@@ -233,8 +233,8 @@ enum Turn {
     Falls(Parted),
 }
 
-/// Which round it is, counted from 1, and whether it is sure of what has an obligation that nothing shows: as long as nothing fell with others
-/// before.
+/// Which round it is, counted from 1, and whether it is sure of what has an obligation that nothing shows: as long as nothing fell with
+/// others before.
 #[derive(Clone, Copy)]
 struct Step {
     number: u32,

@@ -228,8 +228,8 @@ fn search_widely<R: Threads + Sync, W: Watcher>(
     }
 }
 
-/// A certificate for a kernel under conditions, searched by so many workers; whoever watches is told how far it is. The walks of a wide subject join ways where that spares many
-/// paths.
+/// A certificate for a kernel under conditions, searched by so many workers; whoever watches is told how far it is. The walks of a wide
+/// subject join ways where that spares many paths.
 pub fn search<R: Threads + Sync, W: Watcher>(
     rt: &R,
     alloc: Global,

@@ -1,4 +1,5 @@
-//! Stretches of obligations, which are asked side by side in batches. Neither the stretches nor the batches depend on the number of workers.
+//! Stretches of obligations, which are asked side by side in batches. Neither the stretches nor the batches depend on the number of
+//! workers.
 
 use domain::Elements;
 use std::alloc::{AllocError, Global};

@@ -281,9 +281,9 @@ impl Memory {
     }
 }
 
-/// Questions beside a memory that others read too: it is asked first, and what is found is kept apart, until the memory takes it in. So what
-/// is found does not depend on what others find meanwhile. The last facts to which a denial was added are at hand, with their number, and the
-/// equalities that they hold, once these were asked for.
+/// Questions beside a memory that others read too: it is asked first, and what is found is kept apart, until the memory takes it in. So
+/// what is found does not depend on what others find meanwhile. The last facts to which a denial was added are at hand, with their number,
+/// and the equalities that they hold, once these were asked for.
 #[derive(Drop)]
 pub struct Questions<'a> {
     known: &'a Memory,

@@ -174,8 +174,8 @@ fn facts_before(paths: &[Tagged<Elements>], at: OnPath) -> usize {
     }
 }
 
-/// The claims that are not to be taken as shown, though they were, of each path the first: those that stand behind another one are looked at
-/// in the next walk, which has other forms there.
+/// The claims that are not to be taken as shown, though they were, of each path the first: those that stand behind another one are looked
+/// at in the next walk, which has other forms there.
 fn untaken_of(
     alloc: Global,
     trust: Trust,
@@ -243,8 +243,8 @@ fn flag_all(flags: &mut [bool], untaken: &[Untaken], value: bool) {
 }
 
 /// The claims of a walk in which each claim that is taken as shown is to be taken so; nothing where the kernel lacks what the certificate
-/// names, or where that takes over 4,000 walks. A walk takes back what is taken on all paths at once; where the paths have other claims then,
-/// so that the numbers of claims behind the first one are others, it takes back one claim at a time.
+/// names, or where that takes over 4,000 walks. A walk takes back what is taken on all paths at once; where the paths have other claims
+/// then, so that the numbers of claims behind the first one are others, it takes back one claim at a time.
 fn resolved_claims(
     alloc: Global,
     subject: &Subject<'_>,

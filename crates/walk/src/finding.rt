@@ -98,8 +98,8 @@ pub fn find<D: Domain>(
     Ok(found)
 }
 
-/// The claims alone of a kernel's places, where the obligations that are flagged have an entry: what the walks of a search ask for, of which
-/// many are made. Pairs of ends and of accesses can be added to them. Of what is found nothing is promised.
+/// The claims alone of a kernel's places, where the obligations that are flagged have an entry: what the walks of a search ask for, of
+/// which many are made. Pairs of ends and of accesses can be added to them. Of what is found nothing is promised.
 pub fn find_claims<D: Domain>(
     alloc: Global,
     core: &Core,

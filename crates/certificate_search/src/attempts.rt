@@ -34,8 +34,8 @@ pub enum Attempt {
     Failed(Failure),
 }
 
-/// What an attempt does not show: the loops whose rankings are among it, all that is not shown where it was looked at, and how many claims
-/// and pairs of ends are among it.
+/// What an attempt does not show: the loops whose rankings are among it, what is not shown of all that was looked at, and whether this was
+/// everything, pairs of accesses too.
 #[derive(Drop)]
 pub struct Failure {
     pub loops: Vec<u32>,

@@ -7,7 +7,6 @@ pub mod Turned
 pub mod Being_on
 pub mod Doing
 pub mod Kept
-pub mod Later
 pub mod Arms
 pub mod Whole
 pub mod Overlays
@@ -18,3 +17,6 @@ pub mod Storing
 pub mod Lying
 pub mod Based
 pub mod Standings
+pub mod Spilled
+pub mod Distinct
+pub mod Placed

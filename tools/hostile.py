@@ -1,14 +1,14 @@
 #!/usr/bin/env python3
 """Uses the program as nobody should: memory that is refused, texts that are cut or forged, outputs that take nothing, held threads.
 
-    hostile.py [PART..] [--count COUNT] [--seed SEED] [--oracle FOLDER]
+    hostile.py [PART..] [--most MOST] [--count COUNT] [--seed SEED] [--oracle FOLDER]
 
-    memory     each allocation refused in turn; a limit of the system
+    memory     each allocation refused in turn, or with MOST about so many of each command, evenly; a limit of the system
     system     outputs that take nothing, files that fail, no thread to be had
     texts      certificates cut at each byte, texts at their limits and past them
     bytes      COUNT changed texts for each reader (5,000), made of those of crates/cases/data by SEED (1), against the independent program
                whose modules are in FOLDER; without a FOLDER for their form alone
-    threads    the same answer with each number of workers, again and again
+    threads    the same answer with each number of workers, again and again, and with one that is held at each of its moments
 
 Without a PART all are tried. It prints a table, and ends with status 1 where something is not as it has to be; what that is stands in front
 of its line. To be quick on machines on which a process takes long to start, most is tried by the program of the tests of texts, which runs
@@ -38,8 +38,8 @@ DATA = os.path.join(common.ROOT, "crates", "cases", "data")
 # The length of a file whose reading tells the library below that a command comes next.
 MARK = 77_777
 # malloc and realloc refuse one call of each command that stands behind a mark: of the first the call number FIRST, of the next the next
-# one. Without marks the one of the whole program is refused. With TELL the calls of each command are told; with NO_THREAD none starts; with
-# READ or WRITE the one of this number fails.
+# one, or the one that is STEP behind. Without marks the one of the whole program is refused. With TELL the calls of each command are told;
+# with NO_THREAD none starts; with READ or WRITE the one of this number fails.
 REFUSING = r"""
 #define _GNU_SOURCE
 #include <dlfcn.h>
@@ -50,7 +50,7 @@ REFUSING = r"""
 #include <unistd.h>
 
 static size_t mark;
-static long calls, refused_call, next_call, tells, reads, writes, failing_read, failing_write;
+static long calls, refused_call, next_call, step = 1, tells, reads, writes, failing_read, failing_write;
 static int is_set;
 static void *(*real_malloc)(size_t);
 static void *(*real_realloc)(void *, size_t);
@@ -62,6 +62,7 @@ static void set(void) {
     real_realloc = (void *(*)(void *, size_t))dlsym(RTLD_NEXT, "realloc");
     if ((it = getenv("HOSTILE_FIRST"))) refused_call = atol(it);
     if ((it = getenv("HOSTILE_MARK"))) mark = atol(it), next_call = refused_call, refused_call = 0;
+    if ((it = getenv("HOSTILE_STEP"))) step = atol(it);
     tells = getenv("HOSTILE_TELL") != 0;
     if ((it = getenv("HOSTILE_READ"))) failing_read = atol(it);
     if ((it = getenv("HOSTILE_WRITE"))) failing_write = atol(it);
@@ -80,7 +81,8 @@ static int refuses(size_t size) {
     long call = __atomic_add_fetch(&calls, 1, __ATOMIC_SEQ_CST);
     if (!mark || size != mark) return call == refused_call;
     // (the file's text is taken twice: behind the second time the command comes)
-    refused_call = call == 1 && next_call ? next_call++ : 0;
+    refused_call = call == 1 ? next_call : 0;
+    if (refused_call) next_call += step;
     if (call != 1 && tells) tell(call - 1);
     calls = 0;
     return 0;
@@ -215,8 +217,10 @@ class Table:
     def row(self, what):
         """A row of the table: its outcomes are counted in what is given."""
         begun, ends, before = time.monotonic(), collections.Counter(), len(self.faults)
+        ends.more = ""
         yield ends
         is_well = len(self.faults) == before and ends
+        what += ends.more
         told = ", ".join(f"{count:,} {end}" for end, count in sorted(ends.items()))
         self.rows.append(f"| {what} | {sum(ends.values()):,} | {told} | {time.monotonic() - begun:.1f} | {'yes' if is_well else '**no**'} |")
         print(self.rows[-1], flush=True)
@@ -225,7 +229,7 @@ class Table:
 
     def fault(self, what):
         self.faults.append(what)
-        print(f"    {what[:1000]}", flush=True)
+        print(f"    {what if len(what) < 1200 else what[:700] + ' .. ' + what[-400:]}", flush=True)
 
 
 class Trial:
@@ -257,6 +261,17 @@ class Trial:
         weight = b"s 64 1 1 2 1 3\n"
         assert weight in lines["p"]
         self.files["fill.less"] = lines["p"].replace(weight, b"s 63 1 1 2 1 3\n", 1)
+        own = self.pages["runs.txt"].files
+        self.files |= {"own": own["own"], "own.c": own["own.c"], "own.l": own["own.l"], "few.l": own["stride.few"]}
+        # (with these budgets each of 64 workers has enough to do, so that a run starts as many as it is told)
+        for name in ("fill", "loop", "turned", "own"):
+            self.files[f"{name}.m"] = re.sub(rb"budget \d+\n", b"budget 10000000\n", self.files[f"{name}.c"])
+        sheet = Sheet(self.files)
+        for name in ("loop", "turned", "own"):
+            sheet.ask(f"prove {name} {name}.c --out {name}.p", (0, b"accepted\n"))
+            sheet.ask(f"certificate {name}.p")
+        found = sheet.answers(self.folder)
+        self.files |= {f"{name}.p": found[at][1] for at, name in ((1, "loop"), (3, "turned"), (5, "own"))}
         for name in ("fill", "tree"):
             self.files[f"{name}.2"] = common.certificate_text(lines_of_one(self.files[f"{name}.1"].decode()), 2).encode()
 
@@ -287,9 +302,12 @@ def lines_of_one(certificate):
 class Refusals:
     """A command, with each of its allocations refused in turn."""
 
+    # What it is to have been in the end, at least once.
+    due = ()
+
     def __init__(self, trial, words, ends):
         self.trial, self.words, self.ends = trial, words, ends
-        self.watched = {"LD_PRELOAD": trial.library, "HOSTILE_MARK": str(MARK)}
+        self.watched, self.step = {"LD_PRELOAD": trial.library, "HOSTILE_MARK": str(MARK)}, 1
         self.files = {name: trial.files[name] for name in words.split() if name in trial.files}
         first = answers_of(trial.folder, self.files, [words.replace("NEW", "whole")])[0]
         self.whole, self.writes = first, "NEW" in words
@@ -316,7 +334,7 @@ class Refusals:
     def refused(self, first, tries):
         """The answers of so many tries, the first of which refuses this call; None where the tests' own allocation was refused."""
         sheet = self.sheet(tries)
-        found = sheet.answers(self.trial.folder, **self.watched, HOSTILE_FIRST=str(first))
+        found = sheet.answers(self.trial.folder, **self.watched, HOSTILE_FIRST=str(first), HOSTILE_STEP=str(self.step))
         if found is None:
             if sheet.status not in (3, 1):
                 self.trial.table.fault(f"{self.words}: allocation {first} or one of {tries - 1} more: status {sheet.status}, {sheet.told[:200]!r}")
@@ -357,16 +375,16 @@ class Refusals:
         number = first
         all_tried = True
         while number <= last:
-            tries = min(most, last + 1 - number)
+            tries = min(most, (last - number) // self.step + 1)
             answers = self.refused(number, tries)
             if answers is None and tries > 1:
-                all_tried = self.sweep(number, number + tries - 1, max(1, tries // 8)) and all_tried
+                all_tried = self.sweep(number, number + (tries - 1) * self.step, max(1, tries // 8)) and all_tried
             elif answers is None:
                 all_tried = False
             else:
                 for at, it in enumerate(answers):
-                    self.note(number + at, it)
-            number += tries
+                    self.note(number + at * self.step, it)
+            number += tries * self.step
         return all_tried
 
     def run(self):
@@ -376,15 +394,42 @@ class Refusals:
             middle = (low + high) // 2
             low, high = (middle, high) if self.refused(middle, 1) is None else (low, middle)
         calls, behind = self.calls()
+        most, count = self.trial.asked.most, calls[0] - behind - high + 1
+        if 0 < most < count:
+            self.step = -(-count // most)
+            self.ends.more = f", one of {self.step} of {count:,}"
         if not self.sweep(high, calls[0] - behind):
             self.trial.table.fault(f"{self.words}: some of {calls[0] - behind} allocations were not tried")
         # (with several workers some runs have more than others, and these come as far only sometimes)
         self.sweep(calls[0] - behind + 1, calls[-1] - behind, 1)
+        for it in self.due:
+            if not self.ends[it]:
+                self.trial.table.fault(f"{self.words}: never {it}")
+
+
+class Watched(Refusals):
+    """A run by one worker that tells how many groups it has claimed, how many of these it has run, and what the launch then holds."""
+
+    due = "a group claimed and not run, and the bytes as with all memory",
+
+    def note(self, number, mine):
+        status, out = mine.get(1, (None, b""))
+        told = re.fullmatch(rb"(\d+) claimed, (\d+) run\n(.*)", out, re.DOTALL)
+        if set(mine) != {1} or status != 0 or not told:
+            # (a part of the program has no status of its own)
+            return super().note(number, {1: OUT_OF_MEMORY} if mine == {1: (0, b"refused 90\n")} else mine)
+        has_lost, rest = int(told[1]) > int(told[2]), told[3]
+        _, left, lent = self.whole[1].split(b"\n", 2)
+        if rest == left + b"\n" + lent:
+            self.ends[self.due[0] if has_lost else "as with all memory"] += 1
+        else:
+            super().note(number, {1: OUT_OF_MEMORY} if rest == b"refused 90\n" + lent and not has_lost else mine)
 
 
 MEMORY = {
     "prove, a tree reduction": "prove tree tree.c --out NEW",
     "prove, a loop by the number of items": "prove loop loop.c --out NEW",
+    "prove, a loop by the number of items, 3 workers": "prove loop loop.c --workers 3 --out NEW",
     "prove, a data race behind the other fence": "prove fence fence.c",
     "check, a fill, version 1": "check fill fill.c fill.1",
     "check, a fill, version 2": "check fill fill.c fill.2",
@@ -392,43 +437,50 @@ MEMORY = {
     "print, a tree reduction": "print tree",
     "migrate, a tree reduction's certificate": "migrate tree.1 NEW",
     "run, a loop by the number of items, 1 worker": "run loop loop.c loop.p loop.l",
-    "run, a loop by the number of items, 3 workers": "run loop loop.c loop.p loop.l --workers 3",
+    "run, a loop by the number of items, 3 workers": "run loop loop.m loop.p loop.l --workers 3",
     "run, elements that move, 1 worker": "run turned turned.c turned.p turned.l",
-    "run, elements that move, 3 workers": "run turned turned.c turned.p turned.l --workers 3",
+    "run, elements that move, 3 workers": "run turned turned.m turned.p turned.l --workers 3",
 }
 
 
 def memory(trial):
-    for name in ("loop", "turned"):
-        sheet = Sheet(trial.files)
-        sheet.ask(f"prove {name} {name}.c --out {name}.p", (0, b"accepted\n"))
-        sheet.ask(f"certificate {name}.p")
-        trial.files[f"{name}.p"] = sheet.answers(trial.folder)[1][1]
     for what, words in MEMORY.items():
         with trial.table.row(f"an allocation refused: {what}") as ends:
             Refusals(trial, words, ends).run()
+    for what, launch in (("65,536", "loop.l"), ("3,000", "few.l")):
+        with trial.table.row(f"an allocation refused: run, 1 worker that is watched, a loop by the number of items, {what} elements") as ends:
+            Watched(trial, f"watched loop loop.m loop.p {launch}", ends).run()
     trial.put(trial.files)
     with trial.table.row("an allocation refused in the program itself: check, a fill") as ends:
         for number in [*range(1, 12), *range(12, 300, 41)]:
             found = trial.program("check fill fill.c fill.1", LD_PRELOAD=trial.library, HOSTILE_FIRST=str(number))
             judge(trial, ends, f"check fill, allocation {number}", found, (0, b"accepted\n", b""), (4, b"", b"out of memory\n"))
-    with trial.table.row("a limit of the address space: prove, a tree reduction") as ends:
-        for limit in range(2, 26):
-            held = lambda: resource.setrlimit(resource.RLIMIT_AS, (limit << 20, limit << 20))
-            try:
-                found = trial.program("prove tree tree.c --out made", before=held)
-            except (OSError, subprocess.SubprocessError):
-                found = None
-            if found is None or found[0] in (127, -signal.SIGKILL, -signal.SIGSEGV) and not found[1] and limit < 8:
-                ends["not begun by the system"] += 1
-            else:
-                judge(trial, ends, f"prove, {limit} MiB", found, (0, b"accepted\n", b""), (4, b"", b"out of memory\n"))
-    with trial.table.row("a limit of the address space: run, 64 workers") as ends:
-        whole = trial.program("run loop loop.c loop.p loop.l")
-        for limit in [*range(4, 40, 4), *range(64, 1024, 96)]:
-            held = lambda: resource.setrlimit(resource.RLIMIT_AS, (limit << 20, limit << 20))
-            found = trial.program("run loop loop.c loop.p loop.l --workers 64", before=held)
-            judge(trial, ends, f"run, {limit} MiB", found, whole, (4, b"", b"out of memory\n"))
+    for words in LIMITED:
+        with trial.table.row(f"a limit of the address space, from 1 to 1,024 MiB: {words}") as ends:
+            limited(trial, ends, words)
+
+
+LIMITED = ("prove tree tree.c --out made", "prove fence fence.c --workers 3", "check fill fill.c fill.1", "explain fence fence.c", "print tree",
+           "migrate tree.1 made", "run loop loop.m loop.p loop.l", "run loop loop.m loop.p loop.l --workers 64")
+
+
+def limited(trial, ends, words):
+    """A command under limits of the address space: it answers as without one, or is out of memory and writes no file, nor a part of one."""
+    remove(trial, "made")
+    whole = trial.program(words), parts(trial) and read(trial, "made")
+    # (below this the system does not begin the program)
+    least = 8 + (os.path.getsize(common.KVERIFY) >> 20)
+    for limit in [*range(1, 33), *range(36, 64, 4), *range(64, 1025, 96)]:
+        remove(trial, "made")
+        try:
+            found = trial.program(words, before=lambda: resource.setrlimit(resource.RLIMIT_AS, (limit << 20, limit << 20)))
+        except (OSError, subprocess.SubprocessError):
+            found = None
+        is_ended = found and found[0] in (-signal.SIGKILL, -signal.SIGSEGV) and found[1:] == (b"", b"") and limit < least
+        if found is None or is_ended or found[0] == 127 and b": error while loading shared libraries: " in found[2]:
+            ends["not begun by the system"] += 1
+        else:
+            judge(trial, ends, f"{words}, {limit} MiB", (found, parts(trial) and read(trial, "made")), whole, ((4, b"", b"out of memory\n"), []))
 
 
 def judge(trial, ends, what, found, *wanted):
@@ -437,7 +489,7 @@ def judge(trial, ends, what, found, *wanted):
         ends[("as it has to be", "out of memory")[wanted.index(found)] if len(wanted) == 2 else "as it has to be"] += 1
     else:
         ends["other"] += 1
-        trial.table.fault(f"{what}: status {found[0]}, {found[1][:200]!r}, {found[2][:200]!r}")
+        trial.table.fault(f"{what}: {found!r:.500}")
 
 
 # ---- the system
@@ -464,7 +516,8 @@ def system(trial):
     os.close(write_end)
     without(trial, "the output is closed", stdout=None, before=lambda: os.close(1))
     with trial.table.row("no thread to be had") as ends:
-        for words in ("prove tree tree.c --workers 3 --out {0}", "prove fence fence.c --workers 64", "run fill fill.c fill.1 fill.l --workers 64"):
+        for words in ("prove tree tree.c --workers 3 --out {0}", "prove fence fence.c --workers 64", "run fill fill.m fill.1 fill.l --workers 64",
+                      "run loop loop.m loop.p loop.l --workers 3"):
             found = trial.program(words.format("made"), LD_PRELOAD=trial.library, HOSTILE_NO_THREAD="1")
             judge(trial, ends, words, found, trial.program(words.format("whole")))
         judge(trial, ends, "the certificates", read(trial, "made"), read(trial, "whole"))
@@ -578,7 +631,7 @@ def threads(trial):
                 judge(trial, ends, f"settle {kind} {workers}", (done.returncode, done.stdout), (0, told))
     with trial.table.row("one certificate and equal bytes, with 1, 3 and 64 workers") as ends:
         sheet = Sheet(trial.files)
-        for name in ("tree", "loop", "turned", "fill"):
+        for name in ("tree", "loop", "turned", "own", "fill"):
             sheet.ask(f"prove {name} {name}.c --out one", (0, b"accepted\n"))
             for workers in (3, 64):
                 sheet.ask(f"prove {name} {name}.c --workers {workers} --out other", (0, b"accepted\n"))
@@ -588,17 +641,22 @@ def threads(trial):
         found = sheet.answers(trial.folder) or {}
         whole = {at: it for at, it in found.items() if sheet.text[sheet.asked[at] - 1].startswith(b"$ run")}
         ends["one certificate"] += len(sheet.asked) - len(found)
-        if len(found) != 3 or len(whole) != 3:
+        if len(found) != 4 or len(whole) != 4:
             trial.table.fault(f"one certificate: {list(found.items())[:3]}")
     with trial.table.row("a run 200 times each with 4 and 64 workers: equal bytes") as ends:
-        for name in ("loop", "turned"):
+        for name in ("loop", "turned", "own"):
             told = next(it for at, it in whole.items() if b" %s " % name.encode() in sheet.text[sheet.asked[at] - 1])
             often = Sheet(trial.files)
             often.ask(f"prove {name} {name}.c --out one", (0, b"accepted\n"))
             for _ in range(200):
                 for workers in (1, 3, 4, 64):
-                    often.ask(f"run {name} {name}.c one {name}.l --workers {workers}", told)
+                    often.ask(f"run {name} {name}.m one {name}.l --workers {workers}", told)
             count(trial, ends, f"run {name}", often, "equal")
+    with trial.table.row("a run by two workers, the first held at each of its first 200 moments: equal bytes") as ends:
+        held = Sheet(trial.files)
+        for name in ("loop", "turned", "own"):
+            held.ask(f"stalled {name} {name}.m {name}.p {name}.l", (0, b"0 of 200 runs differ\n"))
+        count(trial, ends, "a run with a worker that is held", held, "of 200 runs that are equal")
 
 
 # ---- changed texts
@@ -760,13 +818,23 @@ def has_form(reader, status, out):
 OTHER_NAMES = re.compile(rb"_|barrier$|min$|max$|get_|CLK_|reqd_|atom|mem_fence|read_mem_fence|write_mem_fence|mem(cpy|move|set|cmp)$|bcmp$|mul24|mad24|abs$|clamp$|async_|wait_|prefetch")
 
 
+def place_of(refusal):
+    """The line and the column that a refusal tells."""
+    return tuple(map(int, re.fullmatch(rb"refused \d+ (\d+):(\d+)\n", refusal).groups()))
+
+
+def rest_at(text, refusal):
+    """The rest of the line at which a refusal points."""
+    line, column = place_of(refusal)
+    return (text.split(b"\n") + [b""])[line - 1][column - 1:]
+
+
 def departs(text, found):
     """Whether a kernel is refused for what docs/DECISIONS.md says that it departs in: a name, or a comment that goes on in a compiler."""
     refusal = re.fullmatch(rb"refused (1|21) (\d+):(\d+)\n", found[1])
     if not refusal:
         return False
-    line = (text.split(b"\n") + [b""])[int(refusal[2]) - 1]
-    rest = line[int(refusal[3]) - 1:]
+    rest = rest_at(text, found[1])
     if refusal[1] == b"21":
         return OTHER_NAMES.match(rest) is not None
     return rest.startswith((b"\\", b"??/", b"\r")) or b"//" in text or b"/*" in text
@@ -796,16 +864,45 @@ def compared(trial, reader, rng, corpus, oracle):
             yield judged(reader, text, mine, oracle.answer(reader, text))
 
 
+def line_at(text, refusal):
+    """The line that a certificate is refused for by 50; nothing where it is not."""
+    found = re.fullmatch(rb"refused 50 (\d+)\n", refusal)
+    return (text.split(b"\n") + [b""])[int(found[1]) - 1] if found else b""
+
+
+# What kernels that pass a limit, or are at one, may be told apart from the independent program: the two numbers, and how the places stand.
+LIMITS = {
+    (11, 11): (lambda mine, other: True, "too deep, told at another place"),
+    (10, 11): (lambda mine, other: other < mine, "too deep before it breaks off, told where it does"),
+    (10, 12): (lambda mine, other: other < mine, "too many names before it breaks off, told where it does"),
+    (11, 10): (lambda mine, other: mine == other, "no statement where one would be too deep, told as such"),
+    (12, 10): (lambda mine, other: mine == other, "no statement where one would be too many, told as such"),
+}
+
+
+def of_limits(text, mine, other):
+    """What is known of two refusals that differ, by a limit on the whole tree or on statements; None where they have to be the same."""
+    numbers = tuple(int(it.split()[1]) for it in (mine, other))
+    if numbers == (12, 12):
+        # (the other program points at the part of the `for`)
+        return "too many statements, told where the `for` begins" if rest_at(text, mine).startswith(b"for") else None
+    stands, known = LIMITS.get(numbers, (lambda mine, other: False, None))
+    return known if stands(place_of(mine), place_of(other)) else None
+
+
 def judged(reader, text, mine, other):
     if reader == "conditions" and mine == (1, b"refused 56\n"):
         mine = 0, b"accepted\n"
     if mine == other:
         return ("read" if mine[0] == 0 else "refused"), None
+    if reader == "certificates" and text.startswith(b"certificate 4\n") and other == (1, b"refused 51\n"):
+        return "of version 4, which the independent program does not read", None
+    if reader in ("certificates", "migrations") and line_at(text, mine[1]).startswith(b"loop -"):
+        return "a negative loop number, which the independent program takes", None
     if reader == "kernels" and departs(text, mine):
         return "refused by a rule of docs/DECISIONS.md", None
-    if reader == "kernels" and mine[1].startswith(b"refused 11 ") and other[1].startswith(b"refused 11 "):
-        # (depth is limited on the whole tree here, so it is told where that is too deep; no document says which place it is)
-        return "too deep, told at another place", None
+    if reader == "kernels" and mine[0] == other[0] == 1 and (known := of_limits(text, mine[1], other[1])):
+        return known, None
     return "other", f"{reader}: {text!r}: {mine}, by the independent program {other}"
 
 
@@ -850,6 +947,7 @@ PARTS = {"memory": memory, "system": system, "texts": texts, "bytes": fuzz, "thr
 def main():
     asking = argparse.ArgumentParser(description=__doc__, formatter_class=argparse.RawDescriptionHelpFormatter)
     asking.add_argument("parts", nargs="*", choices=[[], *PARTS], metavar="PART")
+    asking.add_argument("--most", type=int, default=0)
     asking.add_argument("--count", type=int, default=5000)
     asking.add_argument("--seed", type=int, default=1)
     asking.add_argument("--sample", type=int, default=20)

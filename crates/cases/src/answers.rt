@@ -1,13 +1,14 @@
 // What a command line answers.
 
-use crate::faulty::{Sealed, Torn};
+use crate::faulty::{Counted, Sealed, Torn};
 use crate::parts::{Part, part_of, push_part_of_files};
 use program::files::Files;
 use program::held::Held;
-use program::patience::End;
-use program::tool;
+use program::patience::StatusLine;
+use program::{Progress, Watcher, tool, tool_watched};
 use std::alloc::{AllocError, Global};
 use std::sync::Wait;
+use std::sync::atomic::{AtomicU32, Ordering};
 use std::thread::{Threads, join};
 use std::time::{Clock, Duration};
 
@@ -55,6 +56,22 @@ fn with_room<R: Threads + Wait + Clock + Sync>(
     answer
 }
 
+/// The answer of the program; its standard error then has a line for each file that was read, with the number of bytes that were taken.
+fn with_counts<R: Threads + Wait + Clock + Sync>(
+    rt: &R,
+    alloc: Global,
+    words: &[String],
+    held: &mut Held,
+) -> Result<Answer, AllocError> {
+    let mut counted = Counted {
+        held,
+        told: String::new(alloc),
+    };
+    let mut answer = of_program(rt, alloc, words, &mut counted);
+    answer.err.extend_from_slice(counted.told.as_bytes())?;
+    Ok(answer)
+}
+
 /// The answer of a part of the program to the files of these names.
 fn of_part<R: Threads + Wait + Sync>(
     rt: &R,
@@ -64,9 +81,14 @@ fn of_part<R: Threads + Wait + Sync>(
     held: &mut Held,
 ) -> Result<Answer, AllocError> {
     let mut text = String::new(alloc);
-    push_part_of_files(rt, alloc, &mut text, part, names, held)?;
     let mut answer = Answer::new(alloc);
-    answer.out = text.into_bytes();
+    match push_part_of_files(rt, alloc, &mut text, part, names, held) {
+        Ok(()) => answer.out = text.into_bytes(),
+        Err(AllocError) => {
+            answer.status = 4;
+            answer.err.extend_from_slice(b"out of memory\n")?;
+        }
+    }
     Ok(answer)
 }
 
@@ -78,28 +100,93 @@ fn behind(words: &[String]) -> &[String] {
     }
 }
 
-/// Whether an end is heard of before it comes, from another thread, and behind it.
+/// Notes the last attempt that it is told of, and how often it is told that nothing more comes.
+#[derive(Drop)]
+struct Noting {
+    attempt: AtomicU32,
+    ends: AtomicU32,
+}
+
+impl Watcher for Noting {
+    fn tell(&self, progress: Progress) {
+        self.attempt.store(progress.attempt, Ordering::SeqCst);
+    }
+
+    fn end(&self) {
+        let _before = self.ends.fetch_add(1, Ordering::SeqCst);
+    }
+}
+
+/// The answer of the program, whose search is watched; its standard error then says what the watcher was told.
+fn with_watcher<R: Threads + Wait + Clock + Sync>(
+    rt: &R,
+    alloc: Global,
+    words: &[String],
+    held: &mut Held,
+) -> Result<Answer, AllocError> {
+    let noting = Noting {
+        attempt: AtomicU32::new(0),
+        ends: AtomicU32::new(0),
+    };
+    let mut answer = Answer::new(alloc);
+    answer.status = tool_watched(
+        rt,
+        alloc,
+        words,
+        held,
+        &mut answer.out,
+        &mut answer.err,
+        &noting,
+    );
+    let attempt = noting.attempt.load(Ordering::SeqCst);
+    let ends = noting.ends.load(Ordering::SeqCst);
+    let text = format!(in alloc; "attempt {attempt}, ended {ends}\n")?;
+    answer.err.extend_from_slice(text.as_bytes())?;
+    Ok(answer)
+}
+
+/// What is written where the search is over.
+fn ended<R: Wait>(rt: &R, alloc: Global, line: &StatusLine) -> Vec<u8> {
+    let mut wiped = Vec::new(alloc);
+    line.end(rt, &mut wiped);
+    wiped
+}
+
+/// What a line on a terminal says of a search before anything is told of it, behind that, at its end, which another thread waits for, and
+/// behind its end; and whether it was over each time.
 fn of_patience<R: Threads + Wait + Clock + Sync>(
     rt: &R,
     alloc: Global,
 ) -> Result<Answer, AllocError> {
-    let end = End::new();
-    let early = end.comes_within(rt, Duration::from_millis(5));
-    let ((), came) = join(
-        rt,
-        || end.come(rt),
-        || end.comes_within(rt, Duration::from_secs(60)),
-    );
-    let late = end.comes_within(rt, Duration::from_secs(0));
-    let text = format!(in alloc; "early {early}, in time {came}, late {late}\n")?;
+    let line = StatusLine::new();
     let mut answer = Answer::new(alloc);
-    answer.out = text.into_bytes();
+    let short = Duration::from_millis(5);
+    let early = line.write_within(rt, short, &mut answer.out);
+    line.note(
+        rt,
+        Progress {
+            attempt: 2,
+            round: 3,
+            left: 1204,
+        },
+    );
+    let told = line.write_within(rt, short, &mut answer.out);
+    let mut nothing = Vec::new(alloc);
+    let (wiped, came) = join(
+        rt,
+        || ended(rt, alloc, &line),
+        || line.write_within(rt, Duration::from_secs(60), &mut nothing),
+    );
+    answer.out.extend_from_slice(wiped.as_slice())?;
+    let late = line.write_within(rt, Duration::from_secs(0), &mut answer.out);
+    let text = format!(in alloc; "\nearly {early}, told {told}, in time {came}, late {late}\n")?;
+    answer.out.extend_from_slice(text.as_bytes())?;
     Ok(answer)
 }
 
 /// The answer to a command line: the program's own; behind `torn NAME`, where the file of that name takes too much memory; behind `sealed`,
-/// where no file can be written; behind `narrow`, where no more than four bytes can be; `patience`, of the wait for an end; or that of a
-/// part.
+/// where no file can be written; behind `counted`, with what was read of each file; behind `narrow`, where no more than four bytes can be
+/// written; behind `observed`, with what a watcher of the search is told; `patience`, of a line on a terminal; or that of a part.
 pub fn answer_of<R: Threads + Wait + Clock + Sync>(
     rt: &R,
     alloc: Global,
@@ -123,7 +210,9 @@ pub fn answer_of<R: Threads + Wait + Clock + Sync>(
             Ok(of_program(rt, alloc, behind(others), &mut torn))
         }
         "sealed" => Ok(of_program(rt, alloc, others, &mut Sealed { held })),
+        "counted" => with_counts(rt, alloc, others, held),
         "narrow" => Ok(with_room(rt, alloc, others, held)),
+        "observed" => with_watcher(rt, alloc, others, held),
         "patience" => of_patience(rt, alloc),
         "kverify" => Ok(of_program(rt, alloc, others, held)),
         _ => Ok(of_program(rt, alloc, words, held)),

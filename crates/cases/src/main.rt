@@ -23,6 +23,7 @@ mod boards;
 mod cuts;
 mod faulty;
 mod launched;
+mod least;
 mod logged;
 mod marks;
 mod meeting;
@@ -31,6 +32,7 @@ mod parts;
 mod play;
 mod sheet;
 mod spots;
+mod stalled;
 
 use parts::{Asked, Part, push_part};
 use std::process::ExitCode;
@@ -89,6 +91,7 @@ fn replay<R: Threads + Wait + Sync>(
         first: kernel.as_bytes(),
         second: launch.as_bytes(),
         third: schedule.as_bytes(),
+        fourth: &[],
         number: None,
     };
     push_part(handle, rt.alloc(), &mut text, asked)?;

@@ -7,17 +7,19 @@ ghost use Rattle.launch.specs.View.{launch as launch_seen};
 ghost use Rattle.work_item.specs.Proper.{is_proper};
 
 use crate::launched::{push_conditions, push_launch};
+use crate::least::push_guesses;
 use crate::logged::push_first_log;
 use crate::meeting::push_meeting;
 use crate::noted::{push_placed, push_site};
 use crate::play::{push_found, push_played};
 use crate::spots::push_parsed;
+use crate::stalled::push_steered;
 use certificate::error::CertError;
 use certificate::{Certificate, read_wide, write, write_one, write_wide};
 use launch::launches::Launch;
 use launch_text::read_launch;
 use lexer::{Token, lex};
-use program::files::Files;
+use program::files::{FileFault, Files};
 use program::held::Held;
 use shown_kernels::kernel::read_proper_kernel;
 use std::alloc::{AllocError, Global};
@@ -55,6 +57,12 @@ pub enum Part {
     Meeting,
     /// `log KERNEL CONDITIONS LAUNCH`: what the first group of a launch writes.
     Log,
+    /// `stalled KERNEL CONDITIONS CERTIFICATE LAUNCH`: what 200 runs leave whose first worker is held at one of its moments.
+    Stalled,
+    /// `watched KERNEL CONDITIONS CERTIFICATE LAUNCH`: what a run leaves, how many groups its worker told, and what the launch has then.
+    Watched,
+    /// `guesses KERNEL CONDITIONS`: how many guesses the least menu has, and how many of them 1, 3 and 64 workers leave.
+    Guesses,
     /// `same FILE FILE`: nothing, where two files have the same bytes.
     Same,
 }
@@ -74,6 +82,9 @@ pub fn part_of(word: &str) -> Option<Part> {
         "replay" => Some(Part::Replay),
         "meeting" => Some(Part::Meeting),
         "log" => Some(Part::Log),
+        "stalled" => Some(Part::Stalled),
+        "watched" => Some(Part::Watched),
+        "guesses" => Some(Part::Guesses),
         "same" => Some(Part::Same),
         _ => None,
     }
@@ -86,10 +97,11 @@ pub struct Asked<'a> {
     pub first: &'a [u8],
     pub second: &'a [u8],
     pub third: &'a [u8],
+    pub fourth: &'a [u8],
     pub number: Option<u32>,
 }
 
-/// The bytes of the n-th file; nothing where there is none.
+/// The bytes of the n-th file; nothing where there is none, or where it cannot be read.
 fn bytes_of(
     alloc: Global,
     names: &[String],
@@ -101,7 +113,8 @@ fn bytes_of(
     };
     match held.read(name.as_str(), 20_000_000) {
         Ok(bytes) => Ok(bytes),
-        Err(_) => Ok(Vec::new(alloc)),
+        Err(FileFault::Memory) => Err(AllocError),
+        Err(FileFault::Failed) => Ok(Vec::new(alloc)),
     }
 }
 
@@ -253,6 +266,8 @@ pub fn push_part<R: Threads + Wait + Sync>(
         Part::Tokens | Part::Tree | Part::Spots => push_lexed(alloc, out, asked),
         Part::Certificate => push_certificate(alloc, out, asked.first),
         Part::Log => push_first_log(rt, alloc, out, asked.first, asked.second, asked.third),
+        Part::Stalled | Part::Watched => push_steered(rt, alloc, out, asked),
+        Part::Guesses => push_guesses(rt, alloc, out, asked.first, asked.second),
         Part::Same => push_compared(out, asked.first, asked.second),
         _ => push_with_kernel(rt, alloc, out, asked),
     }
@@ -270,11 +285,13 @@ pub fn push_part_of_files<R: Threads + Wait + Sync>(
     let first = bytes_of(alloc, names, 0, held)?;
     let second = bytes_of(alloc, names, 1, held)?;
     let third = bytes_of(alloc, names, 2, held)?;
+    let fourth = bytes_of(alloc, names, 3, held)?;
     let asked = Asked {
         part,
         first: &first,
         second: &second,
         third: &third,
+        fourth: &fourth,
         number: number_of(names),
     };
     push_part(rt, alloc, out, asked)

@@ -3,6 +3,7 @@
 use crate::error::SearchError;
 use crate::hoping::{Hoped, hope, unlimited};
 use crate::joining::{Assembled, Plan, assemble};
+use crate::least_menu::least_guesses;
 use crate::limits::least_limits;
 use crate::missing::Missing;
 use crate::needed::needed_only;
@@ -26,6 +27,9 @@ const CHANCES: u32 = 12;
 /// In how many rounds guesses that are settled once more do not fall with others.
 const PATIENCE: u32 = 60;
 
+/// The rank of an attempt with the least menu alone, behind those of all guesses.
+pub const LEAST_MENU: u32 = 5;
+
 /// How an attempt ends: with a certificate, or with loops whose rankings are not shown, and what is not: all of it, or the claims and the
 /// pairs of ends alone.
 #[derive(Drop)]
@@ -34,13 +38,14 @@ pub enum Attempt {
     Failed(Failure),
 }
 
-/// What an attempt does not show: the loops whose rankings are among it, what is not shown of all that was looked at, and whether this was
-/// everything, pairs of accesses too.
+/// What an attempt does not show: the loops whose rankings are among it, what is not shown of all that was looked at, whether this was
+/// everything, pairs of accesses too; and whether there were guesses that were never tried, for want of room.
 #[derive(Drop)]
 pub struct Failure {
     pub loops: Vec<u32>,
     pub missing: Vec<Missing>,
     pub is_whole: bool,
+    pub has_more: bool,
 }
 
 /// The kernel, the names, and the course of the search.
@@ -61,7 +66,7 @@ fn push_new(all: &mut Vec<Candidate>, more: Vec<Candidate>) -> Result<(), AllocE
     Ok(())
 }
 
-/// The guesses up to a rank that no run refutes: those that paths, runs and the text tell.
+/// The guesses up to a rank that no run refutes: those that paths, runs and the text tell; or the least menu alone.
 fn guesses<W: Watcher>(
     alloc: Global,
     matter: &Matter<'_, W>,
@@ -72,6 +77,10 @@ fn guesses<W: Watcher>(
 ) -> Result<Vec<Candidate>, AllocError> {
     let core = matter.subject.typed.core();
     let sights = hoped.sights.as_slice();
+    if rank == LEAST_MENU {
+        let least = least_guesses(alloc, core, sights, rankings)?;
+        return unrefuted(alloc, least, observed, rank);
+    }
     let told = guess_told(
         alloc,
         sights,
@@ -97,7 +106,8 @@ type Standing = (Vec<Candidate>, Assembled);
 
 /// The guesses without those that nothing needs, assembled, where some fall and all stays shown. No use tells of a guess that it narrows
 /// elements: such guesses may be kept.
-fn without_needless<W: Watcher>(
+fn without_needless<R: Threads + Sync, W: Watcher>(
+    rt: &R,
     alloc: Global,
     plan: &Plan<'_, W>,
     standing: &Standing,
@@ -109,7 +119,7 @@ fn without_needless<W: Watcher>(
     let Some(fewer) = needed_only(alloc, candidates, uses, keeps_narrowing)? else {
         return Ok(None);
     };
-    let Some(next) = assemble(alloc, plan, fewer.as_slice(), false, memory)? else {
+    let Some(next) = assemble(rt, alloc, plan, fewer.as_slice(), false, memory)? else {
         return Ok(None);
     };
     if next.missing.is_empty() {
@@ -121,7 +131,8 @@ fn without_needless<W: Watcher>(
 
 /// Guesses that stand, assembled; then without those that nothing needs, as long as some fall and all stays shown. In the wide walk, where
 /// guesses narrow elements, those that may do so are kept where it is not shown without them.
-fn dropped<W: Watcher>(
+fn dropped<R: Threads + Sync, W: Watcher>(
+    rt: &R,
     alloc: Global,
     plan: &Plan<'_, W>,
     candidates: Vec<Candidate>,
@@ -131,7 +142,7 @@ fn dropped<W: Watcher>(
     let mut best = (candidates, assembled);
     let mut keeps_narrowing = false;
     for _ in 0..3 {
-        match without_needless(alloc, plan, &best, keeps_narrowing, memory)? {
+        match without_needless(rt, alloc, plan, &best, keeps_narrowing, memory)? {
             Some(fewer) => best = fewer,
             None if plan.subject.is_wide && !keeps_narrowing => keeps_narrowing = true,
             None => return Ok(best),
@@ -141,14 +152,15 @@ fn dropped<W: Watcher>(
 }
 
 /// The certificate of what was assembled.
-fn written<W: Watcher>(
+fn written<R: Threads + Sync, W: Watcher>(
+    rt: &R,
     alloc: Global,
     plan: &Plan<'_, W>,
     candidates: Vec<Candidate>,
     assembled: Assembled,
     memory: &mut Memory,
 ) -> Result<Conclusion, SearchError> {
-    let (candidates, assembled) = dropped(alloc, plan, candidates, assembled, memory)?;
+    let (candidates, assembled) = dropped(rt, alloc, plan, candidates, assembled, memory)?;
     let Assembled { entries, .. } = assembled;
     let limits = Limits {
         rankings: plan.rankings,
@@ -176,18 +188,19 @@ enum Conclusion {
 }
 
 /// Puts guesses that stand together as a certificate, or tells what it would not show; an error where they have no text.
-fn concluded<W: Watcher>(
+fn concluded<R: Threads + Sync, W: Watcher>(
+    rt: &R,
     alloc: Global,
     plan: &Plan<'_, W>,
     candidates: Vec<Candidate>,
     memory: &mut Memory,
 ) -> Result<Conclusion, SearchError> {
-    let found = assemble(alloc, plan, candidates.as_slice(), false, memory)?;
+    let found = assemble(rt, alloc, plan, candidates.as_slice(), false, memory)?;
     let Some(assembled) = found else {
         return Err(SearchError::Unsaid);
     };
     if assembled.missing.is_empty() {
-        return written(alloc, plan, candidates, assembled, memory);
+        return written(rt, alloc, plan, candidates, assembled, memory);
     }
     Ok(Conclusion::Failed(candidates, failure_of(assembled)))
 }
@@ -204,6 +217,7 @@ fn failure_of(assembled: Assembled) -> Failure {
         loops,
         missing,
         is_whole,
+        has_more: false,
     }
 }
 
@@ -227,6 +241,7 @@ impl<'a, W: Watcher> Setting<'a, W> {
             rankings: self.rankings,
             limits,
             course: &self.course,
+            fewest: self.fewest,
         }
     }
 }
@@ -262,7 +277,7 @@ fn settled_once<R: Threads + Sync, W: Watcher>(
     let stands = settle(rt, alloc, &rounds, candidates, memory)?;
     let limits = least_limits(alloc, &stands.walked.found, setting.rankings, memory)?;
     let plan = (&*setting).plan(limits.as_slice());
-    let conclusion = concluded(alloc, &plan, stands.candidates, memory)?;
+    let conclusion = concluded(rt, alloc, &plan, stands.candidates, memory)?;
     Ok(Settling {
         conclusion,
         lost: stands.lost,
@@ -298,21 +313,25 @@ fn refilled(
     }))
 }
 
-/// What an attempt does not show in the end: where fewer claims and pairs of ends are among it than so many, pairs of accesses are looked
-/// at as well.
-fn failed<W: Watcher>(
+/// What an attempt does not show in the end: where fewer claims and pairs of ends are among it than in any attempt so far, pairs of accesses
+/// are looked at as well.
+fn failed<R: Threads + Sync, W: Watcher>(
+    rt: &R,
     alloc: Global,
     plan: &Plan<'_, W>,
     candidates: &[Candidate],
     failure: Failure,
-    fewest: usize,
     memory: &mut Memory,
 ) -> Result<Attempt, SearchError> {
-    if failure.is_whole || failure.missing.len() >= fewest {
+    if failure.is_whole || failure.missing.len() >= plan.fewest {
         return Ok(Attempt::Failed(failure));
     }
-    match assemble(alloc, plan, candidates, true, memory)? {
-        Some(assembled) => Ok(Attempt::Failed(failure_of(assembled))),
+    match assemble(rt, alloc, plan, candidates, true, memory)? {
+        Some(assembled) => {
+            let mut whole = failure_of(assembled);
+            whole.has_more = failure.has_more;
+            Ok(Attempt::Failed(whole))
+        }
         None => Err(SearchError::Unsaid),
     }
 }
@@ -326,7 +345,6 @@ fn settled<R: Threads + Sync, W: Watcher>(
     candidates: Vec<Candidate>,
     memory: &mut Memory,
 ) -> Result<Attempt, SearchError> {
-    let fewest = setting.fewest;
     let mut next = pick(alloc, candidates, MOST)?;
     for chance in 0..CHANCES {
         let Picked { first, later } = next;
@@ -336,18 +354,19 @@ fn settled<R: Threads + Sync, W: Watcher>(
             lost,
             limits,
         } = settled_once(rt, alloc, setting, first, patience, memory)?;
-        let (candidates, failure) = match conclusion {
+        let (candidates, mut failure) = match conclusion {
             Conclusion::Made(certificate) => return Ok(Attempt::Made(certificate)),
             Conclusion::Failed(candidates, failure) => (candidates, failure),
         };
+        failure.has_more = !later.is_empty();
         let plan = (&*setting).plan(limits.as_slice());
         if chance + 1 == CHANCES || memory.is_spent() {
-            return failed(alloc, &plan, candidates.as_slice(), failure, fewest, memory);
+            return failed(rt, alloc, &plan, candidates.as_slice(), failure, memory);
         }
         match refilled(alloc, candidates, lost, later)? {
             Refill::More(more) => next = more,
             Refill::Same(candidates) => {
-                return failed(alloc, &plan, candidates.as_slice(), failure, fewest, memory);
+                return failed(rt, alloc, &plan, candidates.as_slice(), failure, memory);
             }
         }
     }

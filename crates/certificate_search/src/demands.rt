@@ -5,8 +5,8 @@ ghost use Rattle.two_thread.specs.Listed.{listed};
 ghost use Rattle.plain_kernels.specs.Domains.{domain};
 
 use crate::progress::{Course, Watcher};
-use crate::stretches::{BatchSizes, Stretch, least_piece, left_behind, stretches_of};
-use crate::table::Demand;
+use crate::round_table::Demand;
+use crate::stretches::{BatchSizes, Stretch, least_piece, left_behind, stretches_behind};
 use crate::used::{Ground, used_guesses};
 use cut_proof::Derivation;
 use cut_search::{Answer, Memory, Point, Questions};
@@ -466,7 +466,7 @@ pub fn demands_of<R: Threads + Sync, W: Watcher>(
 ) -> Result<Vec<Demand>, FindError> {
     let mut demands: Vec<Demand> = Vec::new(alloc);
     let mut lacking = vec![in alloc; false; ground.candidates.len()]?;
-    let all = stretches_of(alloc, ground.found)?;
+    let all = stretches_behind(alloc, ground.found, 0)?;
     let mut sizes = BatchSizes::new();
     let mut begun: usize = 0;
     for _ in 0..all.len() {

@@ -4,6 +4,8 @@ ghost use Rattle.std.specs.Prelude.{◌≤◌, ◌<◌, length};
 ghost use Rattle.two_thread.specs.Listed.{listed};
 ghost use Rattle.plain_kernels.specs.Domains.{domain};
 
+use crate::demands::target_of;
+use crate::missing::{Missing, missing_of};
 use crate::used::{Ground, used_guesses};
 use certificate::tree::{Entry, EntrySort};
 use cut_proof::Derivation;
@@ -19,103 +21,150 @@ use std::alloc::{AllocError, Global};
 use two_thread::{Manner, OnPath, Part};
 use walk::FindError;
 
-/// An entry, with the guesses that its derivation uses.
+/// How an obligation is shown: as it is, by the sign of a divisor, or by a quotient.
 #[derive(Drop)]
-pub struct Made {
-    pub entry: Entry,
+pub enum Way {
+    Plainly,
+    Positive,
+    Negative,
+    ByQuotient(Form),
+}
+
+/// What shows an obligation, in symbols of the walk: its number and what it is of, how it is shown, by which derivation, the guess that it
+/// is of, if it is of one, and the guesses that the derivation uses.
+#[derive(Drop)]
+pub struct Proof {
+    number: u64,
+    pub about: Missing,
+    way: Way,
+    derivation: Derivation,
+    pub of: Option<u32>,
     pub used: Vec<u32>,
 }
 
-/// The entries that were found for an obligation: none needed, one, the two of a congruence, or none found though some is needed.
+impl Proof {
+    /// How the obligation is shown, as an entry has it; none where the quotient has no text.
+    fn sort(&self, alloc: Global, names: &Names<'_>) -> Result<Option<EntrySort>, AllocError> {
+        match &self.way {
+            Way::Plainly => Ok(Some(EntrySort::Show)),
+            Way::Positive => Ok(Some(EntrySort::Positive)),
+            Way::Negative => Ok(Some(EntrySort::Negative)),
+            Way::ByQuotient(quotient) => match names.quotient(alloc, quotient)? {
+                Some(quotient) => Ok(Some(EntrySort::Quotient(quotient))),
+                None => Ok(None),
+            },
+        }
+    }
+
+    /// The entry of a certificate; none where the quotient or a symbol of a lemma has no name.
+    pub fn entry(&self, alloc: Global, names: &Names<'_>) -> Result<Option<Entry>, AllocError> {
+        let Some(sort) = self.sort(alloc, names)? else {
+            return Ok(None);
+        };
+        let Some(lemmas) = lemmas_of(alloc, names, &self.derivation)? else {
+            return Ok(None);
+        };
+        let steps = steps_of(alloc, &self.derivation)?;
+        Ok(Some(Entry {
+            obligation: self.number,
+            sort,
+            lemmas,
+            steps,
+        }))
+    }
+}
+
+/// What was found for an obligation: that nothing is needed, one proof, the two of a congruence, or none though one is needed.
 #[derive(Drop)]
 pub enum Outcome {
     Nothing,
-    One(Made),
-    Two(Made, Made),
+    One(Proof),
+    Two(Proof, Proof),
     Unshown,
 }
 
-/// An entry but for its steps: the number of an obligation with what it is about, and how it is shown.
+/// A proof but for its derivation: the number of an obligation, with what it is about and of, and how it is shown.
 #[derive(Drop)]
 struct Heading {
     number: u64,
+    about: Missing,
     part: Part,
-    sort: EntrySort,
+    way: Way,
 }
 
-/// The entry of an obligation with this derivation, and the guesses that it uses; none where the part is not of the walk, or a symbol of a
-/// lemma has no name.
-fn entry_with(
+/// The proof of an obligation with this derivation; none where the part is not of the walk.
+fn proof_with(
     alloc: Global,
     ground: &Ground<'_>,
-    names: &Names<'_>,
     heading: Heading,
     facts: &[Form],
-    derivation: &Derivation,
-) -> Result<Option<Made>, AllocError> {
-    let Some(origin) = ground.origin(heading.part) else {
+    derivation: Derivation,
+) -> Result<Option<Proof>, AllocError> {
+    let Heading {
+        number,
+        about,
+        part,
+        way,
+    } = heading;
+    let Some(origin) = ground.origin(part) else {
         return Ok(None);
     };
-    let used = used_guesses(alloc, &origin, facts, derivation)?;
-    let Some(lemmas) = lemmas_of(alloc, names, derivation)? else {
-        return Ok(None);
-    };
-    let steps = steps_of(alloc, derivation)?;
-    let entry = Entry {
-        obligation: heading.number,
-        sort: heading.sort,
-        lemmas,
-        steps,
-    };
-    Ok(Some(Made { entry, used }))
+    let used = used_guesses(alloc, &origin, facts, &derivation)?;
+    Ok(Some(Proof {
+        number,
+        about,
+        way,
+        derivation,
+        of: target_of(ground, part),
+        used,
+    }))
 }
 
-/// An entry by facts, if the search refutes them.
-fn made_of(
+/// A proof by facts, if the search refutes them.
+fn proof_by(
     alloc: Global,
     ground: &Ground<'_>,
-    names: &Names<'_>,
     heading: Heading,
     facts: &[Form],
     questions: &mut Questions<'_>,
-) -> Result<Option<Made>, AllocError> {
+) -> Result<Option<Proof>, AllocError> {
     match questions.ask(alloc, facts)? {
-        Answer::Proof(derivation) => entry_with(alloc, ground, names, heading, facts, &derivation),
+        Answer::Proof(derivation) => proof_with(alloc, ground, heading, facts, derivation),
         Answer::Model(_) | Answer::Undecided => Ok(None),
     }
 }
 
-/// The entry of an obligation that is shown in a manner; none where no derivation is found, or the manner does not fit.
-fn made_by(
+/// The proof of an obligation that is shown in a manner; none where no derivation is found, or the manner does not fit.
+fn proof_in(
     alloc: Global,
     ground: &Ground<'_>,
-    names: &Names<'_>,
     number: usize,
     manner: Manner,
     questions: &mut Questions<'_>,
-) -> Result<Option<Made>, FindError>
+) -> Result<Option<Proof>, FindError>
     requires first { 0 < number }
     requires last { number ≤ length (listed domain ground.now.found.now) }
 {
     let Some(facts) = facts_of(alloc, ground.found, number, manner)? else {
         return Ok(None);
     };
-    let sort = match manner {
-        Manner::ByPositive => EntrySort::Positive,
-        Manner::ByNegative => EntrySort::Negative,
-        Manner::Plainly | Manner::ByQuotient => EntrySort::Show,
+    let way = match manner {
+        Manner::ByPositive => Way::Positive,
+        Manner::ByNegative => Way::Negative,
+        Manner::Plainly | Manner::ByQuotient => Way::Plainly,
     };
     let heading = Heading {
         number: number as u64,
+        about: missing_of(ground, number),
         part: ground.found.part(number),
-        sort,
+        way,
     };
-    Ok(made_of(alloc, ground, names, heading, facts.as_slice(), questions)?)
+    Ok(proof_by(alloc, ground, heading, facts.as_slice(), questions)?)
 }
 
-fn outcome_of(found: Option<Made>) -> Outcome {
+fn outcome_of(found: Option<Proof>) -> Outcome {
     match found {
-        Some(made) => Outcome::One(made),
+        Some(proof) => Outcome::One(proof),
         None => Outcome::Unshown,
     }
 }
@@ -124,22 +173,21 @@ fn outcome_of(found: Option<Made>) -> Outcome {
 fn divisor(
     alloc: Global,
     ground: &Ground<'_>,
-    names: &Names<'_>,
     number: usize,
     questions: &mut Questions<'_>,
 ) -> Result<Outcome, FindError>
     requires first { 0 < number }
     requires last { number ≤ length (listed domain ground.now.found.now) }
 {
-    let positive = made_by(alloc, ground, names, number, Manner::ByPositive, questions)?;
+    let positive = proof_in(alloc, ground, number, Manner::ByPositive, questions)?;
     if positive.is_some() {
         return Ok(outcome_of(positive));
     }
-    let negative = made_by(alloc, ground, names, number, Manner::ByNegative, questions)?;
+    let negative = proof_in(alloc, ground, number, Manner::ByNegative, questions)?;
     if negative.is_some() {
         return Ok(outcome_of(negative));
     }
-    let plain = made_by(alloc, ground, names, number, Manner::Plainly, questions)?;
+    let plain = proof_in(alloc, ground, number, Manner::Plainly, questions)?;
     Ok(outcome_of(plain))
 }
 
@@ -154,40 +202,43 @@ fn multiple_at<'a>(ground: &Ground<'a>, at: OnPath) -> Option<&'a Line> {
     Some(&ground.candidates.get(guess as usize)?.line)
 }
 
-/// A claim on a path, by its obligation's number.
+/// A claim on a path, by its obligation's number, and what it is of.
 #[derive(Clone, Copy)]
 struct Numbered {
     number: usize,
     at: OnPath,
+    about: Missing,
 }
 
-/// The two entries of a congruence, which name one quotient; unshown where the quotient has no text.
-fn both_entries(
+impl Numbered {
+    /// The heading of a proof by this quotient, so many obligations behind the claim.
+    fn heading(&self, behind: u64, quotient: Form) -> Heading {
+        Heading {
+            number: (self.number as u64).saturating_add(behind),
+            about: self.about,
+            part: Part::Claim(self.at),
+            way: Way::ByQuotient(quotient),
+        }
+    }
+}
+
+/// The two proofs of a congruence, which name one quotient.
+fn both_proofs(
     alloc: Global,
     ground: &Ground<'_>,
-    names: &Names<'_>,
     claim: Numbered,
     facts: &[Form],
-    shown: &Shown,
+    shown: Shown,
 ) -> Result<Outcome, AllocError> {
-    let first = names.quotient(alloc, &shown.quotient)?;
-    let second = names.quotient(alloc, &shown.quotient)?;
-    let (Some(first), Some(second)) = (first, second) else {
-        return Ok(Outcome::Unshown);
-    };
-    let part = Part::Claim(claim.at);
-    let heading = Heading {
-        number: claim.number as u64,
-        part,
-        sort: EntrySort::Quotient(first),
-    };
-    let least = entry_with(alloc, ground, names, heading, facts, &shown.least)?;
-    let heading = Heading {
-        number: (claim.number as u64).saturating_add(1),
-        part,
-        sort: EntrySort::Quotient(second),
-    };
-    let most = entry_with(alloc, ground, names, heading, facts, &shown.most)?;
+    let Shown {
+        quotient,
+        least,
+        most,
+    } = shown;
+    let heading = claim.heading(0, copied(alloc, &quotient)?);
+    let least = proof_with(alloc, ground, heading, facts, least)?;
+    let heading = claim.heading(1, quotient);
+    let most = proof_with(alloc, ground, heading, facts, most)?;
     match (least, most) {
         (Some(least), Some(most)) => Ok(Outcome::Two(least, most)),
         _ => Ok(Outcome::Unshown),
@@ -232,11 +283,10 @@ fn both_shown(
     }
 }
 
-/// The two entries of a congruence, or of a multiple of a form, found at its first claim.
+/// The two proofs of a congruence, or of a multiple of a form, found at its first claim.
 fn congruence(
     alloc: Global,
     ground: &Ground<'_>,
-    names: &Names<'_>,
     claim: Numbered,
     questions: &mut Questions<'_>,
 ) -> Result<Outcome, FindError>
@@ -248,7 +298,7 @@ fn congruence(
     };
     drop(facts.pop());
     match both_shown(alloc, ground, claim.at, facts.as_slice(), questions)? {
-        Some(shown) => Ok(both_entries(alloc, ground, names, claim, facts.as_slice(), &shown)?),
+        Some(shown) => Ok(both_proofs(alloc, ground, claim, facts.as_slice(), shown)?),
         None => Ok(Outcome::Unshown),
     }
 }
@@ -271,11 +321,10 @@ fn divided_form(
     }
 }
 
-/// The entries that show an obligation which the domain does not settle.
+/// The proofs of an obligation which the domain does not settle.
 fn shown(
     alloc: Global,
     ground: &Ground<'_>,
-    names: &Names<'_>,
     number: usize,
     questions: &mut Questions<'_>,
 ) -> Result<Outcome, FindError>
@@ -284,25 +333,25 @@ fn shown(
 {
     let part = ground.found.part(number);
     match (ground.found.sort(number), part) {
-        (Sort::OfDivisor, _) => divisor(alloc, ground, names, number, questions),
+        (Sort::OfDivisor, _) => divisor(alloc, ground, number, questions),
         (Sort::OfCongruence, Part::Claim(at)) => {
             if ground.found.is_second_claim(number) {
                 return Ok(Outcome::Nothing);
             }
-            congruence(alloc, ground, names, Numbered { number, at }, questions)
+            let about = missing_of(ground, number);
+            congruence(alloc, ground, Numbered { number, at, about }, questions)
         }
         _ => {
-            let found = made_by(alloc, ground, names, number, Manner::Plainly, questions)?;
+            let found = proof_in(alloc, ground, number, Manner::Plainly, questions)?;
             Ok(outcome_of(found))
         }
     }
 }
 
-/// The entries that show an obligation, given by its number; none needed where the domain settles it or it may be left out.
-pub fn entry_of(
+/// The proofs of an obligation, given by its number; none needed where the domain settles it or it may be left out.
+pub fn proofs_of(
     alloc: Global,
     ground: &Ground<'_>,
-    names: &Names<'_>,
     number: usize,
     questions: &mut Questions<'_>,
 ) -> Result<Outcome, FindError>
@@ -315,5 +364,5 @@ pub fn entry_of(
     if !ground.found.is_needed(number) {
         return Ok(Outcome::Nothing);
     }
-    shown(alloc, ground, names, number, questions)
+    shown(alloc, ground, number, questions)
 }

@@ -1,10 +1,9 @@
 //! A certificate of guesses that stand.
 
-use crate::demands::target_of;
-use crate::entries::{Made, Outcome, entry_of};
+use crate::entries::{Outcome, Proof, proofs_of};
 use crate::missing::{Mark, Missing, missing_of};
 use crate::progress::{Course, Watcher};
-use crate::stretches::{Stretch, stretches_of};
+use crate::stretches::{BatchSizes, Stretch, least_piece, left_behind, stretches_behind};
 use crate::used::Ground;
 use certificate::Certificate;
 use certificate::tree::Entry;
@@ -14,11 +13,13 @@ use guess_walk::{
     places_of_paths, resolve, with_accesses,
 };
 use guesses::{Candidate, Ranking, Sight};
+use rayon::prelude::*;
 use std::alloc::{AllocError, Global};
+use std::thread::Threads;
 use walk::FindError;
 
-/// The kernel, the names, the places, and the loops' rankings with their limits, of which a certificate is made; and the course of the
-/// search.
+/// The kernel, the names, the places, and the loops' rankings with their limits, of which a certificate is made; the course of the search,
+/// and the fewest claims and pairs of ends that an attempt so far did not show.
 #[derive(Drop)]
 pub struct Plan<'a, W> {
     pub subject: Subject<'a>,
@@ -27,6 +28,7 @@ pub struct Plan<'a, W> {
     pub rankings: &'a [Ranking],
     pub limits: &'a [i64],
     pub course: &'a Course<'a, W>,
+    pub fewest: usize,
 }
 
 /// The guess that an entry is of, if it is of one, and the guesses that its derivation uses.
@@ -66,33 +68,39 @@ impl Assembled {
         }
     }
 
-    /// Puts what was assembled of the next obligations behind this.
-    fn append(&mut self, part: Assembled) -> Result<(), AllocError> {
-        let Assembled {
-            entries,
-            uses,
-            missing,
-            ..
-        } = part;
-        for entry in entries {
-            self.entries.push(entry)?;
-        }
-        for one in uses {
-            self.uses.push(one)?;
+    /// Takes up what was found for the next obligations: their entries, and what nothing shows. What has no text is not shown.
+    fn take(
+        &mut self,
+        alloc: Global,
+        names: &Names<'_>,
+        proofs: Vec<Proof>,
+        missing: Vec<Missing>,
+    ) -> Result<(), AllocError> {
+        for proof in proofs {
+            match proof.entry(alloc, names)? {
+                Some(entry) => self.add(entry, proof)?,
+                None => self.miss_new(proof.about)?,
+            }
         }
         for one in missing {
-            if !is_among(self.missing.as_slice(), one) {
-                self.miss(one)?;
-            }
+            self.miss_new(one)?;
         }
         Ok(())
     }
 
-    fn take(&mut self, of: Option<u32>, made: Made) -> Result<(), AllocError> {
-        let Made { entry, used } = made;
+    fn add(&mut self, entry: Entry, proof: Proof) -> Result<(), AllocError> {
+        let Proof { of, used, .. } = proof;
         self.entries.push(entry)?;
         self.uses.push(Use { of, guesses: used })?;
         Ok(())
+    }
+
+    /// Takes up what is not shown, where nothing like it stands there.
+    fn miss_new(&mut self, missing: Missing) -> Result<(), AllocError> {
+        if is_among(self.missing.as_slice(), missing) {
+            return Ok(());
+        }
+        self.miss(missing)
     }
 
     fn miss(&mut self, missing: Missing) -> Result<(), AllocError> {
@@ -112,67 +120,84 @@ impl Assembled {
 /// With so many obligations of which none is like another one nobody asks for more: no more are told.
 const MISSED: usize = 32;
 
-/// What was assembled of a stretch of obligations, and what the search found for it.
+/// The proofs of a stretch of obligations, what no derivation shows, and what the search found for it.
 #[derive(Drop)]
-struct Joined {
-    part: Assembled,
+struct Proved {
+    proofs: Vec<Proof>,
+    missing: Vec<Missing>,
     own: Memory,
 }
 
-/// The entries of a stretch of obligations, and what no derivation shows, but for what is like one that nothing showed before.
-fn entries_in(
+/// The proofs of a stretch of obligations, and what no derivation shows, but for what is like one that nothing showed before.
+fn proved_in(
     alloc: Global,
     ground: &Ground<'_>,
-    names: &Names<'_>,
     stretch: Stretch,
     missed: &[Missing],
     memory: &Memory,
-) -> Result<Joined, FindError> {
+) -> Result<Proved, FindError> {
     let mut questions = Questions::over(alloc, memory)?;
-    let mut part = Assembled::new(alloc);
+    let mut proofs: Vec<Proof> = Vec::new(alloc);
+    let mut missing: Vec<Missing> = Vec::new(alloc);
     let end = stretch.end.min(ground.found.len());
     for i in stretch.first..end {
         let number = i + 1;
-        let missing = missing_of(ground, number);
-        if is_among(missed, missing) || is_among(part.missing.as_slice(), missing) {
+        let about = missing_of(ground, number);
+        if is_among(missed, about) || is_among(missing.as_slice(), about) {
             continue;
         }
-        let of = target_of(ground, ground.found.part(number));
-        match entry_of(alloc, ground, names, number, &mut questions)? {
+        match proofs_of(alloc, ground, number, &mut questions)? {
             Outcome::Nothing => {}
-            Outcome::One(made) => part.take(of, made)?,
+            Outcome::One(proof) => proofs.push(proof)?,
             Outcome::Two(first, second) => {
-                part.take(of, first)?;
-                part.take(of, second)?;
+                proofs.push(first)?;
+                proofs.push(second)?;
             }
-            Outcome::Unshown => part.miss(missing)?,
+            Outcome::Unshown => missing.push(about)?,
         }
     }
-    Ok(Joined {
-        part,
+    Ok(Proved {
+        proofs,
+        missing,
         own: questions.into_own(),
     })
 }
 
-/// Adds the entries of the obligations of a walk that were not looked at yet, and what no derivation shows, stretch by stretch.
-fn add_entries<W: Watcher>(
+/// Adds the entries of the obligations of a walk that were not looked at yet, and what no derivation shows. Stretches of obligations are
+/// asked side by side, a batch at a time, by so many workers at most, and taken up in the order of the obligations.
+fn add_entries<R: Threads + Sync, W: Watcher>(
+    rt: &R,
     alloc: Global,
     plan: &Plan<'_, W>,
     ground: &Ground<'_>,
     assembled: &mut Assembled,
     memory: &mut Memory,
 ) -> Result<(), FindError> {
-    let all = stretches_of(alloc, ground.found)?;
-    for stretch in all.iter() {
-        let left = stretch.behind(assembled.seen);
-        if left.first < left.end && assembled.missing.len() < MISSED {
-            plan.course
-                .tell(ground.found.len().saturating_sub(left.first));
-            let missed = assembled.missing.as_slice();
-            let joined = entries_in(alloc, ground, plan.names, left, missed, memory)?;
-            let Joined { part, own } = joined;
+    let all = stretches_behind(alloc, ground.found, assembled.seen)?;
+    let mut sizes = BatchSizes::new();
+    let mut begun: usize = 0;
+    for _ in 0..all.len() {
+        let batch = sizes.next_of(all.as_slice(), begun);
+        if batch.is_empty() || assembled.missing.len() >= MISSED {
+            break;
+        }
+        plan.course.tell(left_behind(ground.found, batch));
+        begun = begun.saturating_add(batch.len());
+        let missed = assembled.missing.as_slice();
+        let known = &*memory;
+        let found = batch
+            .par_iter()
+            .with_min_len(least_piece(batch.len(), plan.course.workers))
+            .map(|stretch: &Stretch| proved_in(alloc, ground, *stretch, missed, known))
+            .collect::<Vec<Result<Proved, FindError>>>(rt, alloc)?;
+        for one in found {
+            let Proved {
+                proofs,
+                missing,
+                own,
+            } = one?;
             memory.take(own)?;
-            assembled.append(part)?;
+            assembled.take(alloc, plan.names, proofs, missing)?;
         }
     }
     assembled.seen = ground.found.len();
@@ -180,7 +205,8 @@ fn add_entries<W: Watcher>(
 }
 
 /// Adds the entries of a walk's obligations that were not looked at yet.
-fn add_of_walk<W: Watcher>(
+fn add_of_walk<R: Threads + Sync, W: Watcher>(
+    rt: &R,
     alloc: Global,
     plan: &Plan<'_, W>,
     candidates: &[Candidate],
@@ -199,7 +225,7 @@ fn add_of_walk<W: Watcher>(
         table: &table,
         candidates,
     };
-    add_entries(alloc, plan, &ground, assembled, memory)
+    add_entries(rt, alloc, plan, &ground, assembled, memory)
 }
 
 /// The certificate of guesses and rankings without entries; none where they have no text.
@@ -225,7 +251,8 @@ fn bare<W: Watcher>(
 
 /// The entries of all that is to be shown with these guesses, and what nothing shows; none where the guesses have no text. Where claims or
 /// pairs of ends are not shown, pairs of accesses are looked at only where all is asked for.
-pub fn assemble<W: Watcher>(
+pub fn assemble<R: Threads + Sync, W: Watcher>(
+    rt: &R,
     alloc: Global,
     plan: &Plan<'_, W>,
     candidates: &[Candidate],
@@ -248,12 +275,12 @@ pub fn assemble<W: Watcher>(
         return Ok(None);
     };
     let mut assembled = Assembled::new(alloc);
-    add_of_walk(alloc, plan, candidates, &walked, &mut assembled, memory)?;
+    add_of_walk(rt, alloc, plan, candidates, &walked, &mut assembled, memory)?;
     if !assembled.missing.is_empty() && !asks_all {
         return Ok(Some(assembled));
     }
     let walked = with_accesses(alloc, subject, walked)?;
-    add_of_walk(alloc, plan, candidates, &walked, &mut assembled, memory)?;
+    add_of_walk(rt, alloc, plan, candidates, &walked, &mut assembled, memory)?;
     assembled.is_whole = true;
     Ok(Some(assembled))
 }

@@ -12,6 +12,9 @@ pub struct Progress {
 pub trait Watcher {
     /// Takes notice of how far the search is.
     fn tell(&self, progress: Progress);
+
+    /// Takes notice that nothing more is told.
+    fn end(&self);
 }
 
 /// Nobody watches.
@@ -20,6 +23,8 @@ pub struct Unwatched;
 
 impl Watcher for Unwatched {
     fn tell(&self, _progress: Progress) {}
+
+    fn end(&self) {}
 }
 
 /// By how many workers a search is made, who watches it, and which attempt and round it makes.

@@ -2,7 +2,7 @@
 
 use crate::demands::demands_of;
 use crate::progress::{Course, Watcher};
-use crate::table::{BoardError, Demand, greatest};
+use crate::round_table::{BoardError, Demand, greatest};
 use crate::used::Ground;
 use cut_search::Memory;
 use guess_walk::{
@@ -188,13 +188,13 @@ struct Round<'a> {
 
 /// A walk with guesses, and what they rest on.
 #[derive(Drop)]
-struct Asked {
+pub struct Asked {
     walked: Walked,
-    demands: Vec<Demand>,
+    pub demands: Vec<Demand>,
 }
 
 /// Walks with these guesses, and asks what they rest on.
-fn ask<R: Threads + Sync, W: Watcher>(
+pub fn ask<R: Threads + Sync, W: Watcher>(
     rt: &R,
     alloc: Global,
     rounds: &Rounds<'_, W>,

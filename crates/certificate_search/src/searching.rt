@@ -1,6 +1,6 @@
 //! All attempts in turn.
 
-use crate::attempts::{Attempt, Failure, Matter, Trial, try_guesses};
+use crate::attempts::{Attempt, Failure, LEAST_MENU, Matter, Trial, try_guesses};
 use crate::error::SearchError;
 use crate::forks::{Order, order_of};
 use crate::hoping::{Hoped, hope};
@@ -80,12 +80,13 @@ fn find_ways(
 }
 
 /// What the best attempt so far does not show, none before the first one; the fewest claims and pairs of ends that an attempt did not show;
-/// and how many attempts there were.
+/// how many attempts there were, and whether the last one had guesses that were never tried.
 #[derive(Drop)]
 struct Shortfall {
     least: Option<Vec<Missing>>,
     fewest: usize,
     attempts: u32,
+    has_more: bool,
 }
 
 impl Shortfall {
@@ -94,8 +95,10 @@ impl Shortfall {
         let Failure {
             missing,
             is_whole,
+            has_more,
             ..
         } = failure;
+        self.has_more = has_more;
         let before_accesses = missing.iter().filter(|one| !one.is_of_accesses()).count();
         self.fewest = self.fewest.min(before_accesses);
         let is_less = match &self.least {
@@ -116,14 +119,25 @@ impl Shortfall {
     }
 }
 
-/// How loops may end, and up to which rank guesses are tried.
+/// How loops may end, up to which rank guesses are tried, and with how many choices of rankings at most.
 #[derive(Clone, Copy)]
 struct Stage<'a> {
     options: &'a [Options],
     rank: u32,
+    choices: u32,
 }
 
-/// Attempts with guesses up to a rank, with one choice of rankings after the other, eight at most.
+/// The stages of a search: guesses of the ranks up to 2, 3 and 4, each with at most eight choices of rankings, and last the least menu alone,
+/// with the first one.
+fn stage_of(options: &[Options], rank: u32) -> Stage<'_> {
+    Stage {
+        options,
+        rank,
+        choices: if rank == LEAST_MENU { 1 } else { 8 },
+    }
+}
+
+/// Attempts with guesses up to a rank, with one choice of rankings after the other.
 fn try_stage<R: Threads + Sync, W: Watcher>(
     rt: &R,
     alloc: Global,
@@ -132,9 +146,9 @@ fn try_stage<R: Threads + Sync, W: Watcher>(
     memory: &mut Memory,
     shortfall: &mut Shortfall,
 ) -> Result<Option<Certificate>, SearchError> {
-    let Stage { options, rank } = stage;
+    let Stage { options, rank, .. } = stage;
     let mut choices = vec![in alloc; 0usize; options.len()]?;
-    for _ in 0..8 {
+    for _ in 0..stage.choices {
         let rankings = chosen(alloc, options, choices.as_slice())?;
         shortfall.attempts = shortfall.attempts.saturating_add(1);
         let trial = Trial {
@@ -177,9 +191,14 @@ fn search_named<R: Threads + Sync, W: Watcher>(
         least: None,
         fewest: usize::MAX,
         attempts: 0,
+        has_more: false,
     };
-    for rank in 2..5 {
-        let stage = Stage { options, rank };
+    for rank in 2..LEAST_MENU + 1 {
+        // The guesses up to rank 4 are those of the least menu, too: where all were tried, it shows no more.
+        if rank == LEAST_MENU && !shortfall.has_more {
+            return Err(shortfall.told());
+        }
+        let stage = stage_of(options, rank);
         let found = try_stage(rt, alloc, &matter, stage, memory, &mut shortfall)?;
         if let Some(certificate) = found {
             return Ok(certificate);

@@ -12,16 +12,6 @@ pub struct Stretch {
     pub end: usize,
 }
 
-impl Stretch {
-    /// What stands in it behind so many obligations.
-    pub fn behind(&self, seen: usize) -> Stretch {
-        Stretch {
-            first: self.first.max(seen),
-            end: self.end,
-        }
-    }
-}
-
 /// How many pairs a stretch has at most.
 const PAIRS: usize = 64;
 
@@ -39,15 +29,16 @@ fn path_at(found: &Obligations<Elements>, place: usize) -> Option<usize> {
     }
 }
 
-/// All obligations in stretches: the claims of each path, then so many pairs each.
-pub fn stretches_of(
+/// All obligations behind so many in stretches: the claims of each path, then so many pairs each.
+pub fn stretches_behind(
     alloc: Global,
     found: &Obligations<Elements>,
+    seen: usize,
 ) -> Result<Vec<Stretch>, AllocError> {
     let mut all: Vec<Stretch> = Vec::new(alloc);
-    let mut first: usize = 0;
+    let mut first = seen;
     let mut path: Option<usize> = None;
-    for place in 0..found.len() {
+    for place in seen..found.len() {
         let own = path_at(found, place);
         let is_full = own.is_none() && place.saturating_sub(first) >= PAIRS;
         if (own != path || is_full) && place > first {

@@ -7,8 +7,8 @@
 mod disk;
 
 use disk::Disk;
-use program::patience::End;
-use program::{USAGE, tool};
+use program::patience::StatusLine;
+use program::{Progress, USAGE, Watcher, tool, tool_watched};
 use std::io::{ErrorKind, IsTerminal};
 use std::process::ExitCode;
 use std::sync::Wait;
@@ -39,22 +39,56 @@ fn is_search(words: &[String]) -> bool {
     )
 }
 
-/// The status of the program on these words, after which its end is made known.
-fn status_with_end<R: Threads + Wait + Sync>(
+/// Whoever watches a search on a terminal.
+#[derive(Drop)]
+struct Onlooker<'a, R> {
+    handle: &'a R,
+    rt: &'a HostRuntime,
+    line: &'a StatusLine,
+}
+
+impl<'a, R: Wait> Watcher for Onlooker<'a, R> {
+    fn tell(&self, progress: Progress) {
+        self.line.note(self.handle, progress);
+    }
+
+    fn end(&self) {
+        let mut err = self.rt.stderr();
+        self.line.end(self.handle, &mut err);
+    }
+}
+
+/// One run of the program, of which a line tells how far it is.
+fn watched_status<R: Threads + Wait + Sync>(
     handle: &R,
     rt: &HostRuntime,
     words: &[String],
-    end: &End,
+    line: &StatusLine,
 ) -> u8 {
-    let status = status_of(handle, rt, words);
-    end.come(handle);
-    status
+    let mut disk = Disk::new(rt);
+    let mut out = rt.stdout();
+    let mut err = rt.stderr();
+    let onlooker = Onlooker { handle, rt, line };
+    tool_watched(
+        handle,
+        rt.alloc(),
+        words,
+        &mut disk,
+        &mut out,
+        &mut err,
+        &onlooker,
+    )
 }
 
-/// Says on the standard error what the program is at, where that takes over a second.
-fn tell_of_search<R: Wait + Clock>(handle: &R, rt: &HostRuntime, end: &End) {
-    if !end.comes_within(handle, Duration::from_secs(1)) {
-        let _told = eprintln!(rt; "kverify: looking for a certificate ..");
+/// Writes on the standard error how far a search is, as soon as it takes over a second, and then five times a second, until it is over.
+fn tell_of_search<R: Wait + Clock>(handle: &R, rt: &HostRuntime, line: &StatusLine) {
+    let mut err = rt.stderr();
+    let mut time = Duration::from_secs(1);
+    for _ in 0..u64::MAX {
+        if line.write_within(handle, time, &mut err) {
+            return;
+        }
+        time = Duration::from_millis(200);
     }
 }
 
@@ -64,11 +98,11 @@ fn told_status<R: Threads + Wait + Clock + Sync>(
     rt: &HostRuntime,
     words: &[String],
 ) -> u8 {
-    let end = End::new();
+    let line = StatusLine::new();
     let (status, ()) = join(
         handle,
-        || status_with_end(handle, rt, words, &end),
-        || tell_of_search(handle, rt, &end),
+        || watched_status(handle, rt, words, &line),
+        || tell_of_search(handle, rt, &line),
     );
     status
 }

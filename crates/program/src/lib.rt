@@ -10,4 +10,5 @@ mod one_run;
 pub mod patience;
 mod writing;
 
-pub use one_run::{USAGE, tool};
+pub use one_run::{USAGE, tool, tool_watched};
+pub use telling::{Progress, Unwatched, Watcher};

@@ -21,8 +21,8 @@ use std::io::Write;
 use std::sync::Wait;
 use std::thread::Threads;
 use telling::{
-    Sought, Texts, Verdict, check_texts, explain_check, explain_texts, migrate_text, print_text,
-    prove_texts, run_texts,
+    Effort, Sought, Texts, Unwatched, Verdict, Watcher, check_texts, explain_check, explain_texts,
+    migrate_text, print_text, prove_texts, run_texts,
 };
 
 /// The line on the standard error where words are no command line.
@@ -171,38 +171,38 @@ fn kept<'a, F: Files>(
 }
 
 /// Reads a kernel and its conditions, and searches a certificate. An error is a file that cannot be read.
-fn searched<'a, R: Threads + Wait + Sync, F: Files>(
+fn searched<'a, R: Threads + Wait + Sync, F: Files, W: Watcher>(
     rt: &R,
     alloc: Global,
     search: Search<'a>,
     files: &mut F,
+    watcher: &W,
 ) -> Result<Sought, Stop<'a>>
     ensures reads { IfOk result (λ f. (kernel : List ℕ) × (conditions : List ℕ) × Reads F.contents F.gives files.old files.new (kernel_read search.entry.kernel.now kernel ∷ conditions_read search.entry.conditions.now conditions ∷ []) × Proves search.entry.is_wide f search.entry.workers kernel conditions) }
     ensures same { (n : List ℕ) → F.contents files.new n ≡ F.contents files.old n }
 {
     let kernel = text_of(files, search.kernel, 65_536)?;
     let conditions = text_of(files, search.conditions, 65_536)?;
-    Ok(prove_texts(
-        rt,
-        alloc,
-        &kernel,
-        &conditions,
-        search.workers,
-        search.is_wide,
-    ))
+    let effort = Effort {
+        workers: search.workers,
+        is_wide: search.is_wide,
+        may_widen: search.is_wide,
+    };
+    Ok(prove_texts(rt, alloc, &kernel, &conditions, effort, watcher))
 }
 
 /// The search for a certificate of files.
-fn proved<'a, R: Threads + Wait + Sync, F: Files>(
+fn proved<'a, R: Threads + Wait + Sync, F: Files, W: Watcher>(
     rt: &R,
     alloc: Global,
     search: Search<'a>,
     files: &mut F,
+    watcher: &W,
 ) -> Result<Verdict, Stop<'a>>
     ensures verdict { (ws : List (List ℕ)) → HasWord ws 0 (codes "prove") → HasSearch ws search.entry → IfOk result (λ v. Tells (Does F.contents F.gives files.old files.new) ws v) }
     ensures others { (n : List ℕ) → option_map (λ w. w.now) search.entry.out ≢ Some n → F.contents files.new n ≡ F.contents files.old n }
 {
-    let sought = searched(rt, alloc, search, files)?;
+    let sought = searched(rt, alloc, search, files, watcher)?;
     kept(files, search.out, sought)
 }
 
@@ -220,26 +220,29 @@ fn explained_check<'a, F: Files>(
 }
 
 /// The search for a certificate of files, its refusal explained.
-fn explained_search<'a, R: Threads + Wait + Sync, F: Files>(
+fn explained_search<'a, R: Threads + Wait + Sync, F: Files, W: Watcher>(
     rt: &R,
     alloc: Global,
     subject: Subject<'a>,
     files: &mut F,
+    watcher: &W,
 ) -> Result<Verdict, Stop<'a>>
     ensures verdict { (ws : List (List ℕ)) → HasWord ws 0 (codes "explain") → HasWord ws 1 subject.entry.kernel.now → HasWord ws 2 subject.entry.conditions.now → HasNoWord ws 3 → subject.entry.is_wide ≡ has_wide ws → IfOk result (λ v. Tells (Does F.contents F.gives files.old files.new) ws v) }
     ensures same { (n : List ℕ) → F.contents files.new n ≡ F.contents files.old n }
 {
     let kernel = text_of(files, subject.kernel, 65_536)?;
     let conditions = text_of(files, subject.conditions, 65_536)?;
-    Ok(explain_texts(rt, alloc, &kernel, &conditions, subject.is_wide))
+    let is_wide = subject.is_wide;
+    Ok(explain_texts(rt, alloc, &kernel, &conditions, is_wide, watcher))
 }
 
 /// The verdict of `explain` on files, a refusal with its meaning: that of the check, where a certificate is named, else that of the search.
-fn explained<'a, R: Threads + Wait + Sync, F: Files>(
+fn explained<'a, R: Threads + Wait + Sync, F: Files, W: Watcher>(
     rt: &R,
     alloc: Global,
     subject: Subject<'a>,
     files: &mut F,
+    watcher: &W,
 ) -> Result<Verdict, Stop<'a>>
     ensures verdict { (ws : List (List ℕ)) → HasWord ws 0 (codes "explain") → HasSubject ws subject.entry → IfOk result (λ v. Tells (Does F.contents F.gives files.old files.new) ws v) }
     ensures same { (n : List ℕ) → F.contents files.new n ≡ F.contents files.old n }
@@ -261,7 +264,7 @@ fn explained<'a, R: Threads + Wait + Sync, F: Files>(
             },
             files,
         ),
-        None => explained_search(rt, alloc, subject, files),
+        None => explained_search(rt, alloc, subject, files, watcher),
     }
 }
 
@@ -290,11 +293,12 @@ fn migrated<'a, F: Files>(
 }
 
 /// The verdict on what the words ask for.
-fn verdict_of<'a, R: Threads + Wait + Sync, F: Files>(
+fn verdict_of<'a, R: Threads + Wait + Sync, F: Files, W: Watcher>(
     rt: &R,
     alloc: Global,
     words: &'a [String],
     files: &mut F,
+    watcher: &W,
 ) -> Result<Verdict, Stop<'a>>
     ensures verdict { IfOk result (λ v. Tells (Does F.contents F.gives files.old files.new) (texts words.now) v) }
     ensures others { (n : List ℕ) → (IsOut (texts words.now) n → ⊥) → F.contents files.new n ≡ F.contents files.old n }
@@ -309,8 +313,8 @@ fn verdict_of<'a, R: Threads + Wait + Sync, F: Files>(
                 workers,
             },
         ) => ran(rt, alloc, names, launch, workers, files),
-        Ok(Line::Prove(search)) => proved(rt, alloc, search, files),
-        Ok(Line::Explain(subject)) => explained(rt, alloc, subject, files),
+        Ok(Line::Prove(search)) => proved(rt, alloc, search, files, watcher),
+        Ok(Line::Explain(subject)) => explained(rt, alloc, subject, files, watcher),
         Ok(Line::Print(kernel)) => printed(alloc, kernel, files),
         Ok(Line::Migrate { old, new }) => migrated(alloc, old, new, files),
         Ok(Line::Usage) => Err(Stop::Usage),
@@ -359,6 +363,32 @@ fn told<O: Write, E: Write>(verdict: Verdict, out: &mut O, err: &mut E) -> u8
     }
 }
 
+/// One run of the program, as by `tool`. Where it looks for a certificate, whoever watches is told how far it is, and that it is over before
+/// anything is told of it.
+pub fn tool_watched<R: Threads + Wait + Sync, F: Files, O: Write, E: Write, W: Watcher>(
+    rt: &R,
+    alloc: Global,
+    words: &[String],
+    files: &mut F,
+    out: &mut O,
+    err: &mut E,
+    watcher: &W,
+) -> u8
+    ensures output { Output (Success (Does F.contents F.gives files.old files.new) IsProvedText (texts words.now)) (Refusal (Does F.contents F.gives files.old files.new) (texts words.now)) (O.contents out.old) (O.contents out.new) result }
+    ensures files { (n : List ℕ) → (IsOut (texts words.now) n → ⊥) → F.contents files.new n ≡ F.contents files.old n }
+{
+    match verdict_of(rt, alloc, words, files, watcher) {
+        Ok(verdict) => {
+            watcher.end();
+            told(verdict, out, err)
+        }
+        Err(stop) => {
+            watcher.end();
+            stopped(stop, err)
+        }
+    }
+}
+
 /// One run of the program: reads the files that the words name, in their order, then answers. The status is 0 accepted or done, 1
 /// refused, 2 no command line, 3 a file or the output that fails, 4 out of memory.
 pub fn tool<R: Threads + Wait + Sync, F: Files, O: Write, E: Write>(
@@ -372,8 +402,5 @@ pub fn tool<R: Threads + Wait + Sync, F: Files, O: Write, E: Write>(
     ensures output { Output (Success (Does F.contents F.gives files.old files.new) IsProvedText (texts words.now)) (Refusal (Does F.contents F.gives files.old files.new) (texts words.now)) (O.contents out.old) (O.contents out.new) result }
     ensures files { (n : List ℕ) → (IsOut (texts words.now) n → ⊥) → F.contents files.new n ≡ F.contents files.old n }
 {
-    match verdict_of(rt, alloc, words, files) {
-        Ok(verdict) => told(verdict, out, err),
-        Err(stop) => stopped(stop, err),
-    }
+    tool_watched(rt, alloc, words, files, out, err, &Unwatched)
 }

@@ -4,19 +4,33 @@ ghost use Rattle.std.specs.Prelude.{◌≡◌};
 
 use cert_check::error::{CheckError, Pointer};
 use diagnostics::Finding;
+use std::fmt;
+use thiserror::Error;
 
 /// Why a kernel is not proved, or want of memory.
-#[derive(Drop)]
+#[derive(Drop, Error)]
 pub enum VerifyError {
     /// The refusal by the check, of the kernel or its conditions, or of all certificates that were tried.
+    #[error("{0}")]
     Check(CheckError),
     /// The number of workers is not 1 to 64.
+    #[error("70")]
     Workers,
     /// No certificate was found. The kernel may be safe all the same, but for what a finding confirms.
+    #[error("60")]
     NotShown(Vec<Finding>),
     /// The certificate passes the limit of its text.
+    #[error("50 1")]
     TooLong,
+    #[error("90")]
     Memory,
+}
+
+/// As `Display`: findings are told by the number alone.
+impl fmt::Debug for VerifyError {
+    fn fmt<W: fmt::Write>(&self, f: &mut fmt::Formatter<W>) -> fmt::Result {
+        fmt::Display::fmt(self, f)
+    }
 }
 
 impl VerifyError {

@@ -22,7 +22,7 @@ use crate::shortfall::findings_of;
 use crate::widening::{is_over, may_widen};
 use cert_check::error::{CheckError, ShowError};
 use certificate::{Certificate, LIMIT, write, write_wide};
-use certificate_search::{Missing, SearchError, Unwatched, search};
+use certificate_search::{Missing, SearchError, Unwatched, Watcher, search};
 use facts::WalkError;
 use guess_walk::Subject;
 use launch::conditions::Conditions;
@@ -152,64 +152,68 @@ fn with_any_text(alloc: Global, certificate: Certificate) -> Result<Found, Verif
 }
 
 /// The certificate that one walk finds for a kernel under conditions.
-fn looked_for<R: Threads + Sync>(
+fn looked_for<R: Threads + Sync, W: Watcher>(
     rt: &R,
     alloc: Global,
     subject: Subject<'_>,
     workers: u32,
+    watcher: &W,
 ) -> Result<Certificate, VerifyError>
     requires proper { is_proper (core_seen subject.typed.now.1) ≡ true }
     requires of { IsOf (core_seen subject.typed.now.1) (lined subject.conditions.now) }
     ensures { IfErr result (Ends subject.entry.typed.now subject.entry.conditions.now) }
 {
-    match search(rt, alloc, subject, workers, &Unwatched) {
+    match search(rt, alloc, subject, workers, watcher) {
         Ok(certificate) => Ok(certificate),
         Err(error) => Err(unfound(alloc, subject.typed, subject.conditions, error)),
     }
 }
 
 /// The certificate that the narrow walk finds, with its text of version 2.
-fn found_narrowly<R: Threads + Sync>(
+fn found_narrowly<R: Threads + Sync, W: Watcher>(
     rt: &R,
     alloc: Global,
     subject: Subject<'_>,
     workers: u32,
+    watcher: &W,
 ) -> Result<Found, VerifyError>
     requires proper { is_proper (core_seen subject.typed.now.1) ≡ true }
     requires of { IsOf (core_seen subject.typed.now.1) (lined subject.conditions.now) }
     ensures written { IfOk result (λ f. f.text.items ≡ text_of_two (certificate_seen f.certificate)) }
     ensures ends { IfErr result (Ends subject.entry.typed.now subject.entry.conditions.now) }
 {
-    match looked_for(rt, alloc, subject, workers) {
+    match looked_for(rt, alloc, subject, workers, watcher) {
         Ok(certificate) => with_text(alloc, certificate),
         Err(error) => Err(error),
     }
 }
 
 /// The certificate that a walk finds, with its text.
-fn found_by_walk<R: Threads + Sync>(
+fn found_by_walk<R: Threads + Sync, W: Watcher>(
     rt: &R,
     alloc: Global,
     subject: Subject<'_>,
     workers: u32,
+    watcher: &W,
 ) -> Result<Found, VerifyError>
     requires proper { is_proper (core_seen subject.typed.now.1) ≡ true }
     requires of { IsOf (core_seen subject.typed.now.1) (lined subject.conditions.now) }
     ensures written { IfOk result (λ f. f.text.items ≡ text_found (certificate_seen f.certificate)) }
     ensures ends { IfErr result (Ends subject.entry.typed.now subject.entry.conditions.now) }
 {
-    match looked_for(rt, alloc, subject, workers) {
+    match looked_for(rt, alloc, subject, workers, watcher) {
         Ok(certificate) => with_any_text(alloc, certificate),
         Err(error) => Err(error),
     }
 }
 
 /// The certificate that the wide walk finds, with its text, where it keeps within the budget.
-fn found_widely<R: Threads + Sync>(
+fn found_widely<R: Threads + Sync, W: Watcher>(
     rt: &R,
     alloc: Global,
     subject: Subject<'_>,
     workers: u32,
+    watcher: &W,
 ) -> Option<Found>
     ensures { IfSome result (λ f. f.text.items ≡ text_found (certificate_seen f.certificate)) }
 {
@@ -220,7 +224,7 @@ fn found_widely<R: Threads + Sync>(
         is_wide: true,
         joins: false,
     };
-    let Ok(certificate) = search(rt, alloc, wide, workers, &Unwatched) else {
+    let Ok(certificate) = search(rt, alloc, wide, workers, watcher) else {
         return None;
     };
     if is_over(alloc, &wide, &certificate) {
@@ -242,22 +246,23 @@ fn is_open(alloc: Global, subject: &Subject<'_>, narrow: &Result<Found, VerifyEr
 
 /// The certificate that the narrow walk finds, with its text; or, where that is not enough, the one that the wide walk finds. Where both
 /// fail, what the narrow walk comes to.
-fn found_by_either<R: Threads + Sync>(
+fn found_by_either<R: Threads + Sync, W: Watcher>(
     rt: &R,
     alloc: Global,
     subject: Subject<'_>,
     workers: u32,
+    watcher: &W,
 ) -> Result<Found, VerifyError>
     requires proper { is_proper (core_seen subject.typed.now.1) ≡ true }
     requires of { IsOf (core_seen subject.typed.now.1) (lined subject.conditions.now) }
     ensures written { IfOk result (λ f. f.text.items ≡ text_found (certificate_seen f.certificate)) }
     ensures ends { IfErr result (Ends subject.entry.typed.now subject.entry.conditions.now) }
 {
-    let narrow = found_by_walk(rt, alloc, subject, workers);
+    let narrow = found_by_walk(rt, alloc, subject, workers, watcher);
     if !is_open(alloc, &subject, &narrow) {
         return narrow;
     }
-    match found_widely(rt, alloc, subject, workers) {
+    match found_widely(rt, alloc, subject, workers, watcher) {
         Some(found) => Ok(found),
         None => narrow,
     }
@@ -265,20 +270,21 @@ fn found_by_either<R: Threads + Sync>(
 
 /// How a search is made: by so many workers, whether conditions of version 2 are read, and whether the wide walk may be tried.
 #[derive(Clone, Copy)]
-struct Effort {
-    workers: u32,
-    is_wide: bool,
-    may_widen: bool,
+pub struct Effort {
+    pub workers: u32,
+    pub is_wide: bool,
+    pub may_widen: bool,
 }
 
 /// The certificate that is found for a kernel under conditions, with its text.
-fn searched<R: Threads + Sync>(
+fn searched<R: Threads + Sync, W: Watcher>(
     rt: &R,
     alloc: Global,
     typed: &Typed,
     conditions: &Conditions,
     places: &[Place<'_>],
     effort: Effort,
+    watcher: &W,
 ) -> Result<Found, VerifyError>
     requires sizes { are_sizes (core_seen typed.now.1).sizes ≡ true }
     requires proper { is_proper (core_seen typed.now.1) ≡ true }
@@ -295,22 +301,24 @@ fn searched<R: Threads + Sync>(
     };
     if effort.is_wide {
         if effort.may_widen {
-            found_by_either(rt, alloc, subject, effort.workers)
+            found_by_either(rt, alloc, subject, effort.workers, watcher)
         } else {
-            found_by_walk(rt, alloc, subject, effort.workers)
+            found_by_walk(rt, alloc, subject, effort.workers, watcher)
         }
     } else {
-        found_narrowly(rt, alloc, subject, effort.workers)
+        found_narrowly(rt, alloc, subject, effort.workers, watcher)
     }
 }
 
-/// A certificate with its text for a kernel and launch conditions, each by its text, with so much effort.
-fn find_by<R: Threads + Sync>(
+/// A certificate with its text for a kernel and launch conditions, each by its text, with so much effort: as by `find`, `find_narrowly` or
+/// `find_wide`. Whoever watches is told how far the search is, and what is found does not depend on it.
+pub fn find_watched<R: Threads + Sync, W: Watcher>(
     rt: &R,
     alloc: Global,
     kernel: &[u8],
     conditions: &[u8],
     effort: Effort,
+    watcher: &W,
 ) -> Result<Found, VerifyError>
     ensures written { IfOk result (λ f. f.text.items ≡ text_by effort.is_wide (certificate_seen f.certificate)) }
     ensures workers { IfOk result (λ _. IsCount effort.workers) }
@@ -336,7 +344,15 @@ fn find_by<R: Threads + Sync>(
         Err(error) => return Err(error),
     }
     local_sizes_are_within_limits();
-    searched(rt, alloc, &typed, &conditions, all.as_slice(), effort)
+    searched(
+        rt,
+        alloc,
+        &typed,
+        &conditions,
+        all.as_slice(),
+        effort,
+        watcher,
+    )
 }
 
 /// A certificate with its text for a kernel and launch conditions, each by its text. What is refused first, in this order: the kernel, the
@@ -358,7 +374,7 @@ pub fn find<R: Threads + Sync>(
         is_wide: false,
         may_widen: false,
     };
-    find_by(rt, alloc, kernel, conditions, effort)
+    find_watched(rt, alloc, kernel, conditions, effort, &Unwatched)
 }
 
 /// What `find` finds, also under conditions of version 2: the narrow walk, run to its end.
@@ -378,7 +394,7 @@ pub fn find_narrowly<R: Threads + Sync>(
         is_wide: true,
         may_widen: false,
     };
-    find_by(rt, alloc, kernel, conditions, effort)
+    find_watched(rt, alloc, kernel, conditions, effort, &Unwatched)
 }
 
 /// What `find_narrowly` finds; or, where that is refused for want of what is shown, for its size or by the budget, a certificate of the wide
@@ -399,5 +415,5 @@ pub fn find_wide<R: Threads + Sync>(
         is_wide: true,
         may_widen: true,
     };
-    find_by(rt, alloc, kernel, conditions, effort)
+    find_watched(rt, alloc, kernel, conditions, effort, &Unwatched)
 }

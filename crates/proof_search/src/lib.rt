@@ -10,5 +10,6 @@ mod finding;
 mod shortfall;
 mod widening;
 
+pub use certificate_search::{Progress, Unwatched, Watcher};
 pub use error::VerifyError;
-pub use finding::{Found, find, find_narrowly, find_wide};
+pub use finding::{Effort, Found, find, find_narrowly, find_watched, find_wide};

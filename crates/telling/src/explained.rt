@@ -14,12 +14,12 @@ use cert_check::error::{CheckError, Pointer};
 use core_code::tree::Site;
 use explaining::{Refused, explain};
 use launch_text::laws::what_is_read_of_conditions_is_their_text;
-use proof_search::Found;
+use proof_search::{Found, find_watched};
 use reading::laws::bytes_are_the_text_of_what_is_read;
 use std::alloc::Global;
 use std::sync::Wait;
 use std::thread::Threads;
-use verify::{VerifyError, find_first};
+use verify::{Effort, VerifyError, Watcher};
 
 /// The number of steps that pass the budget.
 const OVER_BUDGET: u8 = 56;
@@ -71,39 +71,51 @@ fn unfound(
     }
 }
 
-/// The text of the certificate of the narrow walk, where a refusal of that number is of its steps.
-fn found_over_budget<R: Threads + Sync>(
+/// The text of the certificate of the narrow walk; none where it finds none.
+fn found_narrowly<R: Threads + Sync, W: Watcher>(
     rt: &R,
     alloc: Global,
     kernel: &[u8],
     conditions: &[u8],
-    number: u8,
     is_wide: bool,
+    watcher: &W,
 ) -> Option<Vec<u8>> {
-    if number != OVER_BUDGET {
-        return None;
-    }
-    match find_first(rt, alloc, kernel, conditions, 1, is_wide) {
+    let narrowly = Effort {
+        workers: 1,
+        is_wide,
+        may_widen: false,
+    };
+    match find_watched(rt, alloc, kernel, conditions, narrowly, watcher) {
         Ok(Found { text, .. }) => Some(text),
         Err(_) => None,
     }
 }
 
-/// Looks for a certificate as `prove` does, with one worker: `accepted`, or why there is none and what that means.
-pub fn explain_texts<R: Threads + Wait + Sync>(
+/// Looks for a certificate as `prove` does, with one worker, and tells whoever watches how far the search is: `accepted`, or why there is
+/// none and what that means. Of steps that pass the budget it tells by the certificate of the narrow walk.
+pub fn explain_texts<R: Threads + Wait + Sync, W: Watcher>(
     rt: &R,
     alloc: Global,
     kernel: &[u8],
     conditions: &[u8],
     is_wide: bool,
+    watcher: &W,
 ) -> Verdict
     ensures { Explains is_wide result kernel.now conditions.now }
 {
-    match found(rt, alloc, kernel, conditions, 1, is_wide) {
+    let effort = Effort {
+        workers: 1,
+        is_wide,
+        may_widen: is_wide,
+    };
+    match found(rt, alloc, kernel, conditions, effort, watcher) {
         Ok(Proved { written, .. }) => Verdict::Done(written),
         Err(error) => {
-            let number = error.number();
-            let certificate = found_over_budget(rt, alloc, kernel, conditions, number, is_wide);
+            let certificate = if error.number() == OVER_BUDGET {
+                found_narrowly(rt, alloc, kernel, conditions, is_wide, watcher)
+            } else {
+                None
+            };
             unfound(alloc, kernel, conditions, &error, certificate.as_deref())
         }
     }

@@ -35,6 +35,7 @@ pub use refusal::Refusal;
 use std::alloc::Global;
 use std::sync::Wait;
 use std::thread::Threads;
+pub use verify::{Effort, Progress, Unwatched, Watcher};
 use words::Open;
 
 /// The program's answer to texts: the text that it writes, or the line that refuses them.

@@ -22,7 +22,7 @@ use reading::laws::bytes_are_the_text_of_what_is_read;
 use std::alloc::{AllocError, Global};
 use std::sync::Wait;
 use std::thread::Threads;
-use verify::{Verified, VerifyError, verify_as};
+use verify::{Effort, Verified, VerifyError, Watcher, verify_watched};
 
 /// The program's answer where it searches a certificate, or writes one in version 2.
 #[derive(Drop)]
@@ -126,16 +126,16 @@ fn text_as(alloc: Global, certificate: &Certificate, is_wide: bool) -> Result<Ve
 }
 
 /// A certificate that is found, with what is written of it, or why there is none.
-pub fn found<R: Threads + Wait + Sync>(
+pub fn found<R: Threads + Wait + Sync, W: Watcher>(
     rt: &R,
     alloc: Global,
     kernel: &[u8],
     conditions: &[u8],
-    workers: u32,
-    is_wide: bool,
+    effort: Effort,
+    watcher: &W,
 ) -> Result<Proved, VerifyError>
-    ensures proved { IfOk result (λ p. IsProvedText is_wide kernel.now conditions.now p.certificate.items p.written.items) }
-    ensures told { IfErr result (λ e. TellsOf is_wide e workers kernel.now conditions.now) }
+    ensures proved { IfOk result (λ p. IsProvedText effort.is_wide kernel.now conditions.now p.certificate.items p.written.items) }
+    ensures told { IfErr result (λ e. TellsOf effort.is_wide e effort.workers kernel.now conditions.now) }
 {
     bytes_are_the_text_of_what_is_read();
     what_is_read_of_conditions_is_their_text();
@@ -143,11 +143,11 @@ pub fn found<R: Threads + Wait + Sync>(
     let Verified {
         accepted,
         certificate,
-    } = match verify_as(rt, alloc, kernel, conditions, workers, is_wide) {
+    } = match verify_watched(rt, alloc, kernel, conditions, effort, watcher) {
         Ok(verified) => verified,
         Err(error) => return Err(error),
     };
-    let certificate = match text_as(alloc, &certificate, is_wide) {
+    let certificate = match text_as(alloc, &certificate, effort.is_wide) {
         Ok(text) => text,
         Err(_) => return Err(VerifyError::Memory),
     };
@@ -160,18 +160,19 @@ pub fn found<R: Threads + Wait + Sync>(
     }
 }
 
-/// Looks for a certificate, widely or not: `accepted` and the certificate, or why there is none.
-pub fn prove_texts<R: Threads + Wait + Sync>(
+/// Looks for a certificate with so much effort, and tells whoever watches how far the search is: `accepted` and the certificate, or why
+/// there is none.
+pub fn prove_texts<R: Threads + Wait + Sync, W: Watcher>(
     rt: &R,
     alloc: Global,
     kernel: &[u8],
     conditions: &[u8],
-    workers: u32,
-    is_wide: bool,
+    effort: Effort,
+    watcher: &W,
 ) -> Sought
-    ensures { Proves is_wide result workers kernel.now conditions.now }
+    ensures { Proves effort.is_wide result effort.workers kernel.now conditions.now }
 {
-    match found(rt, alloc, kernel, conditions, workers, is_wide) {
+    match found(rt, alloc, kernel, conditions, effort, watcher) {
         Ok(
             Proved {
                 written,

@@ -6,5 +6,5 @@
 
 mod verifying;
 
-pub use proof_search::VerifyError;
-pub use verifying::{Verified, find_first, verify, verify_as, verify_wide};
+pub use proof_search::{Effort, Progress, Unwatched, VerifyError, Watcher};
+pub use verifying::{Verified, verify, verify_watched, verify_wide};

@@ -9,7 +9,7 @@ ghost use Rattle.verify.specs.Verifying.{IsVerified, IsVerifiedBy};
 use cert_check::error::{CheckError, ShowError};
 use cert_check::{Accepted, check_as};
 use certificate::Certificate;
-use proof_search::{Found, VerifyError, find, find_narrowly, find_wide};
+use proof_search::{Effort, Found, Unwatched, VerifyError, Watcher, find_watched};
 use std::alloc::Global;
 use std::sync::Wait;
 use std::thread::Threads;
@@ -45,46 +45,6 @@ fn unproved(alloc: Global, error: CheckError) -> VerifyError
     }
 }
 
-/// The certificate that `find` finds, or `find_wide`.
-fn find_as<R: Threads + Sync>(
-    rt: &R,
-    alloc: Global,
-    kernel: &[u8],
-    conditions: &[u8],
-    workers: u32,
-    is_wide: bool,
-) -> Result<Found, VerifyError>
-    ensures written { IfOk result (λ f. f.text.items ≡ text_by is_wide (certificate_seen f.certificate)) }
-    ensures workers { IfOk result (λ _. IsCount workers) }
-    ensures told { IfErr result (λ e. TellsOf is_wide e workers kernel.now conditions.now) }
-{
-    if is_wide {
-        find_wide(rt, alloc, kernel, conditions, workers)
-    } else {
-        find(rt, alloc, kernel, conditions, workers)
-    }
-}
-
-/// The certificate that `find` finds, or `find_narrowly`.
-pub fn find_first<R: Threads + Sync>(
-    rt: &R,
-    alloc: Global,
-    kernel: &[u8],
-    conditions: &[u8],
-    workers: u32,
-    is_wide: bool,
-) -> Result<Found, VerifyError>
-    ensures written { IfOk result (λ f. f.text.items ≡ text_by is_wide (certificate_seen f.certificate)) }
-    ensures workers { IfOk result (λ _. IsCount workers) }
-    ensures told { IfErr result (λ e. TellsOf is_wide e workers kernel.now conditions.now) }
-{
-    if is_wide {
-        find_narrowly(rt, alloc, kernel, conditions, workers)
-    } else {
-        find(rt, alloc, kernel, conditions, workers)
-    }
-}
-
 /// A kernel that is proved with this certificate, as the check has it; or why it is not.
 fn verify_with(
     alloc: Global,
@@ -107,53 +67,58 @@ fn verify_with(
     }
 }
 
-/// A kernel that is proved with a certificate of the narrow walk, or what its search comes to.
-fn verify_first<R: Threads + Wait + Sync>(
+/// A kernel that is proved with the certificate of the narrow walk, or what its search comes to.
+fn verify_narrowly<R: Threads + Wait + Sync, W: Watcher>(
     rt: &R,
     alloc: Global,
     kernel: &[u8],
     conditions: &[u8],
-    workers: u32,
-    is_wide: bool,
+    effort: Effort,
+    watcher: &W,
 ) -> Result<Verified, VerifyError>
-    ensures verified { IfOk result (λ v. IsVerifiedBy is_wide kernel.now conditions.now (text_by is_wide (certificate_seen v.certificate)) v.accepted) }
-    ensures workers { IfOk result (λ _. IsCount workers) }
-    ensures told { IfErr result (λ e. TellsOf is_wide e workers kernel.now conditions.now) }
+    ensures verified { IfOk result (λ v. IsVerifiedBy effort.is_wide kernel.now conditions.now (text_by effort.is_wide (certificate_seen v.certificate)) v.accepted) }
+    ensures workers { IfOk result (λ _. IsCount effort.workers) }
+    ensures told { IfErr result (λ e. TellsOf effort.is_wide e effort.workers kernel.now conditions.now) }
 {
-    let found = match find_first(rt, alloc, kernel, conditions, workers, is_wide) {
+    let narrowly = Effort {
+        workers: effort.workers,
+        is_wide: effort.is_wide,
+        may_widen: false,
+    };
+    let found = match find_watched(rt, alloc, kernel, conditions, narrowly, watcher) {
         Ok(found) => found,
         Err(error) => return Err(error),
     };
-    match verify_with(alloc, kernel, conditions, found, is_wide) {
+    match verify_with(alloc, kernel, conditions, found, effort.is_wide) {
         Ok(verified) => Ok(verified),
         Err(error) => Err(unproved(alloc, error)),
     }
 }
 
-/// A kernel that is proved as by `verify`, or as by `verify_wide`. Where the check does not take what the wide walk found, the answer is what
-/// the narrow walk comes to.
-pub fn verify_as<R: Threads + Wait + Sync>(
+/// A kernel that is proved as by `verify`, or as by `verify_wide`, with so much effort. Where the check does not take what the wide walk
+/// found, the answer is what the narrow walk comes to. Whoever watches is told how far the search is.
+pub fn verify_watched<R: Threads + Wait + Sync, W: Watcher>(
     rt: &R,
     alloc: Global,
     kernel: &[u8],
     conditions: &[u8],
-    workers: u32,
-    is_wide: bool,
+    effort: Effort,
+    watcher: &W,
 ) -> Result<Verified, VerifyError>
-    ensures verified { IfOk result (λ v. IsVerifiedBy is_wide kernel.now conditions.now (text_by is_wide (certificate_seen v.certificate)) v.accepted) }
-    ensures workers { IfOk result (λ _. IsCount workers) }
-    ensures told { IfErr result (λ e. TellsOf is_wide e workers kernel.now conditions.now) }
+    ensures verified { IfOk result (λ v. IsVerifiedBy effort.is_wide kernel.now conditions.now (text_by effort.is_wide (certificate_seen v.certificate)) v.accepted) }
+    ensures workers { IfOk result (λ _. IsCount effort.workers) }
+    ensures told { IfErr result (λ e. TellsOf effort.is_wide e effort.workers kernel.now conditions.now) }
 {
-    let found = match find_as(rt, alloc, kernel, conditions, workers, is_wide) {
+    let found = match find_watched(rt, alloc, kernel, conditions, effort, watcher) {
         Ok(found) => found,
         Err(error) => return Err(error),
     };
     let is_widely_found = found.certificate.is_wide();
-    match verify_with(alloc, kernel, conditions, found, is_wide) {
+    match verify_with(alloc, kernel, conditions, found, effort.is_wide) {
         Ok(verified) => Ok(verified),
         Err(error) => {
             if is_widely_found && error.number() != MEMORY {
-                verify_first(rt, alloc, kernel, conditions, workers, is_wide)
+                verify_narrowly(rt, alloc, kernel, conditions, effort, watcher)
             } else {
                 Err(unproved(alloc, error))
             }
@@ -175,7 +140,12 @@ pub fn verify<R: Threads + Wait + Sync>(
     ensures workers { IfOk result (λ _. IsCount workers) }
     ensures told { IfErr result (λ e. TellsOf false e workers kernel.now conditions.now) }
 {
-    verify_as(rt, alloc, kernel, conditions, workers, false)
+    let effort = Effort {
+        workers,
+        is_wide: false,
+        may_widen: false,
+    };
+    verify_watched(rt, alloc, kernel, conditions, effort, &Unwatched)
 }
 
 /// As `verify`, also under conditions of version 2, with a certificate that is wide where one that is not shows too little: it is found by
@@ -191,5 +161,10 @@ pub fn verify_wide<R: Threads + Wait + Sync>(
     ensures workers { IfOk result (λ _. IsCount workers) }
     ensures told { IfErr result (λ e. TellsOf true e workers kernel.now conditions.now) }
 {
-    verify_as(rt, alloc, kernel, conditions, workers, true)
+    let effort = Effort {
+        workers,
+        is_wide: true,
+        may_widen: true,
+    };
+    verify_watched(rt, alloc, kernel, conditions, effort, &Unwatched)
 }

@@ -25,12 +25,12 @@ returns-in-Ok-lines-clause-proved g c =
     let is = c.in-Ok.ensures.verified in
     let text = c.bytes_are_the_text_of_what_is_read.ensures k (kernel_seen t) is.kernel in
     let own = kernel_back (kernel t.0) (core t.1) text.is_typed in
-    let of = conditions_fit c.args.is_wide (core t.1) (kernel t.0).parameters own.0 own.1 o (lined (kept a)) is.conditions in (
+    let of = conditions_fit c.args.effort.is_wide (core t.1) (kernel t.0).parameters own.0 own.1 o (lined (kept a)) is.conditions in (
       kernel_seen t,
       kept a,
       record {
-        safe = is_safe c.args.is_wide k o t (kept a) text (c.what_is_read_of_conditions_is_their_text.ensures c.args.is_wide (kernel t.0).parameters o (lined (kept a)) is.conditions) is.headline;
-        proof = is_proof c.args.is_wide t (conditions (kept a)) c.in-Ok-text_as.text.items (subst (IsPassedBy c.args.is_wide t (conditions (kept a))) (sym c.in-Ok-text_as.ensures) is.passed);
+        safe = is_safe c.args.effort.is_wide k o t (kept a) text (c.what_is_read_of_conditions_is_their_text.ensures c.args.effort.is_wide (kernel t.0).parameters o (lined (kept a)) is.conditions) is.headline;
+        proof = is_proof c.args.effort.is_wide t (conditions (kept a)) c.in-Ok-text_as.text.items (subst (IsPassedBy c.args.effort.is_wide t (conditions (kept a))) (sym c.in-Ok-text_as.ensures) is.passed);
         least = fits_and_meets (core t.1) (conditions (kept a)) (probe (kept a)) (λ l e. c.a_least_launch_fits.ensures (core t.1) (kept a) l of e)
             (subst (λ x. IfSome (probe x) (Meets (conditions x))) c.conditions.ensures.value c.in-Ok-lines.ensures.least);
         text = subst (λ x. c.in-Ok-lines.written.items ≡ proved_lines (probe x)) c.conditions.ensures.value c.in-Ok-lines.ensures.text;

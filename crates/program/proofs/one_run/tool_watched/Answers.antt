@@ -1,7 +1,7 @@
 use Rattle.command_line.specs.Words.{texts}
 use Rattle.program.specs.Running.{Does}
 use Rattle.program.proofs.Verdicts.{output_of}
-use Rattle.program.proofs.one_run.tool.Goals as goal
+use Rattle.program.proofs.one_run.tool_watched.Goals as goal
 
 pub returns-in-Ok-clause-output : goal.returns-in-Ok-clause-output
 returns-in-Ok-clause-output g c =

@@ -35,7 +35,7 @@ fn lists_of(
 }
 
 /// The table of so many guesses, 512 at most.
-fn supports_of(
+pub fn supports_of(
     alloc: Global,
     count: u32,
     demands: &[Demand],

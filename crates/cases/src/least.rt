@@ -1,0 +1,64 @@
+// The guesses of the least menu, and which of them support one another.
+
+use certificate_search::{guess, table};
+use houdini::settle;
+use launch_text::read_conditions_as;
+use reading::laws::local_sizes_are_within_limits;
+use reading::read_kernel;
+use std::alloc::{AllocError, Global};
+use std::sync::Wait;
+use std::thread::Threads;
+use supports::{Set, Supports};
+use words::Open;
+
+/// How many of so many candidates a set has.
+fn members(set: &Set, count: u32) -> u32 {
+    let mut found = 0u32;
+    for candidate in 0..count {
+        if set.contains(candidate) {
+            found = found.saturating_add(1);
+        }
+    }
+    found
+}
+
+/// Writes how many candidates of a table support one another, as 1, 3 and 64 workers find it.
+fn push_settled<R: Threads + Wait + Sync>(
+    rt: &R,
+    alloc: Global,
+    out: &mut String,
+    supports: &Supports,
+) -> Result<(), AllocError> {
+    write!(out, "{} guesses", supports.count())?;
+    for workers in [1u32, 3, 64] {
+        match settle(rt, alloc, supports, workers, &Open) {
+            Ok(set) => write!(out, ", {} left", members(&set, supports.count()))?,
+            Err(error) => write!(out, ", {error}")?,
+        }
+    }
+    writeln!(out)
+}
+
+/// Writes how many guesses the least menu has for a kernel, and how many of them support one another.
+pub fn push_guesses<R: Threads + Wait + Sync>(
+    rt: &R,
+    alloc: Global,
+    out: &mut String,
+    kernel: &[u8],
+    conditions: &[u8],
+) -> Result<(), AllocError> {
+    local_sizes_are_within_limits();
+    let typed = match read_kernel(alloc, kernel) {
+        Ok(typed) => typed,
+        Err(error) => return writeln!(out, "refused {error}"),
+    };
+    let conditions = match read_conditions_as(alloc, &typed, conditions, false) {
+        Ok(conditions) => conditions,
+        Err(error) => return writeln!(out, "refused {error}"),
+    };
+    let candidates = guess(alloc, &typed, &conditions)?;
+    match table(rt, alloc, &typed, &conditions, candidates.as_slice()) {
+        Ok(supports) => push_settled(rt, alloc, out, &supports),
+        Err(error) => writeln!(out, "refused {error}"),
+    }
+}

@@ -1,6 +1,9 @@
 pub mod Answers
 pub mod Certificates
 pub mod Drafts
+pub mod EntriesLeft
+pub mod EntryAnswers
+pub mod EntryCursors
 pub mod Items
 pub mod Migrations
 pub mod NumberedLines

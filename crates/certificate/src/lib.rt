@@ -6,9 +6,12 @@
 
 mod certificate;
 mod copies;
+mod cursor;
 pub mod draft;
 mod either_reader;
 mod entries;
+pub mod entry_reader;
+mod entry_steps;
 pub mod error;
 pub mod form_table;
 pub mod item;
@@ -19,6 +22,7 @@ mod narrow;
 pub mod numbered_reader;
 mod numbered_writer;
 pub mod numbers;
+mod opening;
 pub mod order;
 pub mod part_writer;
 mod proper;
@@ -31,9 +35,9 @@ pub mod word;
 mod writer;
 
 pub use certificate::Certificate;
-pub use either_reader::{read_any, read_wide};
+pub use either_reader::{open_any, open_two, open_wide, read, read_any, read_one, read_wide};
+pub use entry_reader::Entries;
 pub use migration::migrate;
-pub use numbered_reader::read;
 pub use numbered_writer::{write, write_wide};
-pub use reader::{LIMIT, read_one};
+pub use reader::{LIMIT, open_one};
 pub use writer::write_one;

@@ -3,9 +3,9 @@
 ghost use Rattle.certificate_text.specs.Migrated as migrating;
 ghost use Rattle.certificate.specs.Migrations.{Gives};
 
+use crate::either_reader::read_one;
 use crate::error::CertError;
 use crate::numbered_writer::write;
-use crate::reader::read_one;
 use std::alloc::Global;
 
 /// The text of version 2 of the certificate that a text of version 1 says; where it says none, its first fault.

@@ -81,8 +81,15 @@ module _ {E : Type 0} (g : Ghosts E) (k : Kernel) (c : Conditions) (n : Notes) (
   own-from claims [] = tt
   own-from claims (p ∷ ps) = (own-planted claims p, own-from (after claims (tree_of g k c n claims p)) ps)
 
+  -- of any places, with so many claims before them
+  pub accesses-own-from : (claims : ℕ) (ps : List Place) → all_own_accesses (accesses_of (planted_from g k c n claims ps)) ≡ true
+  accesses-own-from claims ps = accesses_of-own (planted_from g k c n claims ps) (own-from claims ps)
+
+  pub ends-own-from : (claims : ℕ) (ps : List Place) → all_own_ends (ends_in (planted_from g k c n claims ps)) ≡ true
+  ends-own-from claims ps = ends_in-own (planted_from g k c n claims ps) (own-from claims ps)
+
   pub accesses-own : all_own_accesses (accesses_of (all_trees g k c n)) ≡ true
-  accesses-own = accesses_of-own (all_trees g k c n) (own-from 0 (places k.body))
+  accesses-own = accesses-own-from 0 (places k.body)
 
   pub ends-own : all_own_ends (ends_in (all_trees g k c n)) ≡ true
-  ends-own = ends_in-own (all_trees g k c n) (own-from 0 (places k.body))
+  ends-own = ends-own-from 0 (places k.body)

@@ -397,7 +397,16 @@ pub fn try_guesses<R: Threads + Sync, W: Watcher>(
         rank,
         fewest,
     } = trial;
-    let Some(hoped) = hope(alloc, &matter.subject, matter.names, rankings, memory)? else {
+    let Some(hoped) = hope(
+        rt,
+        alloc,
+        matter.course.workers,
+        &matter.subject,
+        matter.names,
+        rankings,
+        memory,
+    )?
+    else {
         return Err(SearchError::Unsaid);
     };
     let core = matter.subject.typed.core();

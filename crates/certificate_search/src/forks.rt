@@ -5,6 +5,7 @@ use crate::ranked::chosen;
 use guess_walk::{Limits, Names, Subject, certificate_of, walk};
 use guesses::Ranking;
 use std::alloc::{AllocError, Global};
+use std::thread::Threads;
 use text_guesses::guess_rankings;
 use walk::FindError;
 
@@ -25,8 +26,10 @@ pub enum Order {
 
 /// The number of paths of one walk without guesses that takes all as shown that may be taken so; none where it comes to no end, or has no
 /// text.
-fn paths_of(
+fn paths_of<R: Threads + Sync>(
+    rt: &R,
     alloc: Global,
+    workers: u32,
     subject: &Subject<'_>,
     names: &Names<'_>,
     rankings: &[Ranking],
@@ -41,7 +44,7 @@ fn paths_of(
         return Ok(None);
     };
     let flags = vec![in alloc; true; 65_537]?;
-    match walk(alloc, subject, &certificate, flags.as_slice()) {
+    match walk(rt, alloc, workers, subject, &certificate, flags.as_slice()) {
         Ok(Some(walked)) => Ok(Some(walked.found.paths().len())),
         Ok(None) | Err(_) => Ok(None),
     }
@@ -63,18 +66,20 @@ fn order_by(forked: Option<usize>, joined: Option<usize>) -> Order {
 }
 
 /// How the wide walk is made. An error is want of memory.
-pub fn order_of(
+pub fn order_of<R: Threads + Sync>(
+    rt: &R,
     alloc: Global,
+    workers: u32,
     subject: &Subject<'_>,
     names: &Names<'_>,
 ) -> Result<Order, FindError> {
     let options = guess_rankings(alloc, subject.typed.core(), subject.is_wide, &[])?;
     let rankings = chosen(alloc, options.as_slice(), &[])?;
-    let forked = paths_of(alloc, subject, names, rankings.as_slice())?;
+    let forked = paths_of(rt, alloc, workers, subject, names, rankings.as_slice())?;
     if forked.is_some_and(|count| count <= FEW) {
         return Ok(Order::Forked);
     }
     let joining = subject.joining();
-    let joined = paths_of(alloc, &joining, names, rankings.as_slice())?;
+    let joined = paths_of(rt, alloc, workers, &joining, names, rankings.as_slice())?;
     Ok(order_by(forked, joined))
 }

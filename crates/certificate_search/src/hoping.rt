@@ -4,12 +4,13 @@ use crate::limits::UNLIMITED;
 use cut_search::Memory;
 use facts::copy_all;
 use guess_walk::{
-    Begun, Extent, Limits, Names, Subject, Trust, Walked, begun_of, certificate_of, leaves_of,
-    resolve, sights_of,
+    Begun, Extent, Limits, Names, Request, Subject, Trust, Walked, begun_of, certificate_of,
+    leaves_of, resolve, sights_of,
 };
 use guesses::{Leaf, Ranking, Sight, copied};
 use linear::Form;
 use std::alloc::{AllocError, Global};
+use std::thread::Threads;
 use walk::FindError;
 use words::Kind;
 
@@ -59,8 +60,10 @@ fn unsigned_of(alloc: Global, subject: &Subject<'_>) -> Result<Vec<bool>, AllocE
 }
 
 /// A walk without guesses in which each small range is hoped for.
-fn walked(
+fn walked<R: Threads + Sync>(
+    rt: &R,
     alloc: Global,
+    workers: u32,
     subject: &Subject<'_>,
     names: &Names<'_>,
     rankings: &[Ranking],
@@ -75,8 +78,12 @@ fn walked(
     let certificate = certificate_of(alloc, subject, names, &[], limits, entries)?;
     match certificate {
         Some(certificate) => {
-            let trust = Trust::Hopeful;
-            resolve(alloc, subject, &certificate, trust, Extent::Claims, memory)
+            let request = Request {
+                trust: Trust::Hopeful,
+                extent: Extent::Claims,
+                workers,
+            };
+            resolve(rt, alloc, subject, &certificate, request, memory)
         }
         None => Ok(None),
     }
@@ -98,14 +105,16 @@ fn told_by(alloc: Global, subject: &Subject<'_>, walked: &Walked) -> Result<Hope
 }
 
 /// The places, ends of paths and facts of a hopeful walk with these rankings; none where the rankings have no text.
-pub fn hope(
+pub fn hope<R: Threads + Sync>(
+    rt: &R,
     alloc: Global,
+    workers: u32,
     subject: &Subject<'_>,
     names: &Names<'_>,
     rankings: &[Ranking],
     memory: &mut Memory,
 ) -> Result<Option<Hoped>, FindError> {
-    match walked(alloc, subject, names, rankings, memory)? {
+    match walked(rt, alloc, workers, subject, names, rankings, memory)? {
         Some(walked) => Ok(Some(told_by(alloc, subject, &walked)?)),
         None => Ok(None),
     }

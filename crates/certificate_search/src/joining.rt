@@ -9,7 +9,7 @@ use certificate::Certificate;
 use certificate::tree::Entry;
 use cut_search::{Memory, Questions};
 use guess_walk::{
-    Extent, Limits, LineTable, Names, Subject, Trust, Walked, begun_of, certificate_of,
+    Extent, Limits, LineTable, Names, Request, Subject, Trust, Walked, begun_of, certificate_of,
     places_of_paths, resolve, with_accesses,
 };
 use guesses::{Candidate, Ranking, Sight};
@@ -263,15 +263,12 @@ pub fn assemble<R: Threads + Sync, W: Watcher>(
         return Ok(None);
     };
     let subject = &plan.subject;
-    let found = resolve(
-        alloc,
-        subject,
-        &certificate,
-        Trust::Searched,
-        Extent::Ends,
-        memory,
-    )?;
-    let Some(walked) = found else {
+    let request = Request {
+        trust: Trust::Searched,
+        extent: Extent::Ends,
+        workers: plan.course.workers,
+    };
+    let Some(walked) = resolve(rt, alloc, subject, &certificate, request, memory)? else {
         return Ok(None);
     };
     let mut assembled = Assembled::new(alloc);

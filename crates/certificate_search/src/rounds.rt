@@ -6,7 +6,7 @@ use crate::round_table::{BoardError, Demand, greatest};
 use crate::used::Ground;
 use cut_search::Memory;
 use guess_walk::{
-    Extent, Limits, LineTable, Names, Subject, Trust, Walked, begun_of, certificate_of,
+    Extent, Limits, LineTable, Names, Request, Subject, Trust, Walked, begun_of, certificate_of,
     places_of_paths, resolve,
 };
 use guesses::{Candidate, Ranking, Sight};
@@ -67,7 +67,8 @@ pub struct Rounds<'a, W> {
 }
 
 /// The walk of a kernel with these guesses as what is said of its places; an error where they have no text.
-fn walk_of<W: Watcher>(
+fn walk_of<R: Threads + Sync, W: Watcher>(
+    rt: &R,
     alloc: Global,
     rounds: &Rounds<'_, W>,
     candidates: &[Candidate],
@@ -89,14 +90,12 @@ fn walk_of<W: Watcher>(
     let Some(certificate) = certificate else {
         return Err(SettlingError::Unsaid);
     };
-    match resolve(
-        alloc,
-        &rounds.subject,
-        &certificate,
-        Trust::Searched,
-        Extent::Ends,
-        memory,
-    )? {
+    let request = Request {
+        trust: Trust::Searched,
+        extent: Extent::Ends,
+        workers: rounds.course.workers,
+    };
+    match resolve(rt, alloc, &rounds.subject, &certificate, request, memory)? {
         Some(walked) => Ok(walked),
         None => Err(SettlingError::Unsaid),
     }
@@ -202,7 +201,7 @@ pub fn ask<R: Threads + Sync, W: Watcher>(
     candidates: &[Candidate],
     memory: &mut Memory,
 ) -> Result<Asked, SettlingError> {
-    let walked = walk_of(alloc, rounds, candidates, memory)?;
+    let walked = walk_of(rt, alloc, rounds, candidates, memory)?;
     let round = Round {
         number,
         candidates,

@@ -27,15 +27,18 @@ struct Ways {
 }
 
 /// A first walk, with the rankings that the kernel's text tells.
-fn walk_first(
+fn walk_first<R: Threads + Sync>(
+    rt: &R,
     alloc: Global,
+    workers: u32,
     subject: &Subject<'_>,
     names: &Names<'_>,
     memory: &mut Memory,
 ) -> Result<Hoped, SearchError> {
     let first = guess_rankings(alloc, subject.typed.core(), subject.is_wide, &[])?;
     let rankings = chosen(alloc, first.as_slice(), &[])?;
-    match hope(alloc, subject, names, rankings.as_slice(), memory)? {
+    let rankings = rankings.as_slice();
+    match hope(rt, alloc, workers, subject, names, rankings, memory)? {
         Some(hoped) => Ok(hoped),
         None => Err(SearchError::Unsaid),
     }
@@ -60,13 +63,15 @@ fn options_of(
 }
 
 /// How loops may end, without the ways that runs refute.
-fn find_ways(
+fn find_ways<R: Threads + Sync>(
+    rt: &R,
     alloc: Global,
+    workers: u32,
     subject: &Subject<'_>,
     names: &Names<'_>,
     memory: &mut Memory,
 ) -> Result<Ways, SearchError> {
-    let hoped = walk_first(alloc, subject, names, memory)?;
+    let hoped = walk_first(rt, alloc, workers, subject, names, memory)?;
     let options = options_of(alloc, subject, &hoped)?;
     let sights = hoped.sights.as_slice();
     let observed = observe(alloc, subject.typed.core(), subject.conditions, sights, &[])?;
@@ -180,7 +185,7 @@ fn search_named<R: Threads + Sync, W: Watcher>(
     course: &Course<'_, W>,
     memory: &mut Memory,
 ) -> Result<Certificate, SearchError> {
-    let ways = find_ways(alloc, &subject, names, memory)?;
+    let ways = find_ways(rt, alloc, course.workers, &subject, names, memory)?;
     let matter = Matter {
         subject,
         names,
@@ -228,7 +233,7 @@ fn search_widely<R: Threads + Sync, W: Watcher>(
     memory: &mut Memory,
 ) -> Result<Certificate, SearchError> {
     let joining = subject.joining();
-    match order_of(alloc, &subject, names)? {
+    match order_of(rt, alloc, course.workers, &subject, names)? {
         Order::Forked => {
             let found = search_named(rt, alloc, subject, names, course, memory);
             if is_endless(&found) {

@@ -6,10 +6,12 @@
 //! get the names that a certificate has for them, and derivations become steps.
 #![tactic(auto)]
 
+mod claims;
 mod kernel_names;
 mod leaves;
 mod line_table;
 mod loop_part;
+mod noted;
 mod place_parts;
 mod quotient_names;
 mod quotients;
@@ -25,7 +27,7 @@ pub use kernel_names::{Names, names_of};
 pub use leaves::{Begun, begun_of, leaves_of, places_of_paths, reached};
 pub use line_table::{LineTable, PlaceLines};
 pub use quotients::{Division, FormDivision, Shown, both_sides, both_sides_by};
-pub use resolving::{Trust, facts_of, resolve};
+pub use resolving::{Request, Trust, facts_of, resolve};
 pub use said::may_be_said;
 pub use sights::{is_place, sights_of};
 pub use steps::{lemmas_of, steps_of};

@@ -4,8 +4,10 @@ ghost use Rattle.std.specs.Prelude.{◌≤◌, ◌<◌, length};
 ghost use Rattle.two_thread.specs.Listed.{listed};
 ghost use Rattle.plain_kernels.specs.Domains.{domain};
 
+use crate::claims::Claims;
+use crate::noted::Noted;
 use crate::subject::Subject;
-use crate::walking::{Extent, Walked, extended, walk};
+use crate::walking::{Extent, Walked, extended};
 use certificate::Certificate;
 use cut_search::{Answer, Memory, Questions};
 use domain::Elements;
@@ -13,6 +15,7 @@ use guesses::is_same;
 use linear::Form;
 use path_steps::Sort;
 use std::alloc::{AllocError, Global};
+use std::thread::Threads;
 use two_thread::{Manner, Obligations, OnPath, Part, Tagged};
 use walk::FindError;
 use words::Kind;
@@ -22,6 +25,14 @@ use words::Kind;
 pub enum Trust {
     Hopeful,
     Searched,
+}
+
+/// What is asked of a walk: when such claims are taken as shown, which obligations are wanted, and by how many workers at most.
+#[derive(Clone, Copy)]
+pub struct Request {
+    pub trust: Trust,
+    pub extent: Extent,
+    pub workers: u32,
 }
 
 /// The largest numbers of a claim that is hoped for.
@@ -245,11 +256,12 @@ fn flag_all(flags: &mut [bool], untaken: &[Untaken], value: bool) {
 /// The claims of a walk in which each claim that is taken as shown is to be taken so; nothing where the kernel lacks what the certificate
 /// names, or where that takes over 4,000 walks. A walk takes back what is taken on all paths at once; where the paths have other claims
 /// then, so that the numbers of claims behind the first one are others, it takes back one claim at a time.
-fn resolved_claims(
+fn resolved_claims<R: Threads + Sync>(
+    rt: &R,
     alloc: Global,
     subject: &Subject<'_>,
     certificate: &Certificate,
-    trust: Trust,
+    request: Request,
     memory: &mut Memory,
 ) -> Result<Option<Walked>, FindError> {
     let mut flags = vec![in alloc; true; 65_537]?;
@@ -259,44 +271,50 @@ fn resolved_claims(
     };
     let mut shape: Vec<usize> = Vec::new(alloc);
     let mut last: Vec<Untaken> = Vec::new(alloc);
+    let Some(noted) = Noted::of(alloc, subject, certificate)? else {
+        return Ok(None);
+    };
+    let mut before: Option<Claims> = None;
     for _ in 0..4_000 {
-        let Some(walked) = walk(alloc, subject, certificate, flags.as_slice())? else {
-            return Ok(None);
-        };
-        memory.count(facts_in(&walked.found));
-        let now = shape_of(alloc, &walked.found)?;
+        let (workers, now_flagged) = (request.workers, flags.as_slice());
+        let claims = noted.claims(rt, alloc, workers, subject.conditions, now_flagged, before)?;
+        let found = &claims.found;
+        memory.count(facts_in(found));
+        let now = shape_of(alloc, found)?;
         if last.len() > 1 && now.as_slice() != shape.as_slice() {
             flag_all(flags.as_mut_slice(), &last.as_slice()[1..], true);
             asking.forget_behind(last.as_slice()[0].number);
             asking.is_single = true;
             last.clear();
+            before = Some(claims);
             continue;
         }
         shape = now;
         let mut questions = Questions::over(alloc, memory)?;
-        last = untaken_of(alloc, trust, &walked.found, &mut asking, &mut questions)?;
+        last = untaken_of(alloc, request.trust, found, &mut asking, &mut questions)?;
         let own = questions.into_own();
         memory.take(own)?;
         if last.is_empty() {
-            return Ok(Some(walked));
+            return Ok(Some(noted.with(claims)));
         }
         flag_all(flags.as_mut_slice(), last.as_slice(), false);
+        before = Some(claims);
     }
     Ok(None)
 }
 
 /// A walk in which each claim that is taken as shown is to be taken so, with the obligations that are asked for; nothing where the kernel
 /// lacks what the certificate names, or where that takes too many walks.
-pub fn resolve(
+pub fn resolve<R: Threads + Sync>(
+    rt: &R,
     alloc: Global,
     subject: &Subject<'_>,
     certificate: &Certificate,
-    trust: Trust,
-    extent: Extent,
+    request: Request,
     memory: &mut Memory,
 ) -> Result<Option<Walked>, FindError> {
-    match resolved_claims(alloc, subject, certificate, trust, memory)? {
-        Some(walked) => Ok(Some(extended(alloc, subject, walked, extent)?)),
+    match resolved_claims(rt, alloc, subject, certificate, request, memory)? {
+        Some(walked) => Ok(Some(extended(alloc, walked, request.extent)?)),
         None => Ok(None),
     }
 }

@@ -2,18 +2,18 @@
 
 use crate::kernel_names::Names;
 use crate::loop_part::bound_of;
+use crate::noted::Noted;
 use crate::place_parts::places_of;
 use crate::subject::Subject;
 use certificate::Certificate;
 use certificate::tree::{Bound, Entry};
-use certificate_notes::{NamesError, notes_of};
 use domain::Elements;
 use guesses::{Candidate, Ranking};
 use obligations::Notes;
-use places::{PlaceError, places};
 use std::alloc::{AllocError, Global};
+use std::thread::Threads;
 use two_thread::Obligations;
-use walk::{FindError, find_claims};
+use walk::FindError;
 
 /// The notes of a kernel's places and loops, and the obligations that a walk with these notes has.
 #[derive(Drop)]
@@ -67,60 +67,38 @@ pub fn certificate_of(
 
 /// The claims of a kernel's places with a certificate, where the obligations that are flagged have an entry; nothing where the kernel lacks
 /// what the certificate names, or has no places. Pairs of ends and of accesses are not among them.
-pub fn walk(
+pub fn walk<R: Threads + Sync>(
+    rt: &R,
     alloc: Global,
+    workers: u32,
     subject: &Subject<'_>,
     certificate: &Certificate,
     flags: &[bool],
 ) -> Result<Option<Walked>, FindError> {
-    let core = subject.typed.core();
-    let all = match places(alloc, core) {
-        Ok(all) => all,
-        Err(PlaceError::Missed(_)) => return Ok(None),
-        Err(PlaceError::Memory) => return Err(FindError::from(AllocError)),
+    let Some(noted) = Noted::of(alloc, subject, certificate)? else {
+        return Ok(None);
     };
-    let notes = match notes_of(alloc, subject.typed, all.as_slice(), certificate) {
-        Ok(Some(notes)) => notes,
-        Ok(None) => return Ok(None),
-        Err(NamesError::Memory) => return Err(FindError::from(AllocError)),
-    };
-    let entries = Vec::from_slice(alloc, flags)?;
-    let found = find_claims::<Elements>(
-        alloc,
-        core,
-        subject.conditions,
-        &notes,
-        all.as_slice(),
-        entries,
-    )?;
-    Ok(Some(Walked { notes, found }))
+    let claims = noted.claims(rt, alloc, workers, subject.conditions, flags, None)?;
+    Ok(Some(noted.with(claims)))
 }
 
-/// Which obligations are asked for: the claims, the pairs of ends with them, or all.
+/// Which obligations are asked for: the claims, or the pairs of ends with them.
 #[derive(Clone, Copy, PartialEq, Eq)]
 pub enum Extent {
     Claims,
     Ends,
-    All,
 }
 
 /// The obligations of a walk that found the claims alone, with all that is asked for.
-pub fn extended(
-    alloc: Global,
-    subject: &Subject<'_>,
-    walked: Walked,
-    extent: Extent,
-) -> Result<Walked, FindError> {
+pub fn extended(alloc: Global, walked: Walked, extent: Extent) -> Result<Walked, FindError> {
     let Walked { notes, found } = walked;
-    if extent == Extent::Claims {
-        return Ok(Walked { notes, found });
+    match extent {
+        Extent::Claims => Ok(Walked { notes, found }),
+        Extent::Ends => {
+            let found = found.with_meetings(alloc)?;
+            Ok(Walked { notes, found })
+        }
     }
-    let found = found.with_meetings(alloc)?;
-    if extent == Extent::Ends {
-        return Ok(Walked { notes, found });
-    }
-    let found = found.with_crossings(alloc, subject.typed.core(), subject.conditions)?;
-    Ok(Walked { notes, found })
 }
 
 /// The obligations of a walk that found claims and pairs of ends, with the pairs of accesses.

@@ -23,3 +23,4 @@ pub mod Listing
 pub mod Whole
 pub mod Asked
 pub mod ArrayLists
+pub mod OwnRows

@@ -14,7 +14,7 @@ joined-append [] bs = refl
 joined-append (a ∷ as') bs = ap (λ l. a ++ l) (joined-append as' bs) ∙ sym (append_assoc a (joined as') (joined bs))
 
 module _ {E X : Type 0} (seen : Tagged E → List X) where
-  front-and : (ts us : List (Tagged E)) → joined (map seen (ts ++ us)) ≡ joined (map seen ts) ++ joined (map seen us)
+  pub front-and : (ts us : List (Tagged E)) → joined (map seen (ts ++ us)) ≡ joined (map seen ts) ++ joined (map seen us)
   front-and ts us = ap joined (map-append seen ts us) ∙ joined-append (map seen ts) (map seen us)
 
 module _ {E : Type 0} where

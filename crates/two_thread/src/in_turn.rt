@@ -6,34 +6,27 @@ use crate::claims::try_claim;
 use crate::meetings::all_meetings;
 use crate::met::Met;
 use crate::numbered::{Obligations, Premises};
-use crate::walked::{Walked, spread};
+use crate::own_path::{OwnPath, parted, together};
 use core_code::tree::Core;
 use domain::Domain;
 use facts::WalkError;
 use launch::conditions::Conditions;
 use obligations::Notes;
-use std::alloc::Global;
+use std::alloc::{AllocError, Global};
 
 /// How many obligations there may be.
 const MOST: usize = 65_536;
 
 impl<D: Domain> Obligations<D> {
-    ghost use Rattle.std.specs.Prelude.{◌≡◌, true};
-    ghost use Rattle.obligations.specs.Owning.{all_own_accesses, all_own_ends};
-    ghost use Rattle.two_thread.specs.Paths.{ends_of, accesses_of};
-
-    /// The claims alone of what was met along the paths of all places. No pairs of ends or of accesses are among them, whatever there is.
-    pub fn of_claims(
+    /// The claims alone of what was met along paths. No pairs of ends or of accesses are among them, whatever there is.
+    pub fn of_paths(
         alloc: Global,
         premises: Premises<D>,
-        walked: Vec<Walked<D>>,
+        paths: Vec<OwnPath<D>>,
         notes: &Notes,
-    ) -> Result<Obligations<D>, WalkError>
-        requires accesses { all_own_accesses (accesses_of walked.items) ≡ true }
-        requires ends { all_own_ends (ends_of walked.items) ≡ true }
-    {
+    ) -> Result<Obligations<D>, WalkError> {
         let alike = copy_alike(alloc, notes)?;
-        let paths = spread(alloc, walked)?;
+        let paths = together(alloc, paths)?;
         let met = Met::of(alloc, paths)?;
         if met.claims.len() > MOST {
             return Err(WalkError::TooMany);
@@ -49,6 +42,13 @@ impl<D: Domain> Obligations<D> {
             meetings: Vec::new(alloc),
             crossings: Vec::new(alloc),
         })
+    }
+
+    /// The paths of all places one by one, in their order.
+    pub fn into_paths(self, alloc: Global) -> Result<Vec<OwnPath<D>>, AllocError> {
+        let Obligations { met, .. } = self;
+        let Met { paths, .. } = met;
+        parted(alloc, paths)
     }
 
     /// The claims, and the pairs of ends.

@@ -62,10 +62,14 @@ module _ {E : Type 0} (g : Ghosts E) (core : Core) (c : Conditions) (said : code
   abbrev found : List (Planted E)
   found = all_by g (views.setting g s) k (seen said s.entries.items) 0 (map places.place all)
 
+  -- of any places, with so many claims before them
+  pub from_are : (m : ℕ) (ps : List arrivals.Place) → all_by g (views.setting g s) k (seen said s.entries.items) m ps ≡ planted_from g k c n m ps
+  from_are m ps =
+      (λ i. all_by g (record { is_wide = has_wide i; joins = has_joins i; domain = g; known = has_known i; sizes = ap three has_sizes i; buffers = has_buffers i; arrays = has_arrays i; contents = has_contents i; has_entry = λ m. slice_index_or (has_entries i) m false }) k (seen said (has_entries i)) m ps)
+      ∙ all_by_is g k c n m ps
+
   trees_are : found ≡ all_trees g k c n
-  trees_are =
-      (λ i. all_by g (record { is_wide = has_wide i; joins = has_joins i; domain = g; known = has_known i; sizes = ap three has_sizes i; buffers = has_buffers i; arrays = has_arrays i; contents = has_contents i; has_entry = λ m. slice_index_or (has_entries i) m false }) k (seen said (has_entries i)) 0 (are i))
-      ∙ all_by_is g k c n 0 (arrivals.places k.body)
+  trees_are = from_are 0 (map places.place all) ∙ ap (planted_from g k c n 0) are
 
   stuck_at : (x : FindError) → IsAnyStuck (all_trees g k c n) x → IsUnfound g k c n x
   stuck_at (errors.ManyPaths t) u = u

@@ -97,29 +97,3 @@ pub fn find<D: Domain>(
     let found = Obligations::of(alloc, premises, walked, core, conditions, notes)?;
     Ok(found)
 }
-
-/// The claims alone of a kernel's places, where the obligations that are flagged have an entry: what the walks of a search ask for, of
-/// which many are made. Pairs of ends and of accesses can be added to them. Of what is found nothing is promised.
-pub fn find_claims<D: Domain>(
-    alloc: Global,
-    core: &Core,
-    conditions: &Conditions,
-    notes: &Notes,
-    places: &[Place<'_>],
-    entries: Vec<bool>,
-) -> Result<Obligations<D>, FindError>
-    requires sizes { are_sizes (core_seen core.now).sizes ≡ true }
-    requires places { map place_seen places.now ≡ meaning.places (core_seen core.now).body }
-    requires items { (flags : List Bool) → TellsOfItems (seen notes.now flags) }
-{
-    trees_have_own_symbols::<D>();
-    let setting = setting_of::<D>(alloc, notes.is_wide, notes.joins, core, conditions, entries)?;
-    let walked = walk_all(&setting, core, notes, places)?;
-    let launch = launch_facts(alloc, conditions)?;
-    let premises = Premises {
-        launch,
-        known: setting.known,
-    };
-    let found = Obligations::of_claims(alloc, premises, walked, notes)?;
-    Ok(found)
-}

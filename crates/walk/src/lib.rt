@@ -10,8 +10,10 @@ mod error;
 mod every;
 mod finding;
 mod following;
+mod ground;
 mod numbers;
 mod paths;
 
 pub use error::FindError;
-pub use finding::{find, find_claims, setting_of};
+pub use finding::{find, setting_of};
+pub use ground::{Ground, PlacePaths};

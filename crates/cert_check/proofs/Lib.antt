@@ -1,3 +1,4 @@
+pub mod Going
 pub mod Headlines
 pub mod Lineless
 pub mod Saying

@@ -1,5 +1,5 @@
 -- The code's notes are those that a certificate says.
-use Rattle.std.proofs.Common.{◌≡◌, List, [], ap, sym, ◌∙◌, subst}
+use Rattle.std.proofs.Common.{◌≡◌, Bool, List, [], ap, sym, ◌∙◌, subst}
 use Rattle.std.proofs.Math.Path.{fun_ext}
 use Rattle.std.specs.Prelude.{Some}
 use Rattle.semantics.specs.Launch.{Kernel}
@@ -7,12 +7,14 @@ use Rattle.certificate_text.specs.Certificate.{Certificate}
 use Rattle.texts.specs.Surface as surface
 use Rattle.arrivals.specs.Places.{Place, places}
 use Rattle.obligations.specs.Notes as notes
+use Rattle.obligations.specs.Telling.{TellsOfItems}
 use Rattle.obligations.specs.View.{seen}
 use Rattle.obligations.specs.declared.notes.Notes.{Notes}
 use Rattle.certificate_notes.specs.Noted.{noted}
 use Rattle.certificate_notes.specs.Noting.{notes_by, Agrees}
 use Rattle.certificate_notes.specs.NotesView as views
-use Rattle.certificate_notes.proofs.Agreeing.{seen-agrees}
+use Rattle.certificate_notes.proofs.Agreeing.{seen-agrees, agrees-tells}
+use Rattle.certificate_notes.proofs.Tells.{notes-tell, told}
 use Rattle.cert_check.specs.Refusing.{IsSaid}
 
 -- what is the same wherever it is asked is the same
@@ -34,3 +36,7 @@ seen_said n = agree_same (seen n []) (notes_by (views.notes n) []) (seen-agrees 
 
 pub is_said : (k : Kernel) (tree : surface.Kernel) (cert : Certificate) (ps : List Place) (n : Notes) → ps ≡ places k.body → Some (views.notes n) ≡ noted k tree ps cert → IsSaid k tree cert (seen n [])
 is_said k tree cert ps n p h = (views.notes n, subst (λ x. noted k tree x cert ≡ Some (views.notes n)) p (sym h), seen_said n)
+
+-- and they speak of items alone
+pub tells_of_items : (k : Kernel) (tree : surface.Kernel) (cert : Certificate) (ps : List Place) (n : Notes) → Some (views.notes n) ≡ noted k tree ps cert → (flags : List Bool) → TellsOfItems (seen n flags)
+tells_of_items k tree cert ps n h flags = agrees-tells (seen n flags) (notes_by (views.notes n) flags) (seen-agrees n flags) (notes-tell (views.notes n) flags (told k tree ps cert (views.notes n) (sym h)))

@@ -1,18 +1,16 @@
 -- What an error of the obligations tells of a kernel.
-use Rattle.std.proofs.Common.{◌≡◌, ℕ, zero, suc, ◌≤◌, Bool, true, false, nat_lt, List, subst, sym, ◌∙◌, inl, inr}
+use Rattle.std.proofs.Common.{◌≡◌, ℕ, zero, suc, ◌≤◌, Bool, false, nat_lt, List, subst, sym, ◌∙◌, inr}
 use Rattle.std.proofs.lemmas.Bool.{ltb-false}
 use Rattle.std.specs.List.{All}
 use Rattle.semantics.specs.Launch.{Kernel}
 use Rattle.semantics.specs.Conditions.{Conditions}
 use Rattle.certificate_text.specs.Certificate.{Certificate, Entry}
 use Rattle.texts.specs.Surface as surface
-use Rattle.arrivals.specs.Places.{Place, places}
 use Rattle.walk_trees.specs.Shown.{IsShownWithProducts}
 use Rattle.obligations.specs.Notes.{Notes}
 use Rattle.obligations.specs.Telling.{TellsOfItems}
 use Rattle.obligations.specs.Limits.{AreLimits}
 use Rattle.certificate_notes.specs.Noted.{lemma_form, stated}
-use Rattle.certificate_notes.specs.Noting.{lacks}
 use Rattle.certificate_notes.specs.Sights.{Chart, chart_of}
 use Rattle.plain_kernels.specs.Domains.{domain}
 use Rattle.entry_check.specs.Entries.{Stating}
@@ -33,9 +31,6 @@ tells_of k c m n es shows.Memory h = tt
 -- which obligations have an entry is no matter to items and limits
 pub all_is_shown : (k : Kernel) (c : Conditions) (n : Notes) (es : List Entry) → TellsOfItems n → AreLimits n → All IsShownWithProducts (owing domain k c n es) → steps_of k n ≤ c.budget → AllIsShown k c
 all_is_shown k c n es t l s b = (with_entries es n, (record { facts = t.facts; congruences = t.congruences; multiples = t.multiples; rankings = t.rankings }, l, s, b))
-
-pub lacks_unshown : (k : Kernel) (tree : surface.Kernel) (c : Conditions) (cert : Certificate) (ps : List Place) → ps ≡ places k.body → lacks k tree ps cert ≡ true → Unshown k tree c cert (shows.NotShown 0)
-lacks_unshown k tree c cert ps p h = inl (subst (λ x. lacks k tree x cert ≡ true) p h)
 
 -- of a kernel and its names as the code has them
 module _ (k k' : Kernel) (tree : surface.Kernel) (c : Conditions) (n : Notes) (es : List Entry) (names : Chart) (p : k' ≡ k) (r : names ≡ chart_of k tree) where

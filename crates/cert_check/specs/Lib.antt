@@ -6,4 +6,5 @@ pub mod Refusing
 pub mod Alike
 pub mod Plainly
 pub mod Checked
+pub mod Told
 pub mod Numbers

@@ -1,30 +1,30 @@
 //! The check, narrow or wide.
 
-ghost use Rattle.std.specs.Prelude.{◌≡◌, ℕ, List, Bool, true, false, Ok, IfOk, IfErr};
+ghost use Rattle.std.specs.Prelude.{◌≡◌, ℕ, List, Bool, true, false, map, Ok, IfOk, IfErr};
 ghost use Rattle.semantics.specs.Conditions as meaning;
 ghost use Rattle.launch.specs.View.{conditions as conditions_seen};
 ghost use Rattle.launch_text.specs.View.{lined};
-ghost use Rattle.certificate.specs.Certificates.{Says};
 ghost use Rattle.texts.specs.ConditionsReading.{conditions_of};
 ghost use Rattle.syntax.specs.View.{kernel as tree_seen};
 ghost use Rattle.core_code.specs.View.{kernel as core_seen};
 ghost use Rattle.facts.specs.Launching.{are_sizes};
+ghost use Rattle.arrivals.specs.Places as meant;
 ghost use Rattle.places.specs.Answers.{IsRefused};
+ghost use Rattle.places.specs.View.{place as place_seen};
 ghost use Rattle.reading.specs.Kernels.{read};
 ghost use Rattle.reading.specs.Answers.{kernel_seen};
 ghost use Rattle.cert_check.specs.Accepting.{IsAccepted, IsAcceptedBy, IsAcceptedWithin, HasHeadline};
 ghost use Rattle.cert_check.specs.Alike.{AreAlike, AreNotOfTwo, HoldsOf, HoldsOfBy, IsOfOneOrTwo};
-ghost use Rattle.cert_check.specs.Breadth.{text_says};
 ghost use Rattle.cert_check.specs.Checked.{AllIsShown, IsTold, StopsBy};
-ghost use Rattle.cert_check.specs.Refusing.{IsPassed, IsPassedBy, Tells, TellsBy};
+ghost use Rattle.cert_check.specs.Refusing.{AreMet, IsPassed, IsPassedBy, Tells, TellsBy};
+ghost use Rattle.cert_check.specs.Told.{IsToldOf};
 ghost use Rattle.cert_check.specs.Plainly.{OnPlain, OnPlainBy};
 ghost use Rattle.cert_check.specs.View.{typed_of, kept};
 
 use crate::accepted::Accepted;
 use crate::error::CheckError;
+use crate::first_pass::{Told, open_as, tell};
 use crate::showing::show;
-use certificate::error::CertError;
-use certificate::{Certificate, read_any, read_wide};
 use certificate_text::laws::either_version_is_read;
 use domain::Elements;
 use entry_check::ShowError;
@@ -32,7 +32,7 @@ use launch::conditions::Conditions;
 use launch_text::error::LaunchTextError;
 use launch_text::laws::texts_of_version_1_are_read_alike;
 use launch_text::read_conditions_as;
-use places::{PlaceError, places};
+use places::{Place, PlaceError, places};
 use plain_kernels::laws::{
     forms_of_plain_kernels_fit, plain_kernels_have_one_place, ranges_of_plain_kernels_are_settled,
 };
@@ -47,17 +47,6 @@ use std::alloc::Global;
 use syntax::site_at;
 use syntax::tree::Kernel;
 use types::typed::Typed;
-
-/// The certificate of a text of version 1 or 2, or, where the check is wide, of version 4.
-fn read_as(alloc: Global, text: &[u8], is_wide: bool) -> Result<Certificate, CertError>
-    ensures { Says result (text_says is_wide text.now) }
-{
-    if is_wide {
-        read_wide(alloc, text)
-    } else {
-        read_any(alloc, text)
-    }
-}
 
 /// The refusal of a kernel that has no places, with its place in the source.
 fn unplaced(typed: &Typed, error: PlaceError) -> CheckError
@@ -83,7 +72,48 @@ fn unshown(kernel: &Kernel, error: ShowError) -> CheckError
     }
 }
 
-/// A kernel under conditions, with a certificate by its text.
+/// A kernel under conditions, with what the text of a certificate tells of it, and the text once more.
+fn accept_told(
+    alloc: Global,
+    typed: &Typed,
+    conditions: &Conditions,
+    places: &[Place<'_>],
+    told: Told,
+    certificate: &[u8],
+    is_wide: bool,
+) -> Result<(), CheckError>
+    requires sizes { are_sizes (core_seen typed.now.1).sizes ≡ true }
+    requires places { map place_seen places.now ≡ meant.places (core_seen typed.now.1).body }
+    requires met { AreMet typed.now }
+    requires told { IsToldOf is_wide (core_seen typed.now.1) (tree_seen typed.now.0) (map place_seen places.now) certificate.now told }
+    ensures passed { IfOk result (λ _. IsPassedBy is_wide typed.now (conditions_seen conditions.now) certificate.now) }
+    ensures shown { IfOk result (λ _. AllIsShown (core_seen typed.now.1) (conditions_seen conditions.now)) }
+    ensures stopped { IfErr result (StopsBy is_wide typed.now (conditions_seen conditions.now) certificate.now) }
+{
+    let Told { notes, flags } = told;
+    let Some(notes) = notes else {
+        return Err(CheckError::Show(ShowError::NotShown(0)));
+    };
+    let mut entries = match open_as(alloc, certificate, is_wide) {
+        Ok(entries) => entries,
+        Err(error) => return Err(CheckError::Certificate(error)),
+    };
+    match show(
+        alloc,
+        typed,
+        conditions,
+        places,
+        &notes,
+        flags,
+        &mut entries,
+    ) {
+        Ok(()) => Ok(()),
+        Err(error) => Err(unshown(typed.kernel(), error)),
+    }
+}
+
+/// A kernel under conditions, with a certificate by its text. The text is gone over twice, and one entry is held at a time: at first for
+/// its faults, its notes and the numbers of its entries, then for what the entries show.
 fn accept(
     alloc: Global,
     typed: &Typed,
@@ -100,15 +130,19 @@ fn accept(
         Ok(places) => places,
         Err(error) => return Err(unplaced(typed, error)),
     };
-    let certificate = match read_as(alloc, certificate, is_wide) {
-        Ok(certificate) => certificate,
+    let told = match tell(alloc, typed, places.as_slice(), certificate, is_wide) {
+        Ok(told) => told,
         Err(error) => return Err(CheckError::Certificate(error)),
     };
-    match show(alloc, typed, conditions, places.as_slice(), &certificate) {
-        Ok(()) => {}
-        Err(error) => return Err(unshown(typed.kernel(), error)),
-    }
-    Ok(())
+    accept_told(
+        alloc,
+        typed,
+        conditions,
+        places.as_slice(),
+        told,
+        certificate,
+        is_wide,
+    )
 }
 
 /// The check as `check` has it, or as `check_wide` does.

@@ -7,6 +7,7 @@
 mod accepted;
 mod checking;
 pub mod error;
+mod first_pass;
 mod keeping;
 mod showing;
 

@@ -1,9 +1,9 @@
 //! What a certificate says, against what is to be shown.
 
-ghost use Rattle.std.specs.Prelude.{◌≡◌, nat_lt, true, map, List, [], Bool, IfOk, IfErr};
+ghost use Rattle.std.specs.Prelude.{◌≡◌, nat_lt, true, map, List, [], Bool, None, IfOk, IfErr};
 ghost use Rattle.arrivals.specs.Places as meant;
-ghost use Rattle.certificate.specs.Certificates.{certificate as certificate_seen};
-ghost use Rattle.certificate.specs.View.{entry as entry_seen};
+ghost use Rattle.certificate_text.specs.Rules.{rises, entry_is_before};
+ghost use Rattle.certificate.specs.EntryCursors.{left, stopped};
 ghost use Rattle.certificate_notes.specs.Noted.{stated};
 ghost use Rattle.core_code.specs.View.{kernel as core_seen};
 ghost use Rattle.facts.specs.Launching.{are_sizes};
@@ -13,13 +13,13 @@ ghost use Rattle.obligations.specs.Telling.{TellsOfItems};
 ghost use Rattle.places.specs.View.{place as place_seen};
 ghost use Rattle.plain_kernels.specs.Domains.{domain};
 ghost use Rattle.syntax.specs.View.{kernel as tree_seen};
+ghost use Rattle.entry_check.specs.Entries.{AreFlags};
 ghost use Rattle.entry_check.specs.View.{stated as stated_seen};
 ghost use Rattle.entry_check.specs.Lacking.{PassesOf, TellsOf, steps_of};
-ghost use Rattle.cert_check.specs.Checked.{AllIsShown, PassesWith, Unshown};
+ghost use Rattle.cert_check.specs.Checked.{AllIsShown};
 
-use certificate::Certificate;
-use certificate::tree::Entry;
-use certificate_notes::{NamesError, names_of, notes_of};
+use certificate::Entries;
+use certificate_notes::{NamesError, names_of};
 use core_code::tree::Core;
 use domain::Elements;
 use entry_check::{Said, ShowError, show_all};
@@ -49,69 +49,62 @@ fn show_noted(
     conditions: &Conditions,
     places: &[Place<'_>],
     said: &Said<'_>,
+    flags: Vec<bool>,
+    entries: &mut Entries<'_>,
 ) -> Result<(), ShowError>
     requires sizes { are_sizes (core_seen core.now).sizes ≡ true }
     requires places { map place_seen places.now ≡ meant.places (core_seen core.now).body }
     requires items { (flags : List Bool) → TellsOfItems (seen said.now.notes.now flags) }
-    ensures passed { IfOk result (λ _. PassesOf domain (core_seen core.now) (conditions_seen conditions.now) (stated_seen said.now.names) (seen said.now.notes.now []) (map entry_seen said.now.entries.now)) }
+    requires starts { stopped entries.old ≡ None }
+    requires whole { (left entries.old).fault ≡ None }
+    requires rises { rises entry_is_before (left entries.old).entries ≡ true }
+    requires flags { AreFlags (left entries.old).entries flags.items }
+    ensures passed { IfOk result (λ _. PassesOf domain (core_seen core.now) (conditions_seen conditions.now) (stated_seen said.now.names) (seen said.now.notes.now []) (left entries.old).entries) }
     ensures shown { IfOk result (λ _. AllIsShown (core_seen core.now) (conditions_seen conditions.now)) }
-    ensures lacks { IfErr result (TellsOf domain (core_seen core.now) (conditions_seen conditions.now) (stated_seen said.now.names) (seen said.now.notes.now []) (map entry_seen said.now.entries.now)) }
+    ensures lacks { IfErr result (TellsOf domain (core_seen core.now) (conditions_seen conditions.now) (stated_seen said.now.names) (seen said.now.notes.now []) (left entries.old).entries) }
 {
     noted_rankings_are_limits(said.notes);
-    show_all::<Elements>(alloc, core, conditions, places, said)?;
+    show_all::<Elements>(alloc, core, conditions, places, said, flags, entries)?;
     if is_over(core, said.notes, conditions.budget) {
         return Err(ShowError::OverBudget);
     }
     Ok(())
 }
 
-/// Shows all that is to be shown of a kernel, with notes of its places and loops and the entries of a certificate.
-fn show_entries<'n>(
+/// Shows all that is to be shown of a kernel, with notes of its places and loops and the entries of a certificate as they are read. An
+/// error tells what is not shown.
+pub(crate) fn show<'n>(
     alloc: Global,
     typed: &'n Typed,
     conditions: &Conditions,
     places: &[Place<'_>],
     notes: &'n Notes,
-    entries: &'n [Entry],
+    flags: Vec<bool>,
+    entries: &mut Entries<'_>,
 ) -> Result<(), ShowError>
     requires sizes { are_sizes (core_seen typed.now.1).sizes ≡ true }
     requires places { map place_seen places.now ≡ meant.places (core_seen typed.now.1).body }
     requires items { (flags : List Bool) → TellsOfItems (seen notes.now flags) }
-    ensures passed { IfOk result (λ _. PassesOf domain (core_seen typed.now.1) (conditions_seen conditions.now) (stated (core_seen typed.now.1) (tree_seen typed.now.0)) (seen notes.now []) (map entry_seen entries.now)) }
+    requires starts { stopped entries.old ≡ None }
+    requires whole { (left entries.old).fault ≡ None }
+    requires rises { rises entry_is_before (left entries.old).entries ≡ true }
+    requires flags { AreFlags (left entries.old).entries flags.items }
+    ensures passed { IfOk result (λ _. PassesOf domain (core_seen typed.now.1) (conditions_seen conditions.now) (stated (core_seen typed.now.1) (tree_seen typed.now.0)) (seen notes.now []) (left entries.old).entries) }
     ensures shown { IfOk result (λ _. AllIsShown (core_seen typed.now.1) (conditions_seen conditions.now)) }
-    ensures lacks { IfErr result (TellsOf domain (core_seen typed.now.1) (conditions_seen conditions.now) (stated (core_seen typed.now.1) (tree_seen typed.now.0)) (seen notes.now []) (map entry_seen entries.now)) }
+    ensures lacks { IfErr result (TellsOf domain (core_seen typed.now.1) (conditions_seen conditions.now) (stated (core_seen typed.now.1) (tree_seen typed.now.0)) (seen notes.now []) (left entries.old).entries) }
 {
     let names = match names_of(alloc, typed) {
         Ok(names) => names,
         Err(NamesError::Memory) => return Err(ShowError::Memory),
     };
-    let said = Said {
-        notes,
-        names,
+    let said = Said { notes, names };
+    show_noted(
+        alloc,
+        typed.core(),
+        conditions,
+        places,
+        &said,
+        flags,
         entries,
-    };
-    show_noted(alloc, typed.core(), conditions, places, &said)
-}
-
-/// Shows all that is to be shown of a kernel, with what a certificate says of its places and loops; an error tells what is not shown.
-pub(crate) fn show(
-    alloc: Global,
-    typed: &Typed,
-    conditions: &Conditions,
-    places: &[Place<'_>],
-    certificate: &Certificate,
-) -> Result<(), ShowError>
-    requires sizes { are_sizes (core_seen typed.now.1).sizes ≡ true }
-    requires places { map place_seen places.now ≡ meant.places (core_seen typed.now.1).body }
-    ensures passed { IfOk result (λ _. PassesWith (core_seen typed.now.1) (tree_seen typed.now.0) (conditions_seen conditions.now) (certificate_seen certificate.now)) }
-    ensures shown { IfOk result (λ _. AllIsShown (core_seen typed.now.1) (conditions_seen conditions.now)) }
-    ensures lacks { IfErr result (Unshown (core_seen typed.now.1) (tree_seen typed.now.0) (conditions_seen conditions.now) (certificate_seen certificate.now)) }
-{
-    let notes = match notes_of(alloc, typed, places, certificate) {
-        Ok(Some(notes)) => notes,
-        Ok(None) => return Err(ShowError::NotShown(0)),
-        Err(NamesError::Memory) => return Err(ShowError::Memory),
-    };
-    let entries = certificate.entries();
-    show_entries(alloc, typed, conditions, places, &notes, entries)
+    )
 }

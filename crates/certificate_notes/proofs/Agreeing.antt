@@ -80,11 +80,11 @@ agrees-tells n m a t = record {
 }
 
 -- the answers of the code, by what it noted
-noted-agrees : (r : Option Notes) (o : Option Noted) → option_map views.notes r ≡ o → IfSome r (λ n. (entries : List Bool) (m : Noted) → o ≡ Some m → Agrees (seen.seen n entries) (notes_by m entries))
+pub noted-agrees : (r : Option Notes) (o : Option Noted) → option_map views.notes r ≡ o → IfSome r (λ n. (entries : List Bool) (m : Noted) → o ≡ Some m → Agrees (seen.seen n entries) (notes_by m entries))
 noted-agrees None o h = tt
 noted-agrees (Some n) o h = λ entries m e. let k : views.notes n ≡ m = cc in subst (λ x. Agrees (seen.seen n entries) (notes_by x entries)) k (seen-agrees n entries)
 
-noted-tells : (r : Option Notes) (o : Option Noted) → option_map views.notes r ≡ o → ((m : Noted) → o ≡ Some m → (entries : List Bool) → TellsOfItems (notes_by m entries)) → IfSome r (λ n. (entries : List Bool) → TellsOfItems (seen.seen n entries))
+pub noted-tells : (r : Option Notes) (o : Option Noted) → option_map views.notes r ≡ o → ((m : Noted) → o ≡ Some m → (entries : List Bool) → TellsOfItems (notes_by m entries)) → IfSome r (λ n. (entries : List Bool) → TellsOfItems (seen.seen n entries))
 noted-tells None o h t = tt
 noted-tells (Some n) o h t = λ entries. agrees-tells (seen.seen n entries) (notes_by (views.notes n) entries) (seen-agrees n entries) (t (views.notes n) (sym h) entries)
 

@@ -1,4 +1,5 @@
 pub mod Behind
+pub mod Gathered
 pub mod Noted
 pub mod NotesView
 pub mod NamesView

@@ -18,7 +18,7 @@ use crate::names::Names;
 use crate::quotients::loops_among;
 use crate::sight::Sight;
 use certificate::tree;
-use certificate::tree::{Entry, Lemma};
+use certificate::tree::Lemma;
 use linear::Form;
 use std::alloc::Global;
 use types::typed::Typed;
@@ -50,27 +50,11 @@ impl Names<'_> {
 }
 
 /// The kernel has all that the lemmas name.
-fn are_stated(alloc: Global, names: &Names<'_>, lemmas: &[Lemma]) -> Result<bool, NamesError>
+pub fn are_stated(alloc: Global, names: &Names<'_>, lemmas: &[Lemma]) -> Result<bool, NamesError>
     ensures { IfOk result (λ b. b ≡ all (noted.is_stated (names_seen names.now)) (map view.lemma lemmas.now)) }
 {
     for lemma in lemmas {
         if names.form(alloc, &lemma.form)?.is_none() {
-            return Ok(false);
-        }
-    }
-    Ok(true)
-}
-
-/// The kernel has all that the lemmas of entries name.
-pub fn all_are_stated(
-    alloc: Global,
-    names: &Names<'_>,
-    entries: &[Entry],
-) -> Result<bool, NamesError>
-    ensures { IfOk result (λ b. b ≡ all (noted.are_stated (names_seen names.now)) (map view.entry entries.now)) }
-{
-    for entry in entries {
-        if !are_stated(alloc, names, entry.lemmas.as_slice())? {
             return Ok(false);
         }
     }

@@ -8,6 +8,8 @@
 mod chart;
 mod error;
 mod forms;
+mod front;
+mod gathering;
 mod gone;
 mod kept;
 pub mod laws;
@@ -26,6 +28,8 @@ mod visible;
 pub use chart::{Chart, chart_of};
 pub use error::NamesError;
 pub use forms::fact;
+pub use front::Front;
+pub use gathering::Gathering;
 pub use gone::{Gone, Named, Scene};
 pub use lemmas::names_of;
 pub use names::Names;

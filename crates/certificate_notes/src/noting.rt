@@ -1,54 +1,50 @@
 //! What a certificate says of a kernel, as notes.
 
-ghost use Rattle.std.specs.Prelude.{◌≡◌, Bool, true, false, List, Some, IfOk, IfSome, MatchOption, map};
+ghost use Rattle.std.specs.Prelude.{◌≡◌, Bool, true, false, List, [], Some, IfOk, IfSome, MatchOption, OnOk, map};
 ghost use Rattle.std.specs.Option.{option_map};
 ghost use Rattle.syntax.specs.View.{kernel as tree_seen};
 ghost use Rattle.core_code.specs.View.{kernel as core_seen};
-ghost use Rattle.certificate.specs.View as view;
+ghost use Rattle.arrivals.specs.Places.{Place as PlaceMeant};
+ghost use Rattle.certificate_text.specs.Certificate as certificates;
 ghost use Rattle.certificate.specs.Certificates.{certificate as certificate_seen};
+ghost use Rattle.certificate.specs.EntriesLeft.{with_entries};
+ghost use Rattle.certificate.specs.View as view;
 ghost use Rattle.places.specs.View.{place as place_seen};
 ghost use Rattle.obligations.specs.Telling.{TellsOfItems};
 ghost use Rattle.obligations.specs.View.{seen};
+ghost use Rattle.certificate_notes.specs.Gathered.{gathered};
 ghost use Rattle.certificate_notes.specs.Noted as noted;
 ghost use Rattle.certificate_notes.specs.Noted.{Noted};
 ghost use Rattle.certificate_notes.specs.Noting as noting;
 ghost use Rattle.certificate_notes.specs.Noting.{Agrees};
-ghost use Rattle.certificate_notes.specs.View.{chart as chart_seen};
 ghost use Rattle.certificate_notes.specs.NamesView.{names as names_seen};
-ghost use Rattle.certificate_notes.specs.NotesView.{lines as lines_seen, notes as notes_seen};
+ghost use Rattle.certificate_notes.specs.NotesView.{notes as notes_seen};
 
-use crate::chart::Chart;
 use crate::error::NamesError;
-use crate::lemmas::{all_are_stated, names_of};
+use crate::front::Front;
+use crate::gathering::Gathering;
+use crate::lemmas::names_of;
 use crate::names::Names;
-use crate::place_lines::lines_of;
-use crate::quotients::quotients_of;
-use crate::ranking_lines::{have_lines, rankings_of};
-use crate::visible::visible_in;
-use certificate::{Certificate, tree};
-use obligations::{Lines, Notes};
+use certificate::Certificate;
+use certificate::tree::Entry;
+use obligations::Notes;
 use places::Place;
 use std::alloc::Global;
 use types::typed::Typed;
 
-#[tactic(auto, using(crate::proofs::Each::each_rows))]
-/// The notes of all places of which a certificate says something; none where it names what the kernel lacks.
-fn all_lines(
+/// Takes entries, one by one.
+fn add_all(
     alloc: Global,
-    chart: &Chart<'_>,
-    places: &[Place<'_>],
-    said: &[tree::Place],
-) -> Result<Option<Vec<Lines>>, NamesError>
-    ensures { IfOk result (λ r. option_map (λ v. map lines_seen v.items) r ≡ noted.each (noted.lines_of (chart_seen chart.now) (map place_seen places.now)) (map view.place said.now)) }
+    names: &Names<'_>,
+    entries: &[Entry],
+    gathering: &mut Gathering,
+) -> Result<(), NamesError>
+    ensures { OnOk result ((ps : List PlaceMeant) (cert : certificates.Certificate) → gathered gathering.old ≡ noted.noted_by (names_seen names.now) ps (with_entries [] cert) → gathered gathering.new ≡ noted.noted_by (names_seen names.now) ps (with_entries (map view.entry entries.now) cert)) }
 {
-    let mut lines = Vec::new(alloc);
-    for place in said {
-        let Some(one) = lines_of(alloc, chart, places, place)? else {
-            return Ok(None);
-        };
-        lines.push(one)?;
+    for entry in entries {
+        gathering.add(alloc, names, entry)?;
     }
-    Ok(Some(lines))
+    Ok(())
 }
 
 /// The notes that a certificate makes of a kernel; none where a loop lacks its line, or the kernel lacks what a line names.
@@ -60,31 +56,15 @@ fn noted_by(
 ) -> Result<Option<Notes>, NamesError>
     ensures { IfOk result (λ r. option_map notes_seen r ≡ noted.noted_by (names_seen names.now) (map place_seen kernel_places.now) (certificate_seen certificate.now)) }
 {
-    let chart = &names.chart;
-    if !have_lines(certificate.bounds(), chart.scenes.as_slice()) {
-        return Ok(None);
-    }
-    if !all_are_stated(alloc, names, certificate.entries())? {
-        return Ok(None);
-    }
-    let Some(places) = all_lines(alloc, chart, kernel_places, certificate.places())? else {
-        return Ok(None);
-    };
-    let Some(rankings) = rankings_of(alloc, chart, certificate.bounds())? else {
-        return Ok(None);
-    };
-    let Some(quotients) = quotients_of(alloc, chart, certificate.entries())? else {
-        return Ok(None);
-    };
-    let visible = visible_in(alloc, chart)?;
-    Ok(Some(Notes {
+    let front = Front {
         is_wide: certificate.is_wide(),
         joins: certificate.joins(),
-        places,
-        rankings,
-        visible,
-        quotients,
-    }))
+        places: certificate.places(),
+        bounds: certificate.bounds(),
+    };
+    let mut gathering = Gathering::begin(alloc, names, kernel_places, &front)?;
+    add_all(alloc, names, certificate.entries(), &mut gathering)?;
+    Ok(gathering.notes())
 }
 
 /// The notes that a certificate makes of a kernel's places and loops; none where it names what the kernel lacks. Which obligations have an

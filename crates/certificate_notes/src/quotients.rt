@@ -1,12 +1,12 @@
 //! The quotients that entries name, in symbols.
 
 ghost use Rattle.std.specs.Prelude.{◌≡◌, IfOk, Option, List, map, cond, None};
-ghost use Rattle.std.specs.Option.{option_map};
 ghost use Rattle.linear.specs.Forms.{form as form_seen};
 ghost use Rattle.certificate_text.specs.Certificate as meant;
 ghost use Rattle.certificate.specs.View as view;
 ghost use Rattle.certificate_notes.specs.Noted as noted;
 ghost use Rattle.certificate_notes.specs.View.{chart as chart_seen, scene as scene_seen, sight as sight_seen, named};
+ghost use Rattle.certificate_notes.specs.NamesView.{names as names_seen};
 ghost use Rattle.certificate_notes.specs.NotesView.{quoted as quoted_seen};
 ghost use Rattle.certificate_notes.specs.Behind.{after};
 
@@ -14,6 +14,7 @@ use crate::chart::Chart;
 use crate::error::NamesError;
 use crate::forms::fact;
 use crate::gone::Scene;
+use crate::names::Names;
 use crate::sight::Sight;
 use certificate::tree;
 use certificate::tree::{Entry, EntrySort};
@@ -77,40 +78,22 @@ fn push_first(
     }
 }
 
-/// The quotients that entries name, in symbols, each with its claim's number; none where one names what the kernel lacks.
-fn push_all(
+/// Adds the quotient that an entry names, if it names one; false where that names what the kernel lacks.
+pub fn push_quotient(
     alloc: Global,
-    chart: &Chart<'_>,
-    sight: &Sight<'_>,
-    entries: &[Entry],
-) -> Result<Option<Vec<Quotient>>, NamesError>
-    requires { sight_seen sight.now ≡ noted.anywhere (chart_seen chart.now) }
-    ensures { IfOk result (λ r. option_map (λ v. map quoted_seen v.items) r ≡ noted.quotients_of (chart_seen chart.now) (map view.entry entries.now)) }
+    names: &Names<'_>,
+    entry: &Entry,
+    quotients: &mut Vec<Quotient>,
+) -> Result<bool, NamesError>
+    ensures { IfOk result (λ b. (rest : Option (List noted.Quoted)) → cond b (after (map quoted_seen quotients.new.items) rest) None ≡ after (map quoted_seen quotients.old.items) (noted.quoted_first (names_seen names.now) entry.now.obligation (view.sort entry.now.sort) rest)) }
 {
-    let mut quotients = Vec::new(alloc);
-    for entry in entries {
-        if !push_first(alloc, chart, sight, entry, &mut quotients)? {
-            return Ok(None);
-        }
-    }
-    Ok(Some(quotients))
-}
-
-/// The quotients that entries name, where the kernel has all that is named.
-pub fn quotients_of(
-    alloc: Global,
-    chart: &Chart<'_>,
-    entries: &[Entry],
-) -> Result<Option<Vec<Quotient>>, NamesError>
-    ensures { IfOk result (λ r. option_map (λ v. map quoted_seen v.items) r ≡ noted.quotients_of (chart_seen chart.now) (map view.entry entries.now)) }
-{
-    let loops = loops_among(alloc, chart.scenes.as_slice())?;
+    let all = names.chart.names.as_slice();
     let sight = Sight {
-        here: chart.names.as_slice(),
-        before: chart.names.as_slice(),
-        around: loops.as_slice(),
+        here: all,
+        before: all,
+        around: names.loops.as_slice(),
         has_new: true,
         has_second: false,
     };
-    push_all(alloc, chart, &sight, entries)
+    push_first(alloc, &names.chart, &sight, entry, quotients)
 }

@@ -1,5 +1,8 @@
 pub mod OneByOne
-pub mod Entering
+pub mod Making
 pub mod Unshown
 pub mod Owing
 pub mod Terms
+pub mod Flagging
+pub mod Supplying
+pub mod Alike

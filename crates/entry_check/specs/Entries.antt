@@ -1,5 +1,5 @@
 -- What the entries of a certificate say of obligations.
-use Rattle.std.specs.Prelude.{◌≡◌, ℕ, zero, suc, ◌-◌, ℤ, pos, negsuc, List, [], ◌∷◌, map, Bool, true, false, not, cond, ◌&&◌, ◌||◌, nat_eq, nat_le, nat_lt, length, ◌+◌, Option, None, Some, slice_index_or}
+use Rattle.std.specs.Prelude.{◌≡◌, ℕ, ◌-◌, ℤ, pos, negsuc, List, [], ◌∷◌, map, Bool, true, false, not, cond, ◌&&◌, ◌||◌, nat_eq, nat_le, nat_lt, length, ◌+◌, Option, None, Some, slice_index_or}
 use Rattle.std.specs.Option.{option_map}
 use Rattle.std.specs.Ordering.{int_eq}
 use Rattle.linear.specs.Linear.{Weighted, Form}
@@ -131,13 +131,6 @@ abbrev pub is_past : List Entry → (last : ℕ) → Bool
 is_past [] last = false
 is_past (e ∷ es) last = nat_lt last e.obligation || is_past es last
 
--- the entry at a place, counted from 1
-abbrev pub placed : List Entry → ℕ → Option Entry
-placed es zero = None
-placed [] (suc n) = None
-placed (e ∷ es) (suc zero) = Some e
-placed (e ∷ es) (suc (suc n)) = placed es (suc n)
-
--- by its number, the place of an obligation's entry
-abbrev pub IsTable : List Entry → (places : List ℕ) → Type 0
-IsTable es places = (n : ℕ) → placed es (slice_index_or places n 0) ≡ entry_of es n
+-- by their numbers, up to 65,536, which obligations have an entry
+abbrev pub AreFlags : List Entry → (flags : List Bool) → Type 0
+AreFlags es flags = (length flags ≡ 65537) × ((n : ℕ) → slice_index_or flags n false ≡ has_entry es n)

@@ -29,7 +29,7 @@ fn line_number(number: i64) -> u32
     }
 }
 
-#[tactic(auto, using(crate::proofs::Entering::made))]
+#[tactic(auto, using(crate::proofs::Making::made))]
 /// The weights of a sum, each with the number of its line.
 fn parts_of(alloc: Global, parts: &[Scaled]) -> Result<Vec<(i64, u32)>, AllocError>
     ensures { IfOk result (λ v. v.items ≡ map entries.part_of (map scaled_seen parts.now)) }
@@ -58,7 +58,7 @@ fn line_of(alloc: Global, step: &Step) -> Result<Line, AllocError>
     }
 }
 
-#[tactic(auto, using(crate::proofs::Entering::made))]
+#[tactic(auto, using(crate::proofs::Making::made))]
 /// The lines of a derivation.
 fn lines_of(alloc: Global, steps: &[Step]) -> Result<Vec<Line>, AllocError>
     ensures { IfOk result (λ v. map line_seen v.items ≡ map entries.line_of (map step_seen steps.now)) }

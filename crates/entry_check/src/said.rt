@@ -1,13 +1,11 @@
-//! What a certificate says of a kernel.
+//! What a certificate says of a kernel beside its entries.
 
-use certificate::tree::Entry;
 use certificate_notes::Names;
 use obligations::Notes;
 
-/// Notes of places and loops, all that lemmas may name, and entries.
+/// Notes of places and loops, and all that lemmas may name.
 #[derive(Drop)]
 pub struct Said<'a> {
     pub notes: &'a Notes,
     pub names: Names<'a>,
-    pub entries: &'a [Entry],
 }

@@ -1,6 +1,6 @@
 //! Obligations one by one, in the order of their numbers.
 
-ghost use Rattle.std.specs.Prelude.{◌≡◌, ◌≤◌, ◌<◌, ℕ, Option, List, [], Bool, true, IfOk, IfErr, map, length};
+ghost use Rattle.std.specs.Prelude.{◌≡◌, ◌≤◌, ◌<◌, ℕ, Option, List, [], Bool, None, true, IfOk, IfErr, map, length};
 ghost use Rattle.std.specs.List.{All};
 ghost use Rattle.arrivals.specs.Places as meaning;
 ghost use Rattle.core_code.specs.View.{kernel as core_seen};
@@ -12,16 +12,18 @@ ghost use Rattle.obligations.specs.Telling.{TellsOfItems};
 ghost use Rattle.two_thread.specs.Listed.{listed, nth_obligation, made_fit};
 ghost use Rattle.two_thread.specs.Refusals.{DoNotFit};
 ghost use Rattle.places.specs.View.{place as place_seen};
-ghost use Rattle.certificate.specs.View.{entry as entry_seen};
-ghost use Rattle.entry_check.specs.Entries.{IsTable, is_past};
+ghost use Rattle.certificate_text.specs.Rules.{rises, entry_is_before};
+ghost use Rattle.certificate.specs.EntryCursors.{left, stopped};
+ghost use Rattle.entry_check.specs.Entries.{AreFlags, is_past};
+ghost use Rattle.entry_check.specs.Supplied.{IsReady, ahead, begin_from};
 ghost use Rattle.entry_check.specs.View.{said as said_seen, stated as stated_seen};
-ghost use Rattle.entry_check.specs.Lacking.{ArePassed, IsStopped, Lacks, Passes, PassesOf, TellsBy, TellsOwing, owing};
+ghost use Rattle.entry_check.specs.Lacking.{AllPass, ArePassed, IsStopped, Lacks, Passes, PassesOf, TellsBy, TellsOwing, owing};
 
 use crate::error::ShowError;
 use crate::refuting::is_refuted_by;
 use crate::said::Said;
-use crate::table::{entry_at, flags_of, places_of};
-use certificate::tree::Entry;
+use crate::supply::Supply;
+use certificate::Entries;
 use core_code::tree::Core;
 use domain::Domain;
 use launch::conditions::Conditions;
@@ -36,19 +38,21 @@ fn show_one<D: Domain>(
     found: &Obligations<D>,
     said: &Said<'_>,
     number: usize,
-    places: &[usize],
+    supply: &Supply<'_, '_>,
 ) -> Result<(), ShowError>
     requires first { 0 < number }
     requires last { number ≤ length (listed D.Domain found.now) }
-    requires table { IsTable (map entry_seen said.now.entries.now) places.now }
+    requires few { number ≤ 65536 }
+    requires ready { IsReady supply.now }
+    requires passed { begin_from number (ahead supply.now) ≡ true }
     ensures shown { IfOk result (λ _. IsShownWithProducts (nth_obligation (listed D.Domain found.now) number)) }
-    ensures passes { IfOk result (λ _. Passes (said_seen said.now) (map entry_seen said.now.entries.now) number (nth_obligation (listed D.Domain found.now) number)) }
-    ensures lacks { IfErr result (TellsBy (IsStopped (said_seen said.now) (map entry_seen said.now.entries.now) number (nth_obligation (listed D.Domain found.now) number)) (λ _. ⊥) (DoNotFit (made_fit found.now))) }
+    ensures passes { IfOk result (λ _. Passes (said_seen said.now) (ahead supply.now) number (nth_obligation (listed D.Domain found.now) number)) }
+    ensures lacks { IfErr result (TellsBy (IsStopped (said_seen said.now) (ahead supply.now) number (nth_obligation (listed D.Domain found.now) number)) (λ _. ⊥) (DoNotFit (made_fit found.now))) }
 {
     if found.is_settled(alloc, number)? {
         return Ok(());
     }
-    let Some(entry) = entry_at(said.entries, places, number) else {
+    let Some(entry) = supply.at(number as u64) else {
         if found.is_needed(number) {
             return Err(ShowError::NotShown(number as u64));
         }
@@ -60,16 +64,26 @@ fn show_one<D: Domain>(
     Err(ShowError::NotShown(number as u64))
 }
 
-/// An entry has a number past the last.
-fn any_past(entries: &[Entry], last: u64) -> bool
-    ensures { result ≡ is_past (map entry_seen entries.now) last }
+/// All that is found is shown, by its numbers. Entries past the last one are left.
+fn show_each<D: Domain>(
+    alloc: Global,
+    found: &Obligations<D>,
+    said: &Said<'_>,
+    supply: &mut Supply<'_, '_>,
+) -> Result<(), ShowError>
+    requires { IsReady supply.old }
+    ensures shown { IfOk result (λ _. All IsShownWithProducts (listed D.Domain found.now)) }
+    ensures passed { IfOk result (λ _. AllPass (said_seen said.now) (ahead supply.old) 0 (listed D.Domain found.now)) }
+    ensures ready { IfOk result (λ _. IsReady supply.new) }
+    ensures past { IfOk result (λ _. is_past (ahead supply.new) (length (listed D.Domain found.now)) ≡ is_past (ahead supply.old) (length (listed D.Domain found.now))) }
+    ensures lacks { IfErr result (TellsBy (Lacks (said_seen said.now) (ahead supply.old) (listed D.Domain found.now)) (λ _. ⊥) (DoNotFit (made_fit found.now))) }
 {
-    for entry in entries {
-        if entry.obligation > last {
-            return true;
-        }
+    let count = found.len();
+    for i in 0..count {
+        supply.pass(i as u64)?;
+        show_one(alloc, found, said, i + 1, supply)?;
     }
-    false
+    Ok(())
 }
 
 /// All that is found is shown, by its numbers, and no entry is past the last.
@@ -77,42 +91,47 @@ fn show_found<D: Domain>(
     alloc: Global,
     found: &Obligations<D>,
     said: &Said<'_>,
-    places: &[usize],
+    entries: &mut Entries<'_>,
 ) -> Result<(), ShowError>
-    requires { IsTable (map entry_seen said.now.entries.now) places.now }
+    requires starts { stopped entries.old ≡ None }
+    requires whole { (left entries.old).fault ≡ None }
+    requires rises { rises entry_is_before (left entries.old).entries ≡ true }
     ensures shown { IfOk result (λ _. All IsShownWithProducts (listed D.Domain found.now)) }
-    ensures passed { IfOk result (λ _. ArePassed (said_seen said.now) (map entry_seen said.now.entries.now) (listed D.Domain found.now)) }
-    ensures lacks { IfErr result (TellsBy (Lacks (said_seen said.now) (map entry_seen said.now.entries.now) (listed D.Domain found.now)) (λ _. ⊥) (DoNotFit (made_fit found.now))) }
+    ensures passed { IfOk result (λ _. ArePassed (said_seen said.now) (left entries.old).entries (listed D.Domain found.now)) }
+    ensures lacks { IfErr result (TellsBy (Lacks (said_seen said.now) (left entries.old).entries (listed D.Domain found.now)) (λ _. ⊥) (DoNotFit (made_fit found.now))) }
 {
-    let count = found.len();
-    for i in 0..count {
-        show_one(alloc, found, said, i + 1, places)?;
-    }
-    if any_past(said.entries, count as u64) {
+    let mut supply = Supply::of(entries)?;
+    show_each(alloc, found, said, &mut supply)?;
+    if supply.has_past(found.len() as u64)? {
         return Err(ShowError::NotShown(0));
     }
     Ok(())
 }
 
 /// All that is to be shown of a kernel under conditions, with what is said of its places and loops, is shown by the entries of a
-/// certificate. 53 and 54 come first (all is listed before an obligation is looked at), then 52 with the number of the first obligation
-/// that stops the check, then 52 with 0 for an entry past the last.
+/// certificate, which are read one by one. 53 and 54 come first (all is listed before an obligation is looked at), then 52 with the number
+/// of the first obligation that stops the check, then 52 with 0 for an entry past the last. The flags tell which obligations have entries,
+/// and nothing is wrong with the text of the entries: whoever calls has gone over it before.
 pub fn show_all<D: Domain>(
     alloc: Global,
     core: &Core,
     conditions: &Conditions,
     places: &[Place<'_>],
     said: &Said<'_>,
+    flags: Vec<bool>,
+    entries: &mut Entries<'_>,
 ) -> Result<(), ShowError>
     requires sizes { are_sizes (core_seen core.now).sizes ≡ true }
     requires places { map place_seen places.now ≡ meaning.places (core_seen core.now).body }
     requires items { (flags : List Bool) → TellsOfItems (seen said.now.notes.now flags) }
-    ensures shown { IfOk result (λ _. All IsShownWithProducts (owing D.Domain (core_seen core.now) (conditions_seen conditions.now) (seen said.now.notes.now []) (map entry_seen said.now.entries.now))) }
-    ensures passed { IfOk result (λ _. PassesOf D.Domain (core_seen core.now) (conditions_seen conditions.now) (stated_seen said.now.names) (seen said.now.notes.now []) (map entry_seen said.now.entries.now)) }
-    ensures lacks { IfErr result (TellsOwing D.Domain (core_seen core.now) (conditions_seen conditions.now) (stated_seen said.now.names) (seen said.now.notes.now []) (map entry_seen said.now.entries.now)) }
+    requires starts { stopped entries.old ≡ None }
+    requires whole { (left entries.old).fault ≡ None }
+    requires rises { rises entry_is_before (left entries.old).entries ≡ true }
+    requires flags { AreFlags (left entries.old).entries flags.items }
+    ensures shown { IfOk result (λ _. All IsShownWithProducts (owing D.Domain (core_seen core.now) (conditions_seen conditions.now) (seen said.now.notes.now []) (left entries.old).entries)) }
+    ensures passed { IfOk result (λ _. PassesOf D.Domain (core_seen core.now) (conditions_seen conditions.now) (stated_seen said.now.names) (seen said.now.notes.now []) (left entries.old).entries) }
+    ensures lacks { IfErr result (TellsOwing D.Domain (core_seen core.now) (conditions_seen conditions.now) (stated_seen said.now.names) (seen said.now.notes.now []) (left entries.old).entries) }
 {
-    let rows = places_of(alloc, said.entries)?;
-    let flags = flags_of(alloc, said.entries, rows.as_slice())?;
     let found = find::<D>(alloc, core, conditions, said.notes, places, flags)?;
-    show_found(alloc, &found, said, rows.as_slice())
+    show_found(alloc, &found, said, entries)
 }

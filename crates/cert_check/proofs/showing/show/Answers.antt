@@ -1,56 +1,49 @@
-use Rattle.std.proofs.Common.{◌≡◌, true, false, subst, map, Bool, List, []}
-use Rattle.std.specs.Option.{option_map}
+use Rattle.std.proofs.Common.{◌≡◌, true, ap, sym, subst, map, []}
+use Rattle.std.specs.Prelude.{IfOk}
 use Rattle.core_code.specs.View.{kernel}
 use Rattle.syntax.specs.View.{kernel as tree}
 use Rattle.launch.specs.View.{conditions}
+use Rattle.facts.specs.Launching.{are_sizes}
+use Rattle.arrivals.specs.Places.{places}
 use Rattle.places.specs.View.{place}
 use Rattle.obligations.specs.View.{seen}
-use Rattle.obligations.specs.Telling.{TellsOfItems}
-use Rattle.certificate_notes.specs.Noted.{noted, stated}
-use Rattle.certificate_notes.specs.Noting.{lacks}
-use Rattle.certificate_notes.specs.NotesView as views
+use Rattle.certificate_notes.specs.Noted.{lemma_form, stated}
+use Rattle.certificate_notes.specs.NamesView.{names}
 use Rattle.plain_kernels.specs.Domains.{domain}
-use Rattle.certificate.specs.Certificates.{certificate}
-use Rattle.certificate.specs.View.{entry}
+use Rattle.certificate.specs.EntryCursors.{left}
 use Rattle.entry_check.specs.Lacking.{PassesOf, TellsOf}
-use Rattle.cert_check.specs.Checked.{PassesWith, Unshown}
-use Rattle.cert_check.proofs.Handing.{mapped, follows, of_none, of_some}
-use Rattle.cert_check.proofs.Saying.{is_said}
-use Rattle.cert_check.proofs.Unshown.{lacks_unshown, passes_with, unshown}
+use Rattle.cert_check.specs.Checked.{AllIsShown}
+use Rattle.cert_check.proofs.Handing.{mapped, follows}
+use Rattle.cert_check.proofs.Unshown.{passes_named, tells_named}
 use Rattle.cert_check.proofs.showing.show.Goals as goal
 
-pub returns-in-Ok-None-clause-lacks : goal.returns-in-Ok-None-clause-lacks
-returns-in-Ok-None-clause-lacks c =
-    let k = kernel c.args.typed.now.1 in
-    let source = tree c.args.typed.now.0 in
-    let ps = map place c.args.places.now in
-    let cert = certificate c.args.certificate.now in
-    let h = of_none c.in-Ok-None.field-0 (lacks k source ps cert ≡ true) (λ _. lacks k source ps cert ≡ false) c.in-Ok-None.field-0-is c.in-Ok-None.ensures.lacks in
-    lacks_unshown k source (conditions c.args.conditions.now) cert ps c.requires.places h
+pub show_noted-requires-clause-sizes : goal.show_noted-requires-clause-sizes
+show_noted-requires-clause-sizes c = subst (λ x. are_sizes (kernel x).sizes ≡ true) (sym c.core.ensures.value) c.requires.sizes
 
-pub show_entries-requires-clause-items : goal.show_entries-requires-clause-items
-show_entries-requires-clause-items c = of_some c.in-Ok-Some.field-0 c.in-Ok-Some.notes (λ n. (flags : List Bool) → TellsOfItems (seen n flags)) c.in-Ok-Some.field-0-is c.in-Ok-Some.ensures.items
+pub show_noted-requires-clause-places : goal.show_noted-requires-clause-places
+show_noted-requires-clause-places c = subst (λ x. map place c.args.places.now ≡ places (kernel x).body) (sym c.core.ensures.value) c.requires.places
 
 pub returns-clause-passed : goal.returns-clause-passed
 returns-clause-passed c =
     let k = kernel c.args.typed.now.1 in
+    let k' = kernel c.core.result.now in
     let source = tree c.args.typed.now.0 in
     let cond = conditions c.args.conditions.now in
-    let ps = map place c.args.places.now in
-    let cert = certificate c.args.certificate.now in
-    let n = c.in-Ok-Some.notes in
-    let es = map entry c.entries-entries.result.now in
-    let said = is_said k source cert ps n c.requires.places (subst (λ x. option_map views.notes x ≡ noted k source ps cert) c.in-Ok-Some.field-0-is c.in-Ok-Some.ensures.all) in
-    follows c.show_entries.result (PassesOf domain k cond (stated k source) (seen n []) es) (PassesWith k source cond cert) (passes_with k source cond cert es (seen n []) c.entries-entries.ensures said) c.show_entries.ensures.passed
+    let es = (left c.args.entries.now).entries in
+    let n = seen c.args.notes.now [] in
+    let chart = names c.in-Ok.names in
+    follows c.show_noted.result (PassesOf domain k' cond (lemma_form chart) n es) (PassesOf domain k cond (stated k source) n es) (passes_named k k' source cond n es chart (ap kernel c.core.ensures.value) c.in-Ok.ensures) c.show_noted.ensures.passed
+
+pub returns-clause-shown : goal.returns-clause-shown
+returns-clause-shown c = subst (λ x. IfOk c.show_noted.result (λ _. AllIsShown (kernel x) (conditions c.args.conditions.now))) c.core.ensures.value c.show_noted.ensures.shown
 
 pub returns-clause-lacks : goal.returns-clause-lacks
 returns-clause-lacks c =
     let k = kernel c.args.typed.now.1 in
+    let k' = kernel c.core.result.now in
     let source = tree c.args.typed.now.0 in
     let cond = conditions c.args.conditions.now in
-    let ps = map place c.args.places.now in
-    let cert = certificate c.args.certificate.now in
-    let n = c.in-Ok-Some.notes in
-    let es = map entry c.entries-entries.result.now in
-    let said = is_said k source cert ps n c.requires.places (subst (λ x. option_map views.notes x ≡ noted k source ps cert) c.in-Ok-Some.field-0-is c.in-Ok-Some.ensures.all) in
-    mapped c.show_entries.result (TellsOf domain k cond (stated k source) (seen n []) es) (Unshown k source cond cert) (unshown k source cond cert es (seen n []) c.entries-entries.ensures said) c.show_entries.ensures.lacks
+    let es = (left c.args.entries.now).entries in
+    let n = seen c.args.notes.now [] in
+    let chart = names c.in-Ok.names in
+    mapped c.show_noted.result (TellsOf domain k' cond (lemma_form chart) n es) (TellsOf domain k cond (stated k source) n es) (tells_named k k' source cond n es chart (ap kernel c.core.ensures.value) c.in-Ok.ensures) c.show_noted.ensures.lacks

@@ -1,6 +1,6 @@
-use Rattle.std.proofs.Common.{rules, ◌≡◌, [], map, ap, subst, IfOk, ◌∙◌}
+use Rattle.std.proofs.Common.{rules, ◌≡◌, [], ap, subst, IfOk, ◌∙◌}
 use Rattle.std.specs.List.{All}
-use Rattle.certificate.specs.View.{entry}
+use Rattle.certificate.specs.EntryCursors.{left}
 use Rattle.core_code.specs.View.{kernel}
 use Rattle.launch.specs.View.{conditions}
 use Rattle.facts.proofs.Unmade.{passed}
@@ -23,9 +23,9 @@ returns-clause-shown g c =
     let d = g.D.Domain in
     let k = kernel c.args.core.now in
     let cs = conditions c.args.conditions.now in
-    let es = map entry c.args.said.now.entries.now in
+    let es = (left c.args.entries.now).entries in
     let n = seen c.args.said.now.notes.now [] in
-    let same : listed d c.in_ok-found.found ≡ owing d k cs n es = c.in_ok-found.ensures.listed ∙ ap (obligations d k cs) (same_notes es c.args.said.now.notes.now c.in_ok-flags.flags.items c.in_ok-flags.ensures) in
+    let same : listed d c.in_ok-found.found ≡ owing d k cs n es = c.in_ok-found.ensures.listed ∙ ap (obligations d k cs) (same_notes es c.args.said.now.notes.now c.args.flags.items c.requires.flags.1) in
     subst (λ os. IfOk c.show_found.result (λ _. All IsShownWithProducts os)) same c.show_found.ensures.shown
 
 pub returns-in_err-found-clause-lacks : goal.returns-in_err-found-clause-lacks
@@ -33,25 +33,25 @@ returns-in_err-found-clause-lacks g c =
     let d = g.D.Domain in
     let k = kernel c.args.core.now in
     let cs = conditions c.args.conditions.now in
-    let es = map entry c.args.said.now.entries.now in
+    let es = (left c.args.entries.now).entries in
     let n = seen c.args.said.now.notes.now [] in
     let e = c.in_err-found.field-0.0 in
-    let x = seen c.args.said.now.notes.now c.in_ok-flags.flags.items in
+    let x = seen c.args.said.now.notes.now c.args.flags.items in
     let u : IsUnfound d k cs x e = search rules in
-    passed c.from_residual-in_err-found.result (show_of e) (TellsOwing d k cs (stated c.args.said.now.names) n es) c.from_residual-in_err-found.ensures.1
-    (told_unfound d k cs (stated c.args.said.now.names) es n e (subst (λ y. IsUnfound d k cs y e) (same_notes es c.args.said.now.notes.now c.in_ok-flags.flags.items c.in_ok-flags.ensures) u))
+    passed c.from_residual.result (show_of e) (TellsOwing d k cs (stated c.args.said.now.names) n es) c.from_residual.ensures.1
+    (told_unfound d k cs (stated c.args.said.now.names) es n e (subst (λ y. IsUnfound d k cs y e) (same_notes es c.args.said.now.notes.now c.args.flags.items c.requires.flags.1) u))
 
 pub returns-clause-lacks : goal.returns-clause-lacks
 returns-clause-lacks g c =
     let d = g.D.Domain in
     let k = kernel c.args.core.now in
     let cs = conditions c.args.conditions.now in
-    let es = map entry c.args.said.now.entries.now in
+    let es = (left c.args.entries.now).entries in
     let n = seen c.args.said.now.notes.now [] in
     let q = said_seen c.args.said.now in
     let f = c.in_ok-found.found in
-    let noted = same_notes es c.args.said.now.notes.now c.in_ok-flags.flags.items c.in_ok-flags.ensures in
-    let x = seen c.args.said.now.notes.now c.in_ok-flags.flags.items in
+    let noted = same_notes es c.args.said.now.notes.now c.args.flags.items c.requires.flags.1 in
+    let x = seen c.args.said.now.notes.now c.args.flags.items in
     let same : listed d f ≡ owing d k cs n es = c.in_ok-found.ensures.listed ∙ ap (obligations d k cs) noted in
     let l : AreListed d k cs n es = are_listed d k cs es n x f noted c.in_ok-found.ensures.listed c.in_ok-found.ensures.few c.in_ok-found.ensures.fits in
     let unfit = DoNotFit (made_fit f) in
@@ -64,12 +64,12 @@ returns-clause-passed g c =
     let d = g.D.Domain in
     let k = kernel c.args.core.now in
     let cs = conditions c.args.conditions.now in
-    let es = map entry c.args.said.now.entries.now in
+    let es = (left c.args.entries.now).entries in
     let n = seen c.args.said.now.notes.now [] in
     let q = said_seen c.args.said.now in
     let f = c.in_ok-found.found in
-    let noted = same_notes es c.args.said.now.notes.now c.in_ok-flags.flags.items c.in_ok-flags.ensures in
-    let x = seen c.args.said.now.notes.now c.in_ok-flags.flags.items in
+    let noted = same_notes es c.args.said.now.notes.now c.args.flags.items c.requires.flags.1 in
+    let x = seen c.args.said.now.notes.now c.args.flags.items in
     let same : listed d f ≡ owing d k cs n es = c.in_ok-found.ensures.listed ∙ ap (obligations d k cs) noted in
     let l : AreListed d k cs n es = are_listed d k cs es n x f noted c.in_ok-found.ensures.listed c.in_ok-found.ensures.few c.in_ok-found.ensures.fits in
     gains (ArePassed q es (owing d k cs n es)) (AreListed d k cs n es) c.show_found.result l (subst (λ os. IfOk c.show_found.result (λ _. ArePassed q es os)) same c.show_found.ensures.passed)

@@ -8,6 +8,7 @@
 mod earlier;
 mod flows;
 mod group;
+mod indexes;
 pub mod laws;
 mod loads;
 mod local_id;

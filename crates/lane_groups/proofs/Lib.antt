@@ -14,6 +14,7 @@ pub mod Alike
 pub mod Going_on
 pub mod Filling
 pub mod Storing
+pub mod Last_on
 pub mod Lying
 pub mod Based
 pub mod Standings

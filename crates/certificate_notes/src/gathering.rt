@@ -29,8 +29,8 @@ use obligations::Notes;
 use places::Place;
 use std::alloc::Global;
 
-/// The notes that a certificate makes of a kernel, while its entries are taken one by one. That one names what the kernel lacks is kept, and
-/// nothing else any more.
+/// The notes that a certificate makes of a kernel, while its entries are taken one by one. Once one names what the kernel lacks, that
+/// alone is kept.
 #[derive(Drop)]
 pub struct Gathering {
     notes: Option<Notes>,

@@ -143,8 +143,8 @@ struct Errand {
 const MOST: u32 = 65_536;
 
 impl Ahead {
-    /// The paths that were found, and how many claims stand behind them, where so many stand before the place, or the numbers of claims make
-    /// no difference.
+    /// The paths that were found, and how many claims stand behind them, where so many stand before the place, or the numbers of claims
+    /// make no difference.
     fn fitting(self, claims: u32, makes_none: bool) -> Option<(u32, Vec<OwnPath<Elements>>)> {
         let Ahead {
             claims: supposed,

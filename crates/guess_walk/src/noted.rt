@@ -59,8 +59,8 @@ impl<'a> Noted<'a> {
         }
     }
 
-    /// The claims of a walk in which the claims that are flagged have an entry, by so many workers at most; what was found before with other
-    /// flags spares work.
+    /// The claims of a walk in which the claims that are flagged have an entry, by so many workers at most; what was found before with
+    /// other flags spares work.
     pub fn claims<R: Threads + Sync>(
         &self,
         rt: &R,

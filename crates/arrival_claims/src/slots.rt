@@ -74,7 +74,7 @@ fn same_kind(left: Kind, right: Kind) -> bool
     ensures { result ≡ roots.same_kind (kind_seen left) (kind_seen right) }
 {
     match (left, right) {
-        (Kind::Int, Kind::Int) | (Kind::Uint, Kind::Uint) => true,
+        (Kind::Int, Kind::Int) | (Kind::Uint, Kind::Uint) | (Kind::Size, Kind::Size) => true,
         _ => false,
     }
 }

@@ -14,7 +14,7 @@ fn push_range(out: &mut String, range: CountRange) -> Result<(), AllocError> {
 fn push_word(out: &mut String, word: Word) -> Result<(), AllocError> {
     match word {
         Word::Int(value) => write!(out, "{value}"),
-        Word::Uint(value) => write!(out, "{value}u"),
+        Word::Uint(value) | Word::Size(value) => write!(out, "{value}u"),
     }
 }
 

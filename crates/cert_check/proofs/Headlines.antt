@@ -3,11 +3,11 @@ use Rattle.std.proofs.Common.{◌≡◌, ℕ, ◌<◌, ◌↔◌, Bool, true, fa
 use Rattle.semantics.specs.Launch.{Kernel, Launch, Fits, product}
 use Rattle.semantics.specs.Conditions.{Content, Conditions, Meets}
 use Rattle.semantics.specs.Contents.{IsKept}
-use Rattle.semantics.specs.Setup.{Setup, group_size}
+use Rattle.semantics.specs.Setup.{Setup, at_launch, group_size}
 use Rattle.semantics.specs.Memory.{opening_memory}
 use Rattle.semantics.specs.Safety.{IsPairSafe, IsPairSafeWithin}
 use Rattle.semantics.specs.Headline.{Headline}
-use Rattle.cert_check.specs.Accepting.{at_launch, IsAccepted, IsAcceptedWithin, IsAcceptedBy, HasHeadline}
+use Rattle.cert_check.specs.Accepting.{IsAccepted, IsAcceptedWithin, IsAcceptedBy, HasHeadline}
 
 -- by the law of pair-safety without lines
 pub accepted_within : (k : Kernel) (c : Conditions) → ((s : Setup) (bound : ℕ) → IsPairSafeWithin [] s bound ↔ IsPairSafe s bound) → 0 < product k.sizes → ((l : Launch) → Fits k l → Meets c l → IsPairSafeWithin c.contents (at_launch k l) c.budget) → IsAcceptedWithin k c

@@ -23,7 +23,7 @@ use Rattle.plain_kernels.specs.Domains.{domain}
 use Rattle.plain_kernels.specs.Claims.{is_range}
 use Rattle.plain_kernels.specs.Kernels.{HasLimits, IsPlain, has_signed}
 use Rattle.certificate_notes.specs.Noted.{stated}
-use Rattle.entry_check.specs.Lacking.{Stops, owing, said, with_entries}
+use Rattle.entry_check.specs.Lacking.{Stops, UnfitOf, owing, owing_fits, said, with_entries}
 use Rattle.entry_check.specs.declared.error.ShowError.{ShowError}
 use Rattle.entry_check.specs.declared.error.ShowError.TheVariants as shows
 use Rattle.cert_check.specs.Refusing.{AreRead, Shows}
@@ -31,6 +31,7 @@ use Rattle.cert_check.specs.Checked as checked
 use Rattle.cert_check.specs.Plainly.{IsUnrefuted, IsOwnRange, TellsPlain, OnPlainBy}
 use Rattle.cert_check.specs.declared.error.CheckError.{CheckError}
 use Rattle.cert_check.specs.declared.error.CheckError.TheVariants as errors
+use Rattle.walk.proofs.OwnForms.{trees_do_fit, own_do_fit}
 
 -- where a place has one path, none has many
 few_paths : {E : Type 0} (s : Option ℕ) (t : Planted E) (ts : List (Planted E)) → ts ≡ t ∷ [] → leaves t.claims t.tree ≡ 1 → IsFirstOfMany s ts → ⊥
@@ -51,10 +52,13 @@ module _ (laws : Laws) (k : semantics.Kernel) (tree : surface.Kernel) (c : Condi
   not_many : (n : Notes) (s : Option ℕ) → IsFirstOfMany s (all_trees domain k c n) → ⊥
   not_many n s m = let t = laws.one_tree k c n limits plain in few_paths s t.0 (all_trees domain k c n) t.1 t.2 m
 
-  named : (n : Notes) (i : ℕ) → Stops (said n (stated k tree)) cert.entries 0 (owing domain k c n cert.entries) (suc i) → IsUnrefuted k tree c n cert (suc i) × IsOwnRange k cert (suc i)
-  named n i (o, (j, e, l, q), (s, a, r), p) =
+  named : (n : Notes) (i : ℕ) → Stops (said n (stated k tree)) cert.entries (owing_fits domain k c n cert.entries) 0 (owing domain k c n cert.entries) (suc i) → IsUnrefuted k tree c n cert (suc i) × IsOwnRange k cert (suc i)
+  named n i (o, (j, e, l, q), (f, s, a, r), p) =
       let m : j ≡ i = omega (arith, e) in
       ((o, (j, e, l, q), r), λ b. laws.ranges k c (with_entries cert.entries n) i o limits plain b (subst (λ x. o ≡ get_or (owing domain k c n cert.entries) x o) m q) s a)
+
+  none_unfit : (n : Notes) → UnfitOf domain k c (stated k tree) n cert.entries → ⊥
+  none_unfit n (l, (m, o, at, u, p)) = false≢true (sym u ∙ own_do_fit domain k c (with_entries cert.entries n) (laws.fit k c (with_entries cert.entries n) limits plain) m)
 
   pub tells_plain : (e : ShowError) → Shows k tree c cert e → TellsPlain k tree c cert e
   tells_plain (shows.NotShown zero) (inl h) = inl h
@@ -62,7 +66,8 @@ module _ (laws : Laws) (k : semantics.Kernel) (tree : surface.Kernel) (c : Condi
   tells_plain (shows.NotShown (suc i)) (n, said, h) = let p = named n i h.1 in (n, said, p.0, p.1)
   tells_plain (shows.ManyPaths s) h = h
   tells_plain (shows.Walk walks.TooMany) h = h
-  tells_plain (shows.Walk walks.TooLarge) (n, said, h) = false≢true (sym h ∙ laws.fit k c (with_entries cert.entries n) limits plain)
+  tells_plain (shows.Walk walks.TooLarge) (n, said, inl h) = false≢true (sym h ∙ trees_do_fit domain k c (with_entries cert.entries n) (laws.fit k c (with_entries cert.entries n) limits plain))
+  tells_plain (shows.Walk walks.TooLarge) (n, said, inr h) = none_unfit n h
   tells_plain (shows.Walk walks.Memory) h = tt
   tells_plain shows.OverBudget (n, said, h) = (n, said, h.1)
   tells_plain shows.Memory h = tt

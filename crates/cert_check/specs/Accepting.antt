@@ -2,12 +2,9 @@
 use Rattle.std.specs.Prelude.{◌≡◌, ◌<◌, [], Bool, true, false, length}
 use Rattle.semantics.specs.Launch.{Kernel, Launch, Fits, product}
 use Rattle.semantics.specs.Conditions.{Conditions, Meets}
-use Rattle.semantics.specs.Setup.{Setup}
+use Rattle.semantics.specs.Setup.{at_launch}
 use Rattle.semantics.specs.Safety.{IsPairSafe, IsPairSafeWithin}
 use Rattle.semantics.specs.Headline.{Headline}
-
-abbrev pub at_launch : Kernel → Launch → Setup
-at_launch k l = record { kernel = k; launch = l }
 
 -- a work-group has work-items, and at each launch that meets the conditions the kernel is pair-safe within the budget
 pub record IsAccepted (k : Kernel) (c : Conditions) : Type 0 where

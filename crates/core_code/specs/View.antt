@@ -66,7 +66,7 @@ unary_operator (unary.ShiftRight by) = word.ShiftRight by
 abbrev pub term : Term → core.Term
 term (Literal k n) = core.Literal (kind k) (pos n)
 term (Variable slot) = core.Variable slot
-term (Id f d) = core.Id (function f) d
+term (Id k f d) = core.Id (kind k) (function f) d
 term (Load' a s p index) = core.Load (array a) (site s) (term index)
 term (Unary' op k s p t) = core.Unary (unary_operator op) (kind k) (site s) (term t)
 term (Binary' op k s p left q right) = core.Binary (operator op) (kind k) (site s) (term left) (term right)

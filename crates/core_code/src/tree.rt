@@ -4,7 +4,7 @@ ghost use Rattle.std.specs.Prelude.{◌≡◌};
 ghost use Rattle.semantics.specs.Core as core;
 ghost use Rattle.semantics.specs.Evaluation as evaluation;
 ghost use Rattle.semantics.specs.Item as items;
-ghost use Rattle.words.specs.View.{kind as kind_seen, word as word_seen};
+ghost use Rattle.words.specs.View.{kind as kind_seen, value_of, word as word_seen};
 ghost use Rattle.core_code.specs.View.{relation as relation_seen, statement as statement_seen, statements as statements_seen};
 
 use words::{Kind, Word, read_as};
@@ -40,13 +40,23 @@ pub enum Relation {
     Unequal,
 }
 
+/// The number of an operand, brought to a kind (C99 6.3.1.8); at a size the number itself, whose conversion stands in the term.
+fn operand(kind: Kind, of: Word) -> i64
+    ensures { result ≡ evaluation.operand (kind_seen kind) (value_of of) }
+{
+    match kind {
+        Kind::Int | Kind::Uint => read_as(of, kind).value(),
+        Kind::Size => of.value(),
+    }
+}
+
 impl Relation {
-    /// Whether it holds of two operands, each brought to a kind (C99 6.5.8, 6.5.9).
+    /// Whether it holds of two operands, each brought to a kind (C99 6.5.8, 6.5.9); those of sizes are compared as they are.
     pub fn compare(self, kind: Kind, left: Word, right: Word) -> bool
         ensures { result ≡ evaluation.compare (relation_seen self) (kind_seen kind) (word_seen left) (word_seen right) }
     {
-        let left = read_as(left, kind).value();
-        let right = read_as(right, kind).value();
+        let left = operand(kind, left);
+        let right = operand(kind, right);
         match self {
             Relation::Less => left < right,
             Relation::AtMost => left <= right,
@@ -103,6 +113,7 @@ pub enum Term {
         slot: u32,
     },
     Id {
+        kind: Kind,
         function: Function,
         dimension: u32,
     },

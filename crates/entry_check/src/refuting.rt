@@ -4,7 +4,7 @@ ghost use Rattle.std.specs.Prelude.{◌≡◌, ◌≤◌, ◌<◌, ◌&&◌, IfO
 ghost use Rattle.walk_trees.specs.Shown.{IsShownWithProducts};
 ghost use Rattle.certificate.specs.View.{entry as entry_seen};
 ghost use Rattle.two_thread.specs.Goals.{maybe_forms};
-ghost use Rattle.two_thread.specs.Listed.{listed, nth_obligation, made_fit};
+ghost use Rattle.two_thread.specs.Listed.{listed, nth_obligation, nth_fits, found_fits};
 ghost use Rattle.two_thread.specs.Refusals.{DoNotFit};
 ghost use Rattle.entry_check.specs.Entries as entries;
 ghost use Rattle.entry_check.specs.View.{stated as stated_seen, said as said_seen};
@@ -28,7 +28,7 @@ fn facts_for<D: Domain>(
 ) -> Result<Option<Vec<Form>>, WalkError>
     requires first { 0 < number }
     requires last { number ≤ length (listed D.Domain found.now) }
-    ensures { MatchResult result (λ fs. maybe_forms fs ≡ entries.facts_for (entry_seen entry.now).sort (nth_obligation (listed D.Domain found.now) number)) (DoNotFit (made_fit found.now)) }
+    ensures { MatchResult result (λ fs. maybe_forms fs ≡ entries.facts_for (entry_seen entry.now).sort (nth_obligation (listed D.Domain found.now) number)) (DoNotFit (nth_fits (found_fits found.now) number)) }
 {
     found.facts(alloc, number, manner_of(&entry.sort))
 }
@@ -43,7 +43,7 @@ pub fn is_refuted_by<D: Domain>(
 ) -> Result<bool, WalkError>
     requires first { 0 < number }
     requires last { number ≤ length (listed D.Domain found.now) }
-    ensures exact { MatchResult result (λ b. b ≡ (entries.names_one (said_seen said.now).quotient number (nth_obligation (listed D.Domain found.now) number) && entries.refutes_by (stated_seen said.now.names) (entry_seen entry.now) (nth_obligation (listed D.Domain found.now) number))) (DoNotFit (made_fit found.now)) }
+    ensures exact { MatchResult result (λ b. b ≡ (entries.names_one (said_seen said.now).quotient number (nth_obligation (listed D.Domain found.now) number) && entries.refutes_by (stated_seen said.now.names) (entry_seen entry.now) (nth_obligation (listed D.Domain found.now) number))) (DoNotFit (nth_fits (found_fits found.now) number)) }
     ensures shown { IfOk result (λ b. IsTrue b → IsShownWithProducts (nth_obligation (listed D.Domain found.now) number)) }
 {
     if !names_one(alloc, found, said.notes, number) {

@@ -9,7 +9,7 @@ ghost use Rattle.facts.specs.Launching.{are_sizes};
 ghost use Rattle.walk_trees.specs.Shown.{IsShownWithProducts};
 ghost use Rattle.obligations.specs.View.{seen};
 ghost use Rattle.obligations.specs.Telling.{TellsOfItems};
-ghost use Rattle.two_thread.specs.Listed.{listed, nth_obligation, made_fit};
+ghost use Rattle.two_thread.specs.Listed.{listed, nth_obligation, nth_fits, found_fits};
 ghost use Rattle.two_thread.specs.Refusals.{DoNotFit};
 ghost use Rattle.places.specs.View.{place as place_seen};
 ghost use Rattle.certificate_text.specs.Rules.{rises, entry_is_before};
@@ -17,7 +17,7 @@ ghost use Rattle.certificate.specs.EntryCursors.{left, stopped};
 ghost use Rattle.entry_check.specs.Entries.{AreFlags, is_past};
 ghost use Rattle.entry_check.specs.Supplied.{IsReady, ahead, begin_from};
 ghost use Rattle.entry_check.specs.View.{said as said_seen, stated as stated_seen};
-ghost use Rattle.entry_check.specs.Lacking.{AllPass, ArePassed, IsStopped, Lacks, Passes, PassesOf, TellsBy, TellsOwing, owing};
+ghost use Rattle.entry_check.specs.Lacking.{AllPass, ArePassed, HasUnfit, IsStopped, Lacks, Passes, PassesOf, TellsBy, TellsOwing, WalkTells, owing};
 
 use crate::error::ShowError;
 use crate::refuting::is_refuted_by;
@@ -32,7 +32,7 @@ use std::alloc::Global;
 use two_thread::Obligations;
 use walk::find;
 
-/// An obligation is settled, or refuted by its entry, or is not needed and has no entry.
+/// An obligation is settled, or refuted by its entry, or is not needed and has no entry. Whichever it is, its own forms come first.
 fn show_one<D: Domain>(
     alloc: Global,
     found: &Obligations<D>,
@@ -46,9 +46,10 @@ fn show_one<D: Domain>(
     requires ready { IsReady supply.now }
     requires passed { begin_from number (ahead supply.now) ≡ true }
     ensures shown { IfOk result (λ _. IsShownWithProducts (nth_obligation (listed D.Domain found.now) number)) }
-    ensures passes { IfOk result (λ _. Passes (said_seen said.now) (ahead supply.now) number (nth_obligation (listed D.Domain found.now) number)) }
-    ensures lacks { IfErr result (TellsBy (IsStopped (said_seen said.now) (ahead supply.now) number (nth_obligation (listed D.Domain found.now) number)) (λ _. ⊥) (DoNotFit (made_fit found.now))) }
+    ensures passes { IfOk result (λ _. Passes (said_seen said.now) (ahead supply.now) (nth_fits (found_fits found.now) number) number (nth_obligation (listed D.Domain found.now) number)) }
+    ensures lacks { IfErr result (TellsBy (IsStopped (said_seen said.now) (ahead supply.now) (nth_fits (found_fits found.now) number) number (nth_obligation (listed D.Domain found.now) number)) (λ _. ⊥) (DoNotFit (nth_fits (found_fits found.now) number))) }
 {
+    found.try_forms(alloc, number)?;
     if found.is_settled(alloc, number)? {
         return Ok(());
     }
@@ -73,10 +74,10 @@ fn show_each<D: Domain>(
 ) -> Result<(), ShowError>
     requires { IsReady supply.old }
     ensures shown { IfOk result (λ _. All IsShownWithProducts (listed D.Domain found.now)) }
-    ensures passed { IfOk result (λ _. AllPass (said_seen said.now) (ahead supply.old) 0 (listed D.Domain found.now)) }
+    ensures passed { IfOk result (λ _. AllPass (said_seen said.now) (ahead supply.old) (found_fits found.now) 0 (listed D.Domain found.now)) }
     ensures ready { IfOk result (λ _. IsReady supply.new) }
     ensures past { IfOk result (λ _. is_past (ahead supply.new) (length (listed D.Domain found.now)) ≡ is_past (ahead supply.old) (length (listed D.Domain found.now))) }
-    ensures lacks { IfErr result (TellsBy (Lacks (said_seen said.now) (ahead supply.old) (listed D.Domain found.now)) (λ _. ⊥) (DoNotFit (made_fit found.now))) }
+    ensures lacks { IfErr result (TellsBy (Lacks (said_seen said.now) (ahead supply.old) (found_fits found.now) (listed D.Domain found.now)) (λ _. ⊥) (WalkTells ⊥ (HasUnfit (said_seen said.now) (ahead supply.old) (found_fits found.now) 0 (listed D.Domain found.now)))) }
 {
     let count = found.len();
     for i in 0..count {
@@ -97,8 +98,8 @@ fn show_found<D: Domain>(
     requires whole { (left entries.old).fault ≡ None }
     requires rises { rises entry_is_before (left entries.old).entries ≡ true }
     ensures shown { IfOk result (λ _. All IsShownWithProducts (listed D.Domain found.now)) }
-    ensures passed { IfOk result (λ _. ArePassed (said_seen said.now) (left entries.old).entries (listed D.Domain found.now)) }
-    ensures lacks { IfErr result (TellsBy (Lacks (said_seen said.now) (left entries.old).entries (listed D.Domain found.now)) (λ _. ⊥) (DoNotFit (made_fit found.now))) }
+    ensures passed { IfOk result (λ _. ArePassed (said_seen said.now) (left entries.old).entries (found_fits found.now) (listed D.Domain found.now)) }
+    ensures lacks { IfErr result (TellsBy (Lacks (said_seen said.now) (left entries.old).entries (found_fits found.now) (listed D.Domain found.now)) (λ _. ⊥) (WalkTells ⊥ (HasUnfit (said_seen said.now) (left entries.old).entries (found_fits found.now) 0 (listed D.Domain found.now)))) }
 {
     let mut supply = Supply::of(entries)?;
     show_each(alloc, found, said, &mut supply)?;
@@ -109,9 +110,10 @@ fn show_found<D: Domain>(
 }
 
 /// All that is to be shown of a kernel under conditions, with what is said of its places and loops, is shown by the entries of a
-/// certificate, which are read one by one. 53 and 54 come first (all is listed before an obligation is looked at), then 52 with the number
-/// of the first obligation that stops the check, then 52 with 0 for an entry past the last. The flags tell which obligations have entries,
-/// and nothing is wrong with the text of the entries: whoever calls has gone over it before.
+/// certificate, which are read one by one. 53, and 54 of a tree, come first (all is listed before an obligation is looked at). Then the
+/// first obligation that stops the check decides: 54 where its own forms are not of `i64`, else 52 with its number. Then comes 52 with 0
+/// for an entry past the last. The flags tell which obligations have entries, and nothing is wrong with the text of the entries: whoever
+/// calls has gone over it before.
 pub fn show_all<D: Domain>(
     alloc: Global,
     core: &Core,

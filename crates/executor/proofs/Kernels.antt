@@ -4,7 +4,7 @@ use Rattle.std.proofs.lemmas.List.{length-map}
 use Rattle.std.proofs.lemmas.Slice.Zip.{AllZip-long}
 use Rattle.std.specs.List.{AllZip}
 use Rattle.semantics.specs.Launch.{Kernel, Launch, IsArgument, IsBuffer, product}
-use Rattle.semantics.specs.Setup.{group_size}
+use Rattle.semantics.specs.Setup.{group_size, at_launch}
 use Rattle.std.specs.Prelude.{Vec}
 use Rattle.std.specs.declared.alloc.Global.{Global}
 use Rattle.words.specs.View.{word}
@@ -12,7 +12,6 @@ use Rattle.launch.specs.View.{argument_range, length_sum, buffer}
 use Rattle.launch.specs.declared.conditions.ArgumentRange.{ArgumentRange}
 use Rattle.launch.specs.declared.conditions.Length.{Length}
 use Rattle.words.specs.declared.word.Word as code
-use Rattle.cert_check.specs.Accepting.{at_launch}
 
 pub some-items : (k : Kernel) (l : Launch) → 0 < product k.sizes → 0 < group_size (at_launch k l)
 unfolding group_size

@@ -3,12 +3,11 @@
 ghost use Rattle.std.specs.Prelude.{◌≡◌, ◌<◌, ℕ, IfOk};
 ghost use Rattle.semantics.specs.Launch.{Fits};
 ghost use Rattle.semantics.specs.Conditions.{Meets};
-ghost use Rattle.semantics.specs.Setup.{group_count};
+ghost use Rattle.semantics.specs.Setup.{group_count, at_launch};
 ghost use Rattle.semantics.specs.Rounds.{group_log};
 ghost use Rattle.core_code.specs.View.{kernel as core_seen};
 ghost use Rattle.launch.specs.View.{launch as launch_seen, conditions as conditions_seen};
 ghost use Rattle.cert_check.specs.View.{typed_of, kept};
-ghost use Rattle.cert_check.specs.Accepting.{at_launch};
 ghost use Rattle.write_log.specs.Written.{written};
 
 use cert_check::Accepted;

@@ -1,12 +1,12 @@
 //! The run of a launch.
 
 ghost use Rattle.std.specs.Prelude.{◌≡◌, ◌≤◌, ℕ, IfOk, map, length};
+ghost use Rattle.semantics.specs.Setup.{at_launch};
 ghost use Rattle.semantics.specs.Launch.{Fits};
 ghost use Rattle.semantics.specs.Conditions.{Meets};
 ghost use Rattle.core_code.specs.View.{kernel as core_seen};
 ghost use Rattle.launch.specs.View.{launch as launch_seen, conditions as conditions_seen};
 ghost use Rattle.cert_check.specs.View.{typed_of, kept};
-ghost use Rattle.cert_check.specs.Accepting.{at_launch};
 ghost use Rattle.semantics.specs.Rounds.{IsDefined};
 ghost use Rattle.write_log.specs.Written.{words_of};
 ghost use Rattle.executor.specs.Ends.{IsResultOf, EndsEvery, HaveKinds};

@@ -150,7 +150,7 @@ impl<'a> Tests<'a> {
 
     /// A value that the wide walk knows not to be negative.
     fn is_natural(&self, term: &Term) -> bool {
-        self.is_wide && (kind_of(self.core, term) == Kind::Uint || !self.slots.may_dip(term))
+        self.is_wide && (kind_of(self.core, term) != Kind::Int || !self.slots.may_dip(term))
     }
 
     /// One of two values is 0, and the other is not below it.

@@ -97,7 +97,7 @@ fn one_count(extent: Option<&Extent>, is_wanted: bool) -> (u32, u32) {
 
 /// What is known of a buffer of a kind without any line.
 fn ends_of(kind: Kind) -> Ends {
-    let is_unsigned = kind == Kind::Uint;
+    let is_unsigned = kind != Kind::Int;
     Ends {
         has_least: is_unsigned,
         is_unsigned,

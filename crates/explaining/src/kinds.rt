@@ -38,11 +38,11 @@ fn kind_in(core: &Core, array: Array) -> Kind {
 pub fn kind_of(core: &Core, term: &Term) -> Kind {
     match term {
         Term::Literal { kind, .. }
+        | Term::Id { kind, .. }
         | Term::Unary { kind, .. }
         | Term::Binary { kind, .. }
         | Term::Convert { kind, .. } => *kind,
         Term::Variable { slot } => kind_at(core, *slot),
-        Term::Id { .. } => Kind::Uint,
         Term::Load { array, .. } => kind_in(core, *array),
         Term::Compare { .. } | Term::Not { .. } | Term::And { .. } | Term::Or { .. } => Kind::Int,
         Term::Select { taken, .. } => kind_of(core, taken),

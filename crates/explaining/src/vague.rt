@@ -138,6 +138,7 @@ impl<'a> Slots<'a> {
             Term::Id {
                 function,
                 dimension,
+                ..
             } => self.given.is_number(*function, *dimension),
             Term::Unary { of, .. } | Term::Convert { of, .. } => self.is_number(of),
             Term::Binary { left, right, .. } => self.is_number(left) && self.is_number(right),
@@ -178,7 +179,7 @@ impl<'a> Slots<'a> {
 
     /// An int that may be negative, as far as is known here.
     pub fn may_dip(&self, term: &Term) -> bool {
-        if kind_of(self.core, term) == Kind::Uint {
+        if kind_of(self.core, term) != Kind::Int {
             return false;
         }
         match term {
@@ -211,6 +212,7 @@ impl<'a> Slots<'a> {
             Term::Id {
                 function,
                 dimension,
+                ..
             } => self.given.one_groups(*function, *dimension),
             Term::Unary { of, .. } | Term::Convert { of, .. } => self.one_value(of),
             Term::Binary { left, right, .. } => {

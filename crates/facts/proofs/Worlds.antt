@@ -7,7 +7,7 @@ use lib.Seq.{get_or-append_seam}
 use Rattle.semantics.specs.Word.{Word, zero_word}
 use Rattle.semantics.specs.Core.{Space}
 use Rattle.semantics.specs.Launch.{Kernel, Launch, Fits}
-use Rattle.semantics.specs.Setup.{Setup, along, item_count, local_id, group_id}
+use Rattle.semantics.specs.Setup.{Setup, at_launch, along, item_count, local_id, group_id}
 use Rattle.semantics.specs.Conditions.{Conditions, Meets}
 use Rattle.linear.specs.Linear.{value_of, IsMet}
 use Rattle.linear.specs.Products.{IsMultiplicative}
@@ -33,7 +33,7 @@ pub record Walked (E : Type 0) : Type 1 where
   pub meets : Meets conditions launch
 
 abbrev pub setup_of : {E : Type 0} → Walked E → Setup
-setup_of k = record { kernel = k.kernel; launch = k.launch }
+setup_of k = at_launch k.kernel k.launch
 
 -- what an item has where its path begins: its variables, those at the anchor before, and what ranked each loop
 pub record Root : Type 0 where

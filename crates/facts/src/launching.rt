@@ -127,10 +127,7 @@ pub fn sum_form(alloc: Global, sum: &Sum) -> Result<Option<Form>, WalkError>
 pub fn number_of(word: Word) -> i64
     ensures { result ≡ value_of word }
 {
-    match word {
-        Word::Int(value) => value as i64,
-        Word::Uint(value) => value as i64,
-    }
+    word.value()
 }
 
 #[tactic(auto, using(crate::proofs::Facts::facts))]

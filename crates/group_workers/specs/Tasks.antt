@@ -22,9 +22,10 @@ groups t = group_count (setup t)
 abbrev pub logs_of : Task → ℕ → Log
 logs_of t = lane_log (setup t) t.budget
 
--- a proper kernel with its lane code at a launch that fits it, and the logs of its groups
-pub record IsTask (logs : ℕ → Log) (t : Task) : Type 0 where
+-- a proper kernel with its lane code at a launch that fits it, the logs of its groups, and their number
+pub record IsTask (logs : ℕ → Log) (count : ℕ) (t : Task) : Type 0 where
   pub proper : is_proper (kernel t.core.now) ≡ true
   pub fits : Fits (kernel t.core.now) (launch t.launch.now)
   pub code : block t.code.now ≡ lowered (kernel t.core.now)
   pub own : logs ≡ logs_of t
+  pub all : count ≡ groups t

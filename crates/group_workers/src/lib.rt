@@ -7,7 +7,8 @@
 //! steal, and all three keep one rule: the deque, and what its owner and all passes have taken, hold only numbers of that worker's share
 //! below the owner's next one, none twice. So who takes a number learns that it had not taken it before (`Took`); a thief of a worker keeps
 //! what it has taken from one steal to the next. What is written rests on none of that: the type of a log says which group's it is, and the
-//! collector runs each group of which no log came.
+//! collector runs each group of which no log came. A log is written under a lock as soon as those of all groups below are, by the worker
+//! that hands it in; one that comes before its turn waits there.
 #![tactic(auto)]
 
 use std::collections::LinkedList;

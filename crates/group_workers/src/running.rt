@@ -12,46 +12,44 @@ ghost use Rattle.write_log.specs.Written.{words_of};
 ghost use Rattle.group_workers.specs.Writing.{HasLogs};
 ghost use Rattle.group_workers.specs.Tasks.{IsTask, groups, logs_of};
 
-use crate::collector::collect;
+use crate::collector::Collected;
 use crate::deque::{Deque, Shares, Source};
 use crate::task::{Logged, Task};
-use crate::worker::{Logs, Shared};
+use crate::worker::Shared;
 use launch::launches::Buffers;
 use std::alloc::{AllocError, Global};
 use std::marker::Brand;
-use std::sync::Wait;
+use std::mem::replace;
+use std::sync::{Mutex, Wait};
 use std::thread::{Threads, join};
 use words::Gate;
 use work_item::identity::group_size;
 
-/// The workers from 1 on, one a deque: where the logs stand that they handed over. The lowest runs on the calling thread. A worker whose
-/// thread cannot be started is run by the calling thread in its turn (`join` does so).
+/// The workers from 1 on, one a deque. The lowest runs on the calling thread. A worker whose thread cannot be started is run by the calling
+/// thread in its turn (`join` does so).
 #[cycle(workers)]
 fn run_workers<J: Logged + Send + Sync, D: Shares + Send + Sync, R: Threads + Wait + Sync, G: Gate>(
     shared: &Shared<'_, J, D, R, G>,
     mut deques: Vec<Deque<D>>,
-) -> Vec<usize>
-    requires { IsTask J.logs shared.now.task }
+)
+    requires { IsTask J.logs J.count shared.now.task }
 {
     let Some(deque) = deques.pop() else {
-        return Vec::new(shared.alloc);
+        return;
     };
     let worker = u32::try_from(deques.len()).unwrap_or(0).wrapping_add(1);
     if deques.is_empty() {
         return shared.work(deque, worker);
     }
-    let (mut theirs, mut ours) = join(
+    join(
         shared.rt,
-        move || -> Vec<usize>
-            requires { IsSync R.row × IsSync G.row × IsSync J.row × IsSend J.row × IsSync D.row × IsSend D.row × IsTask J.logs shared.now.task }
+        move || -> ()
+            requires { IsSync R.row × IsSync G.row × IsSync J.row × IsSend J.row × IsSync D.row × IsSend D.row × IsTask J.logs J.count shared.now.task }
         { shared.work(deque, worker) },
-        move || -> Vec<usize>
-            requires { IsSync R.row × IsSync G.row × IsSync J.row × IsSend J.row × IsSync D.row × IsSend D.row × IsTask J.logs shared.now.task }
+        move || -> ()
+            requires { IsSync R.row × IsSync G.row × IsSync J.row × IsSend J.row × IsSync D.row × IsSend D.row × IsTask J.logs J.count shared.now.task }
         { run_workers(shared, deques) },
     );
-    // Where memory is refused, the collector runs the groups again whose logs stand at these places.
-    let _kept = ours.append(&mut theirs);
-    ours
 }
 
 /// The deques of all workers, each with its share of the groups, and what thieves take from.
@@ -101,22 +99,29 @@ fn run_as<J: Logged + Send + Sync, D: Shares + Send + Sync, R: Threads + Wait + 
     gate: &G,
     buffers: &mut Buffers,
 ) -> Result<(), AllocError>
-    requires task { IsTask J.logs task }
+    requires task { IsTask J.logs J.count task }
     requires workers { (workers ≡ D.workers) × (1 ≤ workers) }
+    requires before { J.before ≡ words_of buffers.old }
     ensures { OnOk result (HasLogs (logs_of task.entry) (groups task.entry) (words_of buffers.old) (words_of buffers.new)) }
 {
-    let logs: Logs<J> = boxcar::Vec::new(alloc)?;
     let (deques, sources) = deal::<D>(alloc, workers, task.groups())?;
+    let none = Buffers {
+        words: Vec::new(alloc),
+    };
+    let collected = Mutex::new(Collected::<J>::new(alloc, replace(buffers, none)));
     let shared = Shared {
         rt,
         alloc,
         task,
         sources: sources.as_slice(),
-        logs: &logs,
+        collected: &collected,
         gate,
     };
-    let places = run_workers(&shared, deques);
-    collect(alloc, task, &logs, places.as_slice(), buffers)
+    run_workers(&shared, deques);
+    let mut all = collected.into_inner();
+    let finished = all.finish(alloc, task);
+    *buffers = all.buffers;
+    finished
 }
 
 /// Runs all groups of a proper kernel's lane code at a launch that fits it, by so many workers.
@@ -138,9 +143,9 @@ fn run_by<R: Threads + Wait + Sync, G: Gate>(
 }
 
 /// Runs all groups of a proper kernel's lane code at a launch that fits it, by so many workers, or by fewer where they would have little to
-/// do, and writes their logs to the buffers in the order of the groups. The calling thread is worker 1. `gate` is told what each worker
-/// does, and changes nothing that is written. A worker stops where memory is refused; there is want of memory where it is refused to the
-/// calling thread. Then buffers may have the logs of the first groups.
+/// do, and writes their logs to the buffers in the order of the groups, each as soon as those before it are written. The calling thread is
+/// worker 1. `gate` is told what each worker does, and changes nothing that is written. A worker stops where memory is refused; there is
+/// want of memory where it is refused to the calling thread. Then buffers may have the logs of the first groups.
 pub fn run_groups<R: Threads + Wait + Sync, G: Gate>(
     rt: &R,
     alloc: Global,

@@ -1,6 +1,6 @@
 //! What the workers of a run have in common, and the logs of its groups.
 
-ghost use Rattle.std.specs.Prelude.{◌≡◌, ◌<◌, ℕ, None, IfOk};
+ghost use Rattle.std.specs.Prelude.{◌≡◌, ◌<◌, ℕ, ℤ, List, [], None, IfOk};
 ghost use Rattle.write_log.specs.Written.{written};
 ghost use Rattle.group_workers.specs.Writing.{Log};
 
@@ -38,13 +38,21 @@ impl Task<'_> {
     }
 }
 
-/// Whose logs are handed over. Each call picks it.
+/// Whose logs are handed over, of how many groups, and the words of the buffers before any is written. Each call picks it.
 pub trait Logged {
     ghost logs: { ℕ → Log };
+
+    ghost count: { ℕ };
+
+    ghost before: { List (List ℤ) };
 }
 
 impl Logged for Brand {
     ghost logs = { λ _ _ _. None };
+
+    ghost count = { 0 };
+
+    ghost before = { [] };
 }
 
 /// The log of one group, of the run that `J` names.
@@ -54,6 +62,8 @@ pub struct GroupLog<J: Logged> {
     pub log: WriteLog,
     of: PhantomData<J>,
     ghost right: { (buffer index : ℕ) → written log buffer index ≡ J.logs group buffer index },
+    ghost inside: { group < J.count },
+    ghost fits: { group < 18446744073709551615 },
 }
 
 impl<J: Logged> GroupLog<J> {
@@ -66,7 +76,7 @@ impl<J: Logged> GroupLog<J> {
         group: u64,
         room: &mut Room,
     ) -> Result<GroupLog<J>, AllocError>
-        requires task { IsTask J.logs task }
+        requires task { IsTask J.logs J.count task }
         requires group { group < groups task }
         ensures { IfOk result (λ l. l.group ≡ group) }
     {
@@ -81,6 +91,7 @@ impl<J: Logged> GroupLog<J> {
             launch,
             number: group,
         };
+        let _count = task.groups();
         let log = run_group_in(alloc, work_group, code, budget, room)?;
         Ok(GroupLog {
             group,

@@ -2,16 +2,14 @@
 
 ghost use Rattle.group_workers.specs.Tasks.{IsTask};
 
+use crate::collector::Collected;
 use crate::deque::{Deque, Shares, Source, Thief};
 use crate::task::{GroupLog, Logged, Task};
 use crossbeam_deque::Steal;
 use lane_groups::Room;
 use std::alloc::{AllocError, Global};
-use std::sync::Wait;
+use std::sync::{Mutex, Wait};
 use words::{Gate, Moment};
-
-/// The logs that were handed over.
-pub type Logs<J> = boxcar::Vec<GroupLog<J>>;
 
 /// The parts of a run that all its workers share.
 #[derive(Drop)]
@@ -20,20 +18,14 @@ pub struct Shared<'w, J: Logged, D: Shares, R, G> {
     pub alloc: Global,
     pub task: Task<'w>,
     pub sources: &'w [Source<D>],
-    pub logs: &'w Logs<J>,
+    pub collected: &'w Mutex<Collected<J>>,
     pub gate: &'w G,
 }
 
 impl<J: Logged, D: Shares, R: Wait, G: Gate> Shared<'_, J, D, R, G> {
     // Runs a group that was taken, and hands its log over.
-    fn hand_over(
-        &self,
-        group: u64,
-        room: &mut Room,
-        places: &mut Vec<usize>,
-        worker: u32,
-    ) -> Result<(), AllocError>
-        requires { IsTask J.logs self.now.task }
+    fn hand_over(&self, group: u64, room: &mut Room, worker: u32) -> Result<(), AllocError>
+        requires { IsTask J.logs J.count self.now.task }
     {
         // What a taker learns of a number does not say that this is a group of the launch.
         if group >= self.task.groups() {
@@ -41,29 +33,20 @@ impl<J: Logged, D: Shares, R: Wait, G: Gate> Shared<'_, J, D, R, G> {
         }
         self.gate.at(worker, Moment::Claimed(group));
         let log = GroupLog::of(self.alloc, self.task, group, room)?;
-        let Ok(place) = self.logs.push(self.rt, log) else {
-            return Err(AllocError);
-        };
-        places.push(place)?;
+        self.collected.lock(self.rt).take(log)?;
         self.gate.at(worker, Moment::Done(group));
         Ok(())
     }
 
     // Empties the worker's own deque.
-    fn run_own(
-        &self,
-        mut deque: Deque<D>,
-        room: &mut Room,
-        places: &mut Vec<usize>,
-        worker: u32,
-    ) -> Result<(), AllocError>
-        requires { IsTask J.logs self.now.task }
+    fn run_own(&self, mut deque: Deque<D>, room: &mut Room, worker: u32) -> Result<(), AllocError>
+        requires { IsTask J.logs J.count self.now.task }
     {
         for _ in self.rt.forever() {
             let Some(group) = deque.take() else {
                 break;
             };
-            self.hand_over(group, room, places, worker)?;
+            self.hand_over(group, room, worker)?;
         }
         Ok(())
     }
@@ -82,16 +65,15 @@ impl<J: Logged, D: Shares, R: Wait, G: Gate> Shared<'_, J, D, R, G> {
         &self,
         thieves: &mut Vec<Thief<'_, D>>,
         room: &mut Room,
-        places: &mut Vec<usize>,
         worker: u32,
     ) -> Result<bool, AllocError>
-        requires { IsTask J.logs self.now.task }
+        requires { IsTask J.logs J.count self.now.task }
     {
         let mut gave = false;
         for thief in thieves.iter_mut() {
             match thief.steal() {
                 Steal::Success(group) => {
-                    self.hand_over(group, room, places, worker)?;
+                    self.hand_over(group, room, worker)?;
                     gave = true;
                 }
                 Steal::Retry => gave = true,
@@ -102,32 +84,25 @@ impl<J: Logged, D: Shares, R: Wait, G: Gate> Shared<'_, J, D, R, G> {
     }
 
     // Until a round gave nothing, or memory is refused.
-    fn run_all(
-        &self,
-        deque: Deque<D>,
-        places: &mut Vec<usize>,
-        worker: u32,
-    ) -> Result<(), AllocError>
-        requires { IsTask J.logs self.now.task }
+    fn run_all(&self, deque: Deque<D>, worker: u32) -> Result<(), AllocError>
+        requires { IsTask J.logs J.count self.now.task }
     {
         let mut room = Room::new(self.alloc);
-        self.run_own(deque, &mut room, places, worker)?;
+        self.run_own(deque, &mut room, worker)?;
         let mut thieves = self.thieves()?;
         for _ in self.rt.forever() {
-            if !self.run_stolen(&mut thieves, &mut room, places, worker)? {
+            if !self.run_stolen(&mut thieves, &mut room, worker)? {
                 break;
             }
         }
         Ok(())
     }
 
-    /// The work of one worker: where the logs stand that it handed over. What it leaves at a refused allocation is the collector's.
-    pub fn work(&self, deque: Deque<D>, worker: u32) -> Vec<usize>
-        requires { IsTask J.logs self.now.task }
+    /// The work of one worker. What it leaves at a refused allocation is the collector's.
+    pub fn work(&self, deque: Deque<D>, worker: u32)
+        requires { IsTask J.logs J.count self.now.task }
     {
-        let mut places = Vec::new(self.alloc);
-        let _refused = self.run_all(deque, &mut places, worker);
+        let _refused = self.run_all(deque, worker);
         self.gate.at(worker, Moment::Ended);
-        places
     }
 }

@@ -2,6 +2,7 @@
 
 ghost use Rattle.std.specs.Prelude.{◌≡◌, ◌≤◌, ◌+◌, ℕ, Some, None, OnOk, cond, length};
 ghost use Rattle.std.specs.Option.{option_map};
+ghost use Rattle.semantics.specs.Setup.{at_launch};
 ghost use Rattle.semantics.specs.Launch as launches;
 ghost use Rattle.semantics.specs.Memory as meaning;
 ghost use Rattle.words.specs.View.{value_of};
@@ -94,7 +95,7 @@ impl Overlay {
 /// An element of a buffer as the launch has it.
 #[inline(always)]
 fn buffer_word(launch: &Launch, buffer: u32, index: u32) -> Word
-    ensures { (k : launches.Kernel) → value_of result ≡ meaning.opening_at (record { kernel = k; launch = launch_seen launch.now }) 0 buffer index }
+    ensures { (k : launches.Kernel) → value_of result ≡ meaning.opening_at (at_launch k (launch_seen launch.now)) 0 buffer index }
 {
     let Some(words) = launch.buffers.words.get(buffer as usize) else {
         return Word::Int(0);
@@ -108,7 +109,7 @@ fn buffer_word(launch: &Launch, buffer: u32, index: u32) -> Word
 /// An element as a launch begins.
 #[inline(always)]
 pub fn opening_word(launch: &Launch, at: Cell) -> Word
-    ensures { (k : launches.Kernel) → value_of result ≡ meaning.opening_memory (record { kernel = k; launch = launch_seen launch.now }) (cell_seen at) }
+    ensures { (k : launches.Kernel) → value_of result ≡ meaning.opening_memory (at_launch k (launch_seen launch.now)) (cell_seen at) }
 {
     match at.owner {
         Owner::Launch => buffer_word(launch, at.array, at.index),

@@ -1,6 +1,6 @@
 -- The value of a term over a memory is what its loads lead to, one by one.
 use Rattle.std.proofs.Common.{◌≡◌, ℕ, pos, List, [], ◌∷◌, Bool, true, false, not, slice_index_or, refl, sym, ap, ◌∙◌, subst, Result, Ok, Err}
-use Rattle.semantics.specs.Word.{Word, word, Fault, zero_word, Uint, calculate_unary, convert, truth, is_zero, smaller, larger, as_kind}
+use Rattle.semantics.specs.Word.{Word, word, Fault, zero_word, calculate_unary, convert, truth, is_zero, smaller, larger, as_kind}
 use Rattle.semantics.specs.Core.{Site, Array, Term, Literal, Variable, Id, Load, Unary, Binary, Convert, Compare, Not, And, Or, Select, Minimum, Maximum}
 use Rattle.semantics.specs.Setup.{Setup, identity}
 use Rattle.semantics.specs.Memory.{Memory, cell, extent, kind_at}
@@ -66,12 +66,12 @@ pub reads : (s : Setup) (i : ℕ) (m : Memory) (vars : List Word) (e : Term) →
 unfolding evaluate
 reads s i m vars (Literal k z) = leads-value s i m (word k z)
 reads s i m vars (Variable x) = leads-value s i m (slice_index_or vars x zero_word)
-reads s i m vars (Id f d) = leads-value s i m (word Uint (pos (identity s i f d)))
+reads s i m vars (Id k f d) = leads-value s i m (word k (pos (identity s i f d)))
 reads s i m vars (Load a site index) = leads-then s i m _ _ _ _ (reads s i m vars index) (λ k. leads-load s i m a site k)
-reads s i m vars (Unary op kind site e) = leads-then s i m _ _ _ _ (reads s i m vars e) (λ a. leads-settled s i m (calculate_unary op kind a.value) site)
+reads s i m vars (Unary op kind site e) = leads-then s i m _ _ _ _ (reads s i m vars e) (λ a. leads-settled s i m (calculate_unary op s.width kind a.value) site)
 reads s i m vars (Binary op kind site left right) =
-    leads-then s i m _ _ _ _ (reads s i m vars left) (λ a. leads-then s i m _ _ _ _ (reads s i m vars right) (λ b. leads-settled s i m (operate op kind a b) site))
-reads s i m vars (Convert kind site e) = leads-then s i m _ _ _ _ (reads s i m vars e) (λ a. leads-settled s i m (convert kind a.value) site)
+    leads-then s i m _ _ _ _ (reads s i m vars left) (λ a. leads-then s i m _ _ _ _ (reads s i m vars right) (λ b. leads-settled s i m (operate op s.width kind a b) site))
+reads s i m vars (Convert kind site e) = leads-then s i m _ _ _ _ (reads s i m vars e) (λ a. leads-settled s i m (convert s.width kind a.value) site)
 reads s i m vars (Compare r kind left right) =
     leads-then s i m _ _ _ _ (reads s i m vars left) (λ a. leads-then s i m _ _ _ _ (reads s i m vars right) (λ b. leads-value s i m (truth (compare r kind a b))))
 reads s i m vars (Not e) = leads-then s i m _ _ _ _ (reads s i m vars e) (λ a. leads-value s i m (truth (is_zero a.value)))

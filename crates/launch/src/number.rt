@@ -37,7 +37,7 @@ pub fn of_word(word: Word) -> Number
             negative: value < 0,
             size: value.unsigned_abs(),
         },
-        Word::Uint(value) => Number {
+        Word::Uint(value) | Word::Size(value) => Number {
             negative: false,
             size: value,
         },

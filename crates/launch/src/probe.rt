@@ -107,6 +107,10 @@ fn word_within(kind: Kind, number: Difference) -> Option<Word>
             Ok(value) => Some(Word::Uint(value)),
             Err(_) => None,
         },
+        Kind::Size => match u32::try_from(number) {
+            Ok(value) => Some(Word::Size(value)),
+            Err(_) => None,
+        },
     }
 }
 

@@ -9,7 +9,7 @@ use Rattle.std.proofs.lemmas.Bool.{cond-true, cond-false}
 use Rattle.std.proofs.lemmas.Bool.Decides.{nat_tests}
 use Rattle.std.proofs.lemmas.Fmt.{decimal_nonempty}
 use Rattle.std.proofs.lemmas.Slice.Eq.{bytes_eq-Decides}
-use Rattle.semantics.specs.Word.{Kind, Int, Uint, Word, in_kind}
+use Rattle.semantics.specs.Word.{Kind, Int, Uint, Size, Word, in_kind}
 use Rattle.semantics.specs.Launch.{IsArgument}
 use Rattle.texts.specs.Numbers.{is_decimal_digit}
 use Rattle.texts.specs.Tokens.{is_letter, is_word_byte}
@@ -69,6 +69,8 @@ int_fits Int (pos n) h = grind (arith, nat_tests)
 int_fits Int (negsuc n) h = grind (arith, nat_tests)
 int_fits Uint (pos n) h = grind (arith, nat_tests)
 int_fits Uint (negsuc n) h = absurd cc
+int_fits Size (pos n) h = grind (arith, nat_tests)
+int_fits Size (negsuc n) h = absurd cc
 
 pub word_forth : (k : Kind) (w : Word) (rest : List ℕ) (n : ℕ) → IsArgument k w → prefix_len is_decimal_digit rest ≡ 0 → word_at k (cursor n (signed_decimal w.value ++ rest)) ≡ Ok (w, cursor n rest)
 unfolding word_at

@@ -7,7 +7,7 @@ use Rattle.semantics.specs.Core.{Term, Literal, Variable, Id, Load, Unary, Binar
 abbrev pub loads : Term → ℕ
 loads (Literal k z) = 0
 loads (Variable x) = 0
-loads (Id f d) = 0
+loads (Id k f d) = 0
 loads (Load a site i) = 1 + loads i
 loads (Unary op k site t) = loads t
 loads (Binary op k site t u) = loads t + loads u

@@ -1,7 +1,7 @@
 -- What an item opens with is of its variables' kinds, and its parameters are the arguments.
 use Rattle.std.proofs.Common.{◌≡◌, ℕ, suc, ◌+◌, ◌≤◌, Bool, true, false, not, ◌&&◌, ◌||◌, nat_lt, List, [], ◌∷◌, ◌++◌, map, length, arith, refl, le-ltb, eq-eqb}
 use Rattle.std.proofs.lemmas.Bool.{and_from}
-use Rattle.semantics.specs.Word.{Kind, Int, Uint}
+use Rattle.semantics.specs.Word.{Kind, Int, Uint, Size}
 use Rattle.semantics.specs.Launch.{Kernel}
 use Rattle.semantics.specs.Solo.{opening}
 use Rattle.facts.specs.Symbols.{ArgumentOf, number, once}
@@ -15,6 +15,7 @@ use Rattle.obligations.proofs.Words.{are_words, slots-are_words}
 same_kind-refl : (a : Kind) → same_kind a a ≡ true
 same_kind-refl Int = refl
 same_kind-refl Uint = refl
+same_kind-refl Size = refl
 
 either-true : (a b : Bool) → b ≡ true → (not a || b) ≡ true
 either-true true b h = h

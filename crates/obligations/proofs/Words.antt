@@ -6,7 +6,7 @@ use Rattle.std.proofs.lemmas.Int.{ints}
 use Rattle.std.proofs.lemmas.Bool.{and_parts, and_from}
 use Rattle.std.proofs.lemmas.Bool.Decides.{nat_tests, Decides-int_eq}
 use Rattle.linear.specs.Linear.{Weighted, value_of}
-use Rattle.semantics.specs.Word.{Kind, Int, Uint, Word, zero_word, in_kind}
+use Rattle.semantics.specs.Word.{Kind, Int, Uint, Size, Word, zero_word, in_kind}
 use Rattle.semantics.specs.Launch.{Kernel, Launch}
 use Rattle.facts.specs.Symbols.{ArgumentOf, number}
 use Rattle.facts.proofs.Members.{by_number}
@@ -40,12 +40,18 @@ pub record Fit (k : Kernel) (l : Launch) (x : ℕ) (a : Kind) (w : Word) : Type 
 pub same_kind-is : (a b : Kind) → same_kind a b ≡ true → a ≡ b
 same_kind-is Int Int h = refl
 same_kind-is Int Uint h = cc
+same_kind-is Int Size h = cc
 same_kind-is Uint Int h = cc
 same_kind-is Uint Uint h = refl
+same_kind-is Uint Size h = cc
+same_kind-is Size Int h = cc
+same_kind-is Size Uint h = cc
+same_kind-is Size Size h = refl
 
 same_kind-refl : (a : Kind) → same_kind a a ≡ true
 same_kind-refl Int = refl
 same_kind-refl Uint = refl
+same_kind-refl Size = refl
 
 int_eq-is : (x y : ℤ) → int_eq x y ≡ true → x ≡ y
 int_eq-is x y h = grind (arith, Decides-int_eq)

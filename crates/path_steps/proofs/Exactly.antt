@@ -1,7 +1,7 @@
 -- Exact results in the range of their kind.
 use Rattle.std.proofs.Common.{◌≡◌, ◌⊎◌, inl, inr, suc, Bool, true, false, List, [], ◌∷◌, refl, sym, ap, subst, ◌∙◌, length}
 use Rattle.std.specs.Prelude.{Result, Ok, Err, MatchResult, MatchOption, Option, None, Some, cond, nat_le}
-use Rattle.semantics.specs.Word.{Kind, Int, Uint, Multiply}
+use Rattle.semantics.specs.Word.{Kind, Int, Uint, Size, Multiply}
 use Rattle.linear.specs.Linear.{Weighted}
 use Rattle.linear.specs.Exact.{fits_i64, fits_terms, fits, multiple}
 use Rattle.linear.specs.Forms.{form}
@@ -31,6 +31,7 @@ range_unfit s needed k f m (inr h) = high_stops s needed k f m errors.TooLarge h
 -- a form that was not made is not in a kind's range
 unfit_ranged : {E : Type 0} (s : Setting E) (k : Kind) (f : Fact) (m : Followed E) → fits f ≡ false → Stops m errors.TooLarge (walks.ranged s k f)
 unfit_ranged s Int f m h go = range_unfit s true Int f m (ends_unfit Int f (fits_i64 f.constant) (fits_terms f.terms) refl refl h) (λ st. go (values.value Int f) st)
+unfit_ranged s Size f m h go = range_unfit s true Size f m (ends_unfit Size f (fits_i64 f.constant) (fits_terms f.terms) refl refl h) (λ st. go (values.value Size f) st)
 unfit_ranged s Uint f m h go = range_unfit s (walks.is_kept s f m.state) Uint f m (ends_unfit Uint f (fits_i64 f.constant) (fits_terms f.terms) refl refl h) (λ st. walks.kept_or_new s (walks.is_kept s f m.state) f st go)
 
 pub ranged_unfit : {E : Type 0} (s : Setting E) (k : Kind) (f : Fact) (m : Followed E) (e : WalkError) → IsUnfit e f → Stops m e (walks.ranged s k f)

@@ -3,7 +3,7 @@ use Rattle.std.proofs.Common.{◌≡◌, ◌≤◌, ◌<◌, ◌^◌, ◌-◌, B
 use Rattle.std.specs.Prelude.{ℤ, pos, negsuc, int_lt, nat_lt, ◌+ℤ◌, ◌*ℤ◌, ◌≤ℤ◌, ◌<ℤ◌}
 use Rattle.std.proofs.lemmas.Int.{ints}
 use Rattle.std.proofs.lemmas.Bool.Decides.{nat_tests}
-use Rattle.semantics.specs.Word.{Kind, Int, Uint}
+use Rattle.semantics.specs.Word.{Kind, Int, Uint, Size}
 use Rattle.linear.specs.Exact.{Terms, fits_i64, fits_terms, fits, merge, multiples}
 use Rattle.linear.proofs.Lists.{merge-none}
 use Rattle.facts.specs.Symbols.{Fact, constant, minus}
@@ -42,10 +42,12 @@ inside (negsuc n) l h = let k : n < 2 ^ 63 = omega (arith, ints) in grind (arith
 least_below : (k : Kind) → least k ≤ℤ pos 0
 least_below Int = omega (arith, ints)
 least_below Uint = omega (arith, ints)
+least_below Size = omega (arith, ints)
 
 greatest_above : (k : Kind) → pos 0 ≤ℤ greatest k
 greatest_above Int = omega (arith, ints)
 greatest_above Uint = omega (arith, ints)
+greatest_above Size = omega (arith, ints)
 
 -- past an end, an end of the kind's range is as well
 ends_past : (k : Kind) (f : Fact) → (pos (2 ^ 63) ≤ℤ f.constant) ⊎ (f.constant <ℤ negsuc (2 ^ 63 - 1)) → (fits (low_end k f) ≡ false) ⊎ (fits (high_end k f) ≡ false)

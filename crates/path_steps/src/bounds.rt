@@ -74,7 +74,7 @@ pub fn is_natural<D: Domain>(setting: &Setting<D>, path: &Path<D>, kind: Kind, f
     ensures { result ≡ bits.is_natural (seen D.Domain setting.now) (followed path.now).state (kind_seen kind) (form_seen form.now) }
 {
     match kind {
-        Kind::Int => settles(setting, path, form),
+        Kind::Int | Kind::Size => settles(setting, path, form),
         Kind::Uint => true,
     }
 }

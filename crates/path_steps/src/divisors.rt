@@ -141,7 +141,7 @@ fn claim_quotient<D: Domain>(
 {
     match kind {
         Kind::Int => claim_overflow(setting, path, dividend, divisor),
-        Kind::Uint => Ok(()),
+        Kind::Uint | Kind::Size => Ok(()),
     }
 }
 

@@ -78,7 +78,7 @@ fn complement(alloc: Global, kind: Kind, of: &Form) -> Result<Form, WalkError>
     ensures { MatchResult result (λ f. form_seen f ≡ operators.complement (kind_seen kind) (form_seen of.now)) (λ e. IsUnfit e (operators.complement (kind_seen kind) (form_seen of.now))) }
 {
     match kind {
-        Kind::Int => number_less(alloc, -1, of),
+        Kind::Int | Kind::Size => number_less(alloc, -1, of),
         Kind::Uint => number_less(alloc, 4_294_967_295, of),
     }
 }

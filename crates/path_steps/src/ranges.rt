@@ -5,6 +5,7 @@ ghost use Rattle.linear.specs.Forms.{form as form_seen};
 ghost use Rattle.linear.specs.Sizes.{size};
 ghost use Rattle.words.specs.View.{kind as kind_seen};
 ghost use Rattle.semantics.specs.Word.{Uint};
+ghost use Rattle.walk_trees.specs.Values as values;
 ghost use Rattle.walk_trees.specs.Walks as walks;
 ghost use Rattle.walk_trees.specs.Operators as operators;
 ghost use Rattle.facts.specs.Symbols.{Fact};
@@ -73,7 +74,7 @@ pub fn any_of<D: Domain>(kind: Kind) -> D
 {
     match kind {
         Kind::Int => between(-2_147_483_648, 2_147_483_647),
-        Kind::Uint => between(0, 4_294_967_295),
+        Kind::Uint | Kind::Size => between(0, 4_294_967_295),
     }
 }
 
@@ -188,7 +189,7 @@ fn low_end(alloc: Global, kind: Kind, of: &Form) -> Result<Form, WalkError>
 {
     match kind {
         Kind::Int => less_number(alloc, of, -2_147_483_648),
-        Kind::Uint => less_number(alloc, of, 0),
+        Kind::Uint | Kind::Size => less_number(alloc, of, 0),
     }
 }
 
@@ -198,7 +199,7 @@ fn high_end(alloc: Global, kind: Kind, of: &Form) -> Result<Form, WalkError>
 {
     match kind {
         Kind::Int => number_less(alloc, 2_147_483_647, of),
-        Kind::Uint => number_less(alloc, 4_294_967_295, of),
+        Kind::Uint | Kind::Size => number_less(alloc, 4_294_967_295, of),
     }
 }
 
@@ -215,7 +216,7 @@ fn is_kept<D: Domain>(setting: &Setting<D>, path: &Path<D>, form: &Form) -> Resu
     Ok(keeps_low && keeps_high)
 }
 
-/// An exact result as a value of its kind: an `int` is claimed to be in range, a `uint` that may not be is a new symbol.
+/// An exact result as a value of its kind: an `int` and a size are claimed to be in range, a `uint` that may not be is a new symbol.
 pub fn ranged<D: Domain>(
     setting: &Setting<D>,
     path: &mut Path<D>,
@@ -225,8 +226,8 @@ pub fn ranged<D: Domain>(
     ensures { MatchResult result (λ v. Leads (followed path.old) (followed path.new) (walks.ranged (seen D.Domain setting.now) (kind_seen kind) (form_seen form)) (value_seen v)) (λ e. Stops (followed path.old) e (walks.ranged (seen D.Domain setting.now) (kind_seen kind) (form_seen form))) }
 {
     match kind {
-        Kind::Int => {
-            in_range(setting, path, true, Kind::Int, &form)?;
+        Kind::Int | Kind::Size => {
+            in_range(setting, path, true, kind, &form)?;
             Ok(Value { kind, form })
         }
         Kind::Uint => ranged_uint(setting, path, form),
@@ -252,6 +253,16 @@ fn ranged_uint<D: Domain>(
     unknown(setting, path, Kind::Uint)
 }
 
+/// A value's form as one of a kind.
+fn of_kind(kind: Kind, value: Value) -> Value
+    ensures { value_seen result ≡ values.value (kind_seen kind) (value_seen value).form }
+{
+    Value {
+        kind,
+        form: value.form,
+    }
+}
+
 /// A value brought to a kind.
 pub fn brought<D: Domain>(
     setting: &Setting<D>,
@@ -264,8 +275,13 @@ pub fn brought<D: Domain>(
     match (kind, value.kind) {
         (Kind::Int, Kind::Int) => Ok(value),
         (Kind::Int, Kind::Uint) => ranged(setting, path, Kind::Int, value.form),
+        (Kind::Int, Kind::Size) => ranged(setting, path, Kind::Int, value.form),
         (Kind::Uint, Kind::Int) => ranged(setting, path, Kind::Uint, value.form),
         (Kind::Uint, Kind::Uint) => Ok(value),
+        (Kind::Uint, Kind::Size) => Ok(of_kind(Kind::Uint, value)),
+        (Kind::Size, Kind::Int) => ranged(setting, path, Kind::Size, value.form),
+        (Kind::Size, Kind::Uint) => Ok(of_kind(Kind::Size, value)),
+        (Kind::Size, Kind::Size) => Ok(value),
     }
 }
 

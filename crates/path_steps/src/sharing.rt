@@ -66,7 +66,7 @@ fn within<D: Domain>(kind: Kind, element: D) -> D
 {
     match kind {
         Kind::Int => element.at_most(2_147_483_647),
-        Kind::Uint => element.at_most(4_294_967_295),
+        Kind::Uint | Kind::Size => element.at_most(4_294_967_295),
     }
 }
 

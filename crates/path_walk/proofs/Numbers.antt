@@ -19,7 +19,7 @@ pub by_number : {E : Type 0} (s : Setting E) (t : Term) → ((r : Relation) (k :
     ((a b : Box Term Global) → t ≡ code.And a b → ⊥) → ((a b : Box Term Global) → t ≡ code.Or a b → ⊥) → (walk s (term t)).test ≡ (by_value s (walk s (term t)).value).test
 by_number s (Literal k n) c d e f = refl
 by_number s (Variable n) c d e f = refl
-by_number s (Id g n) c d e f = refl
+by_number s (Id k g n) c d e f = refl
 by_number s (Load' a z p i) c d e f = refl
 by_number s (Unary' op k z p a) c d e f = refl
 by_number s (Binary' op k z p a q b) c d e f = refl

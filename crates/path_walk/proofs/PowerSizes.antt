@@ -7,7 +7,7 @@ use Rattle.std.proofs.Math.Pow.{pow_mono}
 use Rattle.std.proofs.lemmas.Bool.{and_parts}
 use Rattle.std.proofs.lemmas.Nat.{pow_pos}
 use Rattle.std.proofs.lemmas.Int.{ints}
-use Rattle.semantics.specs.Word.{Kind, Int, Uint}
+use Rattle.semantics.specs.Word.{Kind, Int, Uint, Size}
 use Rattle.facts.specs.Symbols.{Fact}
 use Rattle.walk_trees.specs.Walks.{is_number}
 use Rattle.walk_trees.specs.Operators.{is_mask}
@@ -42,4 +42,5 @@ more_bits c h = sym (one_more 31 c true (int_eq c (pos (2 ^ 32))) (sym h) refl)
 
 pub mask_power : (w : Bool) (k : Kind) (y : Fact) → is_mask w k y ≡ true → is_power 32 (y.constant +ℤ pos 1) ≡ true
 mask_power w Int y h = more_bits (y.constant +ℤ pos 1) (and_parts (is_number y) (is_power 31 (y.constant +ℤ pos 1)) (and_parts w (is_number y && is_power 31 (y.constant +ℤ pos 1)) h).1).1
+mask_power w Size y h = (and_parts (is_number y) (is_power 32 (y.constant +ℤ pos 1)) h).1
 mask_power w Uint y h = (and_parts (is_number y) (is_power 32 (y.constant +ℤ pos 1)) h).1

@@ -28,7 +28,7 @@ pub fn is_upper(kind: Kind, lowest: u32, number: i64) -> bool
 {
     match kind {
         Kind::Int => is_total(number, lowest, 0),
-        Kind::Uint => is_total(number, lowest, 4_294_967_296),
+        Kind::Uint | Kind::Size => is_total(number, lowest, 4_294_967_296),
     }
 }
 

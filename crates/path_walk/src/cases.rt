@@ -12,13 +12,13 @@ use linear::Form;
 use path_steps::{Path, Setting, is_number, settles};
 use words::Kind;
 
-/// The lowest bits of a `uint`; in the wide walk those of an `int`, too.
+/// The lowest bits of a `uint` or a size; in the wide walk those of an `int`, too.
 pub fn is_mask(is_wide: bool, kind: Kind, form: &Form) -> bool
     ensures { result ≡ operators.is_mask is_wide (kind_seen kind) (form_seen form.now) }
 {
     match kind {
         Kind::Int => is_wide && is_number(form) && is_low_bits(31, form.constant_part()),
-        Kind::Uint => is_number(form) && is_low_bits(32, form.constant_part()),
+        Kind::Uint | Kind::Size => is_number(form) && is_low_bits(32, form.constant_part()),
     }
 }
 

@@ -26,7 +26,7 @@ fn low_end(alloc: Global, core: &Core, family: Family, slot: u32) -> Result<Form
     let of = once_slot(alloc, family, slot as u64)?;
     match kind_at(core, slot as usize) {
         Kind::Int => less_number(alloc, &of, -2_147_483_648),
-        Kind::Uint => less_number(alloc, &of, 0),
+        Kind::Uint | Kind::Size => less_number(alloc, &of, 0),
     }
 }
 
@@ -37,7 +37,7 @@ fn high_end(alloc: Global, core: &Core, family: Family, slot: u32) -> Result<For
     let of = once_slot(alloc, family, slot as u64)?;
     match kind_at(core, slot as usize) {
         Kind::Int => number_less(alloc, 2_147_483_647, &of),
-        Kind::Uint => number_less(alloc, 4_294_967_295, &of),
+        Kind::Uint | Kind::Size => number_less(alloc, 4_294_967_295, &of),
     }
 }
 

@@ -16,7 +16,17 @@ fn is_in_kind(kind: Kind, value: u32) -> bool
 {
     match kind {
         Kind::Int => value < 2_147_483_648,
-        Kind::Uint => true,
+        Kind::Uint | Kind::Size => true,
+    }
+}
+
+/// The kind is one that ids may have.
+fn is_id_kind(kind: Kind) -> bool
+    ensures { result ≡ covered.is_id_kind (kind_seen kind) }
+{
+    match kind {
+        Kind::Int => false,
+        Kind::Uint | Kind::Size => true,
     }
 }
 
@@ -27,17 +37,18 @@ fn is_covered_unary(operator: UnaryOperator, kind: Kind) -> bool
     match (operator, kind) {
         (UnaryOperator::Negate | UnaryOperator::Complement, _) => true,
         (UnaryOperator::ShiftLeft(by), _) | (UnaryOperator::ShiftRight(by), Kind::Uint) => by < 32,
-        (UnaryOperator::ShiftRight(_), Kind::Int) => false,
+        (UnaryOperator::ShiftRight(_), Kind::Int | Kind::Size) => false,
     }
 }
 
-/// Each literal is a number of its kind, and each shift is by 0 to 31, to the right of a `uint`.
+/// Each literal is a number of its kind, each id has a kind that ids may have, and each shift is by 0 to 31, to the right of a `uint`.
 pub fn is_lawful(term: &Term) -> bool
     ensures { result ≡ walking.is_lawful (term_seen term.now) }
 {
     match term {
         Term::Literal { kind, value } => is_in_kind(*kind, *value),
-        Term::Variable { .. } | Term::Id { .. } => true,
+        Term::Variable { .. } => true,
+        Term::Id { kind, .. } => is_id_kind(*kind),
         Term::Load { index, .. } => is_lawful(index),
         Term::Unary {
             operator,

@@ -4,7 +4,6 @@ ghost use Rattle.std.specs.Prelude.{◌≡◌, pos, true, false, map, slice_inde
 ghost use Rattle.linear.specs.Forms.{form as form_seen};
 ghost use Rattle.words.specs.View.{kind as kind_seen};
 ghost use Rattle.core_code.specs.View.{array as array_seen, function as function_seen, operator as operator_seen, relation as relation_seen, site as site_seen, unary_operator as unary_seen};
-ghost use Rattle.semantics.specs.Word.{Uint};
 ghost use Rattle.facts.specs.Refusals.{IsMemory};
 ghost use Rattle.facts.specs.Symbols.{constant, minus};
 ghost use Rattle.walk_trees.specs.Covered.{is_covered_unary};
@@ -77,19 +76,17 @@ pub fn variable<D: Domain>(alloc: Global, path: &Path<D>, slot: u32) -> Result<V
     value_at(alloc, path.variables.as_slice(), slot)
 }
 
-/// The value of what a work-item function answers in a dimension, a `uint`.
+/// The value of what a work-item function answers in a dimension, as one of a kind.
 pub fn id_value<D: Domain>(
     setting: &Setting<D>,
+    kind: Kind,
     function: Function,
     dimension: u32,
 ) -> Result<Value, WalkError>
-    ensures { MatchResult result (λ v. value_seen v ≡ values.value Uint (terms.id_form (seen D.Domain setting.now) (function_seen function) dimension)) IsMemory }
+    ensures { MatchResult result (λ v. value_seen v ≡ values.value (kind_seen kind) (terms.id_form (seen D.Domain setting.now) (function_seen function) dimension)) IsMemory }
 {
     let form = id_form(setting, function, dimension)?;
-    Ok(Value {
-        kind: Kind::Uint,
-        form,
-    })
+    Ok(Value { kind, form })
 }
 
 /// The walk stands at a site of its statement.
@@ -197,8 +194,10 @@ fn are_alike(left: Kind, right: Kind) -> bool
     ensures { result ≡ joined.same_kind (kind_seen left) (kind_seen right) }
 {
     match (left, right) {
-        (Kind::Int, Kind::Int) | (Kind::Uint, Kind::Uint) => true,
-        (Kind::Int, Kind::Uint) | (Kind::Uint, Kind::Int) => false,
+        (Kind::Int, Kind::Int) | (Kind::Uint, Kind::Uint) | (Kind::Size, Kind::Size) => true,
+        (Kind::Int, Kind::Uint) | (Kind::Int, Kind::Size) => false,
+        (Kind::Uint, Kind::Int) | (Kind::Uint, Kind::Size) => false,
+        (Kind::Size, Kind::Int) | (Kind::Size, Kind::Uint) => false,
     }
 }
 

@@ -50,7 +50,7 @@ fn halved<D: Domain>(
     Ok(Value { kind, form })
 }
 
-/// The value of a shift to the right: of a `uint` the quotient by a power of 2, else any number of the kind.
+/// The value of a shift to the right: of a `uint` or a size the quotient by a power of 2, else any number of the kind.
 pub fn shifted_right<D: Domain>(
     setting: &Setting<D>,
     path: &mut Path<D>,
@@ -63,7 +63,7 @@ pub fn shifted_right<D: Domain>(
     ensures { MatchResult result (λ v. Leads (followed path.old) (followed path.new) (operators.shifted (seen D.Domain setting.now) (kind_seen from) (kind_seen kind) (form_seen of.now) count) (value_seen v)) (λ e. Stops (followed path.old) e (operators.shifted (seen D.Domain setting.now) (kind_seen from) (kind_seen kind) (form_seen of.now) count)) }
 {
     match from {
-        Kind::Uint => halved(setting, path, kind, of, count),
+        Kind::Uint | Kind::Size => halved(setting, path, kind, of, count),
         Kind::Int => unknown(setting, path, kind),
     }
 }

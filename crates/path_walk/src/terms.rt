@@ -110,10 +110,11 @@ pub fn value_of<D: Domain>(
             Ok(value)
         }
         Term::Id {
+            kind,
             function,
             dimension,
         } => {
-            let value = id_value(setting, *function, *dimension)?;
+            let value = id_value(setting, *kind, *function, *dimension)?;
             Ok(value)
         }
         Term::Load { array, site, index } => {

@@ -20,7 +20,7 @@ pub fn greatest(kind: Kind) -> i64
 {
     match kind {
         Kind::Int => 2_147_483_647,
-        Kind::Uint => 4_294_967_295,
+        Kind::Uint | Kind::Size => 4_294_967_295,
     }
 }
 

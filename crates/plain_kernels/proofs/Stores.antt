@@ -3,7 +3,7 @@ use Rattle.std.proofs.Common.{◌≡◌, ℕ, zero, suc, ◌+◌, ◌*◌, ◌<�
 use Rattle.std.specs.Prelude.{pos, negsuc, ◌+ℤ◌, ◌*ℤ◌, map}
 use Rattle.std.proofs.lemmas.Int.{ints}
 use Rattle.std.proofs.lemmas.Bool.Decides.{nat_tests}
-use Rattle.semantics.specs.Word.{Kind, Int, Uint, in_kind, Add, Multiply}
+use Rattle.semantics.specs.Word.{Kind, Int, Uint, Size, in_kind, Add, Multiply}
 use Rattle.semantics.specs.Core.{Term, GlobalId}
 use Rattle.semantics.specs.Launch.{Kernel}
 use Rattle.semantics.specs.Conditions.{Conditions}
@@ -35,6 +35,7 @@ int_below z h = grind (arith, nat_tests)
 below : (kd : Kind) (z : ℕ) → in_kind kd (pos z) ≡ true → z ≤ 4294967295
 below Int z h = int_below z h
 below Uint z h = grind (arith, nat_tests)
+below Size z h = grind (arith, nat_tests)
 
 pub factor-below : (e : Term) (f z : ℕ) → IsPlainIndex e f z → f ≤ 4294967295
 factor-below _ _ _ Alone = omega arith
@@ -82,6 +83,7 @@ module _ (k : Kernel) (c : Conditions) (w j : Bool) (h : ℕ → Bool) (m n : �
 
   number-tame : (kd : Kind) (z : ℕ) → z ≤ 4294967295 → (rs : List Bool) (st : State Both) (go : Onward Both) → IsPlainState k st → GoesOn rs (value Uint (constant (pos z))) go → Tame (brings Uint kd rs) st (brought_from s Uint kd (constant (pos z)) st go)
   number-tame Uint z l rs st go o t = t st o
+  number-tame Size z l rs st go o t = t st o
   number-tame Int z l rs st go o t =
       let e = number-multiple (suc m) (pos z) in
       subst (λ x. Tame (true ∷ true ∷ rs) st (ranged s Uint x st go)) (sym e) (multiple-tame 0 z (omega arith) (omega (arith, l)) rs st go o (subst (λ x. GoesOn rs (value Uint x) go) e t))
@@ -146,6 +148,7 @@ module _ (k : Kernel) (c : Conditions) (w j : Bool) (h : ℕ → Bool) (m n : �
 
   given-tame : (kd : Kind) (x : ℕ) → (is_int kd ≡ true → signed) → (rs : List Bool) (st : State Both) (go : Onward Both) → IsPlainState k st → GoesOnAny rs go → Tame (brings Uint kd rs) st (brought_from s Uint kd (once (ArgumentOf x)) st go)
   given-tame Uint x g rs st go o t = t (value Uint (once (ArgumentOf x))) st o
+  given-tame Size x g rs st go o t = t (value Uint (once (ArgumentOf x))) st o
   given-tame Int x g rs st go o t =
       let f = once (ArgumentOf x) in
       range-asked s h signed rs f st go (λ i. refl) (g refl) (less f (constant (pos 0)) most (omega arith)) (less (constant (pos 4294967295)) f most (omega arith)) (new-tame rs f (claimed_once (claimed_once st)) go o t)

@@ -1,13 +1,13 @@
 -- Which claims of a kernel of stores alone are of the ranges of kinds; the others are of indexes.
 use Rattle.std.specs.Prelude.{ℕ, zero, suc, List, [], ◌∷◌, Bool, true, false, slice_index_or}
-use Rattle.semantics.specs.Word.{Kind, Int, Uint}
+use Rattle.semantics.specs.Word.{Kind, Int, Uint, Size}
 use Rattle.semantics.specs.Core.{Term, Literal, Variable, Id, Binary, Convert, Store, Statements, one}
 use Rattle.semantics.specs.Launch.{Kernel}
 
 abbrev pub kind_of : (arguments : List Kind) → Term → Kind
 kind_of ks (Literal k z) = k
 kind_of ks (Variable x) = slice_index_or ks x Int
-kind_of ks (Id f d) = Uint
+kind_of ks (Id k f d) = k
 kind_of ks (Binary op k site a b) = k
 kind_of ks (Convert k site a) = k
 kind_of ks t = Int
@@ -18,6 +18,11 @@ brings Int Int rest = rest
 brings Int Uint rest = true ∷ true ∷ rest
 brings Uint Int rest = true ∷ true ∷ rest
 brings Uint Uint rest = rest
+brings Int Size rest = true ∷ true ∷ rest
+brings Uint Size rest = rest
+brings Size Int rest = true ∷ true ∷ rest
+brings Size Uint rest = rest
+brings Size Size rest = rest
 
 -- so has the result of an operator
 abbrev pub ranges : (arguments : List Kind) → Term → List Bool → List Bool

@@ -1,18 +1,18 @@
 -- Plain kernels: each statement is `a[get_global_id(0) * K + C] = V;` of a `uint` buffer, K and C numbers that may be left out, V a
 -- number or a value parameter, and the index is one that a `uint` has at each launch of at most so many groups.
 use Rattle.std.specs.Prelude.{◌≡◌, ℕ, ℤ, pos, ◌+ℤ◌, ◌-ℤ◌, ◌*ℤ◌, ◌≤ℤ◌, ◌<◌, ◌≤◌, List, [], length, Bool, true, false, ◌||◌, slice_index_or}
-use Rattle.semantics.specs.Word.{Kind, Int, Uint, in_kind, Add, Multiply}
+use Rattle.semantics.specs.Word.{Kind, Int, Uint, Size, in_kind, Add, Multiply}
 use Rattle.semantics.specs.Core.{Site, Global, GlobalId, Term, Literal, Variable, Id, Binary, Convert, Statement, Store, Statements, none, one}
 use Rattle.semantics.specs.Launch.{Kernel}
 use Rattle.semantics.specs.Conditions.{Conditions}
 
 -- the global id, a multiple of it, and either with a number more
 pub data IsPlainIndex : Term → (factor constant : ℕ) → Type 0 where
-  Alone : IsPlainIndex (Id GlobalId 0) 1 0
-  Times : (product : Site) (kf : Kind) (f : ℕ) → in_kind kf (pos f) ≡ true → IsPlainIndex (Binary Multiply Uint product (Id GlobalId 0) (Literal kf (pos f))) f 0
-  Plus : (sum : Site) (kc : Kind) (c : ℕ) → in_kind kc (pos c) ≡ true → IsPlainIndex (Binary Add Uint sum (Id GlobalId 0) (Literal kc (pos c))) 1 c
+  Alone : IsPlainIndex (Id Uint GlobalId 0) 1 0
+  Times : (product : Site) (kf : Kind) (f : ℕ) → in_kind kf (pos f) ≡ true → IsPlainIndex (Binary Multiply Uint product (Id Uint GlobalId 0) (Literal kf (pos f))) f 0
+  Plus : (sum : Site) (kc : Kind) (c : ℕ) → in_kind kc (pos c) ≡ true → IsPlainIndex (Binary Add Uint sum (Id Uint GlobalId 0) (Literal kc (pos c))) 1 c
   TimesPlus : (sum product : Site) (kf kc : Kind) (f c : ℕ) → in_kind kf (pos f) ≡ true → in_kind kc (pos c) ≡ true →
-      IsPlainIndex (Binary Add Uint sum (Binary Multiply Uint product (Id GlobalId 0) (Literal kf (pos f))) (Literal kc (pos c))) f c
+      IsPlainIndex (Binary Add Uint sum (Binary Multiply Uint product (Id Uint GlobalId 0) (Literal kf (pos f))) (Literal kc (pos c))) f c
 
 -- what is no `uint` is brought to it (C99 6.5.16.1)
 pub data IsPlainValue (arguments : List Kind) : Term → Type 0 where
@@ -41,6 +41,7 @@ IsPlain k c = ArePlain k.arguments k.sizes.x c.groups.x.high k.body × (c.conten
 abbrev pub is_int : Kind → Bool
 is_int Int = true
 is_int Uint = false
+is_int Size = false
 
 -- the value is an `int` parameter
 abbrev pub is_signed : (arguments : List Kind) → Term → Bool

@@ -6,7 +6,7 @@ use Rattle.std.specs.List.{Contains}
 use Rattle.semantics.specs.Core.{Site}
 use Rattle.semantics.specs.Word.{Fault}
 use Rattle.semantics.specs.Launch.{Kernel, Launch, Fits}
-use Rattle.semantics.specs.Setup.{Setup, group_size, group_count}
+use Rattle.semantics.specs.Setup.{Setup, at_launch, group_size, group_count}
 use Rattle.semantics.specs.Item.{Status, Running, Waiting, Ended, Stopped}
 use Rattle.semantics.specs.Memory.{opening_memory}
 use Rattle.semantics.specs.Solo.{opening, Access}
@@ -16,7 +16,7 @@ use Rattle.semantics.specs.Rounds.{rounds_end, IsDefined, result_by_rounds}
 use Rattle.semantics.specs.Headline.{IsOver, HoldsOfRun, Headline}
 use Rattle.texts.specs.Bare.{nowhere}
 use Rattle.printer.specs.BareCore.{bare_core}
-use Rattle.printer.specs.Meaning.{at_launch, MeansTheSame}
+use Rattle.printer.specs.Meaning.{MeansTheSame}
 use Rattle.printer.specs.BareRuns.{bare_status, bare_setup}
 use Rattle.printer.proofs.BareSteps.{bare-trail}
 use Rattle.printer.proofs.BareWorlds.{bare_access, bare_world, bare-happens, bare-run, bare-opening_world}

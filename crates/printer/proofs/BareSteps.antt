@@ -68,7 +68,7 @@ bare-evaluate : (s : Setup) (i : ℕ) (t : Term) (vars answers : List Word) → 
 unfolding evaluate
 bare-evaluate s i (Literal k z) vars answers = refl
 bare-evaluate s i (Variable x) vars answers = refl
-bare-evaluate s i (Id f d) vars answers = ap (λ n. Gives (word Uint (pos n)) answers) (bare-identity s i f d)
+bare-evaluate s i (Id k f d) vars answers = ap (λ n. Gives (word k (pos n)) answers) (bare-identity s i f d)
 bare-evaluate s i (Load a site index) vars answers = bare-and _ _ _ _ (bare-evaluate s i index vars answers) (λ k rest. bare-load s a site k.value rest)
 bare-evaluate s i (Unary op kind site e) vars answers = bare-and _ _ _ _ (bare-evaluate s i e vars answers) (λ a rest. bare-settled _ site rest)
 bare-evaluate s i (Binary op kind site l r) vars answers =

@@ -1,7 +1,7 @@
 -- Typing, positions aside: an expression without positions has the term without positions, or the same fault.
 use Rattle.std.proofs.Common.{◌≡◌, ℕ, List, [], ◌∷◌, map, Bool, true, false, cond, Ok, Err, refl, ap, ◌∙◌}
 use Rattle.std.specs.Prelude.{Option, Some, None}
-use Rattle.semantics.specs.Word.{Kind, Int, Uint, UnaryOperator, ShiftLeft, ShiftRight}
+use Rattle.semantics.specs.Word.{Kind, Int, Uint, Size, UnaryOperator, ShiftLeft, ShiftRight}
 use Rattle.semantics.specs.Core as core
 use Rattle.semantics.specs.Core.{Site, Function, Term}
 use Rattle.texts.specs.Bare.{nowhere, bare_expression, bare_expressions}
@@ -35,6 +35,11 @@ bare-brought Int Int site t = refl
 bare-brought Int Uint site t = refl
 bare-brought Uint Int site t = refl
 bare-brought Uint Uint site t = refl
+bare-brought Int Size site t = refl
+bare-brought Uint Size site t = refl
+bare-brought Size Int site t = refl
+bare-brought Size Uint site t = refl
+bare-brought Size Size site t = refl
 
 pub bare-bring : (to : Kind) (site : Site) (t : TypedTerm) → bring to nowhere (bare_typed t) ≡ bare_term (bring to site t)
 bare-bring to site t = bare-brought t.kind to site t.term

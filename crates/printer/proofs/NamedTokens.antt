@@ -4,7 +4,7 @@ use Rattle.std.specs.Prelude.{Option, Some, None}
 use Rattle.std.specs.List.{find, Contains}
 use Rattle.std.specs.Str.{bytes_eq}
 use Rattle.std.proofs.lemmas.Slice.Eq.{bytes_eq-Decides}
-use Rattle.semantics.specs.Word.{in_kind}
+use Rattle.texts.specs.Numbers.{is_literal}
 use Rattle.texts.specs.Tokens as token
 use Rattle.texts.specs.Tokens.{TokenKind, Token, tokens_of}
 use Rattle.texts.specs.Reserved.{Reserved, reserved_words}
@@ -17,7 +17,7 @@ use Rattle.texts.proofs.Spellings.{lexemes_spelt}
 
 abbrev pub IsPrintableToken : TokenKind → Type 0
 IsPrintableToken (token.Name x) = IsName x
-IsPrintableToken (token.Number l) = in_kind l.kind (pos l.value) ≡ true
+IsPrintableToken (token.Number l) = is_literal l.kind l.value ≡ true
 IsPrintableToken token.End = Unit {0}
 IsPrintableToken (token.Word w) = Unit {0}
 IsPrintableToken (token.Mark s) = Unit {0}

@@ -1,9 +1,10 @@
--- The tree of a text within the limits can be printed: its names are names, its numbers of their kinds, its sizes of `int`.
-use Rattle.std.proofs.Common.{◌<◌, ℕ, List, arith}
+-- The tree of a text within the limits can be printed: its names are names, its numbers of their kinds, its kinds named, its sizes `int`.
+use Rattle.std.proofs.Common.{◌≡◌, ◌<◌, ℕ, List, true, arith}
 use Rattle.std.proofs.lemmas.Bool.Decides.{nat_tests}
-use Rattle.texts.specs.Lexemes.{Lexeme}
+use Rattle.texts.specs.Lexemes.{Lexeme, is_named}
+use Rattle.texts.proofs.NamedKinds.{named}
 use Rattle.texts.specs.KernelLimits.{ArraysFit, AllArraysFit, IsLocalSize, IsWithinLimits}
-use Rattle.texts.specs.CanonicalTokens.{IsName, IsSize, IsPrintable, ArePrintable, IsPrintableDeclaration, IsPrintableAssignment, IsPrintableFirst, IsPrintableStatement, ArePrintableStatements, parameter_name, ArePrintableParameters, IsPrintableKernel}
+use Rattle.texts.specs.CanonicalTokens.{IsName, IsSize, IsPrintable, ArePrintable, IsPrintableDeclaration, IsPrintableAssignment, IsPrintableFirst, IsPrintableStatement, ArePrintableStatements, parameter_name, parameter_kind, ArePrintableParameters, IsPrintableKernel}
 use Rattle.texts.specs.Surface.{Expression, Expressions, Declaration, Assignment, First, Statement, Statements, Parameter, Kernel}
 use Rattle.texts.specs.Grammar as rules
 use Rattle.texts.specs.Grammar.{IsExpression, IsRank, IsOperand, IsArguments, IsMore}
@@ -36,7 +37,7 @@ mutual
 
   operand-printable : {room : ℕ} {ts rest : List Lexeme} {e : Expression} → IsOperand room ts e rest → ArePrintableTokens ts → IsPrintable e
   operand-printable (rules.prefixed s sign at found h) a = operand-printable h a.1
-  operand-printable (rules.cast w kind at in_it end found h) a = operand-printable h a.1.1.1
+  operand-printable (rules.cast w kind at in_it end found h) a = (operand-printable h a.1.1.1, named w kind found)
   operand-printable (rules.literal n at) a = a.0
   operand-printable (rules.variable x at) a = a.0
   operand-printable (rules.element x at opening closing h) a = (a.0, expression-printable h a.1.1)
@@ -56,7 +57,7 @@ assignment-printable (kernels.to_variable x s sign at equal found h) a = (a.0, t
 assignment-printable (kernels.to_element x s sign at opening closing equal found i h) a = (a.0, expression-printable i a.1.1, expression-printable h (left (expression-later i) a.1.1).1.1)
 
 declaration-printable : {room n : ℕ} {ts rest : List Lexeme} {d : Declaration} → IsDeclaration room n ts d rest → ArePrintableTokens ts → IsPrintableDeclaration d
-declaration-printable (kernels.declared w kind x at there equal found h) a = (a.1.0, expression-printable h a.1.1.1)
+declaration-printable (kernels.declared w kind x at there equal found h) a = (a.1.0, expression-printable h a.1.1.1, named w kind found)
 
 first-printable : {room n : ℕ} {ts rest : List Lexeme} {f : First} → IsFirst room n ts f rest → ArePrintableTokens ts → IsPrintableFirst f
 first-printable (kernels.first_declares h) a = declaration-printable h a
@@ -89,17 +90,22 @@ mutual
   item-printable : {room n next : ℕ} {ts rest : List Lexeme} {s : Statement} → IsItem room n ts s next rest → ArePrintableTokens ts → ArraysFit s → IsPrintableStatement s
   item-printable (kernels.statement h) a f = statement-printable h a f
   item-printable (kernels.declares semicolon h) a f = declaration-printable h a
-  item-printable (kernels.array w kind x length at type there opening count closing semicolon found) a f = (a.1.1.0, size length.value (omega (arith, f.1)))
+  item-printable (kernels.array w kind x length at type there opening count closing semicolon found) a f = (a.1.1.0, size length.value (omega (arith, f.1)), named w kind found)
 
 parameter-printable : {ts rest : List Lexeme} {p : Parameter} → IsParameter ts p rest → ArePrintableTokens ts → IsName (parameter_name p)
 parameter-printable (kernels.buffer w kind x at type star there found) a = a.1.1.1.0
 parameter-printable (kernels.constant_buffer w kind x at fixed type star there found) a = a.1.1.1.1.0
 parameter-printable (kernels.value w kind x at there found) a = a.1.0
 
+parameter-named : {ts rest : List Lexeme} {p : Parameter} → IsParameter ts p rest → is_named (parameter_kind p) ≡ true
+parameter-named (kernels.buffer w kind x at type star there found) = named w kind found
+parameter-named (kernels.constant_buffer w kind x at fixed type star there found) = named w kind found
+parameter-named (kernels.value w kind x at there found) = named w kind found
+
 parameters-printable : {ts rest : List Lexeme} {ps : List Parameter} → IsParameters ts ps rest → ArePrintableTokens ts → ArePrintableParameters ps
 parameters-printable (kernels.no_parameter closing) a = tt
-parameters-printable (kernels.last_parameter closing h) a = (parameter-printable h a, tt)
-parameters-printable (kernels.another_parameter comma h k) a = (parameter-printable h a, parameters-printable k (left (parameter-later h) a).1)
+parameters-printable (kernels.last_parameter closing h) a = (parameter-printable h a, parameter-named h, tt)
+parameters-printable (kernels.another_parameter comma h k) a = (parameter-printable h a, parameter-named h, parameters-printable k (left (parameter-later h) a).1)
 
 pub tree-printable : {room : ℕ} {ts : List Lexeme} {k : Kernel} → IsKernel room ts k → ArePrintableTokens ts → IsWithinLimits k → IsPrintableKernel k
 tree-printable (kernels.kernel x y z f at1 at2 at3 at4 at5 at6 at7 at8 at9 at10 at11 at12 at13 at14 at15 at16 at17 at18 at19 parameters items) a limits =

@@ -8,7 +8,7 @@ use Rattle.texts.specs.TypeFaults.{Checked}
 abbrev pub bare_term : Term → Term
 bare_term (Literal kind z) = Literal kind z
 bare_term (Variable slot) = Variable slot
-bare_term (Id function dimension) = Id function dimension
+bare_term (Id kind function dimension) = Id kind function dimension
 bare_term (Load array site index) = Load array nowhere (bare_term index)
 bare_term (Unary operator kind site t) = Unary operator kind nowhere (bare_term t)
 bare_term (Binary operator kind site l r) = Binary operator kind nowhere (bare_term l) (bare_term r)

@@ -6,7 +6,7 @@ use Rattle.texts.specs.Bare.{nowhere}
 use Rattle.printer.specs.BareCore.{bare_step, bare_core}
 
 abbrev pub bare_setup : Setup → Setup
-bare_setup s = record { kernel = bare_core s.kernel; launch = s.launch }
+bare_setup s = record { kernel = bare_core s.kernel; launch = s.launch; width = s.width }
 
 abbrev pub bare_entry : Entry → Entry
 bare_entry e = record { statement = bare_step e.statement; turns = e.turns }

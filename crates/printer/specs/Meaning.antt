@@ -3,10 +3,7 @@ use Rattle.std.specs.Prelude.{◌≡◌, ℕ}
 use Rattle.semantics.specs.Headline.{Headline}
 use Rattle.semantics.specs.Launch.{Kernel, Launch, Fits}
 use Rattle.semantics.specs.Rounds.{IsDefined, result_by_rounds}
-use Rattle.semantics.specs.Setup.{Setup}
-
-abbrev pub at_launch : Kernel → Launch → Setup
-at_launch k l = record { kernel = k; launch = l }
+use Rattle.semantics.specs.Setup.{at_launch}
 
 -- the launch is one of both or of neither; both have the headline there within the budget, or neither has; so it is with a result that is
 -- defined, and the results are the same

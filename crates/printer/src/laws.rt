@@ -3,8 +3,9 @@
 ghost use Rattle.std.specs.Prelude.{◌≡◌, ◌≤◌, ℕ, List, length, Ok};
 ghost use Rattle.printer.specs.Alike.{AreAlike, IsTextAtAnyLength};
 ghost use Rattle.printer.specs.BareCore.{bare_core, bare_checked};
-ghost use Rattle.printer.specs.Meaning.{at_launch, MeansTheSame};
+ghost use Rattle.printer.specs.Meaning.{MeansTheSame};
 ghost use Rattle.reading.specs.Kernels.{Kernel, read};
+ghost use Rattle.semantics.specs.Setup.{at_launch};
 ghost use Rattle.semantics.specs.Headline.{Headline};
 ghost use Rattle.semantics.specs.Launch as launch;
 ghost use Rattle.semantics.specs.Rounds.{result_by_rounds};

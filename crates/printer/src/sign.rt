@@ -18,6 +18,7 @@ pub fn push_kind(out: &mut String, kind: Kind) -> Result<(), AllocError>
     match kind {
         Kind::Int => out.push_str("int"),
         Kind::Uint => out.push_str("uint"),
+        Kind::Size => out.push_str("size_t"),
     }
 }
 
@@ -91,7 +92,7 @@ pub fn push_number(out: &mut String, kind: Kind, value: u32) -> Result<(), Alloc
 {
     match kind {
         Kind::Int => write!(out, "{value}"),
-        Kind::Uint => write!(out, "{value}u"),
+        Kind::Uint | Kind::Size => write!(out, "{value}u"),
     }
 }
 

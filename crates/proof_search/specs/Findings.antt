@@ -1,6 +1,7 @@
 -- What the findings of a search tell of a kernel under conditions.
 use Rattle.std.specs.Prelude.{ℕ, List, Bool, IfSome}
 use Rattle.std.specs.List.{All}
+use Rattle.semantics.specs.Setup.{at_launch}
 use Rattle.semantics.specs.Launch.{Launch, Fits}
 use Rattle.semantics.specs.Conditions.{Conditions, Meets}
 use Rattle.texts.specs.ConditionsText.{IsConditionsText}
@@ -20,7 +21,7 @@ use Rattle.findings.specs.declared.finding.Finding as findings
 pub record IsWitness (k : Kernel) (c : Conditions) (f : Finding) (l : Launch) : Type 0 where
   pub fits : Fits k.core l
   pub meets : Meets c l
-  pub shown : IsConfirmed (record { kernel = k.core; launch = l }) k.tree f
+  pub shown : IsConfirmed (at_launch k.core l) k.tree f
 
 -- what is confirmed has such a launch; of what is possible nothing is said
 abbrev pub IsTrue : Kernel → Conditions → Finding → Type 0

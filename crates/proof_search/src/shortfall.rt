@@ -31,7 +31,7 @@ const MOST: usize = 16;
 /// value of `uint` was not wrapped round, that a dividend is not negative, and that a guess holds.
 fn kind_of(sort: Sort) -> Option<diagnostics::FindingKind> {
     match sort {
-        Sort::OfRange(Kind::Int) | Sort::OfQuotient => {
+        Sort::OfRange(Kind::Int | Kind::Size) | Sort::OfQuotient => {
             Some(diagnostics::FindingKind::Fault(Fault::Overflow))
         }
         Sort::OfIndex => Some(diagnostics::FindingKind::Fault(Fault::OutOfBounds)),

@@ -2,7 +2,7 @@
 -- has the rank 1.
 use Rattle.std.proofs.Common.{◌≡◌, ℕ, ℤ, Bool, true, false, List, [], ◌∷◌, Some, None, refl, sym, ap, inl, inr, subst}
 use Rattle.std.specs.Prelude.{pos, ◌⊎◌, slice_index_or}
-use Rattle.semantics.specs.Word.{Uint, Word, zero_word, is_zero}
+use Rattle.semantics.specs.Word.{Uint, Exact, Word, zero_word, is_zero}
 use Rattle.semantics.specs.Core.{Statement, Literal, Variable, Set, Loop, Statements, none, one}
 use Rattle.semantics.specs.Launch.{Launch}
 use Rattle.semantics.specs.Setup.{Setup}
@@ -21,7 +21,7 @@ abbrev pub body : Statements
 body = one loop none
 
 abbrev pub at_one : Launch → Setup
-at_one l = record { kernel = record { sizes = record { x = 1; y = 1; z = 1 }; arguments = Uint ∷ []; buffers = []; arrays = []; variables = []; body = body }; launch = l }
+at_one l = record { kernel = record { sizes = record { x = 1; y = 1; z = 1 }; arguments = Uint ∷ []; buffers = []; arrays = []; variables = []; body = body }; launch = l; width = Exact }
 
 abbrev pub value_of : List Word → Word
 value_of vars = slice_index_or vars 0 zero_word

@@ -64,13 +64,13 @@ pub uses : (s : Setup) (i : ℕ) (e : Term) (vars answers : List Word) → Uses 
 unfolding evaluate
 uses s i (Literal k z) vars answers = given answers
 uses s i (Variable x) vars answers = given answers
-uses s i (Id f d) vars answers = given answers
+uses s i (Id k f d) vars answers = given answers
 uses s i (Load a site index) vars answers =
     let u = uses_then (loads index) 1 (length answers) (evaluate s i index vars answers) (λ k rest. load s a site k.value rest) (uses s i index vars answers) (λ k rest. load_uses s a site k.value rest) in
     uses_up_to (loads index + 1) (1 + loads index) (length answers) (evaluate s i (Load a site index) vars answers) (omega arith) u
-uses s i (Unary op kind site e) vars answers = uses_no_more (loads e) (length answers) (evaluate s i e vars answers) (λ a rest. settled (calculate_unary op kind a.value) site rest) (uses s i e vars answers) (λ a rest. settled_uses (calculate_unary op kind a.value) site rest)
-uses s i (Binary op kind site l r) vars answers = both s i l r vars answers (λ a b rest. settled (operate op kind a b) site rest) (uses s i l vars answers) (uses s i r vars) (λ a b rest. settled_uses (operate op kind a b) site rest)
-uses s i (Convert kind site e) vars answers = uses_no_more (loads e) (length answers) (evaluate s i e vars answers) (λ a rest. settled (convert kind a.value) site rest) (uses s i e vars answers) (λ a rest. settled_uses (convert kind a.value) site rest)
+uses s i (Unary op kind site e) vars answers = uses_no_more (loads e) (length answers) (evaluate s i e vars answers) (λ a rest. settled (calculate_unary op s.width kind a.value) site rest) (uses s i e vars answers) (λ a rest. settled_uses (calculate_unary op s.width kind a.value) site rest)
+uses s i (Binary op kind site l r) vars answers = both s i l r vars answers (λ a b rest. settled (operate op s.width kind a b) site rest) (uses s i l vars answers) (uses s i r vars) (λ a b rest. settled_uses (operate op s.width kind a b) site rest)
+uses s i (Convert kind site e) vars answers = uses_no_more (loads e) (length answers) (evaluate s i e vars answers) (λ a rest. settled (convert s.width kind a.value) site rest) (uses s i e vars answers) (λ a rest. settled_uses (convert s.width kind a.value) site rest)
 uses s i (Compare c kind l r) vars answers = both s i l r vars answers (λ a b rest. Gives (truth (compare c kind a b)) rest) (uses s i l vars answers) (uses s i r vars) (λ a b rest. given rest)
 uses s i (Not e) vars answers = uses_no_more (loads e) (length answers) (evaluate s i e vars answers) (λ a rest. Gives (truth (is_zero a.value)) rest) (uses s i e vars answers) (λ a rest. given rest)
 uses s i (And l r) vars answers =

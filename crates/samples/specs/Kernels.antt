@@ -57,9 +57,9 @@ two_groups = setup 1 2 ((pos 0 ∷ []) ∷ []) [] [] (Store 1 (buffer 0) (at 1) 
 -- __local uint t[1]; a[get_group_id(0)] = t[0]; t[0] = get_group_id(0); a[get_group_id(0)] = t[0]; of two groups of one item
 abbrev pub own_array : Setup
 own_array = setup 1 2 ((pos 5 ∷ pos 5 ∷ []) ∷ []) (record { kind = Uint; length = 1 } ∷ []) [] (
-    Store 1 (buffer 0) (at 1) (Id GroupId 0) (Load (array 0) (at 2) (uint 0)) ∷
-    Store 2 (array 0) (at 3) (uint 0) (Id GroupId 0) ∷
-    Store 3 (buffer 0) (at 4) (Id GroupId 0) (Load (array 0) (at 5) (uint 0)) ∷ [])
+    Store 1 (buffer 0) (at 1) (Id Uint GroupId 0) (Load (array 0) (at 2) (uint 0)) ∷
+    Store 2 (array 0) (at 3) (uint 0) (Id Uint GroupId 0) ∷
+    Store 3 (buffer 0) (at 4) (Id Uint GroupId 0) (Load (array 0) (at 5) (uint 0)) ∷ [])
 
 -- while (1u) { break; while (1u) { } } a[0] = 1u;
 abbrev pub broken : Setup

@@ -1,6 +1,6 @@
 -- Small pieces of kernels, and questions to ask of a run.
 use Rattle.std.specs.Prelude.{ℕ, ℤ, pos, List, [], ◌∷◌, Bool, true, false, Option, Some, None, bytes_eq}
-use Rattle.semantics.specs.Word.{Kind, Uint}
+use Rattle.semantics.specs.Word.{Kind, Uint, Exact}
 use Rattle.semantics.specs.Core.{Site, Array, Global, Local, Term, Literal, Id, LocalId, Statement, Statements, none, one}
 use Rattle.semantics.specs.Launch.{Three, LocalArray}
 use Rattle.semantics.specs.Setup.{Setup}
@@ -15,7 +15,7 @@ abbrev pub uint : ℕ → Term
 uint n = Literal Uint (pos n)
 
 abbrev pub lid : Term
-lid = Id LocalId 0
+lid = Id Uint LocalId 0
 
 abbrev pub buffer : ℕ → Array
 buffer n = record { space = Global; number = n }
@@ -35,6 +35,7 @@ abbrev pub setup : (size groups : ℕ) → List (List ℤ) → List LocalArray �
 setup size groups buffers arrays variables ss = record {
   kernel = record { sizes = flat size; buffers = kinds buffers; arguments = []; arrays = arrays; variables = variables; body = body ss };
   launch = record { groups = flat groups; arguments = []; buffers = buffers; fill = 9 };
+  width = Exact;
 }
   where
     kinds : List (List ℤ) → List Kind

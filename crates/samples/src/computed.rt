@@ -2,7 +2,7 @@
 
 ghost use Rattle.std.specs.Prelude.{◌≡◌, ◌++◌, ◌∷◌, [], ℕ, pos, negsuc, true, false, not, ◌&&◌, nat_eq, bytes_eq, replicate, Result};
 ghost use Rattle.std.specs.Ordering.{int_eq};
-ghost use Rattle.semantics.specs.Word.{Kind, Int, Uint, word, Overflow, DivisionByZero, OutOfBounds, Add, Subtract, Divide, Remainder, Negate, Less, calculate, convert};
+ghost use Rattle.semantics.specs.Word.{Kind, Int, Uint, Width, word, Overflow, DivisionByZero, OutOfBounds, Add, Subtract, Divide, Remainder, Negate, Less, calculate, convert};
 ghost use Rattle.semantics.specs.Core.{Barrier, Load, Binary, Unary, And, Or, Select, Compare, Convert, Literal};
 ghost use Rattle.semantics.specs.Evaluation.{evaluate, Gives, Needs, Faults};
 ghost use Rattle.semantics.specs.Item.{Stopped, trail};
@@ -16,12 +16,12 @@ ghost use Rattle.samples.specs.Kernels.{half_waits, other_turns, turned, steps, 
 
 /// C99 6.5.5 and 6.3.1.3 at the edges; `-1 < 0u` is 0.
 pub fn words_are_exact()
-    ensures quotient { calculate Divide Int (negsuc 6) (pos 2) ≡ Ok (word Int (negsuc 2)) }
-    ensures remainder { calculate Remainder Int (negsuc 6) (pos 2) ≡ Ok (word Int (negsuc 0)) }
-    ensures least { calculate Remainder Int (negsuc 2147483647) (negsuc 0) ≡ Err Overflow }
-    ensures zero { calculate Remainder Uint (pos 1) (pos 0) ≡ Err DivisionByZero }
-    ensures wraps { calculate Subtract Uint (pos 0) (pos 1) ≡ Ok (word Uint (pos 4294967295)) }
-    ensures converts { convert Int (pos 2147483648) ≡ Err Overflow }
+    ensures quotient { (w : Width) → calculate Divide w Int (negsuc 6) (pos 2) ≡ Ok (word Int (negsuc 2)) }
+    ensures remainder { (w : Width) → calculate Remainder w Int (negsuc 6) (pos 2) ≡ Ok (word Int (negsuc 0)) }
+    ensures least { (w : Width) → calculate Remainder w Int (negsuc 2147483647) (negsuc 0) ≡ Err Overflow }
+    ensures zero { (w : Width) → calculate Remainder w Uint (pos 1) (pos 0) ≡ Err DivisionByZero }
+    ensures wraps { (w : Width) → calculate Subtract w Uint (pos 0) (pos 1) ≡ Ok (word Uint (pos 4294967295)) }
+    ensures converts { (w : Width) → convert w Int (pos 2147483648) ≡ Err Overflow }
     ensures mixed { evaluate half_waits 0 (Compare Less Uint (Unary Negate Int (at 1) (Literal Int (pos 1))) (uint 0)) [] [] ≡ Gives (word Int (pos 0)) [] }
 {}
 

@@ -233,11 +233,11 @@ module _ (s : Setup) (cs : List Content) where
     unfolding evaluate
     heeds (Literal k z) = value-heeds _
     heeds (Variable x) = value-heeds _
-    heeds (Id f d) = value-heeds _
+    heeds (Id k f d) = value-heeds _
     heeds (Load a site index) = onward (reads index) (Honest index) (λ k rest. load s a site k.value rest) (λ k rest. FirstHeld s cs a rest) (heeds index) (λ k. load-heeds a site k.value)
-    heeds (Unary op kind site e) = blind (reads e) (Honest e) (λ a rest. settled (calculate_unary op kind a.value) site rest) (heeds e) (settled-blind (λ a. calculate_unary op kind a.value) site)
-    heeds (Binary op kind site l r) = two l r (λ a b rest. settled (operate op kind a b) site rest) (heeds l) (heeds r) (λ a. settled-blind (operate op kind a) site)
-    heeds (Convert kind site e) = blind (reads e) (Honest e) (λ a rest. settled (convert kind a.value) site rest) (heeds e) (settled-blind (λ a. convert kind a.value) site)
+    heeds (Unary op kind site e) = blind (reads e) (Honest e) (λ a rest. settled (calculate_unary op s.width kind a.value) site rest) (heeds e) (settled-blind (λ a. calculate_unary op s.width kind a.value) site)
+    heeds (Binary op kind site l r) = two l r (λ a b rest. settled (operate op s.width kind a b) site rest) (heeds l) (heeds r) (λ a. settled-blind (operate op s.width kind a) site)
+    heeds (Convert kind site e) = blind (reads e) (Honest e) (λ a rest. settled (convert s.width kind a.value) site rest) (heeds e) (settled-blind (λ a. convert s.width kind a.value) site)
     heeds (Compare c kind l r) = two l r (λ a b rest. Gives (truth (compare c kind a b)) rest) (heeds l) (heeds r) (λ a. gives-blind (λ b. truth (compare c kind a b)))
     heeds (Not e) = blind (reads e) (Honest e) (λ a rest. Gives (truth (is_zero a.value)) rest) (heeds e) (gives-blind (λ a. truth (is_zero a.value)))
     heeds (And l r) =

@@ -17,3 +17,7 @@ pub mod Deciding
 pub mod MemoryKinds
 pub mod Places
 pub mod Logs
+pub mod DeviceWords
+pub mod DeviceTerms
+pub mod DeviceSteps
+pub mod Sizeless

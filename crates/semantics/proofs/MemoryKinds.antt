@@ -2,7 +2,7 @@
 use Rattle.std.proofs.Common.{◌≡◌, ◌<◌, ◌^◌, ℕ, zero, suc, ℤ, pos, List, [], ◌∷◌, get_or, Bool, true, false, cond, Option, Some, None, refl, sym, ap, ◌∙◌, arith, lt-ltb, nat_lt}
 use Rattle.std.specs.List.{All, AllZip}
 use Rattle.std.proofs.lemmas.List.Elements.{All-head, All-tail}
-use Rattle.semantics.specs.Word.{Kind, Int, Uint, Word, in_kind}
+use Rattle.semantics.specs.Word.{Kind, Int, Uint, Size, Word, in_kind}
 use Rattle.semantics.specs.Core.{Site, Array, Statement, Set, Store, If, Loop, Barrier, Return, Break, Continue}
 use Rattle.semantics.specs.Launch.{IsBuffer, Fits}
 use Rattle.semantics.specs.Setup.{Setup, item_count}
@@ -99,6 +99,7 @@ run-kinds s (e ∷ es) w v h m = run_on s e es w v m (λ u r q. run-kinds s es u
 buffer-kind : (k : Kind) (zs : List ℤ) (n : ℕ) → All (λ z. in_kind k z ≡ true) zs → in_kind k (get_or zs n (pos 0)) ≡ true
 buffer-kind Int [] n h = refl
 buffer-kind Uint [] n h = refl
+buffer-kind Size [] n h = refl
 buffer-kind k (z ∷ zs) zero h = All-head (λ x. in_kind k x ≡ true) z zs h
 buffer-kind k (z ∷ zs) (suc n) h = buffer-kind k zs n (All-tail (λ x. in_kind k x ≡ true) z zs h)
 
@@ -112,6 +113,7 @@ buffers-kind (k ∷ ks) (b ∷ bs) (suc a) n h = buffers-kind ks bs a n h.1
 fill-kind : (k : Kind) (n : ℕ) → n < 2 ^ 31 → in_kind k (pos n) ≡ true
 fill-kind Int n h = lt-ltb n (2 ^ 31) h
 fill-kind Uint n h = lt-ltb n (2 ^ 32) (omega arith)
+fill-kind Size n h = lt-ltb n (2 ^ 32) (omega arith)
 
 pub opening-kind : (s : Setup) → Fits s.kernel s.launch → (o a n : ℕ) → in_kind (kind_in s o a) (opening_at s o a n) ≡ true
 opening-kind s f zero a n = buffers-kind s.kernel.buffers s.launch.buffers a n f.buffers

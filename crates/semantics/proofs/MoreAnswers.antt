@@ -59,11 +59,11 @@ grows : (s : Setup) (i : ℕ) (vars : List Word) (e : Term) → Grows (reads s i
 unfolding evaluate
 grows s i vars (Literal k z) = value-grows _
 grows s i vars (Variable x) = value-grows _
-grows s i vars (Id f d) = value-grows _
+grows s i vars (Id kind f d) = value-grows _
 grows s i vars (Load a site index) = then-grows (reads s i vars index) (λ k rest. load s a site k.value rest) (grows s i vars index) (λ k. load-grows s a site k.value)
-grows s i vars (Unary op kind site e) = then-grows (reads s i vars e) (λ a rest. settled (calculate_unary op kind a.value) site rest) (grows s i vars e) (λ a. settled-grows (calculate_unary op kind a.value) site)
-grows s i vars (Binary op kind site l r) = both-grow s i vars l r (λ a b rest. settled (operate op kind a b) site rest) (grows s i vars l) (grows s i vars r) (λ a b. settled-grows (operate op kind a b) site)
-grows s i vars (Convert kind site e) = then-grows (reads s i vars e) (λ a rest. settled (convert kind a.value) site rest) (grows s i vars e) (λ a. settled-grows (convert kind a.value) site)
+grows s i vars (Unary op kind site e) = then-grows (reads s i vars e) (λ a rest. settled (calculate_unary op s.width kind a.value) site rest) (grows s i vars e) (λ a. settled-grows (calculate_unary op s.width kind a.value) site)
+grows s i vars (Binary op kind site l r) = both-grow s i vars l r (λ a b rest. settled (operate op s.width kind a b) site rest) (grows s i vars l) (grows s i vars r) (λ a b. settled-grows (operate op s.width kind a b) site)
+grows s i vars (Convert kind site e) = then-grows (reads s i vars e) (λ a rest. settled (convert s.width kind a.value) site rest) (grows s i vars e) (λ a. settled-grows (convert s.width kind a.value) site)
 grows s i vars (Compare c kind l r) = both-grow s i vars l r (λ a b rest. Gives (truth (compare c kind a b)) rest) (grows s i vars l) (grows s i vars r) (λ a b. value-grows _)
 grows s i vars (Not e) = then-grows (reads s i vars e) (λ a rest. Gives (truth (is_zero a.value)) rest) (grows s i vars e) (λ a. value-grows _)
 grows s i vars (And l r) =

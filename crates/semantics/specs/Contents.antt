@@ -74,7 +74,7 @@ Behind (Faults f site) P = Unit {0}
 abbrev pub HonestTerm : Setup → List Content → ℕ → Term → (vars answers : List Word) → Type 0
 HonestTerm s cs i (Literal k z) vars answers = Unit {0}
 HonestTerm s cs i (Variable x) vars answers = Unit {0}
-HonestTerm s cs i (Id f d) vars answers = Unit {0}
+HonestTerm s cs i (Id k f d) vars answers = Unit {0}
 HonestTerm s cs i (Load a site index) vars answers = HonestTerm s cs i index vars answers × Behind (evaluate s i index vars answers) (λ k rest. FirstHeld s cs a rest)
 HonestTerm s cs i (Unary op kind site e) vars answers = HonestTerm s cs i e vars answers
 HonestTerm s cs i (Binary op kind site left right) vars answers = HonestTerm s cs i left vars answers × Behind (evaluate s i left vars answers) (λ a rest. HonestTerm s cs i right vars rest)

@@ -14,3 +14,4 @@ pub mod Tests
 pub mod Rounds
 pub mod Headline
 pub mod Conditions
+pub mod Sizes

@@ -1,11 +1,21 @@
 -- A kernel at a launch: its work-items and work-groups, their ids and their order (OpenCL 1.2, 3.2 and 6.12.1).
 use Rattle.std.specs.Prelude.{ℕ, zero, suc, ◌+◌, ◌*◌, ◌/◌, ◌%◌, ◌<◌}
+use Rattle.semantics.specs.Word.{Width, Exact}
 use Rattle.semantics.specs.Core.{Function, GlobalId, LocalId, GroupId, GlobalSize, LocalSize, NumGroups}
 use Rattle.semantics.specs.Launch.{Three, product, Kernel, Launch}
 
 pub record Setup : Type 0 where
   pub kernel : Kernel
   pub launch : Launch
+  pub width : Width
+
+-- a kernel at a launch, where sizes are exact
+abbrev pub at_launch : Kernel → Launch → Setup
+at_launch k l = record { kernel = k; launch = l; width = Exact }
+
+-- the same kernel and launch on another device
+abbrev pub on_device : Width → Setup → Setup
+on_device w s = record { kernel = s.kernel; launch = s.launch; width = w }
 
 -- a dimension's number; past the third dimension a default
 abbrev pub along : Three ℕ → ℕ → ℕ → ℕ
@@ -47,7 +57,7 @@ local_id s i d = along (place s.kernel.sizes (i % group_size s)) d 0
 abbrev pub group_id : Setup → ℕ → ℕ → ℕ
 group_id s i d = along (place s.launch.groups (group_of s i)) d 0
 
--- what a work-item function gives at a dimension (6.12.1; no offset); it is a `uint`, as on a device of 32 address bits (ours)
+-- what a work-item function gives at a dimension (6.12.1; no offset)
 abbrev pub identity : Setup → ℕ → Function → ℕ → ℕ
 identity s i GlobalId d = group_id s i d * along s.kernel.sizes d 1 + local_id s i d
 identity s i LocalId d = local_id s i d

@@ -5,6 +5,7 @@
 //! and the crates above cite the laws and the lemmas in `proofs/`.
 #![tactic(auto)]
 
+pub mod devices;
 pub mod honesty;
 pub mod numbers;
 pub mod solo_runs;

@@ -22,7 +22,7 @@ array-grows d e g Local n h = omega (arith, g.arrays, h)
 pub term-grows : (d e : Declared) → Grows d e → (t : Term) → TermWithin d t → TermWithin e t
 term-grows d e g (Literal k z) h = tt
 term-grows d e g (Variable x) h = omega (arith, g.slots, h)
-term-grows d e g (Id f i) h = tt
+term-grows d e g (Id k f i) h = tt
 term-grows d e g (Load a site index) h = (array-grows d e g a.space a.number h.0, term-grows d e g index h.1)
 term-grows d e g (Unary op k site t) h = term-grows d e g t h
 term-grows d e g (Binary op k site left right) h = (term-grows d e g left h.0, term-grows d e g right h.1)

@@ -3,12 +3,12 @@ use Rattle.std.proofs.Common.{◌≡◌, ℕ, ◌<◌, Bool, true, ◌&&◌, nat
 use Rattle.std.specs.Prelude.{nat_le}
 use Rattle.std.proofs.lemmas.Bool.{and_parts, and_from}
 use Rattle.semantics.specs.Launch.{Three, Kernel, Launch, product}
-use Rattle.semantics.specs.Setup.{group_size}
+use Rattle.semantics.specs.Setup.{at_launch, group_size}
 use Rattle.facts.specs.Launching as facts
 use Rattle.work_item.specs.Proper as proper
 use Rattle.work_item.specs.Proper.{are_proper, is_proper}
 
-pub sizes : (k : Kernel) (l : Launch) → is_proper k ≡ true → (facts.are_sizes k.sizes ≡ true) × (0 < group_size (record { kernel = k; launch = l }))
+pub sizes : (k : Kernel) (l : Launch) → is_proper k ≡ true → (facts.are_sizes k.sizes ≡ true) × (0 < group_size (at_launch k l))
 unfolding group_size
 sizes k l h =
     let t = k.sizes in

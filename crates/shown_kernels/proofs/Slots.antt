@@ -11,7 +11,7 @@ module _ (d : Declared) where
   term-slots : (e : Term) → TermWithin d e → lanes.TermWithin d.slots e
   term-slots (Literal k z) h = h
   term-slots (Variable x) h = h
-  term-slots (Id f i) h = h
+  term-slots (Id k f i) h = h
   term-slots (Load a site index) h = term-slots index h.1
   term-slots (Unary op k site e) h = term-slots e h
   term-slots (Binary op k site left right) h = (term-slots left h.0, term-slots right h.1)

@@ -1,13 +1,14 @@
 -- Terms of expressions whose numbers are of their kinds are proper.
 use Rattle.std.proofs.Common.{◌≡◌, ℕ, List, [], ◌∷◌, Bool, true, false, ◌&&◌, cond, refl}
-use Rattle.std.specs.Prelude.{Option, Some, None, nat_le, bytes_eq, codes}
-use Rattle.semantics.specs.Word.{Kind, Int, Uint, ShiftLeft, ShiftRight}
+use Rattle.std.specs.Prelude.{pos, Option, Some, None, nat_le, bytes_eq, codes}
+use Rattle.semantics.specs.Word.{Kind, Int, Uint, Size, in_kind, ShiftLeft, ShiftRight}
 use Rattle.semantics.specs.Core as core
 use Rattle.semantics.specs.Core.{Site, Array, Function, Term}
 use Rattle.texts.specs.Surface.{PrefixSign, Minus, LogicalNot, BitNot, InfixSign, Arithmetic, LeftShift, RightShift, Comparison, LogicalAnd, LogicalOr, Expression, Number, Name, Element, Call, Prefix, Cast, Infix, Conditional, Expressions, nothing, also}
 use Rattle.texts.specs.TypeFaults.{Checked, UnknownName, WrongType, LeftOutWord, refused, then, found}
 use Rattle.texts.specs.Scope.{Meaning, VariableAt, ArrayAt, Binding, meaning_of}
 use Rattle.texts.specs.Typing.{TypedTerm, typed, is_uint, common, brought, bring, variable_term, array_of, prefix_term, shift_count, shift_term, infix_term, conditional_term, function_named, is_left_out, id_term, same_kind, pick_term, are_two, call_other, call_term, type_of, types_of}
+use Rattle.texts.specs.Numbers.{is_literal}
 use Rattle.texts.specs.Spelling.{SpellsExpression, SpellsExpressions}
 use Rattle.work_item.specs.Proper.{is_proper_term}
 use Rattle.shown_kernels.proofs.Holding.{Holds, then-holds, then-any, when-holds, both}
@@ -24,9 +25,20 @@ brought-proper Int Int site t h = h
 brought-proper Int Uint site t h = h
 brought-proper Uint Int site t h = h
 brought-proper Uint Uint site t h = h
+brought-proper Int Size site t h = h
+brought-proper Uint Size site t h = h
+brought-proper Size Int site t h = h
+brought-proper Size Uint site t h = h
+brought-proper Size Size site t h = h
 
 pub bring-proper : (to : Kind) (site : Site) (t : TypedTerm) → IsProper t → is_proper_term (bring to site t) ≡ true
 bring-proper to site t h = brought-proper t.kind to site t.term h
+
+-- a literal is a number of its kind
+literal-in : (k : Kind) (n : ℕ) → is_literal k n ≡ true → in_kind k (pos n) ≡ true
+literal-in Int n h = h
+literal-in Uint n h = h
+literal-in Size n h = cc
 
 variable-proper : (site : Site) (m : Meaning) → Holds IsProper (variable_term site m)
 variable-proper site (VariableAt slot kind) = refl
@@ -126,7 +138,7 @@ mutual
   unfolding type_of types_of
 
   pub type-proper : (names : List Binding) (e : Expression) → SpellsExpression e → Holds IsProper (type_of names e)
-  type-proper names (Number site kind n) h = h
+  type-proper names (Number site kind n) h = literal-in kind n h
   type-proper names (Name site x) h = then-any IsProper (found (meaning_of names x) UnknownName site) (variable_term site) (variable-proper site)
   type-proper names (Element site x index) h =
       then-any IsProper (found (meaning_of names x) UnknownName site) _ (λ m. then-any IsProper (array_of site m) _ (λ a.

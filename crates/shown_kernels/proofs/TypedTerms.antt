@@ -1,7 +1,7 @@
 -- Terms of expressions name what is declared, where the names that they are typed among do.
 use Rattle.std.proofs.Common.{ℕ, List, [], ◌∷◌, Bool, true, false, cond}
 use Rattle.std.specs.Prelude.{Option, Some, None, bytes_eq, codes}
-use Rattle.semantics.specs.Word.{Kind, Int, Uint, UnaryOperator, ShiftLeft, ShiftRight}
+use Rattle.semantics.specs.Word.{Kind, Int, Uint, Size, UnaryOperator, ShiftLeft, ShiftRight}
 use Rattle.semantics.specs.Core as core
 use Rattle.semantics.specs.Core.{Site, Array, Function, Term}
 use Rattle.texts.specs.Surface.{PrefixSign, Minus, LogicalNot, BitNot, InfixSign, Arithmetic, LeftShift, RightShift, Comparison, LogicalAnd, LogicalOr, Expression, Number, Name, Element, Call, Prefix, Cast, Infix, Conditional, Expressions, nothing, also}
@@ -27,6 +27,11 @@ brought-in d Int Int site t h = h
 brought-in d Int Uint site t h = h
 brought-in d Uint Int site t h = h
 brought-in d Uint Uint site t h = h
+brought-in d Int Size site t h = h
+brought-in d Uint Size site t h = h
+brought-in d Size Int site t h = h
+brought-in d Size Uint site t h = h
+brought-in d Size Size site t h = h
 
 pub bring-in : (d : Declared) (to : Kind) (site : Site) (t : TypedTerm) → IsIn d t → TermWithin d (bring to site t)
 bring-in d to site t h = brought-in d t.kind to site t.term h

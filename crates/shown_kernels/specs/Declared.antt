@@ -22,7 +22,7 @@ HasArray d a = IsOf d a.space a.number
 abbrev pub TermWithin : Declared → Term → Type 0
 TermWithin d (Literal k z) = Unit {0}
 TermWithin d (Variable x) = x < d.slots
-TermWithin d (Id f i) = Unit {0}
+TermWithin d (Id k f i) = Unit {0}
 TermWithin d (Load a site index) = HasArray d a × TermWithin d index
 TermWithin d (Unary op k site e) = TermWithin d e
 TermWithin d (Binary op k site left right) = TermWithin d left × TermWithin d right

@@ -3,6 +3,7 @@
 ghost use Rattle.std.specs.Prelude.{◌≡◌, ℕ, ◌≤◌, List, [], Ok, None};
 ghost use Rattle.std.specs.List.{All};
 ghost use Rattle.semantics.specs.Launch.{Launch, Fits};
+ghost use Rattle.semantics.specs.Setup.{at_launch};
 ghost use Rattle.semantics.specs.Conditions.{Conditions, Meets};
 ghost use Rattle.semantics.specs.Headline.{Headline};
 ghost use Rattle.semantics.specs.Safety.{IsPairSafe, IsPairSafeWithin};
@@ -26,7 +27,7 @@ use semantics::honesty::{launches_begin_kept, without_lines_all_runs_are_honest}
 /// A kernel that is read of bytes, each of whose loops with a barrier meets one on each way through, and of which all is shown under
 /// conditions, whatever is said of its places and loops, has the headline at each launch that meets the conditions, within its cost.
 pub fn what_is_read_and_shown_has_the_headline<D: Domain>()
-    ensures { (bytes : List ℕ) (k : Kernel) (c : Conditions) (n : Notes) (l : Launch) → read bytes ≡ Ok k → unmet k.core.body ≡ None → TellsOfItems n → AreLimits n → All IsShownWithProducts (obligations D.Domain k.core c n) → Fits k.core l → Meets c l → Headline (record { kernel = k.core; launch = l }) (cost (turns_at n) k.core.body) }
+    ensures { (bytes : List ℕ) (k : Kernel) (c : Conditions) (n : Notes) (l : Launch) → read bytes ≡ Ok k → unmet k.core.body ≡ None → TellsOfItems n → AreLimits n → All IsShownWithProducts (obligations D.Domain k.core c n) → Fits k.core l → Meets c l → Headline (at_launch k.core l) (cost (turns_at n) k.core.body) }
 {
     headline_within();
     launches_begin_kept();
@@ -38,7 +39,7 @@ pub fn what_is_read_and_shown_has_the_headline<D: Domain>()
 /// A kernel which is read and of which all is shown is pair-safe at each launch that meets the conditions, within each budget that its cost
 /// does not pass: so it is where loads are answered by what lines of the conditions let buffers hold, and each store keeps that.
 pub fn what_is_read_and_shown_is_pair_safe_within<D: Domain>()
-    ensures { (bytes : List ℕ) (k : Kernel) (c : Conditions) (n : Notes) (l : Launch) (budget : ℕ) → read bytes ≡ Ok k → unmet k.core.body ≡ None → TellsOfItems n → AreLimits n → All IsShownWithProducts (obligations D.Domain k.core c n) → cost (turns_at n) k.core.body ≤ budget → Fits k.core l → Meets c l → IsPairSafeWithin c.contents (record { kernel = k.core; launch = l }) budget }
+    ensures { (bytes : List ℕ) (k : Kernel) (c : Conditions) (n : Notes) (l : Launch) (budget : ℕ) → read bytes ≡ Ok k → unmet k.core.body ≡ None → TellsOfItems n → AreLimits n → All IsShownWithProducts (obligations D.Domain k.core c n) → cost (turns_at n) k.core.body ≤ budget → Fits k.core l → Meets c l → IsPairSafeWithin c.contents (at_launch k.core l) budget }
 {
     what_is_read_is_proper();
     what_is_read_is_sound_where_barriers_are_met();
@@ -47,7 +48,7 @@ pub fn what_is_read_and_shown_is_pair_safe_within<D: Domain>()
 
 /// Where no line says what buffers hold it is pair-safe whatever its loads are answered by.
 pub fn what_is_read_and_shown_is_pair_safe<D: Domain>()
-    ensures { (bytes : List ℕ) (k : Kernel) (c : Conditions) (n : Notes) (l : Launch) (budget : ℕ) → c.contents ≡ [] → read bytes ≡ Ok k → unmet k.core.body ≡ None → TellsOfItems n → AreLimits n → All IsShownWithProducts (obligations D.Domain k.core c n) → cost (turns_at n) k.core.body ≤ budget → Fits k.core l → Meets c l → IsPairSafe (record { kernel = k.core; launch = l }) budget }
+    ensures { (bytes : List ℕ) (k : Kernel) (c : Conditions) (n : Notes) (l : Launch) (budget : ℕ) → c.contents ≡ [] → read bytes ≡ Ok k → unmet k.core.body ≡ None → TellsOfItems n → AreLimits n → All IsShownWithProducts (obligations D.Domain k.core c n) → cost (turns_at n) k.core.body ≤ budget → Fits k.core l → Meets c l → IsPairSafe (at_launch k.core l) budget }
 {
     what_is_read_and_shown_is_pair_safe_within::<D>();
     without_lines_all_runs_are_honest();

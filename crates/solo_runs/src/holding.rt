@@ -22,7 +22,7 @@ pub fn ends_of(kind: Kind) -> Span {
             low: -0x8000_0000,
             high: 0x7fff_ffff,
         },
-        Kind::Uint => Span {
+        Kind::Uint | Kind::Size => Span {
             low: 0,
             high: 0xffff_ffff,
         },

@@ -98,9 +98,10 @@ pub fn value_of(item: &mut Item<'_>, term: &Term) -> Option<i64> {
         Term::Literal { value, .. } => Some(*value as i64),
         Term::Variable { slot } => Some(item.slot(*slot)),
         Term::Id {
+            kind,
             function,
             dimension,
-        } => settled(Kind::Uint, item.id(*function, *dimension)),
+        } => settled(*kind, item.id(*function, *dimension)),
         Term::Load { array, index, .. } => {
             let _index = value_of(item, index)?;
             Some(item.load(*array))

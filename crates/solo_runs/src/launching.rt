@@ -51,6 +51,7 @@ fn argument_of(random: &mut Random, attempt: u32, range: &ArgumentRange) -> Word
     match low {
         Word::Int(least) => Word::Int(i32::try_from(value).unwrap_or(least)),
         Word::Uint(least) => Word::Uint(u32::try_from(value).unwrap_or(least)),
+        Word::Size(least) => Word::Size(u32::try_from(value).unwrap_or(least)),
     }
 }
 

@@ -3,25 +3,51 @@
 use core_code::tree::{Operator, Relation, UnaryOperator};
 use words::Kind;
 
-/// The word of a kind that an exact result gives: a `uint` wraps; none of an `int` that is out of range.
-pub fn settled(kind: Kind, exact: i64) -> Option<i64> {
-    match kind {
-        Kind::Int => {
-            if -0x8000_0000 <= exact && exact <= 0x7fff_ffff {
-                Some(exact)
-            } else {
-                None
-            }
-        }
-        Kind::Uint => Some(exact.rem_euclid(0x1_0000_0000)),
+/// A number where it is from `low` to `high`.
+fn among(low: i64, high: i64, exact: i64) -> Option<i64> {
+    if low <= exact && exact <= high {
+        Some(exact)
+    } else {
+        None
     }
 }
 
-/// An operand, brought to the operator's kind.
+/// The word of a kind that an exact result gives: a `uint` wraps; none of an `int` or of a size that is out of range.
+pub fn settled(kind: Kind, exact: i64) -> Option<i64> {
+    match kind {
+        Kind::Int => among(-0x8000_0000, 0x7fff_ffff, exact),
+        Kind::Uint => Some(exact.rem_euclid(0x1_0000_0000)),
+        Kind::Size => among(0, 0xffff_ffff, exact),
+    }
+}
+
+/// An operand, brought to the operator's kind; of an operator on sizes it stays as it is.
 fn brought(kind: Kind, value: i64) -> i64 {
     match kind {
-        Kind::Int => value,
+        Kind::Int | Kind::Size => value,
         Kind::Uint => value.rem_euclid(0x1_0000_0000),
+    }
+}
+
+/// A product, whose low bits alone count but of sizes.
+fn product(kind: Kind, left: i64, right: i64) -> Option<i64> {
+    match kind {
+        Kind::Int | Kind::Uint => Some(left.wrapping_mul(right)),
+        Kind::Size => left.checked_mul(right),
+    }
+}
+
+/// A remainder; none where the quotient is out of range.
+fn remainder(kind: Kind, left: i64, right: i64) -> Option<i64> {
+    let _quotient = settled(kind, left.checked_div(right)?)?;
+    left.checked_rem(right)
+}
+
+/// An operand whose bits are taken; none of a size that is out of range.
+fn bits(kind: Kind, value: i64) -> Option<i64> {
+    match kind {
+        Kind::Int | Kind::Uint => Some(value),
+        Kind::Size => settled(kind, value),
     }
 }
 
@@ -32,17 +58,17 @@ pub fn calculated(operator: Operator, kind: Kind, left: i64, right: i64) -> Opti
     let exact = match operator {
         Operator::Add => left.wrapping_add(right),
         Operator::Subtract => left.wrapping_sub(right),
-        Operator::Multiply => left.wrapping_mul(right),
+        Operator::Multiply => product(kind, left, right)?,
         Operator::Divide => left.checked_div(right)?,
-        Operator::Remainder => left.checked_rem(right)?,
-        Operator::BitAnd => left & right,
-        Operator::BitOr => left | right,
-        Operator::BitXor => left ^ right,
+        Operator::Remainder => remainder(kind, left, right)?,
+        Operator::BitAnd => bits(kind, left)? & bits(kind, right)?,
+        Operator::BitOr => bits(kind, left)? | bits(kind, right)?,
+        Operator::BitXor => bits(kind, left)? ^ bits(kind, right)?,
     };
     settled(kind, exact)
 }
 
-/// The result of an operator with one operand; none where it is an `int` that is out of range.
+/// The result of an operator with one operand; none where it is an `int` or a size that is out of range.
 pub fn changed(operator: UnaryOperator, kind: Kind, value: i64) -> Option<i64> {
     let value = brought(kind, value);
     let exact = match operator {

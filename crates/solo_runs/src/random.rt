@@ -48,7 +48,7 @@ impl Random {
     pub fn loaded(&mut self, kind: Kind) -> i64 {
         let (low, high) = match kind {
             Kind::Int => (-0x8000_0000, 0x7fff_ffff),
-            Kind::Uint => (0, 0xffff_ffff),
+            Kind::Uint | Kind::Size => (0, 0xffff_ffff),
         };
         match self.below(20) {
             0..=7 => self.between(0, 4),

@@ -2,6 +2,7 @@
 use Rattle.std.proofs.Common.{◌≡◌, ℕ, List, Bool, [], ◌∷◌, map, refl, ap, sym, ◌∙◌, subst}
 use Rattle.std.specs.Prelude.{Vec}
 use Rattle.std.specs.declared.alloc.Global.{Global}
+use Rattle.semantics.specs.Setup.{at_launch}
 use Rattle.semantics.specs.Launch.{Fits}
 use Rattle.semantics.specs.Conditions.{Meets}
 use Rattle.semantics.specs.Rounds.{IsDefined}
@@ -26,7 +27,7 @@ use Rattle.launch_text.specs.View.{lined}
 use Rattle.launch_text.proofs.LeastFits.{conditions_meant, launch_meant}
 use Rattle.reading.specs.Answers.{kernel_seen}
 use Rattle.reading.specs.Texts.{IsTextOf}
-use Rattle.cert_check.specs.Accepting.{at_launch, HasHeadline}
+use Rattle.cert_check.specs.Accepting.{HasHeadline}
 use Rattle.write_log.specs.Written.{words_of}
 use Rattle.executor.specs.Ends.{IsResultOf, EndsEvery, HaveKinds}
 use Rattle.telling.specs.Telling.{AreSafeTexts, IsRun}

@@ -4,7 +4,7 @@ use Rattle.std.specs.Prelude.{◌≡◌, ℕ, List, Bool, map, codes}
 use Rattle.semantics.specs.Word.{Word}
 use Rattle.semantics.specs.Launch.{Launch, Fits}
 use Rattle.semantics.specs.Conditions.{Conditions, Meets}
-use Rattle.semantics.specs.Setup.{Setup}
+use Rattle.semantics.specs.Setup.{Setup, at_launch}
 use Rattle.semantics.specs.Rounds.{IsDefined}
 use Rattle.texts.specs.Canonical.{canonical}
 use Rattle.texts.specs.ConditionsText.{IsConditionsText}
@@ -13,7 +13,7 @@ use Rattle.texts.specs.LaunchSpelling.{IsLaunchText}
 use Rattle.texts.specs.LaunchText.{buffers_text}
 use Rattle.reading.specs.Kernels.{Kernel}
 use Rattle.reading.specs.Texts.{IsTextOf}
-use Rattle.cert_check.specs.Accepting.{at_launch, HasHeadline}
+use Rattle.cert_check.specs.Accepting.{HasHeadline}
 use Rattle.executor.specs.Ends.{IsResultOf, EndsEvery, HaveKinds}
 
 -- the bytes are the text of the kernel, by the grammar, and the text of the conditions, case by case, which is of version 2 only

@@ -11,7 +11,7 @@ use words::Kind;
 pub fn literal(kind: Kind, value: u32) -> i64 {
     let plain = i64::from(value);
     match kind {
-        Kind::Uint => plain,
+        Kind::Uint | Kind::Size => plain,
         Kind::Int => {
             if plain > 2_147_483_647 {
                 plain - 4_294_967_296
@@ -151,6 +151,7 @@ pub fn affine(alloc: Global, frame: &Frame, term: &Term) -> Result<Option<Form>,
         Term::Id {
             function,
             dimension,
+            ..
         } => id_form(alloc, frame, *function, *dimension),
         Term::Convert { of, .. } => affine(alloc, frame, of),
         Term::Unary { operator, of, .. } => {

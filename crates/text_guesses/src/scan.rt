@@ -63,6 +63,7 @@ fn scan_term(term: &Term, found: &mut Found) -> Result<(), AllocError> {
         Term::Id {
             function,
             dimension,
+            ..
         } => {
             found.enter_id(*function, *dimension);
             Ok(())

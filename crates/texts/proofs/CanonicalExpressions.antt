@@ -72,7 +72,7 @@ mutual
       (signed sign _ _ (operand_begins x rest h) (operand (is_compound x) (expression_text x) (λ after. expression_tokens x after) (λ rest ks e go. lex_expression x rest ks h e go) rest ks e go))
   lex_expression (Cast site kind x) rest ks h e go =
       opening (moved (append_assoc (kind_text kind) (41 ∷ parenthesised (is_compound x) (expression_text x)) rest)
-      (cast_kind kind (operand (is_compound x) (expression_text x) (λ after. expression_tokens x after) (λ rest ks e go. lex_expression x rest ks h e go) rest ks e go)))
+      (cast_kind kind (operand (is_compound x) (expression_text x) (λ after. expression_tokens x after) (λ rest ks e go. lex_expression x rest ks h.0 e go) rest ks e go)))
   lex_expression (Infix site sign l r) rest ks h e go =
       moved (two (parenthesised (is_compound l) (expression_text l)) (infix_text sign) (parenthesised (is_compound r) (expression_text r)) rest)
       (operand (is_compound l) (expression_text l) (λ after. expression_tokens l after) (λ rest ks e go. lex_expression l rest ks h.0 e go) _ _ refl

@@ -1,14 +1,14 @@
 -- The grammar relates the tokens of an expression to that expression, positions aside.
 use Rattle.std.proofs.Common.{◌≡◌, ℕ, zero, suc, List, [], ◌∷◌, Bool, true, false, Some, map, refl, ap, subst, ◌∙◌}
-use Rattle.semantics.specs.Word.{Kind, Int, Uint, Add, Subtract, Multiply, Divide, Remainder, BitAnd, BitOr, BitXor, Less, AtMost, More, AtLeast, Equal, Unequal}
+use Rattle.semantics.specs.Word.{Kind, Int, Uint, Size, Add, Subtract, Multiply, Divide, Remainder, BitAnd, BitOr, BitXor, Less, AtMost, More, AtLeast, Equal, Unequal}
 use Rattle.semantics.specs.Core.{Site}
 use Rattle.texts.specs.Signs as s
 use Rattle.texts.specs.Signs.{Sign, LeftParenthesis, RightParenthesis, LeftBracket, RightBracket, Comma, Question, Colon}
 use Rattle.texts.specs.Tokens.{TokenKind, Mark}
-use Rattle.texts.specs.Lexemes.{Lexeme, mark, name, kind_of, prefix_of}
+use Rattle.texts.specs.Lexemes.{Lexeme, mark, name, kind_of, is_named, prefix_of}
 use Rattle.texts.specs.Grammar.{IsExpression, plain, conditional, IsRank, operand, tighter, infixed, IsOperand, prefixed, cast, literal, variable, element, call, parentheses, IsArguments, empty, arguments, IsMore, last, more}
 use Rattle.texts.specs.Canonical.{is_compound}
-use Rattle.texts.specs.CanonicalTokens.{kind_word, infix_sign, prefix_sign, parenthesised_tokens, expression_tokens, arguments_tokens, more_tokens}
+use Rattle.texts.specs.CanonicalTokens.{kind_word, infix_sign, prefix_sign, parenthesised_tokens, expression_tokens, arguments_tokens, more_tokens, IsPrintable, ArePrintable, HasNamedCasts, HaveNamedCasts}
 use Rattle.texts.specs.Surface.{PrefixSign, Minus, LogicalNot, BitNot, InfixSign, Arithmetic, LeftShift, RightShift, Comparison, LogicalAnd, LogicalOr, Expression, Number, Name, Element, Call, Prefix, Cast, Infix, Conditional, Expressions, nothing, also}
 use Rattle.texts.specs.Bare.{nowhere, bare_expression, bare_expressions}
 use Rattle.texts.specs.Brackets.{AsOperand, Opens, AllOpen}
@@ -63,9 +63,26 @@ prefix_back Minus = refl
 prefix_back LogicalNot = refl
 prefix_back BitNot = refl
 
-pub kind_back : (kind : Kind) → kind_of (kind_word kind) ≡ Some kind
-kind_back Int = refl
-kind_back Uint = refl
+pub kind_back : (kind : Kind) → is_named kind ≡ true → kind_of (kind_word kind) ≡ Some kind
+kind_back Int h = refl
+kind_back Uint h = refl
+kind_back Size h = cc
+
+-- what can be printed names the kinds of its casts
+mutual
+  pub named_casts : (e : Expression) → IsPrintable e → HasNamedCasts e
+  named_casts (Number site kind n) h = tt
+  named_casts (Name site x) h = tt
+  named_casts (Element site x index) h = named_casts index h.1
+  named_casts (Call site x es) h = all_named_casts es h.1
+  named_casts (Prefix site sign e) h = named_casts e h
+  named_casts (Cast site kind e) h = (named_casts e h.0, h.1)
+  named_casts (Infix site sign l r) h = (named_casts l h.0, named_casts r h.1)
+  named_casts (Conditional site test a b) h = (named_casts test h.0, named_casts a h.1, named_casts b h.2)
+
+  all_named_casts : (es : Expressions) → ArePrintable es → HaveNamedCasts es
+  all_named_casts nothing h = tt
+  all_named_casts (also e es) h = (named_casts e h.0, all_named_casts es h.1)
 
 -- an expression that is made of operands stands for one, another for an operand
 abbrev Shape : Bool → (room : ℕ) → List Lexeme → Expression → List Lexeme → Type 0
@@ -124,49 +141,49 @@ conditional_said site t a b ks behind after {room} {ts} first second third = ask
         chosen tree o.tree at _ o.rest (lifted 10 h) same o.relates o.same o.left
 
 mutual
-  said : (e : Expression) (n : ℕ) (ks : List TokenKind) (ts : List Lexeme) → Opens n e → Placed (expression_tokens e ks) ts → Says (Shape (is_compound e) n) e ks ts
-  said (Number site kind v) n ks ts h (placed k at p) = record { tree = Number at kind v; rest = _; relates = literal (record { kind = kind; value = v }) at; left = p; same = refl }
-  said (Name site x) n ks ts h (placed k at p) = record { tree = Name at x; rest = _; relates = variable x at; left = p; same = refl }
-  said (Element site x index) zero ks ts h p = absurd h
-  said (Element site x index) (suc n) ks ts h (placed k at (placed k1 opening p)) =
-      element_said site x index ks at opening (loose (is_compound index) (said index n (Mark RightBracket ∷ ks) _ h p))
-  said (Call site x es) zero ks ts h p = absurd h
-  said (Call site x es) (suc n) ks ts h (placed k at (placed k1 opening p)) =
-      let o = said_arguments es n ks _ h p in
+  said : (e : Expression) (n : ℕ) (ks : List TokenKind) (ts : List Lexeme) → HasNamedCasts e → Opens n e → Placed (expression_tokens e ks) ts → Says (Shape (is_compound e) n) e ks ts
+  said (Number site kind v) n ks ts c h (placed k at p) = record { tree = Number at kind v; rest = _; relates = literal (record { kind = kind; value = v }) at; left = p; same = refl }
+  said (Name site x) n ks ts c h (placed k at p) = record { tree = Name at x; rest = _; relates = variable x at; left = p; same = refl }
+  said (Element site x index) zero ks ts c h p = absurd h
+  said (Element site x index) (suc n) ks ts c h (placed k at (placed k1 opening p)) =
+      element_said site x index ks at opening (loose (is_compound index) (said index n (Mark RightBracket ∷ ks) _ c h p))
+  said (Call site x es) zero ks ts c h p = absurd h
+  said (Call site x es) (suc n) ks ts c h (placed k at (placed k1 opening p)) =
+      let o = said_arguments es n ks _ c h p in
       record { tree = Call at x o.tree; rest = o.rest; relates = call x at opening o.relates; left = o.left; same = ap (Call nowhere x) o.same }
-  said (Prefix site sign e) n ks ts h (placed k at p) =
-      let o = child (is_compound e) e (λ after. expression_tokens e after) n ks (λ n after us h p. said e n after us h p) h p in
+  said (Prefix site sign e) n ks ts c h (placed k at p) =
+      let o = child (is_compound e) e (λ after. expression_tokens e after) n ks (λ n after us h p. said e n after us c h p) h p in
       record { tree = Prefix at sign o.tree; rest = o.rest; relates = plain (lifted 10 (prefixed (prefix_sign sign) sign at (prefix_back sign) o.relates)); left = o.left; same = ap (Prefix nowhere sign) o.same }
-  said (Cast site kind e) zero ks ts h p = absurd h.0
-  said (Cast site kind e) (suc n) ks ts h (placed k at (placed k1 in_it (placed k2 end p))) =
-      let o = child (is_compound e) e (λ after. expression_tokens e after) (suc n) ks (λ n after us h p. said e n after us h p) h.1 p in
-      record { tree = Cast at kind o.tree; rest = o.rest; relates = plain (lifted 10 (cast (kind_word kind) kind at in_it end (kind_back kind) o.relates)); left = o.left; same = ap (Cast nowhere kind) o.same }
-  said (Infix site sign l r) n ks ts h p =
+  said (Cast site kind e) zero ks ts c h p = absurd h.0
+  said (Cast site kind e) (suc n) ks ts c h (placed k at (placed k1 in_it (placed k2 end p))) =
+      let o = child (is_compound e) e (λ after. expression_tokens e after) (suc n) ks (λ n after us h p. said e n after us c.0 h p) h.1 p in
+      record { tree = Cast at kind o.tree; rest = o.rest; relates = plain (lifted 10 (cast (kind_word kind) kind at in_it end (kind_back kind c.1) o.relates)); left = o.left; same = ap (Cast nowhere kind) o.same }
+  said (Infix site sign l r) n ks ts c h p =
       infix_said site sign l r ks (parenthesised_tokens (is_compound r) (λ after. expression_tokens r after) ks)
-      (child (is_compound l) l (λ after. expression_tokens l after) n _ (λ n after us h p. said l n after us h p) h.0 p)
-      (λ us q. child (is_compound r) r (λ after. expression_tokens r after) n ks (λ n after us h p. said r n after us h p) h.1 q)
-  said (Conditional site t a b) n ks ts h p =
+      (child (is_compound l) l (λ after. expression_tokens l after) n _ (λ n after us h p. said l n after us c.0 h p) h.0 p)
+      (λ us q. child (is_compound r) r (λ after. expression_tokens r after) n ks (λ n after us h p. said r n after us c.1 h p) h.1 q)
+  said (Conditional site t a b) n ks ts c h p =
       conditional_said site t a b ks _ (parenthesised_tokens (is_compound b) (λ after. expression_tokens b after) ks)
-      (child (is_compound t) t (λ after. expression_tokens t after) n _ (λ n after us h p. said t n after us h p) h.0 p)
-      (λ us q. child (is_compound a) a (λ after. expression_tokens a after) n _ (λ n after us h p. said a n after us h p) h.1 q)
-      (λ us q. child (is_compound b) b (λ after. expression_tokens b after) n ks (λ n after us h p. said b n after us h p) h.2 q)
+      (child (is_compound t) t (λ after. expression_tokens t after) n _ (λ n after us h p. said t n after us c.0 h p) h.0 p)
+      (λ us q. child (is_compound a) a (λ after. expression_tokens a after) n _ (λ n after us h p. said a n after us c.1 h p) h.1 q)
+      (λ us q. child (is_compound b) b (λ after. expression_tokens b after) n ks (λ n after us h p. said b n after us c.2 h p) h.2 q)
 
-  said_arguments : (es : Expressions) (n : ℕ) (ks : List TokenKind) (ts : List Lexeme) → AllOpen n es → Placed (arguments_tokens es (Mark RightParenthesis ∷ ks)) ts → SaysAll (IsArguments n) es ks ts
-  said_arguments nothing n ks ts h (placed k closing p) = record { tree = nothing; rest = _; relates = empty closing; left = p; same = refl }
-  said_arguments (also e es) n ks ts h p =
-      let r = loose (is_compound e) (said e n (more_tokens es (Mark RightParenthesis ∷ ks)) ts h.0 p) in
-      let m = said_more es n ks r.rest h.1 r.left in
+  said_arguments : (es : Expressions) (n : ℕ) (ks : List TokenKind) (ts : List Lexeme) → HaveNamedCasts es → AllOpen n es → Placed (arguments_tokens es (Mark RightParenthesis ∷ ks)) ts → SaysAll (IsArguments n) es ks ts
+  said_arguments nothing n ks ts c h (placed k closing p) = record { tree = nothing; rest = _; relates = empty closing; left = p; same = refl }
+  said_arguments (also e es) n ks ts c h p =
+      let r = loose (is_compound e) (said e n (more_tokens es (Mark RightParenthesis ∷ ks)) ts c.0 h.0 p) in
+      let m = said_more es n ks r.rest c.1 h.1 r.left in
       record { tree = also r.tree m.tree; rest = m.rest; relates = arguments r.relates m.relates; left = m.left; same = ap (λ x. also x (bare_expressions m.tree)) r.same ∙ ap (also (bare_expression e)) m.same }
 
-  said_more : (es : Expressions) (n : ℕ) (ks : List TokenKind) (ts : List Lexeme) → AllOpen n es → Placed (more_tokens es (Mark RightParenthesis ∷ ks)) ts → SaysAll (IsMore n) es ks ts
-  said_more nothing n ks ts h (placed k closing p) = record { tree = nothing; rest = _; relates = last closing; left = p; same = refl }
-  said_more (also e es) n ks ts h (placed k comma p) =
-      let r = loose (is_compound e) (said e n (more_tokens es (Mark RightParenthesis ∷ ks)) _ h.0 p) in
-      let m = said_more es n ks r.rest h.1 r.left in
+  said_more : (es : Expressions) (n : ℕ) (ks : List TokenKind) (ts : List Lexeme) → HaveNamedCasts es → AllOpen n es → Placed (more_tokens es (Mark RightParenthesis ∷ ks)) ts → SaysAll (IsMore n) es ks ts
+  said_more nothing n ks ts c h (placed k closing p) = record { tree = nothing; rest = _; relates = last closing; left = p; same = refl }
+  said_more (also e es) n ks ts c h (placed k comma p) =
+      let r = loose (is_compound e) (said e n (more_tokens es (Mark RightParenthesis ∷ ks)) _ c.0 h.0 p) in
+      let m = said_more es n ks r.rest c.1 h.1 r.left in
       record { tree = also r.tree m.tree; rest = m.rest; relates = more comma r.relates m.relates; left = m.left; same = ap (λ x. also x (bare_expressions m.tree)) r.same ∙ ap (also (bare_expression e)) m.same }
 
-pub say_expression : (e : Expression) (n : ℕ) (ks : List TokenKind) (ts : List Lexeme) → Opens n e → Placed (expression_tokens e ks) ts → Says (IsExpression n) e ks ts
-say_expression e n ks ts h p = loose (is_compound e) (said e n ks ts h p)
+pub say_expression : (e : Expression) (n : ℕ) (ks : List TokenKind) (ts : List Lexeme) → HasNamedCasts e → Opens n e → Placed (expression_tokens e ks) ts → Says (IsExpression n) e ks ts
+say_expression e n ks ts c h p = loose (is_compound e) (said e n ks ts c h p)
 
 pub placed_of : (ts : List Lexeme) → Placed (map (λ t. t.kind) ts) ts
 placed_of [] = over
@@ -176,8 +193,8 @@ pub kinds_of : {ks : List TokenKind} {ts : List Lexeme} → Placed ks ts → map
 kinds_of over = refl
 kinds_of (placed kind site p) = ap (λ ks. kind ∷ ks) (kinds_of p)
 
-pub expression_related : (e : Expression) (room : ℕ) (after : List TokenKind) (ts : List Lexeme) → Opens room e → map (λ t. t.kind) ts ≡ expression_tokens e after →
+pub expression_related : (e : Expression) (room : ℕ) (after : List TokenKind) (ts : List Lexeme) → HasNamedCasts e → Opens room e → map (λ t. t.kind) ts ≡ expression_tokens e after →
     (tree : Expression) × (rest : List Lexeme) × IsExpression room ts tree rest × (map (λ t. t.kind) rest ≡ after) × (bare_expression tree ≡ bare_expression e)
-expression_related e room after ts h q =
-    let r = say_expression e room after ts h (subst (λ ks. Placed ks ts) q (placed_of ts)) in
+expression_related e room after ts c h q =
+    let r = say_expression e room after ts c h (subst (λ ks. Placed ks ts) q (placed_of ts)) in
     (r.tree, r.rest, r.relates, kinds_of r.left, r.same)

@@ -1,6 +1,6 @@
 -- The grammar relates the tokens of a kernel to that kernel, positions aside.
 use Rattle.std.proofs.Common.{◌≡◌, ◌≢◌, ℕ, zero, suc, ◌+◌, List, [], ◌∷◌, Bool, true, false, Option, None, Some, map, not, codes, refl, ap, sym, subst, ◌∙◌, arith}
-use Rattle.semantics.specs.Word.{Kind, Int, Uint, Add, Subtract, Multiply, Divide, Remainder, BitAnd, BitOr, BitXor}
+use Rattle.semantics.specs.Word.{Kind, Int, Uint, Size, Add, Subtract, Multiply, Divide, Remainder, BitAnd, BitOr, BitXor}
 use Rattle.semantics.specs.Core.{Site}
 use Rattle.semantics.specs.Launch.{Three}
 use Rattle.texts.specs.Signs as s
@@ -8,17 +8,17 @@ use Rattle.texts.specs.Signs.{LeftParenthesis, RightParenthesis, LeftBrace, Righ
 use Rattle.texts.specs.Reserved as words
 use Rattle.texts.specs.Tokens as token
 use Rattle.texts.specs.Tokens.{TokenKind, Mark, Word}
-use Rattle.texts.specs.Lexemes.{Lexeme, mark, word, name, number, assign_of, jump_of}
+use Rattle.texts.specs.Lexemes.{Lexeme, mark, word, name, number, is_named, assign_of, jump_of}
 use Rattle.texts.specs.Grammar.{IsExpression}
 use Rattle.texts.specs.KernelGrammar as grammar
 use Rattle.texts.specs.KernelGrammar.{IsAssignment, to_variable, to_element, IsDeclaration, declared, IsFirst, first_declares, first_assigns, no_else, IsStatement, assigns, if_alone, if_else, while, for, barrier, block, IsBody, braces, IsItems, end, item, IsItem, statement, declares, array, IsParameter, buffer, constant_buffer, value, IsParameters, no_parameter, last_parameter, another_parameter, IsKernel}
 use Rattle.texts.specs.KernelLimits.{statements_in, statements_of}
 use Rattle.texts.specs.Spelling.{first_number, IsNumbered, AreNumbered}
-use Rattle.texts.specs.CanonicalTokens.{kind_word, jump_word, assign_sign, expression_tokens, declaration_tokens, index_tokens, assignment_tokens, first_tokens, statement_tokens, statements_tokens, else_tokens, parameter_tokens, more_parameters, parameters_tokens, kernel_tokens, IsPrintableStatement, ArePrintableStatements, IsPrintableKernel}
+use Rattle.texts.specs.CanonicalTokens.{kind_word, jump_word, assign_sign, expression_tokens, declaration_tokens, index_tokens, assignment_tokens, first_tokens, statement_tokens, statements_tokens, else_tokens, parameter_tokens, more_parameters, parameters_tokens, kernel_tokens, IsPrintable, IsPrintableDeclaration, IsPrintableIndex, IsPrintableAssignment, IsPrintableFirst, IsPrintableStatement, ArePrintableStatements, parameter_kind, ArePrintableParameters, IsPrintableKernel}
 use Rattle.texts.specs.Surface.{AssignSign, Plain, With, WithLeftShift, WithRightShift, Expression, Declaration, Assignment, First, FirstDeclares, FirstAssigns, JumpWord, Return, Break, Continue, Statement, Declare, DeclareArray, Assign, If, While, For, Barrier, Jump, Block, Statements, none, one, Parameter, Buffer, Value, Kernel}
 use Rattle.texts.specs.Bare.{nowhere, bare_expression, bare_declaration, bare_assignment, bare_first, bare_statement, bare_statements, bare_parameter, bare_kernel}
 use Rattle.texts.specs.Brackets.{Opens, OpensIndex, OpensAssignment, OpensFirst, OpensStatement, AllOpenStatements}
-use Rattle.texts.proofs.CanonicalGrammar.{Placed, over, placed, Says, say_expression, kind_back, placed_of}
+use Rattle.texts.proofs.CanonicalGrammar.{Placed, over, placed, Says, say_expression, kind_back, named_casts, placed_of}
 
 -- a part of a kernel, the same as `a` but for positions
 pub record Found {A : Type 0} (R : List Lexeme → A → List Lexeme → Type 0) (bare : A → A) (a : A) (ks : List TokenKind) (ts : List Lexeme) : Type 0 where
@@ -57,14 +57,14 @@ jump_back Continue = refl
 plain_declaration : ℕ → Kind → List ℕ → Expression → Declaration
 plain_declaration n kind x e = record { number = n; site = nowhere; kind = kind; name_site = nowhere; name = x; value = e }
 
-find_declaration : (d : Declaration) (n room : ℕ) (ks : List TokenKind) (ts : List Lexeme) → d.number ≡ n → Opens room d.value → Placed (declaration_tokens d ks) ts → Found (IsDeclaration room n) bare_declaration d ks ts
+find_declaration : (d : Declaration) (n room : ℕ) (ks : List TokenKind) (ts : List Lexeme) → d.number ≡ n → IsPrintableDeclaration d → Opens room d.value → Placed (declaration_tokens d ks) ts → Found (IsDeclaration room n) bare_declaration d ks ts
 unfolding plain_declaration
-find_declaration d n room ks ts m h (placed k at (placed k1 there (placed k2 equal p))) =
-    let r = say_expression d.value room ks _ h p in
+find_declaration d n room ks ts m pr h (placed k at (placed k1 there (placed k2 equal p))) =
+    let r = say_expression d.value room ks _ (named_casts d.value pr.1) h p in
     record {
       tree = record { number = n; site = at; kind = d.kind; name_site = there; name = d.name; value = r.tree };
       rest = r.rest;
-      relates = declared (kind_word d.kind) d.kind d.name at there equal (kind_back d.kind) r.relates;
+      relates = declared (kind_word d.kind) d.kind d.name at there equal (kind_back d.kind pr.2) r.relates;
       left = r.left;
       same = ap (λ n. plain_declaration n d.kind d.name (bare_expression r.tree)) (sym m) ∙ ap (plain_declaration d.number d.kind d.name) r.same;
     }
@@ -72,12 +72,12 @@ find_declaration d n room ks ts m h (placed k at (placed k1 there (placed k2 equ
 plain_assignment : ℕ → List ℕ → Option Expression → AssignSign → Expression → Assignment
 plain_assignment n x i sign e = record { number = n; site = nowhere; name = x; index = i; sign = sign; sign_site = nowhere; value = e }
 
-to_place : (x : List ℕ) (i : Option Expression) (sign : AssignSign) (v : Expression) (number site_line n room : ℕ) (at there : Site) (ks : List TokenKind) (ts : List Lexeme) → number ≡ n → OpensIndex room i → Opens room v →
+to_place : (x : List ℕ) (i : Option Expression) (sign : AssignSign) (v : Expression) (number site_line n room : ℕ) (at there : Site) (ks : List TokenKind) (ts : List Lexeme) → number ≡ n → IsPrintableIndex i → IsPrintable v → OpensIndex room i → Opens room v →
     Placed (token.Name x ∷ index_tokens i (Mark (assign_sign sign) ∷ expression_tokens v ks)) ts →
     Found (IsAssignment room n) bare_assignment (record { number = number; site = at; name = x; index = i; sign = sign; sign_site = there; value = v }) ks ts
 unfolding plain_assignment
-to_place x None sign v number line n room at0 there ks ts m hi hv (placed k at (placed k1 equal p)) =
-    let r = say_expression v room ks _ hv p in
+to_place x None sign v number line n room at0 there ks ts m pi pv hi hv (placed k at (placed k1 equal p)) =
+    let r = say_expression v room ks _ (named_casts v pv) hv p in
     record {
       tree = record { number = n; site = at; name = x; index = None; sign = sign; sign_site = equal; value = r.tree };
       rest = r.rest;
@@ -85,15 +85,15 @@ to_place x None sign v number line n room at0 there ks ts m hi hv (placed k at (
       left = r.left;
       same = ap (λ n. plain_assignment n x None sign (bare_expression r.tree)) (sym m) ∙ ap (plain_assignment number x None sign) r.same;
     }
-to_place x (Some i) sign v number line n zero at0 there ks ts m hi hv p = absurd hi
-to_place x (Some i) sign v number line n (suc room) at0 there ks ts m hi hv (placed k at (placed k1 opening p)) =
-    let r = say_expression i room (Mark RightBracket ∷ Mark (assign_sign sign) ∷ expression_tokens v ks) _ hi p in
+to_place x (Some i) sign v number line n zero at0 there ks ts m pi pv hi hv p = absurd hi
+to_place x (Some i) sign v number line n (suc room) at0 there ks ts m pi pv hi hv (placed k at (placed k1 opening p)) =
+    let r = say_expression i room (Mark RightBracket ∷ Mark (assign_sign sign) ∷ expression_tokens v ks) _ (named_casts i pi) hi p in
     indexed r.tree r.rest r.relates r.same r.left
   where
     indexed : {us : List Lexeme} {opening : Site} (tree : Expression) (rest : List Lexeme) → IsExpression room us tree rest → bare_expression tree ≡ bare_expression i → Placed (Mark RightBracket ∷ Mark (assign_sign sign) ∷ expression_tokens v ks) rest →
         Found (IsAssignment (suc room) n) bare_assignment (record { number = number; site = at0; name = x; index = Some i; sign = sign; sign_site = there; value = v }) ks (name x at ∷ mark LeftBracket opening ∷ us)
     indexed {opening = opening} tree rest g alike (placed k closing (placed k1 equal q)) =
-        let r = say_expression v (suc room) ks _ hv q in
+        let r = say_expression v (suc room) ks _ (named_casts v pv) hv q in
         record {
           tree = record { number = n; site = at; name = x; index = Some tree; sign = sign; sign_site = equal; value = r.tree };
           rest = r.rest;
@@ -102,15 +102,15 @@ to_place x (Some i) sign v number line n (suc room) at0 there ks ts m hi hv (pla
           same = ap (λ n. plain_assignment n x (Some (bare_expression tree)) sign (bare_expression r.tree)) (sym m) ∙ ap (λ t. plain_assignment number x (Some t) sign (bare_expression r.tree)) alike ∙ ap (plain_assignment number x (Some (bare_expression i)) sign) r.same;
         }
 
-find_assignment : (a : Assignment) (n room : ℕ) (ks : List TokenKind) (ts : List Lexeme) → a.number ≡ n → OpensAssignment room a → Placed (assignment_tokens a ks) ts → Found (IsAssignment room n) bare_assignment a ks ts
-find_assignment a n room ks ts m h p = to_place a.name a.index a.sign a.value a.number 0 n room a.site a.sign_site ks ts m h.0 h.1 p
+find_assignment : (a : Assignment) (n room : ℕ) (ks : List TokenKind) (ts : List Lexeme) → a.number ≡ n → IsPrintableAssignment a → OpensAssignment room a → Placed (assignment_tokens a ks) ts → Found (IsAssignment room n) bare_assignment a ks ts
+find_assignment a n room ks ts m pr h p = to_place a.name a.index a.sign a.value a.number 0 n room a.site a.sign_site ks ts m pr.1 pr.2 h.0 h.1 p
 
-find_first : (f : First) (n room : ℕ) (ks : List TokenKind) (ts : List Lexeme) → first_number f ≡ n → OpensFirst room f → Placed (first_tokens f ks) ts → Found (IsFirst room n) bare_first f ks ts
-find_first (FirstDeclares d) n room ks ts m h p =
-    let r = find_declaration d n room ks ts m h p in
+find_first : (f : First) (n room : ℕ) (ks : List TokenKind) (ts : List Lexeme) → first_number f ≡ n → IsPrintableFirst f → OpensFirst room f → Placed (first_tokens f ks) ts → Found (IsFirst room n) bare_first f ks ts
+find_first (FirstDeclares d) n room ks ts m pr h p =
+    let r = find_declaration d n room ks ts m pr h p in
     record { tree = FirstDeclares r.tree; rest = r.rest; relates = first_declares r.relates; left = r.left; same = ap FirstDeclares r.same }
-find_first (FirstAssigns a) n room ks ts m h p =
-    let r = find_assignment a n room ks ts m h p in
+find_first (FirstAssigns a) n room ks ts m pr h p =
+    let r = find_assignment a n room ks ts m pr h p in
     record { tree = FirstAssigns r.tree; rest = r.rest; relates = first_assigns r.relates; left = r.left; same = ap FirstAssigns r.same }
 
 recount : {A : Type 0} {R : List Lexeme → A → ℕ → List Lexeme → Type 0} {bare : A → A} {a : A} {m n : ℕ} {ks : List TokenKind} {ts : List Lexeme} → m ≡ n → Counted R bare a m ks ts → Counted R bare a n ks ts
@@ -130,6 +130,7 @@ kind_front : (kind : Kind) (ks : List TokenKind) → fronts (Word (kind_word kin
 unfolding fronts
 kind_front Int ks = refl
 kind_front Uint ks = refl
+kind_front Size ks = refl
 
 jump_front : (jump : JumpWord) (ks : List TokenKind) → fronts (Word (jump_word jump) ∷ ks) ≡ true
 unfolding fronts
@@ -275,27 +276,27 @@ found_if_else site m n middle next room e a b ks behind after {ts} at opening q 
 
 mutual
   found : (t : Statement) (n room : ℕ) (ks : List TokenKind) (ts : List Lexeme) → IsNumbered n t → IsPrintableStatement t → OpensStatement room t → fronts ks ≡ true → Placed (statement_tokens t ks) ts → Counted (IsItem room n) bare_statement t (n + statements_in t) ks ts
-  found (Declare d) n room ks ts m pr h f p = found_declare d n _ room ks ts refl (find_declaration d n room (Mark Semicolon ∷ ks) ts m h p)
+  found (Declare d) n room ks ts m pr h f p = found_declare d n _ room ks ts refl (find_declaration d n room (Mark Semicolon ∷ ks) ts m pr h p)
   found (DeclareArray k site kind name_site x length) n zero ks ts m pr h f p = absurd h
   found (DeclareArray k site kind name_site x length) n (suc room) ks ts m pr h f (placed a0 at (placed a1 type (placed a2 there (placed a3 opening (placed a4 count (placed a5 closing (placed a6 semicolon p))))))) =
-      record { tree = DeclareArray n at kind there x length; rest = _; relates = array (kind_word kind) kind x (record { kind = Int; value = length }) at type there opening count closing semicolon (kind_back kind); left = p; same = ap (λ k. DeclareArray k nowhere kind nowhere x length) (sym m) }
-  found (Assign a) n room ks ts m pr h f p = found_assign a n _ room ks ts pr.1 refl (find_assignment a n room (Mark Semicolon ∷ ks) ts m h p)
+      record { tree = DeclareArray n at kind there x length; rest = _; relates = array (kind_word kind) kind x (record { kind = Int; value = length }) at type there opening count closing semicolon (kind_back kind pr.2); left = p; same = ap (λ k. DeclareArray k nowhere kind nowhere x length) (sym m) }
+  found (Assign a) n room ks ts m pr h f p = found_assign a n _ room ks ts pr.1 refl (find_assignment a n room (Mark Semicolon ∷ ks) ts m pr.0 h p)
   found (If k site e a none) n zero ks ts m pr h f p = absurd h
   found (If k site e a none) n (suc room) ks ts m pr h f (placed a0 at (placed a1 opening p)) =
-      recount (omega arith) (found_if site k n _ room e a ks (statements_tokens a (Mark RightBrace ∷ ks)) at opening m.0 f (say_expression e room _ _ h.0 p) (λ us q. all_found a (n + 1) room ks us m.1 pr.1 h.1 q))
+      recount (omega arith) (found_if site k n _ room e a ks (statements_tokens a (Mark RightBrace ∷ ks)) at opening m.0 f (say_expression e room _ _ (named_casts e pr.0) h.0 p) (λ us q. all_found a (n + 1) room ks us m.1 pr.1 h.1 q))
   found (If k site e a (one t ss)) n zero ks ts m pr h f p = absurd h
   found (If k site e a (one t ss)) n (suc room) ks ts m pr h f (placed a0 at (placed a1 opening p)) =
-      recount (omega arith) (found_if_else site k n (n + 1 + statements_of a) _ room e a (one t ss) ks (statements_tokens a (Mark RightBrace ∷ else_tokens (one t ss) ks)) (statements_tokens (one t ss) (Mark RightBrace ∷ ks)) at opening m.0 (say_expression e room _ _ h.0 p)
+      recount (omega arith) (found_if_else site k n (n + 1 + statements_of a) _ room e a (one t ss) ks (statements_tokens a (Mark RightBrace ∷ else_tokens (one t ss) ks)) (statements_tokens (one t ss) (Mark RightBrace ∷ ks)) at opening m.0 (say_expression e room _ _ (named_casts e pr.0) h.0 p)
       (λ us q. all_found a (n + 1) room _ us m.1 pr.1 h.1 q) (λ us q. all_found (one t ss) (n + 1 + statements_of a) room ks us m.2 pr.2 h.2 q))
   found (While k site e body) n zero ks ts m pr h f p = absurd h
   found (While k site e body) n (suc room) ks ts m pr h f (placed a0 at (placed a1 opening p)) =
-      recount (omega arith) (found_while site k n _ room e body ks (statements_tokens body (Mark RightBrace ∷ ks)) at opening m.0 (say_expression e room _ _ h.0 p) (λ us q. all_found body (n + 1) room ks us m.1 pr.1 h.1 q))
+      recount (omega arith) (found_while site k n _ room e body ks (statements_tokens body (Mark RightBrace ∷ ks)) at opening m.0 (say_expression e room _ _ (named_casts e pr.0) h.0 p) (λ us q. all_found body (n + 1) room ks us m.1 pr.1 h.1 q))
   found (For k site first e u body) n zero ks ts m pr h f p = absurd h
   found (For k site first e u body) n (suc room) ks ts m pr h f (placed a0 at (placed a1 opening p)) =
-      recount (omega arith) (found_for site k n _ room first e u body ks _ _ (statements_tokens body (Mark RightBrace ∷ ks)) at opening m.0 (find_first first (n + 1) room _ _ m.1 h.0 p)
-      (λ us q. say_expression e room _ us h.1 q) (λ us q. find_assignment u (n + 2) room _ us m.2 h.2 q) (λ us q. all_found body (n + 3) room ks us m.3 pr.3 h.3 q))
+      recount (omega arith) (found_for site k n _ room first e u body ks _ _ (statements_tokens body (Mark RightBrace ∷ ks)) at opening m.0 (find_first first (n + 1) room _ _ m.1 pr.0 h.0 p)
+      (λ us q. say_expression e room _ us (named_casts e pr.1) h.1 q) (λ us q. find_assignment u (n + 2) room _ us m.2 pr.2 h.2 q) (λ us q. all_found body (n + 3) room ks us m.3 pr.3 h.3 q))
   found (Barrier k site e) n zero ks ts m pr h f p = absurd h
-  found (Barrier k site e) n (suc room) ks ts m pr h f (placed a0 at (placed a1 opening p)) = found_barrier site k n _ room e ks at opening m refl (say_expression e room _ _ h p)
+  found (Barrier k site e) n (suc room) ks ts m pr h f (placed a0 at (placed a1 opening p)) = found_barrier site k n _ room e ks at opening m refl (say_expression e room _ _ (named_casts e pr) h p)
   found (Jump k site jump) n room ks ts m pr h f (placed a0 at (placed a1 semicolon p)) =
       record { tree = Jump n at jump; rest = _; relates = statement (grammar.jump (jump_word jump) jump at semicolon (jump_back jump)); left = p; same = ap (λ k. Jump k nowhere jump) (sym m) }
   found (Block k site body) n zero ks ts m pr h f p = absurd h
@@ -311,13 +312,13 @@ mutual
       recount (omega arith) (record { tree = one r.tree o.tree; rest = o.rest; relates = item r.relates o.relates; left = o.left; same = ap (λ x. one x (bare_statements o.tree)) r.same ∙ ap (one (bare_statement t)) o.same })
 
 -- parameters
-find_parameter : (q : Parameter) (ks : List TokenKind) (ts : List Lexeme) → Placed (parameter_tokens q ks) ts → Found IsParameter bare_parameter q ks ts
-find_parameter (Buffer true kind site x) ks ts (placed k at (placed k1 fixed (placed k2 type (placed k3 star (placed k4 there p))))) =
-    record { tree = Buffer true kind there x; rest = _; relates = constant_buffer (kind_word kind) kind x at fixed type star there (kind_back kind); left = p; same = refl }
-find_parameter (Buffer false kind site x) ks ts (placed k at (placed k2 type (placed k3 star (placed k4 there p)))) =
-    record { tree = Buffer false kind there x; rest = _; relates = buffer (kind_word kind) kind x at type star there (kind_back kind); left = p; same = refl }
-find_parameter (Value kind site x) ks ts (placed k at (placed k1 there p)) =
-    record { tree = Value kind there x; rest = _; relates = value (kind_word kind) kind x at there (kind_back kind); left = p; same = refl }
+find_parameter : (q : Parameter) (ks : List TokenKind) (ts : List Lexeme) → is_named (parameter_kind q) ≡ true → Placed (parameter_tokens q ks) ts → Found IsParameter bare_parameter q ks ts
+find_parameter (Buffer true kind site x) ks ts h (placed k at (placed k1 fixed (placed k2 type (placed k3 star (placed k4 there p))))) =
+    record { tree = Buffer true kind there x; rest = _; relates = constant_buffer (kind_word kind) kind x at fixed type star there (kind_back kind h); left = p; same = refl }
+find_parameter (Buffer false kind site x) ks ts h (placed k at (placed k2 type (placed k3 star (placed k4 there p)))) =
+    record { tree = Buffer false kind there x; rest = _; relates = buffer (kind_word kind) kind x at type star there (kind_back kind h); left = p; same = refl }
+find_parameter (Value kind site x) ks ts h (placed k at (placed k1 there p)) =
+    record { tree = Value kind there x; rest = _; relates = value (kind_word kind) kind x at there (kind_back kind h); left = p; same = refl }
 
 find_last : (q : Parameter) (ks : List TokenKind) {ts : List Lexeme} (tree : Parameter) (rest : List Lexeme) → IsParameter ts tree rest → bare_parameter tree ≡ bare_parameter q → Placed (Mark RightParenthesis ∷ ks) rest → Found IsParameters (map bare_parameter) (q ∷ []) ks ts
 find_last q ks tree rest h same (placed k closing p) = record { tree = tree ∷ []; rest = _; relates = last_parameter closing h; left = p; same = ap (λ x. x ∷ []) same }
@@ -333,14 +334,14 @@ find_another q r qs ks behind {ts} tree rest h same (placed {ts = us} k comma p)
     ended : Found IsParameters (map bare_parameter) (r ∷ qs) ks us → Found IsParameters (map bare_parameter) (q ∷ r ∷ qs) ks ts
     ended o = with_tail o.tree o.rest o.relates o.same o.left
 
-find_parameters : (qs : List Parameter) (ks : List TokenKind) (ts : List Lexeme) → Placed (parameters_tokens qs (Mark RightParenthesis ∷ ks)) ts → Found IsParameters (map bare_parameter) qs ks ts
-find_parameters [] ks ts (placed k closing p) = record { tree = []; rest = _; relates = no_parameter closing; left = p; same = refl }
-find_parameters (q ∷ []) ks ts p =
-    let r = find_parameter q (Mark RightParenthesis ∷ ks) ts p in
+find_parameters : (qs : List Parameter) (ks : List TokenKind) (ts : List Lexeme) → ArePrintableParameters qs → Placed (parameters_tokens qs (Mark RightParenthesis ∷ ks)) ts → Found IsParameters (map bare_parameter) qs ks ts
+find_parameters [] ks ts h (placed k closing p) = record { tree = []; rest = _; relates = no_parameter closing; left = p; same = refl }
+find_parameters (q ∷ []) ks ts h p =
+    let r = find_parameter q (Mark RightParenthesis ∷ ks) ts h.1 p in
     find_last q ks r.tree r.rest r.relates r.same r.left
-find_parameters (q ∷ q2 ∷ qs) ks ts p =
-    let r = find_parameter q (more_parameters (q2 ∷ qs) (Mark RightParenthesis ∷ ks)) ts p in
-    find_another q q2 qs ks (parameters_tokens (q2 ∷ qs) (Mark RightParenthesis ∷ ks)) r.tree r.rest r.relates r.same r.left (λ us p. find_parameters (q2 ∷ qs) ks us p)
+find_parameters (q ∷ q2 ∷ qs) ks ts h p =
+    let r = find_parameter q (more_parameters (q2 ∷ qs) (Mark RightParenthesis ∷ ks)) ts h.1 p in
+    find_another q q2 qs ks (parameters_tokens (q2 ∷ qs) (Mark RightParenthesis ∷ ks)) r.tree r.rest r.relates r.same r.left (λ us p. find_parameters (q2 ∷ qs) ks us h.2 p)
 
 pub record SaysKernel (room : ℕ) (k : Kernel) (ts : List Lexeme) : Type 0 where
   pub tree : Kernel
@@ -374,13 +375,13 @@ opened_kernel k room a1 a2 a3 a4 a5 a6 a7 a8 a9 a10 a11 a12 a13 a14 a15 a16 a17 
     let r = all_found k.body 1 (suc (suc room)) (token.End ∷ []) _ m pr o p in
     ended_kernel k room a1 a2 a3 a4 a5 a6 a7 a8 a9 a10 a11 a12 a13 a14 a15 a16 a17 a18 ps r.tree (1 + statements_of k.body) r.rest h alike r.relates r.same r.left
 
-say_kernel : (k : Kernel) (room : ℕ) (ts : List Lexeme) → AreNumbered 1 k.body → ArePrintableStatements k.body → AllOpenStatements (suc (suc room)) k.body → Placed (kernel_tokens k) ts → SaysKernel (suc (suc (suc room))) k ts
-say_kernel k room ts m pr o (placed k1 a1 (placed k2 a2 (placed k3 a3 (placed k4 a4 (placed k5 a5 (placed k6 a6 (placed k7 a7 (placed k8 a8 (placed k9 a9 (placed k10 a10 (placed k11 a11 (placed k12 a12 (placed k13 a13 (placed k14 a14 (placed k15 a15 (placed k16 a16 (placed k17 a17 p))))))))))))))))) =
-    let r = find_parameters k.parameters (Mark LeftBrace ∷ statements_tokens k.body (Mark RightBrace ∷ token.End ∷ [])) _ p in
+say_kernel : (k : Kernel) (room : ℕ) (ts : List Lexeme) → AreNumbered 1 k.body → ArePrintableParameters k.parameters → ArePrintableStatements k.body → AllOpenStatements (suc (suc room)) k.body → Placed (kernel_tokens k) ts → SaysKernel (suc (suc (suc room))) k ts
+say_kernel k room ts m ps pr o (placed k1 a1 (placed k2 a2 (placed k3 a3 (placed k4 a4 (placed k5 a5 (placed k6 a6 (placed k7 a7 (placed k8 a8 (placed k9 a9 (placed k10 a10 (placed k11 a11 (placed k12 a12 (placed k13 a13 (placed k14 a14 (placed k15 a15 (placed k16 a16 (placed k17 a17 p))))))))))))))))) =
+    let r = find_parameters k.parameters (Mark LeftBrace ∷ statements_tokens k.body (Mark RightBrace ∷ token.End ∷ [])) _ ps p in
     opened_kernel k room a1 a2 a3 a4 a5 a6 a7 a8 a9 a10 a11 a12 a13 a14 a15 a16 a17 r.tree r.rest m pr o r.relates r.same r.left
 
 pub kernel_related : (k : Kernel) (room : ℕ) (ts : List Lexeme) → IsPrintableKernel k → AreNumbered 1 k.body → AllOpenStatements (suc (suc room)) k.body → map (λ t. t.kind) ts ≡ kernel_tokens k →
     (tree : Kernel) × IsKernel (suc (suc (suc room))) ts tree × (bare_kernel tree ≡ bare_kernel k)
 kernel_related k room ts h m o e =
-    let r = say_kernel k room ts m h.body o (subst (λ ks. Placed ks ts) e (placed_of ts)) in
+    let r = say_kernel k room ts m h.parameters h.body o (subst (λ ks. Placed ks ts) e (placed_of ts)) in
     (r.tree, r.relates, r.same)

@@ -1,5 +1,5 @@
 -- The names and numbers of the canonical text, each before a byte that is no part of it.
-use Rattle.std.proofs.Common.{◌≡◌, ℕ, zero, suc, ◌+◌, ◌-◌, ◌*◌, ◌<◌, ◌^◌, pos, List, [], ◌∷◌, ◌++◌, length, take, drop, true, false, cond, nat_eq, nat_le, ◌||◌, None, Ok, ap, refl, sym, ◌∙◌, subst, codes, append_assoc, arith}
+use Rattle.std.proofs.Common.{◌≡◌, ℕ, zero, suc, ◌+◌, ◌-◌, ◌*◌, ◌<◌, ◌^◌, List, [], ◌∷◌, ◌++◌, length, take, drop, true, false, cond, nat_eq, nat_le, ◌||◌, None, Ok, ap, refl, sym, ◌∙◌, subst, codes, append_assoc, arith}
 use Rattle.std.specs.List.{prefix_len, take_while, find}
 use Rattle.std.specs.Str.{bytes_eq}
 use Rattle.std.proofs.lemmas.Bool.{false≢true, and_parts, and_from}
@@ -10,8 +10,8 @@ use Rattle.std.specs.Prelude.{get_or, slice_index_or, fold}
 use Rattle.std.specs.Fmt.{decimal}
 use Rattle.std.proofs.lemmas.Fmt.{decimal_nonempty}
 use Rattle.std.proofs.lemmas.List.{append-nil}
-use Rattle.semantics.specs.Word.{Kind, Int, Uint, in_kind}
-use Rattle.texts.specs.Numbers.{Literal, is_decimal_digit, is_digit, digit_value, is_well_spelt, with_suffix, is_prefixed, number_of}
+use Rattle.semantics.specs.Word.{Kind, Int, Uint, Size}
+use Rattle.texts.specs.Numbers.{Literal, is_literal, is_decimal_digit, is_digit, digit_value, is_well_spelt, with_suffix, is_prefixed, number_of}
 use Rattle.texts.specs.Lines as lines
 use Rattle.texts.proofs.Decimals.{decimal_is_decimal, decimal_value, below_of}
 use Rattle.texts.specs.Canonical.{number_text}
@@ -157,7 +157,7 @@ first_digit : (ds suffix : List ℕ) → all_ascii_digits ds ≡ true → 0 < le
 first_digit [] suffix h l = absurd (omega (arith, l))
 first_digit (b ∷ ds) suffix h l = (and_parts (is_ascii_digit b) (all_ascii_digits ds) h).0
 
-pub lex_number : (kind : Kind) (n : ℕ) {rest : List ℕ} {ks : List TokenKind} → in_kind kind (pos n) ≡ true → prefix_len is_word_byte rest ≡ 0 → Lexes rest ks → Lexes (number_text kind n ++ rest) (number_token kind n ∷ ks)
+pub lex_number : (kind : Kind) (n : ℕ) {rest : List ℕ} {ks : List TokenKind} → is_literal kind n ≡ true → prefix_len is_word_byte rest ≡ 0 → Lexes rest ks → Lexes (number_text kind n ++ rest) (number_token kind n ∷ ks)
 lex_number Int n h e go =
     let small : n < 2 ^ 31 = below_of n (2 ^ 31) h in
     let l : n < 2 ^ 64 = omega (arith, small) in
@@ -179,6 +179,7 @@ lex_number Uint n h e go =
     (ap (λ k. is_exponent (slice_index_or (decimal n ++ codes "u") k 0)) (longer (decimal n) 117) ∙ ap is_exponent (last_of (decimal n) 117))
     (plain_number (decimal n) (codes "u") p.0 refl (suffixed_no_prefix (decimal n) p.0) p.1
     ∙ rw (decimal_value n l, h) refl) e go
+lex_number Size n h e go = cc
 
 pub front_name : (x rest : List ℕ) → IsName x → (b : ℕ) × (others : List ℕ) × IsFirst b × (x ++ rest ≡ b ∷ others)
 front_name [] rest h = absurd (false≢true h.0)
@@ -188,7 +189,7 @@ front_digits : (ds rest : List ℕ) → all_word_bytes ds ≡ true → 0 < lengt
 front_digits [] rest h l = absurd (omega (arith, l))
 front_digits (b ∷ ds) rest h l = (b, ds ++ rest, word_is_first b (and_parts (is_word_byte b) (all_word_bytes ds) h).0, refl)
 
-pub front_number : (kind : Kind) (n : ℕ) (rest : List ℕ) → in_kind kind (pos n) ≡ true → (b : ℕ) × (others : List ℕ) × IsFirst b × (number_text kind n ++ rest ≡ b ∷ others)
+pub front_number : (kind : Kind) (n : ℕ) (rest : List ℕ) → is_literal kind n ≡ true → (b : ℕ) × (others : List ℕ) × IsFirst b × (number_text kind n ++ rest ≡ b ∷ others)
 front_number Int n rest h =
     let small : n < 2 ^ 31 = below_of n (2 ^ 31) h in
     let l : n < 2 ^ 64 = omega (arith, small) in
@@ -200,3 +201,4 @@ front_number Uint n rest h =
     let p = and_parts (all_ascii_digits (decimal n)) (is_well_spelt false (decimal n)) (decimal_is_decimal n l) in
     let r = front_digits (decimal n) (codes "u" ++ rest) (digits_all (decimal n) p.0) (decimal_nonempty n l) in
     (r.0, r.1, r.2, append_assoc (decimal n) (codes "u") rest ∙ r.3)
+front_number Size n rest h = cc

@@ -1,6 +1,6 @@
 -- The signs and words of the canonical text, each before a byte that is no part of it.
 use Rattle.std.proofs.Common.{◌≡◌, ℕ, List, [], ◌∷◌, ◌++◌, refl, false, nat_eq}
-use Rattle.semantics.specs.Word.{Kind, Int, Uint, Add, Subtract, Multiply, Divide, Remainder, BitAnd, BitOr, BitXor, Less, AtMost, More, AtLeast, Equal, Unequal}
+use Rattle.semantics.specs.Word.{Kind, Int, Uint, Size, Add, Subtract, Multiply, Divide, Remainder, BitAnd, BitOr, BitXor, Less, AtMost, More, AtLeast, Equal, Unequal}
 use Rattle.texts.specs.Signs.{signs, LeftParenthesis, RightParenthesis, LeftBrace, RightBrace, LeftBracket, RightBracket, Semicolon, Comma, Question, Colon}
 use Rattle.texts.specs.Reserved.{reserved_words}
 use Rattle.texts.specs.Tokens.{TokenKind, Mark, Word}
@@ -94,6 +94,7 @@ pub cast_kind : (kind : Kind) {rest : List ℕ} {ks : List TokenKind} → Lexes 
 unfolding reserved_words
 cast_kind Int {rest} go = lex_piece _ 105 (110 ∷ 116 ∷ []) (41 ∷ rest) _ refl (closing go)
 cast_kind Uint {rest} go = lex_piece _ 117 (105 ∷ 110 ∷ 116 ∷ []) (41 ∷ rest) _ refl (closing go)
+cast_kind Size {rest} go = lex_piece _ 115 (105 ∷ 122 ∷ 101 ∷ 95 ∷ 116 ∷ []) (41 ∷ rest) _ refl (closing go)
 
 -- a byte that goes on with no sign
 abbrev pub IsFirst : ℕ → Type 0

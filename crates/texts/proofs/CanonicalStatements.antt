@@ -1,7 +1,7 @@
 -- The tokens of a kernel's canonical text.
 use Rattle.std.proofs.Common.{◌≡◌, ℕ, List, [], ◌∷◌, ◌++◌, true, false, Option, Some, None, refl, sym, subst, append_assoc, codes}
 use Rattle.std.specs.Fmt.{decimal}
-use Rattle.semantics.specs.Word.{Kind, Int, Uint}
+use Rattle.semantics.specs.Word.{Kind, Int, Uint, Size}
 use Rattle.texts.specs.Signs as s
 use Rattle.texts.specs.Signs.{signs, RightParenthesis, RightBrace, LeftBrace, LeftParenthesis, Semicolon}
 use Rattle.texts.specs.Reserved as w
@@ -21,6 +21,7 @@ kind_word_lexes : (kind : Kind) {rest : List ℕ} {ks : List TokenKind} → Lexe
 unfolding reserved_words
 kind_word_lexes Int {rest} go = lex_piece _ 105 (110 ∷ 116 ∷ []) (32 ∷ rest) _ refl (blank go)
 kind_word_lexes Uint {rest} go = lex_piece _ 117 (105 ∷ 110 ∷ 116 ∷ []) (32 ∷ rest) _ refl (blank go)
+kind_word_lexes Size {rest} go = lex_piece _ 115 (105 ∷ 122 ∷ 101 ∷ 95 ∷ 116 ∷ []) (32 ∷ rest) _ refl (blank go)
 
 local : {rest : List ℕ} {ks : List TokenKind} → Lexes rest ks → Lexes (codes "__local " ++ rest) (Word w.Local ∷ ks)
 unfolding reserved_words
@@ -227,12 +228,12 @@ more_apart (p ∷ ps) rest e = refl
 lex_more : (ps : List Parameter) {rest : List ℕ} {ks : List TokenKind} → ArePrintableParameters ps → IsApart rest → Lexes rest ks → Lexes (parameters_text (codes ", ") ps ++ rest) (more_parameters ps ks)
 lex_more [] h e go = go
 lex_more (p ∷ ps) {rest} h e go =
-    comma (blank (moved (append_assoc (parameter_text p) (parameters_text (codes ", ") ps) rest) (lex_parameter p h.0 (more_apart ps rest e) (lex_more ps h.1 e go))))
+    comma (blank (moved (append_assoc (parameter_text p) (parameters_text (codes ", ") ps) rest) (lex_parameter p h.0 (more_apart ps rest e) (lex_more ps h.2 e go))))
 
 lex_parameters : (ps : List Parameter) {rest : List ℕ} {ks : List TokenKind} → ArePrintableParameters ps → IsApart rest → Lexes rest ks → Lexes (parameters_text [] ps ++ rest) (parameters_tokens ps ks)
 lex_parameters [] h e go = go
 lex_parameters (p ∷ ps) {rest} h e go =
-    moved (append_assoc (parameter_text p) (parameters_text (codes ", ") ps) rest) (lex_parameter p h.0 (more_apart ps rest e) (lex_more ps h.1 e go))
+    moved (append_assoc (parameter_text p) (parameters_text (codes ", ") ps) rest) (lex_parameter p h.0 (more_apart ps rest e) (lex_more ps h.2 e go))
 
 lex_sizes : (x y z : ℕ) {rest : List ℕ} {ks : List TokenKind} → IsSize x → IsSize y → IsSize z → Lexes rest ks → Lexes (sizes_text x y z ++ rest) (sizes_tokens x y z ks)
 unfolding sizes_text

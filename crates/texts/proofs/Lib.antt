@@ -17,3 +17,4 @@ pub mod CanonicalStatements
 pub mod CanonicalText
 pub mod CanonicalGrammar
 pub mod CanonicalKernel
+pub mod NamedKinds

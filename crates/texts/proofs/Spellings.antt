@@ -1,10 +1,9 @@
 -- The names of a text are identifiers, its numbers are of their kinds.
-use Rattle.std.proofs.Common.{◌≡◌, ℕ, suc, ◌+◌, ◌^◌, pos, Bool, true, false, not, ◌&&◌, ◌||◌, nat_lt, nat_eq, cond, Result, Ok, Err, List, [], ◌∷◌, length, take, drop, refl, sym, subst, arith}
+use Rattle.std.proofs.Common.{◌≡◌, ℕ, suc, ◌+◌, ◌^◌, Bool, true, false, not, ◌&&◌, ◌||◌, nat_lt, nat_eq, cond, Result, Ok, Err, List, [], ◌∷◌, length, take, drop, refl, sym, subst, arith}
 use Rattle.std.specs.List.{prefix_len}
 use Rattle.std.proofs.lemmas.Bool.{false≢true, cond_both, and_parts, and_from}
-use Rattle.semantics.specs.Word.{in_kind}
 use Rattle.texts.specs.Faults.{TextFault}
-use Rattle.texts.specs.Numbers.{Literal, value_of, is_digit, is_well_spelt, sized, with_suffix, is_prefixed, number_in, number_of}
+use Rattle.texts.specs.Numbers.{Literal, value_of, is_digit, is_literal, is_well_spelt, sized, with_suffix, is_prefixed, number_in, number_of}
 use Rattle.texts.specs.Tokens as token
 use Rattle.texts.specs.Tokens.{TokenKind, Token, tokens_of, is_letter, is_word_byte}
 use Rattle.texts.specs.Lexemes.{lexemes}
@@ -15,7 +14,7 @@ use Rattle.texts.proofs.Reading.{tokens_read}
 
 -- numbers
 FitsKind : Result Literal TextFault → Type 0
-FitsKind (Ok l) = in_kind l.kind (pos l.value) ≡ true
+FitsKind (Ok l) = is_literal l.kind l.value ≡ true
 FitsKind (Err e) = Unit {0}
 
 sized-fits : (hexadecimal suffixed : Bool) (n : ℕ) → FitsKind (sized hexadecimal suffixed n)
@@ -36,7 +35,7 @@ in-fits hexadecimal bytes =
     let n = prefix_len (is_digit hexadecimal) bytes in
     cond_both (is_well_spelt hexadecimal (take n bytes)) _ _ FitsKind (λ h. suffix-fits hexadecimal (value_of hexadecimal (take n bytes)) (drop n bytes)) (λ h. tt)
 
-number-fits : (bytes : List ℕ) (l : Literal) → number_of bytes ≡ Ok l → in_kind l.kind (pos l.value) ≡ true
+number-fits : (bytes : List ℕ) (l : Literal) → number_of bytes ≡ Ok l → is_literal l.kind l.value ≡ true
 unfolding FitsKind
 number-fits bytes l e = subst FitsKind e (cond_both (is_prefixed bytes) _ _ FitsKind (λ h. in-fits true (drop 2 bytes)) (λ h. in-fits false bytes))
 

@@ -2,12 +2,13 @@
 -- decimal, and parentheses round each operand that is itself made of operands.
 use Rattle.std.specs.Prelude.{ℕ, List, [], ◌∷◌, ◌++◌, Bool, true, false, Option, Some, None, codes}
 use Rattle.std.specs.Fmt.{decimal}
-use Rattle.semantics.specs.Word.{Kind, Int, Uint, Operator, Add, Subtract, Multiply, Divide, Remainder, BitAnd, BitOr, BitXor, Relation, Less, AtMost, More, AtLeast, Equal, Unequal}
+use Rattle.semantics.specs.Word.{Kind, Int, Uint, Size, Operator, Add, Subtract, Multiply, Divide, Remainder, BitAnd, BitOr, BitXor, Relation, Less, AtMost, More, AtLeast, Equal, Unequal}
 use Rattle.texts.specs.Surface.{PrefixSign, Minus, LogicalNot, BitNot, InfixSign, Arithmetic, LeftShift, RightShift, Comparison, LogicalAnd, LogicalOr, AssignSign, Plain, With, WithLeftShift, WithRightShift, Expression, Number, Name, Element, Call, Prefix, Cast, Infix, Conditional, Expressions, nothing, also, Declaration, Assignment, First, FirstDeclares, FirstAssigns, JumpWord, Return, Break, Continue, Statement, Declare, DeclareArray, Assign, If, While, For, Barrier, Jump, Block, Statements, none, one, Parameter, Buffer, Value, Kernel}
 
 abbrev pub kind_text : Kind → List ℕ
 kind_text Int = codes "int"
 kind_text Uint = codes "uint"
+kind_text Size = codes "size_t"
 
 abbrev pub operator_text : Operator → List ℕ
 operator_text Add = codes "+"
@@ -46,10 +47,11 @@ assign_text (With operator) = operator_text operator ++ codes "="
 assign_text WithLeftShift = codes "<<="
 assign_text WithRightShift = codes ">>="
 
--- a number of `uint` has its suffix
+-- a number of `uint` has its suffix; no text has a number of `size_t`
 abbrev pub number_text : Kind → ℕ → List ℕ
 number_text Int n = decimal n
 number_text Uint n = decimal n ++ codes "u"
+number_text Size n = decimal n ++ codes "u"
 
 -- made of operands, so in parentheses where it is an operand itself
 abbrev pub is_compound : Expression → Bool

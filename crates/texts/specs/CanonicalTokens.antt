@@ -2,13 +2,15 @@
 use Rattle.std.specs.Prelude.{◌≡◌, ◌≢◌, ℕ, pos, List, [], ◌∷◌, Bool, true, false, Option, Some, None, codes}
 use Rattle.std.specs.List.{find}
 use Rattle.std.specs.Str.{bytes_eq}
-use Rattle.semantics.specs.Word.{Kind, Int, Uint, Operator, Add, Subtract, Multiply, Divide, Remainder, BitAnd, BitOr, BitXor, Relation, Less, AtMost, More, AtLeast, Equal, Unequal, in_kind}
+use Rattle.semantics.specs.Word.{Kind, Int, Uint, Size, Operator, Add, Subtract, Multiply, Divide, Remainder, BitAnd, BitOr, BitXor, Relation, Less, AtMost, More, AtLeast, Equal, Unequal, in_kind}
 use Rattle.texts.specs.Signs as signs
 use Rattle.texts.specs.Signs.{Sign, LeftParenthesis, RightParenthesis, LeftBrace, RightBrace, LeftBracket, RightBracket, Semicolon, Comma, Question, Colon}
 use Rattle.texts.specs.Reserved as words
 use Rattle.texts.specs.Reserved.{Reserved, reserved_words}
 use Rattle.texts.specs.Tokens as token
 use Rattle.texts.specs.Tokens.{TokenKind, Word, Mark}
+use Rattle.texts.specs.Numbers.{is_literal}
+use Rattle.texts.specs.Lexemes.{is_named}
 use Rattle.texts.specs.Identifiers.{is_identifier}
 use Rattle.texts.specs.Canonical.{is_compound}
 use Rattle.texts.specs.Surface.{PrefixSign, Minus, LogicalNot, BitNot, InfixSign, Arithmetic, LeftShift, RightShift, Comparison, LogicalAnd, LogicalOr, AssignSign, Plain, With, WithLeftShift, WithRightShift, Expression, Number, Name, Element, Call, Prefix, Cast, Infix, Conditional, Expressions, nothing, also, Declaration, Assignment, First, FirstDeclares, FirstAssigns, JumpWord, Return, Break, Continue, Statement, Declare, DeclareArray, Assign, If, While, For, Barrier, Jump, Block, Statements, none, one, Parameter, Buffer, Value, Kernel}
@@ -16,6 +18,7 @@ use Rattle.texts.specs.Surface.{PrefixSign, Minus, LogicalNot, BitNot, InfixSign
 abbrev pub kind_word : Kind → Reserved
 kind_word Int = words.Int
 kind_word Uint = words.Uint
+kind_word Size = words.SizeT
 
 abbrev pub jump_word : JumpWord → Reserved
 jump_word Return = words.Return
@@ -103,21 +106,37 @@ abbrev mutual
 abbrev pub IsName : List ℕ → Type 0
 IsName x = (is_identifier x ≡ true) × (find (λ entry. bytes_eq entry.0 x) reserved_words ≡ None)
 
--- names are names, and numbers are of their kinds
+-- names are names, numbers are of their kinds, and kinds are those that a text names
 abbrev mutual
   pub IsPrintable : Expression → Type 0
-  IsPrintable (Number site kind n) = in_kind kind (pos n) ≡ true
+  IsPrintable (Number site kind n) = is_literal kind n ≡ true
   IsPrintable (Name site x) = IsName x
   IsPrintable (Element site x index) = IsName x × IsPrintable index
   IsPrintable (Call site x arguments) = IsName x × ArePrintable arguments
   IsPrintable (Prefix site sign e) = IsPrintable e
-  IsPrintable (Cast site kind e) = IsPrintable e
+  IsPrintable (Cast site kind e) = IsPrintable e × (is_named kind ≡ true)
   IsPrintable (Infix site sign l r) = IsPrintable l × IsPrintable r
   IsPrintable (Conditional site test a b) = IsPrintable test × IsPrintable a × IsPrintable b
 
   pub ArePrintable : Expressions → Type 0
   ArePrintable nothing = Unit {0}
   ArePrintable (also e es) = IsPrintable e × ArePrintable es
+
+-- the casts of an expression are to kinds that a text names
+abbrev mutual
+  pub HasNamedCasts : Expression → Type 0
+  HasNamedCasts (Number site kind n) = Unit {0}
+  HasNamedCasts (Name site x) = Unit {0}
+  HasNamedCasts (Element site x index) = HasNamedCasts index
+  HasNamedCasts (Call site x arguments) = HaveNamedCasts arguments
+  HasNamedCasts (Prefix site sign e) = HasNamedCasts e
+  HasNamedCasts (Cast site kind e) = HasNamedCasts e × (is_named kind ≡ true)
+  HasNamedCasts (Infix site sign l r) = HasNamedCasts l × HasNamedCasts r
+  HasNamedCasts (Conditional site test a b) = HasNamedCasts test × HasNamedCasts a × HasNamedCasts b
+
+  pub HaveNamedCasts : Expressions → Type 0
+  HaveNamedCasts nothing = Unit {0}
+  HaveNamedCasts (also e es) = HasNamedCasts e × HaveNamedCasts es
 
 abbrev pub declaration_tokens : Declaration → (after : List TokenKind) → List TokenKind
 declaration_tokens d after = Word (kind_word d.kind) ∷ token.Name d.name ∷ Mark signs.Equal ∷ expression_tokens d.value after
@@ -188,7 +207,7 @@ kernel_tokens k =
     ∷ parameters_tokens k.parameters (Mark RightParenthesis ∷ Mark LeftBrace ∷ statements_tokens k.body (Mark RightBrace ∷ token.End ∷ [])))
 
 abbrev pub IsPrintableDeclaration : Declaration → Type 0
-IsPrintableDeclaration d = IsName d.name × IsPrintable d.value
+IsPrintableDeclaration d = IsName d.name × IsPrintable d.value × (is_named d.kind ≡ true)
 
 abbrev pub IsPrintableIndex : Option Expression → Type 0
 IsPrintableIndex None = Unit {0}
@@ -208,7 +227,7 @@ IsSize n = in_kind Int (pos n) ≡ true
 abbrev mutual
   pub IsPrintableStatement : Statement → Type 0
   IsPrintableStatement (Declare d) = IsPrintableDeclaration d
-  IsPrintableStatement (DeclareArray n site kind name_site x length) = IsName x × IsSize length
+  IsPrintableStatement (DeclareArray n site kind name_site x length) = IsName x × IsSize length × (is_named kind ≡ true)
   IsPrintableStatement (Assign a) = IsPrintableAssignment a × (a.name ≢ codes "barrier")
   IsPrintableStatement (If n site test a b) = IsPrintable test × ArePrintableStatements a × ArePrintableStatements b
   IsPrintableStatement (While n site test body) = IsPrintable test × ArePrintableStatements body
@@ -225,9 +244,13 @@ abbrev pub parameter_name : Parameter → List ℕ
 parameter_name (Buffer constant kind site x) = x
 parameter_name (Value kind site x) = x
 
+abbrev pub parameter_kind : Parameter → Kind
+parameter_kind (Buffer constant kind site x) = kind
+parameter_kind (Value kind site x) = kind
+
 abbrev pub ArePrintableParameters : List Parameter → Type 0
 ArePrintableParameters [] = Unit {0}
-ArePrintableParameters (p ∷ ps) = IsName (parameter_name p) × ArePrintableParameters ps
+ArePrintableParameters (p ∷ ps) = IsName (parameter_name p) × (is_named (parameter_kind p) ≡ true) × ArePrintableParameters ps
 
 -- what a text can say: names are names, numbers are of their kinds, sizes are of `int`
 pub record IsPrintableKernel (k : Kernel) : Type 0 where

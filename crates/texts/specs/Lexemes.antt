@@ -1,6 +1,6 @@
 -- What the grammar reads of a token: what it is, and where it begins. And the tables of its signs and words.
-use Rattle.std.specs.Prelude.{ℕ, List, map, Option, Some, None}
-use Rattle.semantics.specs.Word.{Kind, Int, Uint, Add, Subtract, Multiply, Divide, Remainder, BitAnd, BitOr, BitXor, Less, AtMost, More, AtLeast, Equal, Unequal}
+use Rattle.std.specs.Prelude.{ℕ, List, map, Bool, true, false, Option, Some, None}
+use Rattle.semantics.specs.Word.{Kind, Int, Uint, Size, Add, Subtract, Multiply, Divide, Remainder, BitAnd, BitOr, BitXor, Less, AtMost, More, AtLeast, Equal, Unequal}
 use Rattle.semantics.specs.Core.{Site}
 use Rattle.texts.specs.Numbers.{Literal}
 use Rattle.texts.specs.Signs as signs
@@ -81,6 +81,12 @@ abbrev pub kind_of : Reserved → Option Kind
 kind_of words.Int = Some Int
 kind_of words.Uint = Some Uint
 kind_of w = None
+
+-- the kinds that a text names: `size_t` is left out (ours)
+abbrev pub is_named : Kind → Bool
+is_named Int = true
+is_named Uint = true
+is_named Size = false
 
 -- the words of jump statements (C99 6.8.6), `goto` aside
 abbrev pub jump_of : Reserved → Option JumpWord

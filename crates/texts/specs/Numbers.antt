@@ -1,7 +1,7 @@
 -- Numbers as they are written (C99 6.4.4.1 without octal numbers and with the suffix `u` alone; kinds of 32 bits).
 use Rattle.std.specs.Prelude.{ℕ, ◌+◌, ◌-◌, ◌*◌, ◌^◌, List, [], ◌∷◌, take, drop, Bool, true, false, cond, not, nat_eq, nat_lt, nat_le, ◌&&◌, ◌||◌, Result, Ok, Err, fold, codes}
 use Rattle.std.specs.List.{prefix_len, starts_with}
-use Rattle.semantics.specs.Word.{Kind, Int, Uint}
+use Rattle.semantics.specs.Word.{Kind, Int, Uint, Size}
 use Rattle.texts.specs.Faults.{TextFault, NumberTooLarge, BadNumber}
 
 -- a number, and the kind that it has without a conversion
@@ -36,6 +36,12 @@ abbrev pub is_well_spelt : (hexadecimal : Bool) → List ℕ → Bool
 is_well_spelt hexadecimal [] = false
 is_well_spelt hexadecimal (a ∷ []) = true
 is_well_spelt hexadecimal (a ∷ b ∷ digits) = hexadecimal || not (nat_eq a 48)
+
+-- a number that a literal of a kind has: of sizes there is none
+abbrev pub is_literal : Kind → ℕ → Bool
+is_literal Int n = nat_lt n (2 ^ 31)
+is_literal Uint n = nat_lt n (2 ^ 32)
+is_literal Size n = false
 
 -- a number without suffix is `int` where that has it; only a hexadecimal one may be `uint` then (C99 6.4.4.1p5)
 abbrev pub sized : (hexadecimal suffixed : Bool) → ℕ → Result Literal TextFault

@@ -1,10 +1,10 @@
 -- What the tree of a text keeps: its names are identifiers, its numbers are of their kinds, and its statements are numbered in the order of
 -- the source.
-use Rattle.std.specs.Prelude.{◌≡◌, ℕ, ◌+◌, pos, List, [], ◌∷◌, Option, Some, None, true}
-use Rattle.semantics.specs.Word.{in_kind}
+use Rattle.std.specs.Prelude.{◌≡◌, ℕ, ◌+◌, List, [], ◌∷◌, Option, Some, None, true}
 use Rattle.texts.specs.Tokens as token
 use Rattle.texts.specs.Tokens.{TokenKind}
 use Rattle.texts.specs.Lexemes.{Lexeme}
+use Rattle.texts.specs.Numbers.{is_literal}
 use Rattle.texts.specs.Identifiers.{is_identifier}
 use Rattle.texts.specs.Surface.{Expression, Number, Name, Element, Call, Prefix, Cast, Infix, Conditional, Expressions, nothing, also, Declaration, Assignment, First, FirstDeclares, FirstAssigns, Statement, Declare, DeclareArray, Assign, If, While, For, Barrier, Jump, Block, Statements, none, one, Parameter, Buffer, Value, Kernel}
 use Rattle.texts.specs.KernelLimits.{statements_in, statements_of}
@@ -14,7 +14,7 @@ IsIdentifier x = is_identifier x ≡ true
 
 abbrev pub IsSpelt : TokenKind → Type 0
 IsSpelt (token.Name x) = IsIdentifier x
-IsSpelt (token.Number l) = in_kind l.kind (pos l.value) ≡ true
+IsSpelt (token.Number l) = is_literal l.kind l.value ≡ true
 IsSpelt token.End = Unit {0}
 IsSpelt (token.Word w) = Unit {0}
 IsSpelt (token.Mark s) = Unit {0}
@@ -25,7 +25,7 @@ AreSpelt (t ∷ ts) = IsSpelt t.kind × AreSpelt ts
 
 abbrev mutual
   pub SpellsExpression : Expression → Type 0
-  SpellsExpression (Number site kind n) = in_kind kind (pos n) ≡ true
+  SpellsExpression (Number site kind n) = is_literal kind n ≡ true
   SpellsExpression (Name site x) = IsIdentifier x
   SpellsExpression (Element site x index) = IsIdentifier x × SpellsExpression index
   SpellsExpression (Call site x arguments) = IsIdentifier x × SpellsExpressions arguments

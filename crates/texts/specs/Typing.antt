@@ -1,7 +1,7 @@
 -- The typing rules of expressions, and the term that each stands for (C99 6.3.1.8 and 6.5; OpenCL 1.2, 6.3, 6.12.1, 6.12.3).
-use Rattle.std.specs.Prelude.{ℕ, pos, List, [], ◌∷◌, Bool, true, false, not, cond, ◌&&◌, ◌||◌, nat_eq, nat_le, Option, Some, None, Ok, bytes_eq, codes}
+use Rattle.std.specs.Prelude.{ℕ, pos, List, [], ◌∷◌, Bool, true, false, cond, ◌&&◌, ◌||◌, nat_eq, nat_le, Option, Some, None, Ok, bytes_eq, codes}
 use Rattle.std.specs.List.{starts_with}
-use Rattle.semantics.specs.Word.{Kind, Int, Uint, UnaryOperator, Negate, Complement, ShiftLeft, ShiftRight}
+use Rattle.semantics.specs.Word.{Kind, Int, Uint, Size, UnaryOperator, Negate, Complement, ShiftLeft, ShiftRight}
 use Rattle.semantics.specs.Core as core
 use Rattle.semantics.specs.Core.{Site, Array, Function, GlobalId, LocalId, GroupId, GlobalSize, LocalSize, NumGroups, Term}
 use Rattle.texts.specs.Surface.{PrefixSign, Minus, LogicalNot, BitNot, InfixSign, Arithmetic, LeftShift, RightShift, Comparison, LogicalAnd, LogicalOr, Expression, Number, Name, Element, Call, Prefix, Cast, Infix, Conditional, Expressions, nothing, also}
@@ -19,11 +19,15 @@ typed k t = record { kind = k; term = t }
 abbrev pub is_uint : Kind → Bool
 is_uint Int = false
 is_uint Uint = true
+is_uint Size = false
 
--- the kind of two operands (the usual conversions)
+-- the kind of two operands (the usual conversions; no expression of a text is a size)
 abbrev pub common : Kind → Kind → Kind
-common Uint k = Uint
 common Int k = k
+common Uint Int = Uint
+common Uint Uint = Uint
+common Uint Size = Size
+common Size k = Size
 
 -- brought to a kind; where that is its own, nothing is to convert
 abbrev pub brought : (from to : Kind) → Site → Term → Term
@@ -31,6 +35,11 @@ brought Int Int site t = t
 brought Int Uint site t = core.Convert Uint site t
 brought Uint Int site t = core.Convert Int site t
 brought Uint Uint site t = t
+brought Int Size site t = core.Convert Size site t
+brought Uint Size site t = core.Convert Size site t
+brought Size Int site t = core.Convert Int site t
+brought Size Uint site t = core.Convert Uint site t
+brought Size Size site t = t
 
 -- the site is the target's name or the cast's parenthesis; that of an arm of `?:` is never told, since to `uint` nothing fails
 abbrev pub bring : Kind → Site → TypedTerm → Term
@@ -97,12 +106,19 @@ is_left_out name = (starts_with nat_eq name (codes "atomic_") || starts_with nat
 
 -- their argument is one number in the text (ours), and they give `uint` (ours: 32 address bits)
 abbrev pub id_term : Site → Function → Expressions → Checked TypedTerm
-id_term site function (also (Number at kind n) nothing) = Ok (typed Uint (core.Id function n))
+id_term site function (also (Number at kind n) nothing) = Ok (typed Uint (core.Id Uint function n))
 id_term site function arguments = refused WrongType site
 
 abbrev pub same_kind : Kind → Kind → Bool
-same_kind Int k = not (is_uint k)
-same_kind Uint k = is_uint k
+same_kind Int Int = true
+same_kind Int Uint = false
+same_kind Int Size = false
+same_kind Uint Int = false
+same_kind Uint Uint = true
+same_kind Uint Size = false
+same_kind Size Int = false
+same_kind Size Uint = false
+same_kind Size Size = true
 
 -- `min` and `max` take two operands of one kind
 abbrev pub pick_term : Site → (Term → Term → Term) → List TypedTerm → Checked TypedTerm

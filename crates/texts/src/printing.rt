@@ -1,14 +1,16 @@
 //! Canonical texts: what they say is the tree that they are of.
 
-ghost use Rattle.std.specs.Prelude.{◌≡◌, ℕ, suc, ◌≤◌, List, length, map, Ok};
+ghost use Rattle.std.specs.Prelude.{◌≡◌, ℕ, suc, ◌≤◌, List, length, map, true, Some, Ok};
+ghost use Rattle.semantics.specs.Word.{Kind};
 ghost use Rattle.texts.specs.Canonical.{canonical};
 ghost use Rattle.texts.specs.Bare.{bare_expression, bare_kernel};
 ghost use Rattle.texts.specs.Brackets.{AllOpenStatements, Opens};
-ghost use Rattle.texts.specs.CanonicalTokens.{IsPrintableKernel, expression_tokens, kernel_tokens};
+ghost use Rattle.texts.specs.CanonicalTokens.{IsPrintableKernel, HasNamedCasts, expression_tokens, kernel_tokens};
 ghost use Rattle.texts.specs.Grammar.{IsExpression};
 ghost use Rattle.texts.specs.KernelGrammar.{IsKernel};
-ghost use Rattle.texts.specs.Lexemes.{Lexeme, lexemes};
+ghost use Rattle.texts.specs.Lexemes.{Lexeme, lexemes, kind_of, is_named};
 ghost use Rattle.texts.specs.Reading.{Reads};
+ghost use Rattle.texts.specs.Reserved.{Reserved};
 ghost use Rattle.texts.specs.Spelling.{AreNumbered};
 ghost use Rattle.texts.specs.Surface.{Expression, Kernel};
 ghost use Rattle.texts.specs.Tokens.{Token, TokenKind, tokens_of};
@@ -25,10 +27,17 @@ pub fn tokens_of_a_canonical_text_are_those_of_its_tree()
     ensures { (k : Kernel) → IsPrintableKernel k → length (canonical k) ≤ 65536 → (ts : List Token) × (tokens_of (canonical k) ≡ Ok ts) × (map (λ t. t.kind) ts ≡ kernel_tokens k) }
 {}
 
-/// The grammar relates the tokens of an expression to that expression, positions aside, where there is room for its brackets.
+/// The grammar relates the tokens of an expression to that expression, positions aside, where there is room for its brackets and its casts
+/// are to kinds that a text names.
 #[tactic(auto, using(crate::proofs::CanonicalGrammar::expression_related))]
 pub fn tokens_of_an_expression_stand_for_it()
-    ensures { (e : Expression) (room : ℕ) (after : List TokenKind) (ts : List Lexeme) → Opens room e → map (λ t. t.kind) ts ≡ expression_tokens e after → (tree : Expression) × (rest : List Lexeme) × IsExpression room ts tree rest × (map (λ t. t.kind) rest ≡ after) × (bare_expression tree ≡ bare_expression e) }
+    ensures { (e : Expression) (room : ℕ) (after : List TokenKind) (ts : List Lexeme) → HasNamedCasts e → Opens room e → map (λ t. t.kind) ts ≡ expression_tokens e after → (tree : Expression) × (rest : List Lexeme) × IsExpression room ts tree rest × (map (λ t. t.kind) rest ≡ after) × (bare_expression tree ≡ bare_expression e) }
+{}
+
+/// A kind that the grammar reads of a word is one that a text names.
+#[tactic(auto, using(crate::proofs::NamedKinds::named))]
+pub fn kinds_of_words_are_named()
+    ensures { (w : Reserved) (kind : Kind) → kind_of w ≡ Some kind → is_named kind ≡ true }
 {}
 
 /// The grammar relates the tokens of a kernel to that kernel, positions aside, where there is room for its brackets.

@@ -7,9 +7,10 @@ use Rattle.facts.specs.declared.error.WalkError.TheVariants as walks
 use Rattle.facts.proofs.Tests.{and_left, and_right}
 use Rattle.walk_trees.specs.Fitting.{denials_fit}
 use Rattle.obligations.specs.Crossings as specs
+use Rattle.obligations.specs.Fitting.{crossing_fits, crossings_fit}
 use Rattle.path_steps.specs.Paths.{Claimed}
-use Rattle.two_thread.specs.Fitting.{claims_fit, crossing_fits, crossings_fit}
-use Rattle.two_thread.specs.Listed.{found_meetings, found_crossings, claims_listed, meetings_listed, crossings_listed, listed, nth_obligation, no_obligation}
+use Rattle.two_thread.specs.Fitting.{claims_fit}
+use Rattle.two_thread.specs.Listed.{found_meetings, found_crossings, found_fits, claims_listed, meetings_listed, crossings_listed, listed, nth_fits, nth_obligation, no_obligation}
 use Rattle.two_thread.specs.Alike.{notes_of}
 use Rattle.two_thread.specs.Goals.{owed}
 use Rattle.two_thread.specs.declared.numbered.Obligations.{Obligations}
@@ -63,16 +64,6 @@ meeting_unfit m ps i r walks.TooLarge h d u =
     let view = meeting_seen (met_ends m) in
     meetings_unfit_at (map view ps) i (view r) (subst (λ n. i < n) (sym (length-map ps view)) h) (ap meeting_fits (get_or-map view ps i r (view r) h ∙ ap view (sym d)) ∙ u)
 meeting_unfit m ps i r walks.Memory h d u = tt
-
-pub unfit_left : (a b : Bool) (e : WalkError) → DoNotFit a e → DoNotFit (a && b) e
-unfit_left a b walks.TooMany u = u
-unfit_left a b walks.TooLarge u = and_left a b u
-unfit_left a b walks.Memory u = u
-
-pub unfit_right : (a b : Bool) (e : WalkError) → DoNotFit b e → DoNotFit (a && b) e
-unfit_right a b walks.TooMany u = u
-unfit_right a b walks.TooLarge u = and_right a b u
-unfit_right a b walks.Memory u = u
 
 -- one more fits
 true_and : (a b : Bool) → a ≡ true → (a && b) ≡ b
@@ -158,10 +149,46 @@ nth_is_crossing g o n i j p e q h d =
     ∙ get_or-map one ps j (view p) no_obligation l
     ∙ ap one (get_or-map view o.crossings.items j p (view p) h ∙ ap view (sym d))
 
-pub fit_unfit : {E : Type 0} (p : specs.Crossing E) (e : WalkError) → DoNotFit (crossing_fits p) e → IsUnfitCrossing e p
-fit_unfit p walks.TooMany u = absurd u
-fit_unfit p walks.TooLarge u = u
-fit_unfit p walks.Memory u = tt
+-- whether the own forms of a number fit: of a claim, of a pair of stops, and of a pair of accesses
+pub claim_fit_at : {E : Type 0} (o : Obligations E) (n i : ℕ) → i ≡ n - 1 → i < length o.met.claims.items → nth_fits (found_fits o) n ≡ true
+claim_fit_at o n i e h =
+    let cs = met_claims o.met in
+    let fit = λ (c : Claimed). true in
+    let l : i < length cs = subst (λ m. i < m) (length_met_claims o.met) h in
+    let k : i < length (map fit cs) = subst (λ m. i < m) (sym (length-map cs fit)) l in
+    ap (λ j. get_or (found_fits o) j true) (sym e)
+    ∙ get_or_append_left (map fit cs) (map meeting_fits (found_meetings o.met o.meetings.items) ++ map crossing_fits (found_crossings o.met o.crossings.items)) true i k
+    ∙ get_or-map fit cs i no_claim true l
+
+pub meeting_fit_at : {E : Type 0} (o : Obligations E) (n i j : ℕ) (p : Meeting) → i ≡ n - 1 → i ≡ length o.met.claims.items + j → j < length o.meetings.items → p ≡ get_or o.meetings.items j p → nth_fits (found_fits o) n ≡ meeting_fits (meeting_seen (met_ends o.met) p)
+meeting_fit_at o n i j p e q h d =
+    let cs = met_claims o.met in
+    let fit = λ (c : Claimed). true in
+    let view = meeting_seen (met_ends o.met) in
+    let ps = found_meetings o.met o.meetings.items in
+    let xs = map crossing_fits (found_crossings o.met o.crossings.items) in
+    let l : j < length ps = subst (λ m. j < m) (sym (length-map o.meetings.items view)) h in
+    let k : j < length (map meeting_fits ps) = subst (λ m. j < m) (sym (length-map ps meeting_fits)) l in
+    ap (λ k. get_or (found_fits o) k true) (sym e ∙ q ∙ ap (λ m. m + j) (length_met_claims o.met ∙ sym (length-map cs fit)))
+    ∙ get_or-append-add (map fit cs) (map meeting_fits ps ++ xs) j true
+    ∙ get_or_append_left (map meeting_fits ps) xs true j k
+    ∙ get_or-map meeting_fits ps j (view p) true l
+    ∙ ap meeting_fits (get_or-map view o.meetings.items j p (view p) h ∙ ap view (sym d))
+
+pub crossing_fit_at : {E : Type 0} (o : Obligations E) (n i j : ℕ) (p : Crossing) → i ≡ n - 1 → i ≡ length o.met.claims.items + (length o.meetings.items + j) → j < length o.crossings.items → p ≡ get_or o.crossings.items j p → nth_fits (found_fits o) n ≡ crossing_fits (crossing (met_accesses o.met) p)
+crossing_fit_at o n i j p e q h d =
+    let cs = met_claims o.met in
+    let fit = λ (c : Claimed). true in
+    let view = crossing (met_accesses o.met) in
+    let ms = found_meetings o.met o.meetings.items in
+    let ps = found_crossings o.met o.crossings.items in
+    let l : j < length ps = subst (λ m. j < m) (sym (length-map o.crossings.items view)) h in
+    ap (λ k. get_or (found_fits o) k true) (sym e ∙ q ∙ ap (λ m. m + (length o.meetings.items + j)) (length_met_claims o.met ∙ sym (length-map cs fit)))
+    ∙ get_or-append-add (map fit cs) (map meeting_fits ms ++ map crossing_fits ps) (length o.meetings.items + j) true
+    ∙ ap (λ k. get_or (map meeting_fits ms ++ map crossing_fits ps) (k + j) true) (sym (length-map ms meeting_fits ∙ length-map o.meetings.items (meeting_seen (met_ends o.met))))
+    ∙ get_or-append-add (map meeting_fits ms) (map crossing_fits ps) j true
+    ∙ get_or-map crossing_fits ps j (view p) true l
+    ∙ ap crossing_fits (get_or-map view o.crossings.items j p (view p) h ∙ ap view (sym d))
 
 pub unfit_fit : {E : Type 0} (p : specs.Crossing E) (e : WalkError) → IsUnfitCrossing e p → DoNotFit (crossing_fits p) e
 unfit_fit p walks.TooMany u = absurd u

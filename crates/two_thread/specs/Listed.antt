@@ -1,5 +1,6 @@
--- The obligations that were found, by their numbers: the claims of all places, then the pairs of stops, then those of accesses.
-use Rattle.std.specs.Prelude.{ℕ, ◌-◌, ◌<◌, length, List, [], ◌++◌, map, get_or, Bool, false, ◌&&◌, None}
+-- The obligations that were found, by their numbers: the claims of all places, then the pairs of stops, then those of accesses; and whether
+-- the own forms of each are of i64.
+use Rattle.std.specs.Prelude.{ℕ, ◌-◌, ◌<◌, length, List, [], ◌++◌, map, get_or, Bool, true, false, None}
 use Rattle.semantics.specs.Launch.{Kernel}
 use Rattle.semantics.specs.Conditions.{Conditions}
 use Rattle.domain.specs.declared.Domain.{Ghosts}
@@ -7,20 +8,19 @@ use Rattle.linear.specs.Forms.{forms}
 use Rattle.facts.specs.Symbols.{Fact}
 use Rattle.facts.specs.Elements.{Known}
 use Rattle.facts.specs.View.{known_seen}
-use Rattle.walk_trees.specs.Fitting.{denials_fit}
 use Rattle.walk_trees.specs.Statements.{spot_of}
 use Rattle.walk_trees.specs.Trees.{OfIndex, Obligation, Access, Ended}
 use Rattle.path_steps.specs.Paths.{Claimed}
 use Rattle.obligations.specs.Listing.{Of}
 use Rattle.obligations.specs.Crossings as crossings
 use Rattle.obligations.specs.Crossings.{crossing_obligation}
+use Rattle.obligations.specs.Fitting.{is_fit_goal, crossing_fits}
 use Rattle.obligations.specs.Meetings.{meetings}
 use Rattle.obligations.specs.Notes.{Notes}
 use Rattle.two_thread.specs.Alike.{notes_of}
-use Rattle.two_thread.specs.Fitting.{claims_fit, goals_fit, crossing_fits, crossings_fit}
 use Rattle.two_thread.specs.Goals.{owed}
 use Rattle.two_thread.specs.Meetings as seen
-use Rattle.two_thread.specs.Meetings.{meeting_seen, meeting_obligation, meeting_fits, meetings_fit}
+use Rattle.two_thread.specs.Meetings.{meeting_seen, meeting_obligation, meeting_fits}
 use Rattle.two_thread.specs.View.{met_claims, nth_claim, met_accesses, met_ends, crossing}
 use Rattle.two_thread.specs.declared.met.Met.{Met}
 use Rattle.two_thread.specs.declared.numbered.Obligations.{Obligations}
@@ -57,19 +57,23 @@ listed g o = claims_listed o ++ (meetings_listed g o ++ crossings_listed g o)
 abbrev pub nth_obligation : List Obligation → (number : ℕ) → Obligation
 nth_obligation os n = get_or os (n - 1) no_obligation
 
--- all forms that are made of what was found are of i64
-abbrev pub made_fit : {E : Type 0} → Obligations E → Bool
-made_fit o = claims_fit (met_claims o.met) && (meetings_fit (found_meetings o.met o.meetings.items) && crossings_fit (found_crossings o.met o.crossings.items))
+-- whether the own forms of each are of i64: those that deny a claim are, since all these are tried before there are obligations
+abbrev pub found_fits : {E : Type 0} → Obligations E → List Bool
+found_fits o = map (λ c. true) (met_claims o.met) ++ (map meeting_fits (found_meetings o.met o.meetings.items) ++ map crossing_fits (found_crossings o.met o.crossings.items))
+
+-- those of a number, counted from 1
+abbrev pub nth_fits : List Bool → (number : ℕ) → Bool
+nth_fits fits n = get_or fits (n - 1) true
 
 -- all that is to be shown of these claims, ends and accesses, under conditions
 abbrev pub all_listed : {E : Type 0} → Ghosts E → Known E → (launch : List Fact) → Notes → Kernel → Conditions → List Claimed → List (Of (Ended E)) → List (Of (Access E)) → List Obligation
 all_listed g k launch n kernel c cs es us = map (owed launch) cs ++ (meetings g k launch n es ++ map (crossing_obligation g k launch n) (crossings.crossings kernel c us))
 
--- all forms that are made to show it are of i64
-abbrev pub all_fit : {E : Type 0} → Ghosts E → Known E → (launch : List Fact) → Notes → Kernel → Conditions → List Claimed → List (Of (Ended E)) → List (Of (Access E)) → Bool
-all_fit g k launch n kernel c cs es us = claims_fit cs && (goals_fit (meetings g k launch n es) && crossings_fit (crossings.crossings kernel c us))
+-- whether the own forms of each are of i64
+abbrev pub all_fits : {E : Type 0} → Ghosts E → Known E → (launch : List Fact) → Notes → Kernel → Conditions → List Claimed → List (Of (Ended E)) → List (Of (Access E)) → List Bool
+all_fits g k launch n kernel c cs es us = map (λ x. true) cs ++ (map (λ (o : Obligation). is_fit_goal o.goal) (meetings g k launch n es) ++ map crossing_fits (crossings.crossings kernel c us))
 
--- the obligation that is meant, and whether it is there and its forms are of i64
+-- the obligation that is meant, and whether it is there and its own forms are of i64
 abbrev pub obligation_of : {E : Type 0} → Ghosts E → Obligations E → Which → Obligation
 obligation_of g o (whiches.OfClaim i) = owed (forms o.launch.items) (nth_claim o.met i)
 obligation_of g o (whiches.OfMeeting m) = meeting_obligation g (known_seen o.known) (forms o.launch.items) (notes_of o.alike.items) (meeting_seen (met_ends o.met) m)
@@ -81,6 +85,6 @@ IsThere o (whiches.OfMeeting m) = seen.IsInside (length o.met.ends.items) m
 IsThere o (whiches.OfCrossing p) = IsInside (length o.met.accesses.items) p
 
 abbrev pub which_fits : {E : Type 0} → Obligations E → Which → Bool
-which_fits o (whiches.OfClaim i) = denials_fit (nth_claim o.met i).goal
+which_fits o (whiches.OfClaim i) = true
 which_fits o (whiches.OfMeeting m) = meeting_fits (meeting_seen (met_ends o.met) m)
 which_fits o (whiches.OfCrossing p) = crossing_fits (crossing (met_accesses o.met) p)

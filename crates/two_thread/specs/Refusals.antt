@@ -33,7 +33,7 @@ IsOver most n errors.Memory = Unit {0}
 abbrev pub IsInside : (count : ℕ) → Crossing → Type 0
 IsInside n p = (p.first < n) × (p.second < n)
 
--- these were not gathered: there are over 65,536, not all forms that are made are of i64, or there was no memory
+-- these were not gathered: there are over 65,536, not all that denies claims is of i64, or there was no memory
 abbrev pub AreUngathered : List Obligation → (fit : Bool) → WalkError → Type 0
 AreUngathered os fit errors.TooMany = 65536 < length os
 AreUngathered os fit errors.TooLarge = fit ≡ false

@@ -4,9 +4,9 @@ ghost use Rattle.std.specs.Prelude.{◌≡◌};
 ghost use Rattle.path_steps.specs.View.{sort as sort_seen};
 ghost use Rattle.two_thread.specs.Answers.{sort_about};
 
-use crate::agreeing::is_agreed;
+use crate::agreeing::{is_agreed, try_meeting};
 use crate::claims::{is_needed, is_settled, sort_of, spot_of_claim};
-use crate::clashing::is_apart;
+use crate::clashing::{is_apart, try_differences};
 use crate::crossings::spot_of;
 use crate::meetings::About;
 use crate::numbered::{Obligations, Which};
@@ -27,10 +27,10 @@ fn sort_of_stops(about: About) -> Sort
 }
 
 impl<D: Domain> Obligations<D> {
-    ghost use Rattle.std.specs.Prelude.{◌≡◌, ◌≤◌, ◌<◌, length, MatchResult};
+    ghost use Rattle.std.specs.Prelude.{◌≡◌, ◌≤◌, ◌<◌, length, true, MatchResult};
     ghost use Rattle.path_steps.specs.View.{sort as sort_seen, spot as spot_seen};
     ghost use Rattle.two_thread.specs.Refusals.{DoNotFit};
-    ghost use Rattle.two_thread.specs.Listed.{listed, nth_obligation, made_fit};
+    ghost use Rattle.two_thread.specs.Listed.{listed, nth_obligation, nth_fits, found_fits};
 
     /// The sort of an obligation, by its number: an entry of a certificate fits it or not.
     pub fn sort(&self, number: usize) -> Sort
@@ -70,11 +70,25 @@ impl<D: Domain> Obligations<D> {
         }
     }
 
+    /// Fails where a number of an obligation's own forms is too large for `i64`: of a pair of stops what is to be at least 0, or what
+    /// denies it, of a pair of accesses a difference of their indexes.
+    pub fn try_forms(&self, alloc: Global, number: usize) -> Result<(), WalkError>
+        requires first { 0 < number }
+        requires last { number ≤ length (listed D.Domain self.now) }
+        ensures { MatchResult result (λ _. nth_fits (found_fits self.now) number ≡ true) (DoNotFit (nth_fits (found_fits self.now) number)) }
+    {
+        match self.which(number) {
+            Which::OfClaim(_) => Ok(()),
+            Which::OfMeeting(meeting) => try_meeting(alloc, &self.met, meeting),
+            Which::OfCrossing(crossing) => try_differences(alloc, &self.met, crossing),
+        }
+    }
+
     /// The domain alone shows an obligation, given by its number.
     pub fn is_settled(&self, alloc: Global, number: usize) -> Result<bool, WalkError>
         requires first { 0 < number }
         requires last { number ≤ length (listed D.Domain self.now) }
-        ensures { MatchResult result (λ b. b ≡ (nth_obligation (listed D.Domain self.now) number).settled) (DoNotFit (made_fit self.now)) }
+        ensures { MatchResult result (λ b. b ≡ (nth_obligation (listed D.Domain self.now) number).settled) (DoNotFit (nth_fits (found_fits self.now) number)) }
     {
         match self.which(number) {
             Which::OfClaim(i) => Ok(is_settled(&self.met, i)),

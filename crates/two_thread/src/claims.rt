@@ -9,8 +9,9 @@ ghost use Rattle.walk_trees.specs.Trees.{facts_by};
 ghost use Rattle.path_steps.specs.View.{sort as sort_seen, spot as spot_seen, goal_seen};
 ghost use Rattle.two_thread.specs.Goals.{manner as manner_seen, owed, denial_by, maybe_form, maybe_forms};
 ghost use Rattle.walk_trees.specs.Fitting.{denials_fit};
+ghost use Rattle.two_thread.specs.Fitting.{claims_fit};
 ghost use Rattle.two_thread.specs.Refusals.{DoNotFit};
-ghost use Rattle.two_thread.specs.View.{nth_claim, IsPlaceOfClaim};
+ghost use Rattle.two_thread.specs.View.{met_claims, nth_claim, IsPlaceOfClaim};
 
 use crate::manner::Manner;
 use crate::met::Met;
@@ -108,7 +109,7 @@ fn try_goal(alloc: Global, goal: &Goal) -> Result<(), WalkError>
 }
 
 /// Fails where a number of what denies a claim's goal is too large for `i64`.
-pub fn try_claim<D: Copy>(alloc: Global, met: &Met<D>, i: usize) -> Result<(), WalkError>
+fn try_claim<D: Copy>(alloc: Global, met: &Met<D>, i: usize) -> Result<(), WalkError>
     requires { i < length met.now.claims.items }
     ensures { MatchResult result (λ _. denials_fit (nth_claim met.now i).goal ≡ true) (DoNotFit (denials_fit (nth_claim met.now i).goal)) }
 {
@@ -116,6 +117,16 @@ pub fn try_claim<D: Copy>(alloc: Global, met: &Met<D>, i: usize) -> Result<(), W
     let tagged = &met.paths[place.path];
     let claim = &tagged.path.claims[place.item];
     try_goal(alloc, &claim.goal)
+}
+
+/// Fails where a number of what denies some claim is too large for `i64`.
+pub fn try_denials<D: Copy>(alloc: Global, met: &Met<D>) -> Result<(), WalkError>
+    ensures { MatchResult result (λ _. claims_fit (met_claims met.now) ≡ true) (DoNotFit (claims_fit (met_claims met.now))) }
+{
+    for i in 0..met.claims.len() {
+        try_claim(alloc, met, i)?;
+    }
+    Ok(())
 }
 
 #[tactic(auto, using(facts::proofs::Facts::copies))]

@@ -9,8 +9,8 @@ ghost use Rattle.walk_trees.specs.Pairs as pairs;
 ghost use Rattle.walk_trees.specs.Seconds as copies;
 ghost use Rattle.walk_trees.specs.Tests.{below};
 ghost use Rattle.obligations.specs.Crossings as specs;
+ghost use Rattle.obligations.specs.Fitting.{crossing_fits};
 ghost use Rattle.two_thread.specs.Alike.{notes_of};
-ghost use Rattle.two_thread.specs.Fitting.{crossing_fits};
 ghost use Rattle.two_thread.specs.Refusals.{IsUnfitCrossing};
 ghost use Rattle.two_thread.specs.View.{scope as scope_seen, order as order_seen, crossing as crossing_seen, met_access, met_accesses};
 

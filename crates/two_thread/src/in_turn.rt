@@ -2,7 +2,7 @@
 
 use crate::alike::copy_alike;
 use crate::arrays::all_crossings;
-use crate::claims::try_claim;
+use crate::claims::try_denials;
 use crate::meetings::all_meetings;
 use crate::met::Met;
 use crate::numbered::{Obligations, Premises};
@@ -31,9 +31,7 @@ impl<D: Domain> Obligations<D> {
         if met.claims.len() > MOST {
             return Err(WalkError::TooMany);
         }
-        for i in 0..met.claims.len() {
-            try_claim(alloc, &met, i)?;
-        }
+        try_denials(alloc, &met)?;
         Ok(Obligations {
             launch: premises.launch,
             known: premises.known,

@@ -1,14 +1,16 @@
 //! All that is to be shown of a kernel's places under conditions, by its numbers.
 
-ghost use Rattle.std.specs.Prelude.{◌≤◌, ◌+◌, length};
+ghost use Rattle.std.specs.Prelude.{◌≡◌, ◌≤◌, ◌+◌, true, length};
 ghost use Rattle.std.specs.List.{All};
+ghost use Rattle.two_thread.specs.Fitting.{claims_fit};
 ghost use Rattle.two_thread.specs.Meetings.{IsInside as AreStops};
 ghost use Rattle.two_thread.specs.Refusals.{IsInside};
+ghost use Rattle.two_thread.specs.View.{met_claims};
 
 use crate::agreeing::try_meeting;
 use crate::alike::{Alike, copy_alike};
 use crate::arrays::all_crossings;
-use crate::claims::try_claim;
+use crate::claims::try_denials;
 use crate::clashing::try_differences;
 use crate::crossings::Crossing;
 use crate::meetings::{Meeting, all_meetings};
@@ -38,7 +40,7 @@ pub struct Premises<D> {
 }
 
 /// The obligations of a kernel's places, numbered from 1: the claims of one item, then the pairs of stops and the pairs of accesses of
-/// two items. There are at most 65,536.
+/// two items. There are at most 65,536, and what denies each claim is of `i64`.
 #[derive(Drop)]
 pub struct Obligations<D> {
     pub(crate) launch: Vec<Form>,
@@ -48,6 +50,7 @@ pub struct Obligations<D> {
     pub(crate) meetings: Vec<Meeting>,
     pub(crate) crossings: Vec<Crossing>,
     pub(crate) ghost few: { length met.claims.items + (length meetings.items + length crossings.items) ≤ 65536 },
+    pub(crate) ghost fit: { claims_fit (met_claims met) ≡ true },
     pub(crate) ghost stops_inside: { All (AreStops (length met.ends.items)) meetings.items },
     pub(crate) ghost inside: { All (IsInside (length met.accesses.items)) crossings.items },
 }
@@ -58,18 +61,18 @@ impl<D: Domain> Obligations<D> {
     ghost use Rattle.linear.specs.Forms.{forms};
     ghost use Rattle.launch.specs.View.{conditions as conditions_seen};
     ghost use Rattle.facts.specs.View.{known_seen};
-    ghost use Rattle.facts.specs.declared.error.WalkError.{WalkError};
     ghost use Rattle.obligations.specs.View.{seen};
     ghost use Rattle.obligations.specs.Owning.{all_own_accesses, all_own_ends};
     ghost use Rattle.two_thread.specs.Alike.{notes_of};
-    ghost use Rattle.two_thread.specs.Fitting.{claims_fit, crossings_fit};
+    ghost use Rattle.obligations.specs.Fitting.{crossings_fit};
+    ghost use Rattle.two_thread.specs.Fitting.{claims_fit};
     ghost use Rattle.two_thread.specs.Meetings.{meetings_fit};
     ghost use Rattle.two_thread.specs.Paths.{all_claims, all_ends, all_accesses, claims_of, ends_of, accesses_of};
     ghost use Rattle.two_thread.specs.Refusals.{DoNotFit, AreUngathered};
-    ghost use Rattle.two_thread.specs.View.{met_claims};
-    ghost use Rattle.two_thread.specs.Listed.{listed, nth_obligation, obligation_of, IsThere, which_fits, made_fit, found_meetings, found_crossings, all_listed, all_fit};
+    ghost use Rattle.two_thread.specs.Listed.{listed, nth_obligation, nth_fits, obligation_of, IsThere, which_fits, found_fits, found_meetings, found_crossings, all_listed, all_fits};
 
-    /// All that is to be shown of what was met along paths, whether or not its forms are of `i64`.
+    /// All that is to be shown of what was met along paths. Where a number of what denies some claim is too large for `i64`, this is
+    /// refused here; whether the own forms of pairs are of `i64` is left open.
     fn gather(
         alloc: Global,
         premises: Premises<D>,
@@ -81,8 +84,9 @@ impl<D: Domain> Obligations<D> {
         requires accesses { all_own_accesses (all_accesses paths.items) ≡ true }
         requires ends { all_own_ends (all_ends paths.items) ≡ true }
         ensures listed { IfOk result (λ o. listed D.Domain o ≡ all_listed D.Domain (known_seen premises.known) (forms premises.launch.items) (notes_of alike.items) (core_seen core.now) (conditions_seen conditions.now) (all_claims paths.items) (all_ends paths.items) (all_accesses paths.items)) }
-        ensures fits { IfOk result (λ o. made_fit o ≡ all_fit D.Domain (known_seen premises.known) (forms premises.launch.items) (notes_of alike.items) (core_seen core.now) (conditions_seen conditions.now) (all_claims paths.items) (all_ends paths.items) (all_accesses paths.items)) }
-        ensures ungathered { IfErr result (AreUngathered (all_listed D.Domain (known_seen premises.known) (forms premises.launch.items) (notes_of alike.items) (core_seen core.now) (conditions_seen conditions.now) (all_claims paths.items) (all_ends paths.items) (all_accesses paths.items)) (all_fit D.Domain (known_seen premises.known) (forms premises.launch.items) (notes_of alike.items) (core_seen core.now) (conditions_seen conditions.now) (all_claims paths.items) (all_ends paths.items) (all_accesses paths.items))) }
+        ensures fits { IfOk result (λ o. found_fits o ≡ all_fits D.Domain (known_seen premises.known) (forms premises.launch.items) (notes_of alike.items) (core_seen core.now) (conditions_seen conditions.now) (all_claims paths.items) (all_ends paths.items) (all_accesses paths.items)) }
+        ensures denied { OnOk result (claims_fit (all_claims paths.items) ≡ true) }
+        ensures ungathered { IfErr result (AreUngathered (all_listed D.Domain (known_seen premises.known) (forms premises.launch.items) (notes_of alike.items) (core_seen core.now) (conditions_seen conditions.now) (all_claims paths.items) (all_ends paths.items) (all_accesses paths.items)) (claims_fit (all_claims paths.items))) }
     {
         let met = Met::of(alloc, paths)?;
         let claims = met.claims.len();
@@ -99,6 +103,7 @@ impl<D: Domain> Obligations<D> {
         if crossings.len() > most {
             return Err(WalkError::TooMany);
         }
+        try_denials(alloc, &met)?;
         Ok(Obligations {
             launch: premises.launch,
             known: premises.known,
@@ -107,16 +112,6 @@ impl<D: Domain> Obligations<D> {
             meetings,
             crossings,
         })
-    }
-
-    /// Fails where a number of what denies some claim is too large for `i64`.
-    fn try_denials(&self, alloc: Global) -> Result<(), WalkError>
-        ensures { MatchResult result (λ _. claims_fit (met_claims self.now.met) ≡ true) (DoNotFit (claims_fit (met_claims self.now.met))) }
-    {
-        for i in 0..self.met.claims.len() {
-            try_claim(alloc, &self.met, i)?;
-        }
-        Ok(())
     }
 
     /// Fails where a number that some meeting of two ends needs is too large for `i64`.
@@ -141,18 +136,8 @@ impl<D: Domain> Obligations<D> {
         Ok(())
     }
 
-    /// All forms that are made of the obligations are of `i64`, or an error.
-    fn try_forms(&self, alloc: Global) -> Result<(), WalkError>
-        ensures { MatchResult result (λ _. made_fit self.now ≡ true) (DoNotFit (made_fit self.now)) }
-    {
-        self.try_denials(alloc)?;
-        self.try_meetings(alloc)?;
-        self.try_crossings(alloc)?;
-        Ok(())
-    }
-
     /// All that is to be shown of what was met along the paths of all places, whose accesses and ends have no symbols of the second
-    /// item. A form that is not of `i64` is refused here, before an obligation is looked at. It heeds no entries.
+    /// item. Where what denies some claim is not of `i64`, this is refused here, before an obligation is looked at. It heeds no entries.
     pub fn of(
         alloc: Global,
         premises: Premises<D>,
@@ -164,14 +149,13 @@ impl<D: Domain> Obligations<D> {
         requires accesses { all_own_accesses (accesses_of walked.items) ≡ true }
         requires ends { all_own_ends (ends_of walked.items) ≡ true }
         ensures listed { IfOk result (λ o. (entries : List Bool) → listed D.Domain o ≡ all_listed D.Domain (known_seen premises.known) (forms premises.launch.items) (seen notes.now entries) (core_seen core.now) (conditions_seen conditions.now) (claims_of walked.items) (ends_of walked.items) (accesses_of walked.items)) }
-        ensures fits { OnOk result ((entries : List Bool) → all_fit D.Domain (known_seen premises.known) (forms premises.launch.items) (seen notes.now entries) (core_seen core.now) (conditions_seen conditions.now) (claims_of walked.items) (ends_of walked.items) (accesses_of walked.items) ≡ true) }
-        ensures made { IfOk result (λ o. made_fit o ≡ true) }
-        ensures ungathered { IfErr result (λ e. (entries : List Bool) → AreUngathered (all_listed D.Domain (known_seen premises.known) (forms premises.launch.items) (seen notes.now entries) (core_seen core.now) (conditions_seen conditions.now) (claims_of walked.items) (ends_of walked.items) (accesses_of walked.items)) (all_fit D.Domain (known_seen premises.known) (forms premises.launch.items) (seen notes.now entries) (core_seen core.now) (conditions_seen conditions.now) (claims_of walked.items) (ends_of walked.items) (accesses_of walked.items)) e) }
+        ensures fits { IfOk result (λ o. (entries : List Bool) → found_fits o ≡ all_fits D.Domain (known_seen premises.known) (forms premises.launch.items) (seen notes.now entries) (core_seen core.now) (conditions_seen conditions.now) (claims_of walked.items) (ends_of walked.items) (accesses_of walked.items)) }
+        ensures denied { OnOk result (claims_fit (claims_of walked.items) ≡ true) }
+        ensures ungathered { IfErr result (λ e. (entries : List Bool) → AreUngathered (all_listed D.Domain (known_seen premises.known) (forms premises.launch.items) (seen notes.now entries) (core_seen core.now) (conditions_seen conditions.now) (claims_of walked.items) (ends_of walked.items) (accesses_of walked.items)) (claims_fit (claims_of walked.items)) e) }
     {
         let alike = copy_alike(alloc, notes)?;
         let paths = spread(alloc, walked)?;
         let found = Obligations::gather(alloc, premises, paths, alike, core, conditions)?;
-        found.try_forms(alloc)?;
         Ok(found)
     }
 
@@ -189,7 +173,7 @@ impl<D: Domain> Obligations<D> {
         requires last { number ≤ length (listed D.Domain self.now) }
         ensures is { nth_obligation (listed D.Domain self.now) number ≡ obligation_of D.Domain self.now result }
         ensures there { IsThere self.now result }
-        ensures fits { (e : WalkError) → DoNotFit (which_fits self.now result) e → DoNotFit (made_fit self.now) e }
+        ensures fits { nth_fits (found_fits self.now) number ≡ which_fits self.now result }
     {
         let i = number - 1;
         let claims = self.met.claims.len();

@@ -48,7 +48,7 @@ impl<D: Domain> Obligations<D> {
     ghost use Rattle.walk_trees.specs.Trees.{facts_by};
     ghost use Rattle.two_thread.specs.Goals.{manner as manner_seen, maybe_forms};
     ghost use Rattle.two_thread.specs.Refusals.{DoNotFit};
-    ghost use Rattle.two_thread.specs.Listed.{listed, nth_obligation, made_fit};
+    ghost use Rattle.two_thread.specs.Listed.{listed, nth_obligation, nth_fits, found_fits};
 
     /// The facts that are to be impossible where it is shown in a manner; none where the manner does not fit.
     pub fn facts(
@@ -59,7 +59,7 @@ impl<D: Domain> Obligations<D> {
     ) -> Result<Option<Vec<Form>>, WalkError>
         requires first { 0 < number }
         requires last { number ≤ length (listed D.Domain self.now) }
-        ensures { MatchResult result (λ r. maybe_forms r ≡ facts_by (manner_seen manner) (nth_obligation (listed D.Domain self.now) number)) (DoNotFit (made_fit self.now)) }
+        ensures { MatchResult result (λ r. maybe_forms r ≡ facts_by (manner_seen manner) (nth_obligation (listed D.Domain self.now) number)) (DoNotFit (nth_fits (found_fits self.now) number)) }
     {
         let launch = self.launch.as_slice();
         let alike = self.alike.as_slice();

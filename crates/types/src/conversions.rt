@@ -21,9 +21,10 @@ pub struct TypedTerm {
 pub fn common(left: Kind, right: Kind) -> Kind
     ensures { kind result ≡ typing.common (kind left) (kind right) }
 {
-    match left {
-        Kind::Uint => Kind::Uint,
-        Kind::Int => right,
+    match (left, right) {
+        (Kind::Int, _) => right,
+        (Kind::Uint, Kind::Int) | (Kind::Uint, Kind::Uint) => Kind::Uint,
+        (Kind::Uint, Kind::Size) | (Kind::Size, _) => Kind::Size,
     }
 }
 
@@ -32,8 +33,12 @@ pub fn bring(alloc: Global, to: Kind, at: Site, from: TypedTerm) -> Result<Term,
     ensures { IfOk result (λ t. term t ≡ typing.bring (kind to) (site at) (typed_term from)) }
 {
     match (from.kind, to) {
-        (Kind::Int, Kind::Int) | (Kind::Uint, Kind::Uint) => Ok(from.term),
-        (Kind::Int, Kind::Uint) | (Kind::Uint, Kind::Int) => Ok(Term::Convert {
+        (Kind::Int, Kind::Int) | (Kind::Uint, Kind::Uint) | (Kind::Size, Kind::Size) => {
+            Ok(from.term)
+        }
+        (Kind::Int, Kind::Uint | Kind::Size)
+        | (Kind::Uint, Kind::Int | Kind::Size)
+        | (Kind::Size, Kind::Int | Kind::Uint) => Ok(Term::Convert {
             kind: to,
             site: at,
             of: Box::new(alloc, from.term)?,

@@ -261,6 +261,7 @@ fn id_term(function: Function, at: Site, arguments: &[Expr]) -> Result<TypedTerm
         Expr::Number { value, .. } => Ok(TypedTerm {
             kind: Kind::Uint,
             term: Term::Id {
+                kind: Kind::Uint,
                 function,
                 dimension: *value,
             },

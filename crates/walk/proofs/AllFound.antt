@@ -1,5 +1,5 @@
 -- What is found of all places is all that is to be shown of a kernel.
-use Rattle.std.proofs.Common.{◌≡◌, ◌<◌, ℕ, List, [], ◌∷◌, ◌++◌, map, length, Bool, true, false, ◌&&◌, arith, refl, sym, ap, subst, ◌∙◌}
+use Rattle.std.proofs.Common.{◌≡◌, ◌<◌, ℕ, List, [], ◌∷◌, ◌++◌, map, length, Bool, true, false, arith, refl, sym, ap, subst, ◌∙◌}
 use Rattle.std.specs.Prelude.{slice_index_or}
 use Rattle.std.proofs.lemmas.List.{length-append}
 use Rattle.semantics.specs.Conditions.{Conditions}
@@ -14,7 +14,6 @@ use Rattle.facts.specs.Symbols.{Fact}
 use Rattle.facts.specs.View.{known_seen, three, buffer_bound}
 use Rattle.facts.specs.declared.error.WalkError.{WalkError}
 use Rattle.facts.specs.declared.error.WalkError.TheVariants as walks
-use Rattle.facts.proofs.Tests.{and_left}
 use Rattle.walk_trees.specs.Statements.{setting}
 use Rattle.walk_trees.specs.Trees.{Obligation, after}
 use Rattle.path_steps.specs.View as views
@@ -22,8 +21,7 @@ use Rattle.path_steps.specs.declared.setting.Setting as code
 use Rattle.obligations.specs.View.{seen}
 use Rattle.obligations.specs.declared.notes.Notes as code_notes
 use Rattle.obligations.specs.Crossings.{crossings, crossing_obligation}
-use Rattle.obligations.specs.Fitting as meant
-use Rattle.obligations.specs.Fitting.{forms_fit}
+use Rattle.obligations.specs.Fitting.{is_fit_goal, crossing_fits, trees_fit}
 use Rattle.obligations.specs.Listing as listing
 use Rattle.obligations.specs.Listing.{Planted, planted, planted_from, all_trees, ends_in}
 use Rattle.obligations.specs.Meetings.{meetings}
@@ -32,18 +30,20 @@ use Rattle.obligations.specs.Owning.{all_own_accesses, all_own_ends}
 use Rattle.obligations.specs.Shown.{obligations}
 use Rattle.obligations.specs.Walking.{tree_of}
 use Rattle.two_thread.specs.Goals.{owed}
-use Rattle.two_thread.specs.Listed.{all_listed, all_fit}
+use Rattle.two_thread.specs.Fitting.{claims_fit}
+use Rattle.two_thread.specs.Listed.{all_listed, all_fits}
 use Rattle.two_thread.specs.Paths.{claims_of, accesses_of, ends_of}
 use Rattle.two_thread.specs.Refusals.{AreUngathered}
 use Rattle.two_thread.specs.declared.walked.Walked.{Walked}
 use Rattle.places.specs.View as places
 use Rattle.places.specs.declared.place.Place as code_place
+use Rattle.walk.specs.Fitting.{own_fits}
 use Rattle.walk.specs.Planting.{all_by}
 use Rattle.walk.specs.Unfound.{HaveFewPaths, IsUnfound}
 use Rattle.walk.specs.Walks.{Walks, IsAnyStuck}
 use Rattle.walk.specs.declared.error.FindError.{FindError}
 use Rattle.walk.specs.declared.error.FindError.TheVariants as errors
-use Rattle.walk.proofs.Trees.{claims_are, accesses_are, ends_are, fits_are, few_are, goals_same, crossings_same}
+use Rattle.walk.proofs.Trees.{claims_are, accesses_are, ends_are, fits_are, few_are, all_true}
 
 all_by_is : {E : Type 0} (g : Ghosts E) (k : Kernel) (c : Conditions) (n : Notes) (m : ℕ) (ps : List arrivals.Place) → all_by g (setting g k c n.is_wide n.joins n.has_entry) k n m ps ≡ planted_from g k c n m ps
 all_by_is g k c n m [] = refl
@@ -76,7 +76,7 @@ module _ {E : Type 0} (g : Ghosts E) (core : Core) (c : Conditions) (said : code
   stuck_at (errors.Walk walks.TooMany) u =
       let a = length-append (listing.claims_of c (all_trees g k c n)) (meetings g (known g k.sizes c) (launch_facts c) n (ends_in (all_trees g k c n)) ++ map (crossing_obligation g (known g k.sizes c) (launch_facts c) n) (crossings k c (listing.accesses_of (all_trees g k c n)))) in
       omega (arith, u c, a)
-  stuck_at (errors.Walk walks.TooLarge) u = and_left (meant.trees_fit (all_trees g k c n)) _ u
+  stuck_at (errors.Walk walks.TooLarge) u = u
   stuck_at (errors.Walk walks.Memory) u = tt
 
   pub stuck_all : (x : FindError) → IsAnyStuck found x → IsUnfound g k c n x
@@ -89,6 +89,9 @@ module _ {E : Type 0} (g : Ghosts E) (core : Core) (c : Conditions) (said : code
 
     pub few_all : HaveFewPaths (all_trees g k c n)
     few_all = few_are ws (all_trees g k c n) whole
+
+    pub trees_fitting : claims_fit (claims_of ws) ≡ trees_fit (all_trees g k c n)
+    trees_fitting = fits_are ws (all_trees g k c n) whole
 
     pub own_accesses : all_own_accesses (listing.accesses_of (all_trees g k c n)) ≡ true → all_own_accesses (accesses_of ws) ≡ true
     own_accesses q = ap all_own_accesses (accesses_are ws (all_trees g k c n) whole) ∙ q
@@ -105,12 +108,16 @@ module _ {E : Type 0} (g : Ghosts E) (core : Core) (c : Conditions) (said : code
       pub found_is : (os : List Obligation) → os ≡ all_listed g (known_seen s.known) launch n k c (claims_of ws) (ends_of ws) (accesses_of ws) → os ≡ obligations g k c n
       found_is os e = e ∙ all_found
 
-      pub all_fitting : all_fit g (known_seen s.known) launch n k c (claims_of ws) (ends_of ws) (accesses_of ws) ≡ forms_fit g k c n
-      all_fitting =
-          (λ i. fits_are ws (all_trees g k c n) whole i && (goals_same (meetings g (has_known i) (is_launch i) n (ends_are ws (all_trees g k c n) whole i)) i && crossings_same (crossings k c (accesses_are ws (all_trees g k c n) whole i)) i))
+      pub own_fitting : all_fits g (known_seen s.known) launch n k c (claims_of ws) (ends_of ws) (accesses_of ws) ≡ own_fits g k c n
+      own_fitting =
+          (λ i. all_true (owed (launch_facts c)) (claims_of ws) i ++ (map (λ (o : Obligation). is_fit_goal o.goal) (meetings g (has_known i) (is_launch i) n (ends_are ws (all_trees g k c n) whole i)) ++ map crossing_fits (crossings k c (accesses_are ws (all_trees g k c n) whole i))))
+          ∙ ap (λ l. map (λ (o : Obligation). true) l ++ (map (λ (o : Obligation). is_fit_goal o.goal) (meetings g (known g k.sizes c) (launch_facts c) n (ends_in (all_trees g k c n))) ++ map crossing_fits (crossings k c (listing.accesses_of (all_trees g k c n))))) (claims_are c ws (all_trees g k c n) whole)
+
+      pub own_found : (fits : List Bool) → fits ≡ all_fits g (known_seen s.known) launch n k c (claims_of ws) (ends_of ws) (accesses_of ws) → fits ≡ own_fits g k c n
+      own_found fits e = e ∙ own_fitting
 
       -- what is refused of all that was found
-      pub ungathered : (x : WalkError) → AreUngathered (all_listed g (known_seen s.known) launch n k c (claims_of ws) (ends_of ws) (accesses_of ws)) (all_fit g (known_seen s.known) launch n k c (claims_of ws) (ends_of ws) (accesses_of ws)) x → IsUnfound g k c n (errors.Walk x)
+      pub ungathered : (x : WalkError) → AreUngathered (all_listed g (known_seen s.known) launch n k c (claims_of ws) (ends_of ws) (accesses_of ws)) (claims_fit (claims_of ws)) x → IsUnfound g k c n (errors.Walk x)
       ungathered walks.TooMany u = subst (λ l. 65536 < length l) all_found u
-      ungathered walks.TooLarge u = sym all_fitting ∙ u
+      ungathered walks.TooLarge u = sym trees_fitting ∙ u
       ungathered walks.Memory u = tt

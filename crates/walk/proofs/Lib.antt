@@ -7,5 +7,6 @@ pub mod Next
 pub mod OnePath
 pub mod OnePlace
 pub mod Onward
+pub mod OwnForms
 pub mod Stuck
 pub mod Trees

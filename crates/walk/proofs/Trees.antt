@@ -1,22 +1,20 @@
 -- Paths of all places are all that is listed of their trees.
 use Rattle.std.proofs.Common.{◌≡◌, ℕ, suc, List, [], ◌∷◌, ◌++◌, map, Bool, true, false, ◌&&◌, refl, sym, ap, subst, ◌∙◌}
-use Rattle.std.specs.Prelude.{Option, Some, None}
 use Rattle.std.proofs.lemmas.List.{map-append}
 use Rattle.semantics.specs.Conditions.{Conditions}
 use Rattle.facts.specs.Launching.{launch_facts}
 use Rattle.facts.specs.Symbols.{Fact}
 use Rattle.walk_trees.specs.Fitting.{denials_fit, tree_denials_fit}
-use Rattle.walk_trees.specs.Trees.{Goal, Obligation, Tree, Leaf, Dead, Claim, Know, Touch, Fork, after, accesses, ends}
+use Rattle.walk_trees.specs.Trees.{Tree, Leaf, Dead, Claim, Know, Touch, Fork, after, accesses, ends}
 use Rattle.path_steps.specs.Paths.{Claimed}
 use Rattle.path_steps.specs.Turns.{from, listed_claims}
 use Rattle.path_steps.specs.declared.path.Path.{Path}
 use Rattle.path_steps.proofs.Listing.{tree_claims}
 use Rattle.walk.specs.Paths.{all_claims, all_accesses, all_ends}
-use Rattle.obligations.specs.Crossings.{Crossing}
 use Rattle.obligations.specs.Fitting as meant
 use Rattle.obligations.specs.Listing as listing
 use Rattle.obligations.specs.Listing.{Planted, Of, is_some}
-use Rattle.two_thread.specs.Fitting.{claims_fit, goal_and_denials, goals_fit, crossing_fits, crossings_fit}
+use Rattle.two_thread.specs.Fitting.{claims_fit}
 use Rattle.two_thread.specs.Goals.{owed}
 use Rattle.two_thread.specs.Paths.{claims_on, accesses_on, ends_on, claims_of, accesses_of, ends_of}
 use Rattle.two_thread.specs.Places.{joined}
@@ -101,15 +99,7 @@ few_are [] ts h = subst HaveFewPaths (sym h) tt
 few_are (w ∷ ws) [] h = absurd h
 few_are (w ∷ ws) (p ∷ ts) h = (h.0.paths.few, few_are ws ts h.1)
 
--- goals and crossings fit by either word
-goal_same : (o : Option Goal) → goal_and_denials o ≡ meant.is_fit_goal o
-goal_same None = refl
-goal_same (Some o) = refl
-
-pub goals_same : (os : List Obligation) → goals_fit os ≡ meant.goals_fit os
-goals_same [] = refl
-goals_same (o ∷ os) = λ i. goal_same o.goal i && goals_same os i
-
-pub crossings_same : {E : Type 0} (xs : List (Crossing E)) → crossings_fit xs ≡ meant.crossings_fit xs
-crossings_same [] = refl
-crossings_same (x ∷ xs) = ap (λ b. crossing_fits x && b) (crossings_same xs)
+-- claims that are numbered by their trees are as many as those that were found
+pub all_true : {A B : Type 0} (f : A → B) (xs : List A) → map (λ (x : A). true) xs ≡ map (λ (y : B). true) (map f xs)
+all_true f [] = refl
+all_true f (x ∷ xs) = ap (λ (l : List Bool). true ∷ l) (all_true f xs)

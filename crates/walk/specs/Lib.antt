@@ -1,4 +1,5 @@
 pub mod Behind
+pub mod Fitting
 pub mod Owned
 pub mod Paths
 pub mod Planting

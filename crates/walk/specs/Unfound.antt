@@ -8,7 +8,7 @@ use Rattle.facts.specs.declared.error.WalkError.TheVariants as walks
 use Rattle.walk_trees.specs.Trees.{leaves}
 use Rattle.obligations.specs.Notes.{Notes}
 use Rattle.obligations.specs.Listing.{Planted, all_trees}
-use Rattle.obligations.specs.Fitting.{forms_fit}
+use Rattle.obligations.specs.Fitting.{trees_fit}
 use Rattle.obligations.specs.Shown.{obligations}
 use Rattle.walk.specs.declared.error.FindError.{FindError}
 use Rattle.walk.specs.declared.error.FindError.TheVariants as errors
@@ -31,10 +31,10 @@ abbrev pub IsFirstOfMany : {E : Type 0} → Option ℕ → List (Planted E) → 
 IsFirstOfMany s [] = ⊥
 IsFirstOfMany s (p ∷ ps) = ((s ≡ statement_of p) × (256 < leaves p.claims p.tree)) ⊎ ((leaves p.claims p.tree ≤ 256) × IsFirstOfMany s ps)
 
--- over 65,536 obligations, or a form that is not of i64
+-- over 65,536 obligations, or a form of a place or its tree, or what denies a claim, is not of i64
 abbrev pub IsUnlisted : {E : Type 0} → Ghosts E → Kernel → Conditions → Notes → WalkError → Type 0
 IsUnlisted g k c n walks.TooMany = 65536 < length (obligations g k c n)
-IsUnlisted g k c n walks.TooLarge = forms_fit g k c n ≡ false
+IsUnlisted g k c n walks.TooLarge = trees_fit (all_trees g k c n) ≡ false
 IsUnlisted g k c n walks.Memory = Unit {0}
 
 abbrev pub IsUnfound : {E : Type 0} → Ghosts E → Kernel → Conditions → Notes → FindError → Type 0

@@ -13,9 +13,10 @@ ghost use Rattle.facts.specs.View.{known_seen, buffer_bound};
 ghost use Rattle.obligations.specs.View.{seen};
 ghost use Rattle.obligations.specs.Telling.{TellsOfItems};
 ghost use Rattle.obligations.specs.Listing.{all_trees};
-ghost use Rattle.obligations.specs.Fitting.{forms_fit};
+ghost use Rattle.obligations.specs.Fitting.{trees_fit};
 ghost use Rattle.obligations.specs.Shown.{obligations};
-ghost use Rattle.two_thread.specs.Listed.{listed, made_fit};
+ghost use Rattle.two_thread.specs.Listed.{listed, found_fits};
+ghost use Rattle.walk.specs.Fitting.{own_fits};
 ghost use Rattle.walk.specs.Unfound.{HaveFewPaths, IsUnfound};
 
 use crate::error::FindError;
@@ -68,7 +69,8 @@ pub fn setting_of<D: Domain>(
     })
 }
 
-/// All that is to be shown of a kernel's places, where the obligations that are flagged have an entry.
+/// All that is to be shown of a kernel's places, where the obligations that are flagged have an entry. Whether the own forms of a pair are
+/// of `i64` is asked of it by its number.
 pub fn find<D: Domain>(
     alloc: Global,
     core: &Core,
@@ -81,8 +83,8 @@ pub fn find<D: Domain>(
     requires places { map place_seen places.now ≡ meaning.places (core_seen core.now).body }
     requires items { (flags : List Bool) → TellsOfItems (seen notes.now flags) }
     ensures listed { IfOk result (λ o. listed D.Domain o ≡ obligations D.Domain (core_seen core.now) (conditions_seen conditions.now) (seen notes.now entries.items)) }
-    ensures fits { OnOk result (forms_fit D.Domain (core_seen core.now) (conditions_seen conditions.now) (seen notes.now entries.items) ≡ true) }
-    ensures made { IfOk result (λ o. made_fit o ≡ true) }
+    ensures own { IfOk result (λ o. found_fits o ≡ own_fits D.Domain (core_seen core.now) (conditions_seen conditions.now) (seen notes.now entries.items)) }
+    ensures fits { OnOk result (trees_fit (all_trees D.Domain (core_seen core.now) (conditions_seen conditions.now) (seen notes.now entries.items)) ≡ true) }
     ensures few { OnOk result (HaveFewPaths (all_trees D.Domain (core_seen core.now) (conditions_seen conditions.now) (seen notes.now entries.items))) }
     ensures unfound { IfErr result (IsUnfound D.Domain (core_seen core.now) (conditions_seen conditions.now) (seen notes.now entries.items)) }
 {

@@ -7,7 +7,7 @@ use Rattle.std.proofs.lemmas.Int.{ints}
 use Rattle.std.proofs.lemmas.Nat.{pow_pos}
 use Rattle.std.proofs.lemmas.Bool.{and_parts, or_cases}
 use Rattle.std.proofs.lemmas.Bool.Decides.{Decides-int_eq}
-use Rattle.semantics.specs.Word.{Kind, Int, Uint, Word, word, Fault, DivisionByZero, Overflow, Operator, Add, Subtract, Multiply, Divide, Remainder, BitAnd, BitOr, BitXor, UnaryOperator, Negate, Complement, ShiftLeft, ShiftRight, in_kind, bits_of, read_bits, as_kind, settle, calculate, calculate_unary}
+use Rattle.semantics.specs.Word.{Kind, Int, Uint, Size, Exact, Word, word, Fault, DivisionByZero, Overflow, Operator, Add, Subtract, Multiply, Divide, Remainder, BitAnd, BitOr, BitXor, UnaryOperator, Negate, Complement, ShiftLeft, ShiftRight, in_kind, bits_of, read_bits, as_kind, has, settle, calculate, calculate_unary}
 use Rattle.semantics.proofs.Integers.{mul_comm}
 use Rattle.semantics.proofs.Words.{as_kind-in_kind}
 use Rattle.linear.specs.Exact.{Terms, sum, multiple}
@@ -25,7 +25,7 @@ use Rattle.walk_trees.specs.Operators.{small_product, multiplied, product_in, pr
 use Rattle.walk_trees.specs.Quotients.{is_power}
 use Rattle.walk_trees.specs.Bits.{meet, join, differ}
 use Rattle.walk_trees.specs.Covered.{is_uint, is_covered_unary}
-use Rattle.walk_trees.proofs.KindEnds.{in_kind-ends}
+use Rattle.walk_trees.proofs.KindEnds.{in_kind-ends, uint-is, size-is, has-is, bitwise-is}
 use Rattle.walk_trees.proofs.Holding.{IsHeld, form-has, held_settles}
 use Rattle.walk_trees.proofs.Shares.{keeping}
 use Rattle.walk_trees.proofs.Standing.{walks, Stands, Comes, over_claim, over_facts, past_claim, past_facts, at_once, comes_from, onward, arriving, restated, told_either, Owns, owns}
@@ -60,7 +60,7 @@ lacks-not b y z h e q =
 
 module _ {E : Type 0} (c : View E) (launch : List Fact) where
   -- a settled result
-  pub settled_yields : {facts : List Fact} {n : ℕ} {tree : Tree E} {news : List ℤ} {variables : Owns} (k : Kind) (y : ℤ) (go : Onward E) → Settles c launch facts n tree k go news variables y → Yields c launch facts n tree go news variables (settle k y)
+  pub settled_yields : {facts : List Fact} {n : ℕ} {tree : Tree E} {news : List ℤ} {variables : Owns} (k : Kind) (y : ℤ) (go : Onward E) → Settles c launch facts n tree k go news variables y → Yields c launch facts n tree go news variables (settle Exact k y)
   settled_yields k y go s = record { result = word k (as_kind k y); is = s.settles; right = as_kind-in_kind k y; comes = s.comes }
 
   -- a number of its kind, whose form arrives
@@ -110,6 +110,7 @@ module _ {E : Type 0} (c : View E) (launch : List Fact) where
 
   quotes : (k : Kind) {facts : List Fact} {n : ℕ} {news : List ℤ} (f g : Fact) (x y : ℤ) (st : State E) (go : State E → Tree E) → IsForm c news f x → IsForm c news g y → Stands c launch facts n (claim_quotient (walks c) k f g st go) news (keeping st) → Quotes facts n (claim_quotient (walks c) k f g st go) go news (owns st) k x y
   quotes Uint f g x y st go mf mg s = record { safe = tt; comes = goes st go s }
+  quotes Size f g x y st go mf mg s = record { safe = tt; comes = goes st go s }
   quotes Int {news = news} f g x y st go mf mg s =
       let t = told_either c launch g (minus f (constant (negsuc 2147483646))) y (x -ℤ negsuc 2147483646) s mg.means (form-minus c f (constant (negsuc 2147483646)) x (negsuc 2147483646) (x -ℤ negsuc 2147483646) mf (form_constant c news (negsuc 2147483646)) (omega (arith, ints))).means in
       record {
@@ -146,6 +147,7 @@ module _ {E : Type 0} (c : View E) (launch : List Fact) where
 
   uint-low : (k : Kind) (x : ℤ) → in_kind k x ≡ true → is_uint k ≡ true → pos 0 ≤ℤ x
   uint-low Int x h e = cc
+  uint-low Size x h e = cc
   uint-low Uint x h e = (in_kind-ends Uint x h).0
 
   exactly : {facts : List Fact} {n : ℕ} {tree : Tree E} {news : List ℤ} (k : Kind) (f g : Fact) (x y : ℤ) (st : State E) → in_kind k x ≡ true → IsForm c news f x → IsForm c news g y → Stands c launch facts n tree news (keeping st) → is_exact (walks c) st k f g ≡ true → Exactly f g x y
@@ -234,6 +236,15 @@ module _ {E : Type 0} (c : View E) (launch : List Fact) where
       let z = read_bits Uint (bit_and (bits_of x) (bits_of y)) in
       restated c launch (λ more h kept m. form-is c z (ap (λ d. int_rem x (d +ℤ pos 1)) same ∙ sym (mask-left x y q.0 hx hy next)) m)
       (left_by_sound c launch Uint f x (g.constant +ℤ pos 1) st go mf (in_kind-ends Uint x hx).0 above (ap (λ d. in_kind Uint (int_div x d)) q.2 ∙ uint-quotient x (2 ^ q.0) hx) s)
+  masked_sound true laws Size f g x y st go e hx hy mf mg s =
+      let p = and_parts (is_number g) (is_power 32 (g.constant +ℤ pos 1)) e in
+      let q = power_of 32 (g.constant +ℤ pos 1) p.1 in
+      let same : g.constant ≡ y = value-known c launch g y mg p.0 in
+      let next : y +ℤ pos 1 ≡ pos (2 ^ q.0) = sym (ap (λ z. z +ℤ pos 1) same) ∙ q.2 in
+      let above : pos 0 <ℤ (g.constant +ℤ pos 1) = let l = pow_pos q.0 in subst (λ d. pos 0 <ℤ d) (sym q.2) (omega (arith, ints, l)) in
+      let z = read_bits Size (bit_and (bits_of x) (bits_of y)) in
+      restated c launch (λ more h kept m. form-is c z (ap (λ d. int_rem x (d +ℤ pos 1)) same ∙ sym (mask-left x y q.0 (uint-is x hx) (uint-is y hy) next)) m)
+      (left_by_sound c launch Size f x (g.constant +ℤ pos 1) st go mf (in_kind-ends Size x hx).0 above (ap (λ d. in_kind Size (int_div x d)) q.2 ∙ size-is (int_div x (pos (2 ^ q.0))) (uint-quotient x (2 ^ q.0) (uint-is x hx))) s)
   masked_sound false laws k f g x y st go e hx hy mf mg s = met_sound c.is_wide laws k f g x y st go hx hy mf mg s
 
   -- a value of which no more is known than its kind
@@ -241,17 +252,17 @@ module _ {E : Type 0} (c : View E) (launch : List Fact) where
   unknown_yields k z st go h e s = record { result = word k z; is = e; right = h; comes = unknown_sound c launch k st go z h s }
 
   joined_yields : (b : Bool) (k : Kind) {facts : List Fact} {n : ℕ} {news : List ℤ} (f g : Fact) (x y : ℤ) (st : State E) (go : Onward E) → in_kind k x ≡ true → in_kind k y ≡ true → IsForm c news f x → IsForm c news g y → Stands c launch facts n (cond b (join (walks c) k f g st (λ h st'. go (value k h) st')) (unknown (walks c) k st go)) news (keeping st) →
-      Yields c launch facts n (cond b (join (walks c) k f g st (λ h st'. go (value k h) st')) (unknown (walks c) k st go)) go news (owns st) (calculate BitOr k x y)
-  joined_yields true k f g x y st go hx hy mf mg s = form_yields k (read_bits k (bit_or (bits_of x) (bits_of y))) go (bits-in k (bit_or (bits_of x) (bits_of y)) (or-below x y)) refl (join_sound c launch k f g x y st (λ h st'. go (value k h) st') hx hy mf mg s)
-  joined_yields false k f g x y st go hx hy mf mg s = unknown_yields k (read_bits k (bit_or (bits_of x) (bits_of y))) st go (bits-in k (bit_or (bits_of x) (bits_of y)) (or-below x y)) refl s
+      Yields c launch facts n (cond b (join (walks c) k f g st (λ h st'. go (value k h) st')) (unknown (walks c) k st go)) go news (owns st) (calculate BitOr Exact k x y)
+  joined_yields true k f g x y st go hx hy mf mg s = form_yields k (read_bits k (bit_or (bits_of x) (bits_of y))) go (bits-in k (bit_or (bits_of x) (bits_of y)) (or-below x y)) (bitwise-is bit_or k x y hx hy) (join_sound c launch k f g x y st (λ h st'. go (value k h) st') hx hy mf mg s)
+  joined_yields false k f g x y st go hx hy mf mg s = unknown_yields k (read_bits k (bit_or (bits_of x) (bits_of y))) st go (bits-in k (bit_or (bits_of x) (bits_of y)) (or-below x y)) (bitwise-is bit_or k x y hx hy) s
 
   differing_yields : (b : Bool) (k : Kind) {facts : List Fact} {n : ℕ} {news : List ℤ} (f g : Fact) (x y : ℤ) (st : State E) (go : Onward E) → in_kind k x ≡ true → in_kind k y ≡ true → IsForm c news f x → IsForm c news g y → Stands c launch facts n (cond b (differ (walks c) k f g st (λ h st'. go (value k h) st')) (unknown (walks c) k st go)) news (keeping st) →
-      Yields c launch facts n (cond b (differ (walks c) k f g st (λ h st'. go (value k h) st')) (unknown (walks c) k st go)) go news (owns st) (calculate BitXor k x y)
-  differing_yields true k f g x y st go hx hy mf mg s = form_yields k (read_bits k (bit_xor (bits_of x) (bits_of y))) go (bits-in k (bit_xor (bits_of x) (bits_of y)) (xor-below x y)) refl (differ_sound c launch k f g x y st (λ h st'. go (value k h) st') hx hy mf mg s)
-  differing_yields false k f g x y st go hx hy mf mg s = unknown_yields k (read_bits k (bit_xor (bits_of x) (bits_of y))) st go (bits-in k (bit_xor (bits_of x) (bits_of y)) (xor-below x y)) refl s
+      Yields c launch facts n (cond b (differ (walks c) k f g st (λ h st'. go (value k h) st')) (unknown (walks c) k st go)) go news (owns st) (calculate BitXor Exact k x y)
+  differing_yields true k f g x y st go hx hy mf mg s = form_yields k (read_bits k (bit_xor (bits_of x) (bits_of y))) go (bits-in k (bit_xor (bits_of x) (bits_of y)) (xor-below x y)) (bitwise-is bit_xor k x y hx hy) (differ_sound c launch k f g x y st (λ h st'. go (value k h) st') hx hy mf mg s)
+  differing_yields false k f g x y st go hx hy mf mg s = unknown_yields k (read_bits k (bit_xor (bits_of x) (bits_of y))) st go (bits-in k (bit_xor (bits_of x) (bits_of y)) (xor-below x y)) (bitwise-is bit_xor k x y hx hy) s
 
   -- an operator on two numbers of its kind
-  operate_sound : (op : Operator) (laws : DividesLawfully c.domain) (k : Kind) {facts : List Fact} {n : ℕ} {news : List ℤ} (f g : Fact) (x y : ℤ) (st : State E) (go : Onward E) → in_kind k x ≡ true → in_kind k y ≡ true → IsForm c news f x → IsForm c news g y → Stands c launch facts n (operate (walks c) op k f g st go) news (keeping st) → Yields c launch facts n (operate (walks c) op k f g st go) go news (owns st) (calculate op k x y)
+  operate_sound : (op : Operator) (laws : DividesLawfully c.domain) (k : Kind) {facts : List Fact} {n : ℕ} {news : List ℤ} (f g : Fact) (x y : ℤ) (st : State E) (go : Onward E) → in_kind k x ≡ true → in_kind k y ≡ true → IsForm c news f x → IsForm c news g y → Stands c launch facts n (operate (walks c) op k f g st go) news (keeping st) → Yields c launch facts n (operate (walks c) op k f g st go) go news (owns st) (calculate op Exact k x y)
   operate_sound Add laws k f g x y st go hx hy mf mg s = settled_yields k (x +ℤ y) go (ranged_sound c launch k (sum f g) st go (x +ℤ y) s (form-sum c f g x y mf mg))
   operate_sound Subtract laws k f g x y st go hx hy mf mg s = settled_yields k (x -ℤ y) go (ranged_sound c launch k (minus f g) st go (x -ℤ y) s (form-minus c f g x y (x -ℤ y) mf mg (omega (arith, ints))))
   operate_sound Multiply laws k f g x y st go hx hy mf mg s =
@@ -268,7 +279,7 @@ module _ {E : Type 0} (c : View E) (launch : List Fact) where
       let pg = form_kept c p.way.kept mg in
       let b = dividend_sound k f g x y p.state next hx pf pg p.stands in
       let d = divided_sound b.arrived laws k f g x y b.state last b.right hx hy h a.nonzero (form_kept c b.way.kept pf) (form_kept c b.way.kept pg) b.stands in
-      form_yields k (int_div x y) go h (ap (λ b. cond b (Err DivisionByZero) (settle k (int_div x y))) (int_eq-not y (pos 0) a.nonzero) ∙ settle_in k (int_div x y) h) (onward c launch p (onward c launch b d))
+      form_yields k (int_div x y) go h (ap (λ b. cond b (Err DivisionByZero) (settle Exact k (int_div x y))) (int_eq-not y (pos 0) a.nonzero) ∙ settle_in k (int_div x y) h) (onward c launch p (onward c launch b d))
   operate_sound Remainder laws k f g x y st go hx hy mf mg s =
       let last : Fact → State E → Tree E = λ h st'. go (value k h) st' in
       let next : Bool → State E → Tree E = λ b st'. remaining (walks c) b k f g st' last in
@@ -281,10 +292,10 @@ module _ {E : Type 0} (c : View E) (launch : List Fact) where
       let d = remaining_sound b.arrived laws k f g x y b.state last b.right hx hy h a.nonzero (form_kept c b.way.kept pf) (form_kept c b.way.kept pg) b.stands in
       let r = int_rem x y in
       form_yields k r go (remainder-in k x y hx)
-      (ap (λ b. cond b (Err DivisionByZero) (cond (in_kind k (int_div x y)) (settle k r) (Err Overflow))) (int_eq-not y (pos 0) a.nonzero) ∙ ap (λ b. cond b (settle k r) (Err Overflow)) h ∙ settle_in k r (remainder-in k x y hx))
+      (ap (λ b. cond b (Err DivisionByZero) (cond (has Exact k (int_div x y)) (settle Exact k r) (Err Overflow))) (int_eq-not y (pos 0) a.nonzero) ∙ ap (λ b. cond b (settle Exact k r) (Err Overflow)) (has-is k (int_div x y) ∙ h) ∙ settle_in k r (remainder-in k x y hx))
       (onward c launch p (onward c launch b d))
   operate_sound BitAnd laws k f g x y st go hx hy mf mg s =
-      form_yields k (read_bits k (bit_and (bits_of x) (bits_of y))) go (bits-in k (bit_and (bits_of x) (bits_of y)) (and-below x y)) refl
+      form_yields k (read_bits k (bit_and (bits_of x) (bits_of y))) go (bits-in k (bit_and (bits_of x) (bits_of y)) (and-below x y)) (bitwise-is bit_and k x y hx hy)
       (masked_sound (is_mask c.is_wide k g) laws k f g x y st (λ h st'. go (value k h) st') refl hx hy mf mg s)
   operate_sound BitOr laws k f g x y st go hx hy mf mg s = joined_yields c.is_wide k f g x y st go hx hy mf mg s
   operate_sound BitXor laws k f g x y st go hx hy mf mg s = differing_yields c.is_wide k f g x y st go hx hy mf mg s
@@ -309,10 +320,10 @@ module _ {E : Type 0} (c : View E) (launch : List Fact) where
       by true q = q
       by false q = m
 
-  knowing : (op : Operator) (laws : DividesLawfully c.domain) (k : Kind) {facts : List Fact} {n : ℕ} {news : List ℤ} (f g : Fact) (x y : ℤ) (st : State E) (go : Onward E) → in_kind k x ≡ true → in_kind k y ≡ true → IsForm c news f x → IsForm c news g y → Stands c launch facts n (known_operands (walks c) op k f g st go) news (keeping st) → Yields c launch facts n (known_operands (walks c) op k f g st go) go news (owns st) (calculate op k x y)
+  knowing : (op : Operator) (laws : DividesLawfully c.domain) (k : Kind) {facts : List Fact} {n : ℕ} {news : List ℤ} (f g : Fact) (x y : ℤ) (st : State E) (go : Onward E) → in_kind k x ≡ true → in_kind k y ≡ true → IsForm c news f x → IsForm c news g y → Stands c launch facts n (known_operands (walks c) op k f g st go) news (keeping st) → Yields c launch facts n (known_operands (walks c) op k f g st go) go news (owns st) (calculate op Exact k x y)
   knowing op laws k f g x y st go hx hy mf mg s = operate_sound op laws k (known_form (walks c) st f) (known_form (walks c) st g) x y st go hx hy (known_sound f x st s.fit mf) (known_sound g y st s.fit mg) s
 
-  pub binary_sound : (op : Operator) (laws : DividesLawfully c.domain) (k : Kind) {facts : List Fact} {n : ℕ} {news : List ℤ} (f g : Fact) (x y : ℤ) (st : State E) (go : Onward E) → in_kind k x ≡ true → in_kind k y ≡ true → IsForm c news f x → IsForm c news g y → Stands c launch facts n (binary (walks c) op k f g st go) news (keeping st) → Yields c launch facts n (binary (walks c) op k f g st go) go news (owns st) (calculate op k x y)
+  pub binary_sound : (op : Operator) (laws : DividesLawfully c.domain) (k : Kind) {facts : List Fact} {n : ℕ} {news : List ℤ} (f g : Fact) (x y : ℤ) (st : State E) (go : Onward E) → in_kind k x ≡ true → in_kind k y ≡ true → IsForm c news f x → IsForm c news g y → Stands c launch facts n (binary (walks c) op k f g st go) news (keeping st) → Yields c launch facts n (binary (walks c) op k f g st go) go news (owns st) (calculate op Exact k x y)
   binary_sound Add laws k f g x y st go hx hy mf mg s = operate_sound Add laws k f g x y st go hx hy mf mg s
   binary_sound Subtract laws k f g x y st go hx hy mf mg s = operate_sound Subtract laws k f g x y st go hx hy mf mg s
   binary_sound Multiply laws k f g x y st go hx hy mf mg s = knowing Multiply laws k f g x y st go hx hy mf mg s
@@ -323,7 +334,7 @@ module _ {E : Type 0} (c : View E) (launch : List Fact) where
   binary_sound BitXor laws k f g x y st go hx hy mf mg s = knowing BitXor laws k f g x y st go hx hy mf mg s
 
   -- an operator on one value
-  complement_sound : (k : Kind) {facts : List Fact} {n : ℕ} {news : List ℤ} (w : Word) (f : Fact) (st : State E) (go : Onward E) → in_kind w.kind w.value ≡ true → IsForm c news f w.value → Stands c launch facts n (ranged (walks c) k (complement k f) st go) news (keeping st) → Yields c launch facts n (ranged (walks c) k (complement k f) st go) go news (owns st) (calculate_unary Complement k w.value)
+  complement_sound : (k : Kind) {facts : List Fact} {n : ℕ} {news : List ℤ} (w : Word) (f : Fact) (st : State E) (go : Onward E) → in_kind w.kind w.value ≡ true → IsForm c news f w.value → Stands c launch facts n (ranged (walks c) k (complement k f) st go) news (keeping st) → Yields c launch facts n (ranged (walks c) k (complement k f) st go) go news (owns st) (calculate_unary Complement Exact k w.value)
   complement_sound Int {news = news} w f st go h m s =
       let y = negsuc 0 -ℤ w.value in
       let t = ranged_sound c launch Int (minus (constant (negsuc 0)) f) st go y s (form-minus c (constant (negsuc 0)) f (negsuc 0) w.value y (form_constant c news (negsuc 0)) m (omega (arith, ints))) in
@@ -332,18 +343,28 @@ module _ {E : Type 0} (c : View E) (launch : List Fact) where
       let y = pos 4294967295 -ℤ w.value in
       let t = ranged_sound c launch Uint (minus (constant (pos 4294967295)) f) st go y s (form-minus c (constant (pos 4294967295)) f (pos 4294967295) w.value y (form_constant c news (pos 4294967295)) m (omega (arith, ints))) in
       record { result = word Uint (as_kind Uint y); is = ap (λ n. Ok (word Uint (read_bits Uint n))) (sym (complement_uint-bits w.kind w.value h)); right = as_kind-in_kind Uint y; comes = t.comes }
+  complement_sound Size {news = news} w f st go h m s =
+      let y = negsuc 0 -ℤ w.value in
+      settled_yields Size y go (ranged_sound c launch Size (minus (constant (negsuc 0)) f) st go y s (form-minus c (constant (negsuc 0)) f (negsuc 0) w.value y (form_constant c news (negsuc 0)) m (omega (arith, ints))))
 
-  shifted_sound : (from : Kind) {facts : List Fact} {n : ℕ} {news : List ℤ} (f : Fact) (x : ℤ) (by : ℕ) (st : State E) (go : Onward E) → in_kind from x ≡ true → IsForm c news f x → Stands c launch facts n (shifted (walks c) from Uint f by st go) news (keeping st) → Yields c launch facts n (shifted (walks c) from Uint f by st go) go news (owns st) (settle Uint (int_div x (pos (2 ^ by))))
+  shifted_sound : (from : Kind) {facts : List Fact} {n : ℕ} {news : List ℤ} (f : Fact) (x : ℤ) (by : ℕ) (st : State E) (go : Onward E) → in_kind from x ≡ true → IsForm c news f x → Stands c launch facts n (shifted (walks c) from Uint f by st go) news (keeping st) → Yields c launch facts n (shifted (walks c) from Uint f by st go) go news (owns st) (settle Exact Uint (int_div x (pos (2 ^ by))))
   shifted_sound Int f x by st go h m s = unknown_yields Uint (as_kind Uint (int_div x (pos (2 ^ by)))) st go (as_kind-in_kind Uint (int_div x (pos (2 ^ by)))) refl s
   shifted_sound Uint f x by st go h m s =
       let d = pos (2 ^ by) in
       let i = uint-quotient x (2 ^ by) h in
       let p = quotient_sound c launch Uint f x d st (λ q r st'. go (value Uint q) st') m (in_kind-ends Uint x h).0 (let l = pow_pos by in omega (arith, ints, l)) i s in
       form_yields Uint (int_div x d) go i (settle_in Uint (int_div x d) i) (arriving c launch (λ q st'. go (value Uint q) st') (λ (p : Fact × Fact). p.0) (λ more q. IsForm c more q (int_div x d)) (λ more q kept m. m.0) p)
+  shifted_sound Size f x by st go h m s =
+      let d = pos (2 ^ by) in
+      let u = uint-is x h in
+      let i = uint-quotient x (2 ^ by) u in
+      let p = quotient_sound c launch Uint f x d st (λ q r st'. go (value Uint q) st') m (in_kind-ends Uint x u).0 (let l = pow_pos by in omega (arith, ints, l)) i s in
+      form_yields Uint (int_div x d) go i (settle_in Uint (int_div x d) i) (arriving c launch (λ q st'. go (value Uint q) st') (λ (p : Fact × Fact). p.0) (λ more q. IsForm c more q (int_div x d)) (λ more q kept m. m.0) p)
 
-  pub unary_sound : (op : UnaryOperator) (k : Kind) → is_covered_unary op k ≡ true → {facts : List Fact} {n : ℕ} {news : List ℤ} (w : Word) (x : Value) (st : State E) (go : Onward E) → in_kind w.kind w.value ≡ true → IsValue c news w x → Stands c launch facts n (unary (walks c) op k x st go) news (keeping st) → Yields c launch facts n (unary (walks c) op k x st go) go news (owns st) (calculate_unary op k w.value)
+  pub unary_sound : (op : UnaryOperator) (k : Kind) → is_covered_unary op k ≡ true → {facts : List Fact} {n : ℕ} {news : List ℤ} (w : Word) (x : Value) (st : State E) (go : Onward E) → in_kind w.kind w.value ≡ true → IsValue c news w x → Stands c launch facts n (unary (walks c) op k x st go) news (keeping st) → Yields c launch facts n (unary (walks c) op k x st go) go news (owns st) (calculate_unary op Exact k w.value)
   unary_sound Negate k e w x st go h m s = settled_yields k (neg_ℤ w.value) go (ranged_sound c launch k (multiple (negsuc 0) x.form) st go (neg_ℤ w.value) s (form-is c (neg_ℤ w.value) (omega (arith, ints)) (form-multiple c (negsuc 0) x.form w.value m.form)))
   unary_sound Complement k e w x st go h m s = complement_sound k w x.form st go h m.form s
   unary_sound (ShiftLeft by) k e w x st go h m s = settled_yields k (w.value *ℤ pos (2 ^ by)) go (ranged_sound c launch k (multiple (pos (2 ^ by)) x.form) st go (w.value *ℤ pos (2 ^ by)) s (form-is c (w.value *ℤ pos (2 ^ by)) (mul_comm (pos (2 ^ by)) w.value) (form-multiple c (pos (2 ^ by)) x.form w.value m.form)))
   unary_sound (ShiftRight by) Int e w x st go h m s = let p = and_parts (nat_lt by 32) false e in cc
+  unary_sound (ShiftRight by) Size e w x st go h m s = let p = and_parts (nat_lt by 32) false e in cc
   unary_sound (ShiftRight by) Uint e w x st go h m s = shifted_sound x.kind x.form w.value by st go (subst (λ j. in_kind j w.value ≡ true) (sym m.kind) h) m.form s

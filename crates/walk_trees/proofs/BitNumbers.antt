@@ -6,7 +6,7 @@ use Rattle.std.proofs.lemmas.Int.{ints}
 use Rattle.std.proofs.lemmas.Nat.{and_le_l, and_comm, or_lt, xor_lt, pow_pos, pow-add, div-mul-add, mod-mul-add, div_below, mod_below}
 use Rattle.std.proofs.lemmas.Nat.Bits.{and_high, and_high_mask}
 use Rattle.std.proofs.Math.Nat.{div-le_self, div-one, mod-add-div'}
-use Rattle.semantics.specs.Word.{Kind, Int, Uint, in_kind, bits_of, read_bits}
+use Rattle.semantics.specs.Word.{Kind, Int, Uint, Size, in_kind, bits_of, read_bits}
 
 -- a quotient that is rounded down, and what it leaves
 pub floor-is : (x : ℤ) (d : ℕ) → 0 < d → int_rem_euclid x (pos d) +ℤ pos d *ℤ int_div_euclid x (pos d) ≡ x
@@ -26,6 +26,8 @@ floor-in Int (pos n) d h = let l = ltb-true n (2 ^ 31) h in let m = div-le_self 
 floor-in Int (negsuc n) d h = let l = ltb-true n (2 ^ 31) h in let m = div-le_self n d in lt-ltb (n / d) (2 ^ 31) (omega (arith, l, m))
 floor-in Uint (pos n) d h = let l = ltb-true n (2 ^ 32) h in let m = div-le_self n d in lt-ltb (n / d) (2 ^ 32) (omega (arith, l, m))
 floor-in Uint (negsuc n) d h = cc
+floor-in Size (pos n) d h = let l = ltb-true n (2 ^ 32) h in let m = div-le_self n d in lt-ltb (n / d) (2 ^ 32) (omega (arith, l, m))
+floor-in Size (negsuc n) d h = cc
 
 pub floor-one : (x : ℤ) → int_div_euclid x (pos 1) ≡ x
 floor-one (pos n) = ap pos (div-one n)
@@ -64,6 +66,8 @@ pub run-bits : (k : Kind) (x : ℤ) (i j b : ℕ) → in_kind k x ≡ true → i
 run-bits Int (pos n) i j b h e = let l = ltb-true n (2 ^ 31) h in let s : n % 2 ^ 32 ≡ n = mod-eq_of_lt (omega (arith, l)) in ap (λ m. pos (bit_and m (2 ^ (j + b) - 2 ^ b))) s ∙ run n j b
 run-bits Uint (pos n) i j b h e = let s : n % 2 ^ 32 ≡ n = mod-eq_of_lt (ltb-true n (2 ^ 32) h) in ap (λ m. pos (bit_and m (2 ^ (j + b) - 2 ^ b))) s ∙ run n j b
 run-bits Uint (negsuc n) i j b h e = cc
+run-bits Size (pos n) i j b h e = let s : n % 2 ^ 32 ≡ n = mod-eq_of_lt (ltb-true n (2 ^ 32) h) in ap (λ m. pos (bit_and m (2 ^ (j + b) - 2 ^ b))) s ∙ run n j b
+run-bits Size (negsuc n) i j b h e = cc
 run-bits Int (negsuc n) i j b h e =
     let l = ltb-true n (2 ^ 31) h in
     let m : n < 2 ^ 32 = omega (arith, l) in
@@ -80,6 +84,7 @@ run-bits Int (negsuc n) i j b h e =
 pub read-low : (k : Kind) (n : ℕ) → n < 2 ^ 31 → read_bits k n ≡ pos n
 read-low Int n h = ap (λ b. cond b (pos n) (pos n -ℤ pos (2 ^ 32))) (lt-ltb n (2 ^ 31) h)
 read-low Uint n h = refl
+read-low Size n h = refl
 
 read-high : (n : ℕ) → 2 ^ 31 ≤ n → read_bits Int n ≡ pos n -ℤ pos (2 ^ 32)
 read-high n h = by (nat_lt n (2 ^ 31)) refl
@@ -102,6 +107,12 @@ upper-bits Uint (pos n) i b h e =
     let m : bit_and n (2 ^ 32 - 2 ^ b) ≡ n / 2 ^ b * 2 ^ b = and_high_mask 32 b (omega (arith, e)) n l in
     ap (λ z. pos (bit_and z (2 ^ 32 - 2 ^ b))) s ∙ ap pos m ∙ omega (arith, ints)
 upper-bits Uint (negsuc n) i b h e = cc
+upper-bits Size (pos n) i b h e =
+    let l = ltb-true n (2 ^ 32) h in
+    let s : n % 2 ^ 32 ≡ n = mod-eq_of_lt l in
+    let m : bit_and n (2 ^ 32 - 2 ^ b) ≡ n / 2 ^ b * 2 ^ b = and_high_mask 32 b (omega (arith, e)) n l in
+    ap (λ z. pos (bit_and z (2 ^ 32 - 2 ^ b))) s ∙ ap pos m ∙ omega (arith, ints)
+upper-bits Size (negsuc n) i b h e = cc
 upper-bits Int (negsuc n) i b h e =
     let l = ltb-true n (2 ^ 31) h in
     let o : n < 2 ^ 32 = omega (arith, l) in
@@ -127,6 +138,7 @@ met-low Int n y h =
     let m = and_le_l n (bits_of y) in
     ap (λ z. read_bits Int (bit_and z (bits_of y))) s ∙ read-low Int (bit_and n (bits_of y)) (omega (arith, l, m))
 met-low Uint n y h = let s : n % 2 ^ 32 ≡ n = mod-eq_of_lt (ltb-true n (2 ^ 32) h) in ap (λ z. pos (bit_and z (bits_of y))) s
+met-low Size n y h = let s : n % 2 ^ 32 ≡ n = mod-eq_of_lt (ltb-true n (2 ^ 32) h) in ap (λ z. pos (bit_and z (bits_of y))) s
 
 pub met-below : (k : Kind) (x y : ℤ) → in_kind k x ≡ true → pos 0 ≤ℤ x → (pos 0 ≤ℤ read_bits k (bit_and (bits_of x) (bits_of y))) × (read_bits k (bit_and (bits_of x) (bits_of y)) ≤ℤ x)
 met-below k (pos n) y h l = let e = met-low k n y h in let m = and_le_l n (bits_of y) in (omega (arith, ints, e), omega (arith, ints, e, m))
@@ -147,6 +159,10 @@ or-plain Uint m n h i =
     let a : m % 2 ^ 32 ≡ m = mod-eq_of_lt (ltb-true m (2 ^ 32) h) in
     let b : n % 2 ^ 32 ≡ n = mod-eq_of_lt (ltb-true n (2 ^ 32) i) in
     ap (λ z. pos (bit_or z (n % 2 ^ 32))) a ∙ ap (λ z. pos (bit_or m z)) b
+or-plain Size m n h i =
+    let a : m % 2 ^ 32 ≡ m = mod-eq_of_lt (ltb-true m (2 ^ 32) h) in
+    let b : n % 2 ^ 32 ≡ n = mod-eq_of_lt (ltb-true n (2 ^ 32) i) in
+    ap (λ z. pos (bit_or z (n % 2 ^ 32))) a ∙ ap (λ z. pos (bit_or m z)) b
 
 pub xor-plain : (k : Kind) (m n : ℕ) → in_kind k (pos m) ≡ true → in_kind k (pos n) ≡ true → read_bits k (bit_xor (bits_of (pos m)) (bits_of (pos n))) ≡ pos (bit_xor m n)
 xor-plain Int m n h i =
@@ -156,6 +172,10 @@ xor-plain Int m n h i =
     let b : n % 2 ^ 32 ≡ n = mod-eq_of_lt (omega (arith, t)) in
     ap (λ z. read_bits Int (bit_xor z (n % 2 ^ 32))) a ∙ ap (λ z. read_bits Int (bit_xor m z)) b ∙ read-low Int (bit_xor m n) (xor_lt 31 m n s t)
 xor-plain Uint m n h i =
+    let a : m % 2 ^ 32 ≡ m = mod-eq_of_lt (ltb-true m (2 ^ 32) h) in
+    let b : n % 2 ^ 32 ≡ n = mod-eq_of_lt (ltb-true n (2 ^ 32) i) in
+    ap (λ z. pos (bit_xor z (n % 2 ^ 32))) a ∙ ap (λ z. pos (bit_xor m z)) b
+xor-plain Size m n h i =
     let a : m % 2 ^ 32 ≡ m = mod-eq_of_lt (ltb-true m (2 ^ 32) h) in
     let b : n % 2 ^ 32 ≡ n = mod-eq_of_lt (ltb-true n (2 ^ 32) i) in
     ap (λ z. pos (bit_xor z (n % 2 ^ 32))) a ∙ ap (λ z. pos (bit_xor m z)) b

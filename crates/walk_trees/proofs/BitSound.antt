@@ -6,7 +6,7 @@ use Rattle.std.specs.Int.Bits.{or_add_and, xor_add_and}
 use Rattle.std.proofs.lemmas.Int.{ints}
 use Rattle.std.proofs.lemmas.Nat.{pow_pos, le_or_l, le_or_r}
 use Rattle.std.proofs.lemmas.Bool.{and_parts, or_cases}
-use Rattle.semantics.specs.Word.{Kind, Int, Uint, in_kind, bits_of, read_bits}
+use Rattle.semantics.specs.Word.{Kind, Int, Uint, Size, in_kind, bits_of, read_bits}
 use Rattle.linear.specs.Exact.{sum, multiple, fits}
 use Rattle.domain.specs.Members.{is_above, is_below}
 use Rattle.facts.specs.Symbols.{Fact, constant, minus}
@@ -66,6 +66,7 @@ or-right false m n e = cc
 module _ {E : Type 0} (c : View E) (launch : List Fact) where
   natural : {facts : List Fact} {n : ℕ} {tree : Tree E} {news : List ℤ} (k : Kind) (f : Fact) (x : ℤ) (st : State E) → in_kind k x ≡ true → IsForm c news f x → Stands c launch facts n tree news (keeping st) → is_natural (walks c) st k f ≡ true → pos 0 ≤ℤ x
   natural Uint f x st h m s e = (in_kind-ends Uint x h).0
+  natural {news = news} Size f x st h m s e = held_settles c news st.held f x s.fit m.means e
   natural {news = news} Int f x st h m s e = held_settles c news st.held f x s.fit m.means e
 
   -- the bits from a place on

@@ -9,7 +9,7 @@ use Rattle.std.proofs.lemmas.Bool.{and_parts, or_cases}
 use Rattle.std.proofs.lemmas.Bool.Decides.{Decides-int_eq}
 use Rattle.std.proofs.lemmas.Nat.{and_le_r, or_lt, xor_lt, pow_pos, pow-add, pow_below, shl-shr}
 use Rattle.std.proofs.lemmas.Nat.Bits.{and_pow}
-use Rattle.semantics.specs.Word.{Kind, Int, Uint, in_kind, bits_of, read_bits}
+use Rattle.semantics.specs.Word.{Kind, Int, Uint, Size, in_kind, bits_of, read_bits}
 use Rattle.facts.proofs.Integers.{le_test, lt_test}
 use Rattle.domain.specs.Members.{is_below}
 use Rattle.walk_trees.specs.Walks.{greatest}
@@ -60,6 +60,11 @@ upper-is Uint (pos n) b h e =
     let m : n % 2 ^ 32 ≡ n = mod-eq_of_lt (ltb-true n (2 ^ 32) h) in
     m ∙ omega (arith, ints, s)
 upper-is Uint (negsuc n) b h e = cc
+upper-is Size (pos n) b h e =
+    let s = (Decides-int_eq (pos n +ℤ pos (2 ^ b)) (pos 4294967296)).0 e in
+    let m : n % 2 ^ 32 ≡ n = mod-eq_of_lt (ltb-true n (2 ^ 32) h) in
+    m ∙ omega (arith, ints, s)
+upper-is Size (negsuc n) b h e = cc
 
 pow-more : (a b : ℕ) → 2 ^ b < 2 ^ a → b < a
 pow-more a b h = by (nat_lt b a) refl
@@ -177,6 +182,7 @@ upper-above k (Some high) z h g = by (int_lt high (greatest k))
 greatest-below : (k : Kind) → greatest k ≤ℤ (pos (2 ^ 32) -ℤ pos 1)
 greatest-below Int = omega (arith, ints)
 greatest-below Uint = omega (arith, ints)
+greatest-below Size = omega (arith, ints)
 
 pub upper-below : (k : Kind) (o : Option ℤ) → upper k o ≤ℤ (pos (2 ^ 32) -ℤ pos 1)
 upper-below k None = greatest-below k

@@ -4,7 +4,7 @@ use Rattle.std.specs.Prelude.{ℤ, pos, negsuc, ◌-ℤ◌, ◌≤ℤ◌, cond}
 use Rattle.std.proofs.lemmas.Int.{ints}
 use Rattle.std.proofs.lemmas.Bool.Decides.{nat_tests}
 use Rattle.std.proofs.lemmas.List.Elements.{All-cons, All-nil, All-head, All-tail}
-use Rattle.semantics.specs.Word.{Kind, Int, Uint, Word, word, in_kind, as_kind}
+use Rattle.semantics.specs.Word.{Kind, Int, Uint, Size, Word, word, in_kind, as_kind}
 use Rattle.semantics.specs.Core.{Site, Space, Global, Local, Array}
 use Rattle.semantics.specs.Conditions.{Content, IsBounded, IsContent, sum_value}
 use Rattle.semantics.specs.Setup.{group_of}
@@ -168,6 +168,9 @@ module _ {E : Type 0} (c : View E) (launch : List Fact) where
   ranged_comes Int f st go s =
       let next : State E → Tree E = λ st'. go (value Int f) st' in
       comes_from c launch (over_range c launch true Int f st next) (at_once c launch go (λ more x. Unit {0}) (value Int f) (claimed_once (claimed_once st)) tt (past_range c launch true Int f st next s))
+  ranged_comes Size f st go s =
+      let next : State E → Tree E = λ st'. go (value Size f) st' in
+      comes_from c launch (over_range c launch true Size f st next) (at_once c launch go (λ more x. Unit {0}) (value Size f) (claimed_once (claimed_once st)) tt (past_range c launch true Size f st next s))
   ranged_comes Uint f st go s =
       let b = is_kept (walks c) f st in
       let next : State E → Tree E = λ st'. kept_or_new (walks c) b f st' go in
@@ -178,6 +181,11 @@ module _ {E : Type 0} (c : View E) (launch : List Fact) where
   brought_comes Int Uint f st go s = ranged_comes Int f st go s
   brought_comes Uint Int f st go s = ranged_comes Uint f st go s
   brought_comes Uint Uint f st go s = at_once c launch go (λ more x. Unit {0}) (value Uint f) st tt s
+  brought_comes Int Size f st go s = ranged_comes Int f st go s
+  brought_comes Uint Size f st go s = at_once c launch go (λ more x. Unit {0}) (value Uint f) st tt s
+  brought_comes Size Int f st go s = ranged_comes Size f st go s
+  brought_comes Size Uint f st go s = at_once c launch go (λ more x. Unit {0}) (value Size f) st tt s
+  brought_comes Size Size f st go s = at_once c launch go (λ more x. Unit {0}) (value Size f) st tt s
 
   claims_come : (xs : List BufferBound) {facts : List Fact} {n : ℕ} {news : List ℤ} (f : Fact) (st : State E) (go : State E → Tree E) → Stands c launch facts n (claim_contents (walks c) xs f st go) news (keeping st) → Comes c launch facts n (claim_contents (walks c) xs f st go) (λ (u : Unit {0}) st'. go st') news (owns st) (λ more u. Unit {0})
   claims_come [] f st go s = at_once c launch (λ (u : Unit {0}) st'. go st') (λ more u. Unit {0}) tt st tt s

@@ -9,13 +9,13 @@ use Rattle.std.proofs.lemmas.Nat.{div_below, and_mask, and_le_l, and_le_r, or_lt
 use Rattle.std.proofs.lemmas.Bool.{or_cases}
 use Rattle.std.proofs.lemmas.Bool.Decides.{Decides-int_eq}
 use Rattle.std.proofs.Math.Nat.{div-le_self, mod-le}
-use Rattle.semantics.specs.Word.{Kind, Int, Uint, word, in_kind, bits_of, read_bits, settle}
+use Rattle.semantics.specs.Word.{Kind, Int, Uint, Size, Exact, word, in_kind, bits_of, read_bits, settle}
 use Rattle.semantics.proofs.Words.{bits_of-below, read_bits-in_kind, as_kind-same}
 use Rattle.walk_trees.specs.Quotients.{is_power}
 use Rattle.walk_trees.proofs.KindEnds.{settle-same}
 use Rattle.walk_trees.proofs.BitNumbers.{floor-one, run-bits, read-low}
 
-pub settle_in : (k : Kind) (z : ℤ) → in_kind k z ≡ true → settle k z ≡ Ok (word k z)
+pub settle_in : (k : Kind) (z : ℤ) → in_kind k z ≡ true → settle Exact k z ≡ Ok (word k z)
 settle_in k z h = settle-same k z h ∙ ap (λ y. Ok (word k y)) (as_kind-same k z h)
 
 pub negative-in : (m : ℕ) → m ≤ 2 ^ 31 → in_kind Int (neg_ℤ (pos m)) ≡ true
@@ -26,6 +26,7 @@ negative-in (suc m) h = lt-ltb m (2 ^ 31) (omega arith)
 abbrev pub DoesNotOverflow : Kind → ℤ → ℤ → Type 0
 DoesNotOverflow Int x y = (y ≡ negsuc 0 → ⊥) ⊎ (x ≡ negsuc 2147483647 → ⊥)
 DoesNotOverflow Uint x y = Unit {0}
+DoesNotOverflow Size x y = Unit {0}
 
 minus_one : (a : ℕ) → a < 2 ^ 31 → ((negsuc 0 ≡ negsuc 0 → ⊥) ⊎ (negsuc a ≡ negsuc 2147483647 → ⊥)) → suc a < 2 ^ 31
 minus_one a h (inl f) = absurd (f refl)
@@ -44,7 +45,11 @@ quotient-in Int (negsuc a) (negsuc (suc b)) h j z s = let l = ltb-true a (2 ^ 31
 quotient-in Uint (pos a) (pos b) h j z s = let l = ltb-true a (2 ^ 32) h in let d = div-le_self a b in lt-ltb (a / b) (2 ^ 32) (omega (arith, l, d))
 quotient-in Uint (pos a) (negsuc b) h j z s = cc
 quotient-in Uint (negsuc a) y h j z s = cc
+quotient-in Size (pos a) (pos b) h j z s = let l = ltb-true a (2 ^ 32) h in let d = div-le_self a b in lt-ltb (a / b) (2 ^ 32) (omega (arith, l, d))
+quotient-in Size (pos a) (negsuc b) h j z s = cc
+quotient-in Size (negsuc a) y h j z s = cc
 
+-- of a `uint` or a size
 pub uint-quotient : (x : ℤ) (n : ℕ) → in_kind Uint x ≡ true → in_kind Uint (int_div x (pos n)) ≡ true
 uint-quotient (pos a) n h = let l = ltb-true a (2 ^ 32) h in let d = div-le_self a n in lt-ltb (a / n) (2 ^ 32) (omega (arith, l, d))
 uint-quotient (negsuc a) n h = cc
@@ -54,11 +59,14 @@ remainder-in Int (pos a) y h = let l = ltb-true a (2 ^ 31) h in let d = mod-le a
 remainder-in Int (negsuc a) y h = let l = ltb-true a (2 ^ 31) h in let d = mod-le (suc a) (unsigned_abs y) in negative-in (suc a % unsigned_abs y) (omega (arith, l, d))
 remainder-in Uint (pos a) y h = let l = ltb-true a (2 ^ 32) h in let d = mod-le a (unsigned_abs y) in lt-ltb (a % unsigned_abs y) (2 ^ 32) (omega (arith, l, d))
 remainder-in Uint (negsuc a) y h = cc
+remainder-in Size (pos a) y h = let l = ltb-true a (2 ^ 32) h in let d = mod-le a (unsigned_abs y) in lt-ltb (a % unsigned_abs y) (2 ^ 32) (omega (arith, l, d))
+remainder-in Size (negsuc a) y h = cc
 
 -- of a dividend of at least 0 by a number above 0
 pub safe-positive : (k : Kind) (x c : ℤ) → pos 0 <ℤ c → DoesNotOverflow k x c
 safe-positive Int x c h = inl (λ e. omega (arith, ints, h, e))
 safe-positive Uint x c h = tt
+safe-positive Size x c h = tt
 
 pub not-zero : (c : ℤ) → pos 0 <ℤ c → c ≡ pos 0 → ⊥
 not-zero c h e = omega (arith, ints, h, e)
@@ -133,6 +141,10 @@ and-plain Uint m n h i =
     let a : m % 2 ^ 32 ≡ m = mod-eq_of_lt (ltb-true m (2 ^ 32) h) in
     let b : n % 2 ^ 32 ≡ n = mod-eq_of_lt (ltb-true n (2 ^ 32) i) in
     ap (λ z. pos (bit_and z (n % 2 ^ 32))) a ∙ ap (λ z. pos (bit_and m z)) b
+and-plain Size m n h i =
+    let a : m % 2 ^ 32 ≡ m = mod-eq_of_lt (ltb-true m (2 ^ 32) h) in
+    let b : n % 2 ^ 32 ≡ n = mod-eq_of_lt (ltb-true n (2 ^ 32) i) in
+    ap (λ z. pos (bit_and z (n % 2 ^ 32))) a ∙ ap (λ z. pos (bit_and m z)) b
 
 -- the complement of each bit
 pub complement-bits : (a : ℤ) → bits_of (negsuc 0 -ℤ a) ≡ 2 ^ 32 - 1 - bits_of a
@@ -142,4 +154,5 @@ complement-bits (negsuc n) = let e : negsuc 0 -ℤ negsuc n ≡ pos n = omega (a
 pub complement_uint-bits : (k : Kind) (a : ℤ) → in_kind k a ≡ true → bits_of (pos 4294967295 -ℤ a) ≡ 2 ^ 32 - 1 - bits_of a
 complement_uint-bits Int (pos n) h = let l : n < 2 ^ 31 = ltb-true n (2 ^ 31) h in let e : pos 4294967295 -ℤ pos n ≡ pos (4294967295 - n) = omega (arith, ints, l) in ap bits_of e ∙ omega (arith, l)
 complement_uint-bits Uint (pos n) h = let l : n < 2 ^ 32 = ltb-true n (2 ^ 32) h in let e : pos 4294967295 -ℤ pos n ≡ pos (4294967295 - n) = omega (arith, ints, l) in ap bits_of e ∙ omega (arith, l)
+complement_uint-bits Size (pos n) h = let l : n < 2 ^ 32 = ltb-true n (2 ^ 32) h in let e : pos 4294967295 -ℤ pos n ≡ pos (4294967295 - n) = omega (arith, ints, l) in ap bits_of e ∙ omega (arith, l)
 complement_uint-bits k (negsuc n) h = let e : pos 4294967295 -ℤ negsuc n ≡ pos (n + 4294967296) = omega (arith, ints) in ap bits_of e ∙ omega arith

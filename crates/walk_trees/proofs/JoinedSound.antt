@@ -5,7 +5,7 @@ use Rattle.std.specs.List.{All}
 use Rattle.std.proofs.lemmas.List.Elements.{All-cons, All-nil}
 use Rattle.std.proofs.lemmas.Int.{ints, by_lt_z}
 use Rattle.std.proofs.lemmas.Bool.{and_parts}
-use Rattle.semantics.specs.Word.{Kind, Int, Uint, word}
+use Rattle.semantics.specs.Word.{Kind, Int, Uint, Size, word}
 use Rattle.linear.specs.Linear.{IsMet}
 use Rattle.linear.specs.Exact.{sum}
 use Rattle.domain.specs.Members.{is_above, is_below}
@@ -93,8 +93,13 @@ picked_number g a b = by_lt_z a b
 pub kinds_same : (j k : Kind) → same_kind j k ≡ true → j ≡ k
 kinds_same Int Int e = refl
 kinds_same Int Uint e = cc
+kinds_same Int Size e = cc
 kinds_same Uint Int e = cc
 kinds_same Uint Uint e = refl
+kinds_same Uint Size e = cc
+kinds_same Size Int e = cc
+kinds_same Size Uint e = cc
+kinds_same Size Size e = refl
 
 module _ {E : Type 0} (c : View E) (launch : List Fact) where
   excess-has : {news : List ℤ} (f : Fact) (d : ℤ) (st : State E) → IsHeld c news st.held → IsForm c news f d → c.domain.has (excess (walks c) st f) (over d) ≡ true

@@ -2,7 +2,7 @@
 use Rattle.std.proofs.Common.{◌≡◌, ℕ, zero, suc, ◌+◌, ◌^◌, true, List, [], ◌∷◌, ◌++◌, map, length, slice_index_or, arith, refl, sym, ap, ◌∙◌, subst, lt-ltb}
 use Rattle.std.specs.Prelude.{pos}
 use Rattle.std.specs.List.{AllZip}
-use Rattle.semantics.specs.Word.{Kind, Int, Uint, Word, word, zero_word, in_kind}
+use Rattle.semantics.specs.Word.{Kind, Int, Uint, Size, Word, word, zero_word, in_kind}
 use Rattle.semantics.specs.Launch.{IsArgument}
 use Rattle.semantics.specs.Solo.{opening}
 use Rattle.facts.specs.Symbols.{ArgumentOf, number, once}
@@ -16,6 +16,7 @@ use Rattle.walk_trees.proofs.TermSound.{AreForms}
 zero_in : (k : Kind) → in_kind k (pos 0) ≡ true
 zero_in Int = lt-ltb 0 (2 ^ 31) (omega arith)
 zero_in Uint = lt-ltb 0 (2 ^ 32) (omega arith)
+zero_in Size = lt-ltb 0 (2 ^ 32) (omega arith)
 
 module _ {E : Type 0} (c : View E) where
   abbrev IsSlot : Word → Value → Type 0

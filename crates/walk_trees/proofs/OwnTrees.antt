@@ -3,7 +3,7 @@ use Rattle.std.proofs.Common.{◌≡◌, ℕ, zero, suc, ◌+◌, ◌^◌, ◌%�
 use Rattle.std.proofs.lemmas.Bool.{and_from}
 use Rattle.std.specs.Prelude.{ℤ, pos, negsuc, ◌+ℤ◌, slice_set}
 use Rattle.std.specs.Ordering.{int_eq}
-use Rattle.semantics.specs.Word.{Kind, Int, Uint, Operator, Add, Subtract, Multiply, Divide, Remainder, BitAnd, BitOr, BitXor, UnaryOperator, Negate, Complement, ShiftLeft, ShiftRight, Relation, Less, AtMost, More, AtLeast, Equal, Unequal}
+use Rattle.semantics.specs.Word.{Kind, Int, Uint, Size, Operator, Add, Subtract, Multiply, Divide, Remainder, BitAnd, BitOr, BitXor, UnaryOperator, Negate, Complement, ShiftLeft, ShiftRight, Relation, Less, AtMost, More, AtLeast, Equal, Unequal}
 use Rattle.semantics.specs.Core.{Array, Site, Function, GlobalId, LocalId, GroupId, GlobalSize, LocalSize, NumGroups, Term, Literal, Variable, Id, Load, Unary, Binary, Convert, Compare, Not, And, Or, Select, Minimum, Maximum}
 use Rattle.semantics.specs.Setup.{along}
 use Rattle.linear.specs.Exact.{Terms, sum, multiple}
@@ -41,6 +41,7 @@ module _ {E : Type 0} (s : Setting E) where
   ranges : (k : Kind) (f : Fact) (st : State E) (go : Onward E) → IsOwn f → HasOwn st → GoesOnBy go → IsOwnTree (ranged s k f st go)
   unfolding IsOwnTree
   ranges Int f st go i h g = g (value Int f) (claimed_once (claimed_once st)) i h
+  ranges Size f st go i h g = g (value Size f) (claimed_once (claimed_once st)) i h
   ranges Uint f st go i h g = kept (is_kept s f st) f (claimed_once (claimed_once st)) go i h g
 
   brings_from : (to from : Kind) (f : Fact) (st : State E) (go : Onward E) → IsOwn f → HasOwn st → GoesOnBy go → IsOwnTree (brought_from s to from f st go)
@@ -48,6 +49,11 @@ module _ {E : Type 0} (s : Setting E) where
   brings_from Int Uint f st go i h g = ranges Int f st go i h g
   brings_from Uint Int f st go i h g = ranges Uint f st go i h g
   brings_from Uint Uint f st go i h g = g (value Uint f) st i h
+  brings_from Int Size f st go i h g = ranges Int f st go i h g
+  brings_from Uint Size f st go i h g = g (value Uint f) st i h
+  brings_from Size Int f st go i h g = ranges Size f st go i h g
+  brings_from Size Uint f st go i h g = g (value Size f) st i h
+  brings_from Size Size f st go i h g = g (value Size f) st i h
 
   brings_both : (k : Kind) (x y : Value) (st : State E) (go : Value → Value → State E → Tree E) → IsOwnValue x → IsOwnValue y → HasOwn st → ((v w : Value) (st' : State E) → IsOwnValue v → IsOwnValue w → HasOwn st' → IsOwnTree (go v w st')) → IsOwnTree (both_brought s k x y st go)
   brings_both k x y st go i j h g = brings_from k x.kind x.form st _ i h (λ v st1 p h1. brings_from k y.kind y.form st1 _ j h1 (λ w st2 q h2. g v w st2 p q h2))
@@ -168,6 +174,7 @@ module _ {E : Type 0} (s : Setting E) where
   claims_quotient : (k : Kind) (x y : Fact) (st : State E) (go : State E → Tree E) → HasOwn st → ((a : State E) → HasOwn a → IsOwnTree (go a)) → IsOwnTree (claim_quotient s k x y st go)
   unfolding IsOwnTree
   claims_quotient Uint x y st go h g = g st h
+  claims_quotient Size x y st go h g = g st h
   claims_quotient Int x y st go h g = g (claimed_once st) h
 
   claims_divisor : (k : Kind) (x y : Fact) (st : State E) (go : State E → Tree E) → HasOwn st → ((a : State E) → HasOwn a → IsOwnTree (go a)) → IsOwnTree (claim_divisor s k x y st go)
@@ -226,9 +233,11 @@ module _ {E : Type 0} (s : Setting E) where
   own-complement : (k : Kind) (f : Fact) → IsOwn f → IsOwn (complement k f)
   own-complement Int f i = own-minus (constant (negsuc 0)) f tt i
   own-complement Uint f i = own-minus (constant (pos 4294967295)) f tt i
+  own-complement Size f i = own-minus (constant (negsuc 0)) f tt i
 
   shifts : (from to : Kind) (f : Fact) (by : ℕ) (st : State E) (go : Onward E) → IsOwn f → HasOwn st → GoesOnBy go → IsOwnTree (shifted s from to f by st go)
   shifts Uint k f by st go i h g = quotients s k f (pos (2 ^ by)) st _ i h (λ q r st' j l h'. g (value k q) st' j h')
+  shifts Size k f by st go i h g = quotients s k f (pos (2 ^ by)) st _ i h (λ q r st' j l h'. g (value k q) st' j h')
   shifts Int k f by st go i h g = unknowns k st go h g
 
   unaries : (op : UnaryOperator) (k : Kind) (x : Value) (st : State E) (go : Onward E) → IsOwnValue x → HasOwn st → GoesOnBy go → IsOwnTree (unary s op k x st go)
@@ -317,7 +326,7 @@ module _ {E : Type 0} (s : Setting E) where
   pub own : Each IsOwnBound s.contents → (e : Term) → Own (walk s e)
   own o (Literal k z) = of_value _ (λ st go h g. g (value k (constant z)) st tt h)
   own o (Variable x) = of_value _ (λ st go h g. g _ st (own-variable st.variables x h.0) h)
-  own o (Id f d) = of_value _ (λ st go h g. g (value Uint (id_form s f d)) st (either (nat_lt d 3) (id_inside s f d) (id_outside f) (own-inside f d) (own-outside f)) h)
+  own o (Id k f d) = of_value _ (λ st go h g. g (value k (id_form s f d)) st (either (nat_lt d 3) (id_inside s f d) (id_outside f) (own-inside f d) (own-outside f)) h)
   own o (Load a site e) = of_value _ (λ st go h g. (own o e).as_value st _ h (λ x st1 i h1. accesses_on false a site x.form st1 (λ st2. element s a st2 go) i h1 (λ st2 h2. elements a st2 go o h2 g)))
   own o (Unary op k site e) = of_value _ (λ st go h g. (own o e).as_value st _ h (λ x st1 i h1. unaries op k x (at_site site st1) go i h1 g))
   own o (Binary op k site a b) = of_value _ (λ st go h g. (own o a).as_value st _ h (λ x st1 i h1. (own o b).as_value st1 _ h1 (λ y st2 j h2.

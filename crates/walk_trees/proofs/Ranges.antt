@@ -5,7 +5,8 @@ use Rattle.std.specs.List.{All}
 use Rattle.std.proofs.lemmas.Int.{ints}
 use Rattle.std.proofs.lemmas.Bool.{and_parts}
 use Rattle.std.proofs.lemmas.List.Elements.{All-cons, All-nil}
-use Rattle.semantics.specs.Word.{Kind, Int, Uint, Word, word, in_kind, as_kind, settle}
+use Rattle.semantics.specs.Word.{Kind, Int, Uint, Size, Exact, Word, word, in_kind, as_kind, settle}
+use Rattle.semantics.specs.Evaluation.{operand}
 use Rattle.linear.specs.Linear.{value_of, IsMet}
 use Rattle.semantics.proofs.Words.{as_kind-in_kind, as_kind-same}
 use Rattle.linear.specs.Exact.{sum, multiple}
@@ -21,7 +22,7 @@ use Rattle.walk_trees.specs.Held.{with_new}
 use Rattle.walk_trees.specs.Trees.{Sort, OfRange, Tree}
 use Rattle.walk_trees.specs.Values.{Value, value}
 use Rattle.walk_trees.specs.Walks.{State, Onward, claimed_once, holding, claim_form, lower_fact, upper_fact, bound_facts, newest, invent, least, greatest, any_of, unknown, low_end, high_end, in_range, is_kept, kept_or_new, ranged, brought_from, brought, both_brought}
-use Rattle.walk_trees.proofs.KindEnds.{in_kind-between, in_kind-ends, settle-same}
+use Rattle.walk_trees.proofs.KindEnds.{in_kind-between, in_kind-ends, uint-is, size-is, settle-same, operand-is}
 use Rattle.walk_trees.proofs.Holding.{held_settles}
 use Rattle.walk_trees.proofs.Shares.{keeping}
 use Rattle.walk_trees.proofs.Standing.{walks, Stands, Way, Comes, way_then, over_claim, over_new, over_facts, past_claim, past_new, past_facts, at_once, comes_from, onward, arriving, restated, told, Owns, owns}
@@ -77,7 +78,7 @@ bounds_hold v f b z e h =
 
 -- an exact result settles to the word of its bits, which is the value of what goes on
 pub record Settles {E : Type 0} (c : View E) (launch facts : List Fact) (n : ℕ) (tree : Tree E) (k : Kind) (go : Onward E) (news : List ℤ) (variables : Owns) (y : ℤ) : Type 0 where
-  pub settles : settle k y ≡ Ok (word k (as_kind k y))
+  pub settles : settle Exact k y ≡ Ok (word k (as_kind k y))
   pub comes : Comes c launch facts n tree go news variables (λ more x. IsValue c more (word k (as_kind k y)) x)
 
 module _ {E : Type 0} (c : View E) (launch : List Fact) where
@@ -140,6 +141,15 @@ module _ {E : Type 0} (c : View E) (launch : List Fact) where
             (at_once c launch go (λ more x. IsValue c more (word Int (as_kind Int y)) x) (value Int f) (claimed_once (claimed_once st))
             (record { kind = refl; form = form-is c (as_kind Int y) (sym (as_kind-same Int y h)) m }) (past_range true Int f st next s));
       }
+  ranged_sound Size f st go y s m =
+      let next : State E → Tree E = λ st'. go (value Size f) st' in
+      let h = bounded Size f st next y s m in
+      record {
+        settles = settle-same Size y h;
+        comes = comes_from c launch (over_range true Size f st next)
+            (at_once c launch go (λ more x. IsValue c more (word Size (as_kind Size y)) x) (value Size f) (claimed_once (claimed_once st))
+            (record { kind = refl; form = form-is c (as_kind Size y) (sym (as_kind-same Size y h)) m }) (past_range true Size f st next s));
+      }
   ranged_sound Uint f st go y s m = record { settles = refl; comes = kept_sound (is_kept (walks c) f st) f st go y s m }
 
   -- a number of its kind goes on as it is
@@ -151,6 +161,11 @@ module _ {E : Type 0} (c : View E) (launch : List Fact) where
   brought_from_sound Int Uint f st go y h s m = ranged_sound Int f st go y s m
   brought_from_sound Uint Int f st go y h s m = ranged_sound Uint f st go y s m
   brought_from_sound Uint Uint f st go y h s m = same_kind Uint f st go y h s m
+  brought_from_sound Int Size f st go y h s m = ranged_sound Int f st go y s m
+  brought_from_sound Uint Size f st go y h s m = same_kind Uint f st go y (uint-is y h) s m
+  brought_from_sound Size Int f st go y h s m = ranged_sound Size f st go y s m
+  brought_from_sound Size Uint f st go y h s m = same_kind Size f st go y (size-is y h) s m
+  brought_from_sound Size Size f st go y h s m = same_kind Size f st go y h s m
 
   -- a value brought to a kind
   pub brought_sound : (k : Kind) {facts : List Fact} {n : ℕ} {news : List ℤ} (w : Word) (x : Value) (st : State E) (go : Onward E) → in_kind w.kind w.value ≡ true → IsValue c news w x → Stands c launch facts n (brought (walks c) k x st go) news (keeping st) → Settles c launch facts n (brought (walks c) k x st go) k go news (owns st) w.value
@@ -164,3 +179,11 @@ module _ {E : Type 0} (c : View E) (launch : List Fact) where
       let w = (brought_sound k b y u.state (λ y' st2. go u.arrived y' st2) hb (value_kept c u.way.kept my) u.stands).comes in
       onward c launch u (arriving c launch (λ (p : Value × Value) st'. go p.0 p.1 st') (λ y'. (u.arrived, y')) (λ more p. IsValue c more (word k (as_kind k a.value)) p.0 × IsValue c more (word k (as_kind k b.value)) p.1)
       (λ more y' kept m. (value_kept c kept u.right, m)) w)
+
+  -- what an operator takes of them
+  pub both_taken : (k : Kind) {facts : List Fact} {n : ℕ} {news : List ℤ} (a b : Word) (x y : Value) (st : State E) (go : Value → Value → State E → Tree E) → in_kind a.kind a.value ≡ true → in_kind b.kind b.value ≡ true → IsValue c news a x → IsValue c news b y → Stands c launch facts n (both_brought (walks c) k x y st go) news (keeping st) →
+      (operand k a.value ≡ as_kind k a.value) × (operand k b.value ≡ as_kind k b.value)
+  both_taken k a b x y st go ha hb mx my s =
+      let u = brought_sound k a x st (λ x' st1. brought (walks c) k y st1 (λ y' st2. go x' y' st2)) ha mx s in
+      let w = brought_sound k b y u.comes.state (λ y' st2. go u.comes.arrived y' st2) hb (value_kept c u.comes.way.kept my) u.comes.stands in
+      (operand-is k a.value u.settles, operand-is k b.value w.settles)

@@ -3,13 +3,18 @@ use Rattle.std.proofs.Common.{◌≡◌, Bool, true, false, ◌&&◌, List, [], 
 use Rattle.std.specs.Ordering.{int_eq}
 use Rattle.std.proofs.lemmas.Bool.{and_parts, and_from}
 use Rattle.std.proofs.lemmas.Bool.Decides.{Decides-int_eq}
-use Rattle.semantics.specs.Word.{Kind, Int, Uint, Word}
+use Rattle.semantics.specs.Word.{Kind, Int, Uint, Size, Word}
 
 abbrev pub same_kind : Kind → Kind → Bool
 same_kind Int Int = true
 same_kind Int Uint = false
+same_kind Int Size = false
 same_kind Uint Int = false
 same_kind Uint Uint = true
+same_kind Uint Size = false
+same_kind Size Int = false
+same_kind Size Uint = false
+same_kind Size Size = true
 
 abbrev pub same_word : Word → Word → Bool
 same_word a b = same_kind a.kind b.kind && int_eq a.value b.value
@@ -23,12 +28,18 @@ same_words (a ∷ as') (b ∷ bs) = same_word a b && same_words as' bs
 same_kind-is : (a b : Kind) → same_kind a b ≡ true → a ≡ b
 same_kind-is Int Int h = refl
 same_kind-is Int Uint h = cc
+same_kind-is Int Size h = cc
 same_kind-is Uint Int h = cc
 same_kind-is Uint Uint h = refl
+same_kind-is Uint Size h = cc
+same_kind-is Size Int h = cc
+same_kind-is Size Uint h = cc
+same_kind-is Size Size h = refl
 
 same_kind-refl : (a : Kind) → same_kind a a ≡ true
 same_kind-refl Int = refl
 same_kind-refl Uint = refl
+same_kind-refl Size = refl
 
 same_word-is : (a b : Word) → same_word a b ≡ true → a ≡ b
 same_word-is a b h =

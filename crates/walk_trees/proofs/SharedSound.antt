@@ -3,7 +3,7 @@ use Rattle.std.proofs.Common.{◌≡◌, ℕ, zero, suc, ◌&&◌, ◌||◌, not
 use Rattle.std.specs.Prelude.{ℤ, pos, negsuc, ◌+ℤ◌, ◌-ℤ◌, ◌*ℤ◌, ◌≤ℤ◌, ◌<ℤ◌, int_div, int_rem}
 use Rattle.std.proofs.lemmas.Int.{ints}
 use Rattle.std.proofs.lemmas.Bool.{and_parts, or_cases}
-use Rattle.semantics.specs.Word.{Kind, Int, Uint, in_kind}
+use Rattle.semantics.specs.Word.{Kind, Int, Uint, Size, in_kind}
 use Rattle.semantics.proofs.Integers.{mul_comm}
 use Rattle.linear.specs.Products.{product as form_product}
 use Rattle.linear.proofs.Multiplying.{value_product, rising_product}
@@ -45,6 +45,7 @@ quotient-low (negsuc a) y h l = absurd (omega (arith, ints))
 
 uint_floored : (k : Kind) (x y : ℤ) → in_kind k x ≡ true → in_kind k y ≡ true → (y ≡ pos 0 → ⊥) → is_uint k ≡ true → AreFloored x y
 uint_floored Int x y hx hy z e = cc
+uint_floored Size x y hx hy z e = cc
 uint_floored Uint x y hx hy z e =
     let low = (in_kind-ends Uint y hy).0 in
     record { low = (in_kind-ends Uint x hx).0; above = positive y low z }

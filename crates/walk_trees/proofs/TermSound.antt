@@ -1,8 +1,8 @@
 -- What the walk of a term promises, as a value and as a test: no fault, each load in the tree, and a form that has the term's value.
-use Rattle.std.proofs.Common.{◌≡◌, ℕ, ◌^◌, ◌&&◌, Bool, true, false, not, cond, List, length, slice_index_or, arith, refl, sym, ap, ◌∙◌, subst, lt-ltb}
+use Rattle.std.proofs.Common.{◌≡◌, ℕ, ◌^◌, ◌<◌, ◌&&◌, Bool, true, false, not, cond, List, length, slice_index_or, arith, refl, sym, ap, ap₂, ◌∙◌, subst, lt-ltb}
 use Rattle.std.specs.Prelude.{ℤ, pos, Result}
 use Rattle.std.proofs.lemmas.Bool.{and_parts}
-use Rattle.semantics.specs.Word.{Uint, Word, word, zero_word, Fault, in_kind, as_kind, truth, is_zero, smaller, larger, calculate_unary, convert}
+use Rattle.semantics.specs.Word.{Kind, Int, Uint, Size, Exact, Word, word, zero_word, Fault, in_kind, as_kind, truth, is_zero, smaller, larger, holds, calculate, calculate_unary, convert}
 use Rattle.semantics.specs.Core.{Site, Term, Literal, Variable, Id, Load, Unary, Binary, Convert, Compare, Not, And, Or, Select, Minimum, Maximum}
 use Rattle.semantics.specs.Setup.{identity}
 use Rattle.semantics.specs.Contents.{FirstHeld, Behind, HonestTerm}
@@ -16,10 +16,10 @@ use Rattle.walk_trees.specs.Walks.{State, Onward, at_site, brought, both_brought
 use Rattle.walk_trees.specs.Operators.{unary, binary}
 use Rattle.walk_trees.specs.Tests.{Outcomes, split, split_number}
 use Rattle.walk_trees.specs.Terms.{Walks, by_value, by_test, truth_value, no_value, variable, id_form, load, chosen, pick, walk}
-use Rattle.walk_trees.specs.Covered.{is_covered_unary, covers_term}
+use Rattle.walk_trees.specs.Covered.{is_id_kind, is_covered_unary, covers_term}
 use Rattle.walk_trees.proofs.Shares.{keeping}
 use Rattle.walk_trees.proofs.Standing.{walks, Stands, Comes, Goes, gives, at_once, onward, restated, goes_then, goes_further, goes_as, Owns, owns}
-use Rattle.walk_trees.proofs.Ranges.{IsValue, value_kept, form_constant, brought_sound, both_sound}
+use Rattle.walk_trees.proofs.Ranges.{IsValue, value_kept, form_constant, brought_sound, both_sound, both_taken}
 use Rattle.walk_trees.proofs.Splits.{split_sound, split_number_sound}
 use Rattle.walk_trees.proofs.Picks.{picked_goes}
 use Rattle.walk_trees.proofs.QuotientSound.{DividesLawfully}
@@ -38,6 +38,12 @@ forms_kept c k m = record { lengths = m.lengths; right = m.right; each = λ x. v
 
 pub forms_same : {E : Type 0} (c : View E) {news : List ℤ} {words : List Word} {values others : List Value} → others ≡ values → AreForms c news words values → AreForms c news words others
 forms_same c {news = news} {words = words} e m = subst (λ vs. AreForms c news words vs) (sym e) m
+
+-- an id is a number of its kind
+id-in : (k : Kind) (n : ℕ) → is_id_kind k ≡ true → n < 4294967296 → in_kind k (pos n) ≡ true
+id-in Int n h l = cc
+id-in Uint n h l = lt-ltb n 4294967296 l
+id-in Size n h l = lt-ltb n 4294967296 l
 
 truth-in : (b : Bool) → in_kind (truth b).kind (truth b).value ≡ true
 truth-in true = lt-ltb 1 (2 ^ 31) (omega arith)
@@ -156,9 +162,9 @@ module _ {E : Type 0} (c : View E) (launch : List Fact) (laws : DividesLawfully 
   term_sound (Variable x) h = value_sound _ (evaluate (setup c) c.item (Variable x)) (Honest (Variable x)) (λ facts n news st go vars answers hq m s.
       let w = slice_index_or vars x zero_word in
       gives w answers refl (m.right x) (at_once c launch go (ArrivesAsValue c w) (variable st x) st (m.each x) s))
-  term_sound (Id f d) h = value_sound _ (evaluate (setup c) c.item (Id f d)) (Honest (Id f d)) (λ facts n news st go vars answers hq m s.
+  term_sound (Id k f d) h = value_sound _ (evaluate (setup c) c.item (Id k f d)) (Honest (Id k f d)) (λ facts n news st go vars answers hq m s.
       let i = identity (setup c) c.item f d in
-      gives (word Uint (pos i)) answers refl (lt-ltb i 4294967296 (id-below c f d)) (at_once c launch go (ArrivesAsValue c (word Uint (pos i))) (value Uint (id_form (walks c) f d)) st (record { kind = refl; form = form_id c news f d }) s))
+      gives (word k (pos i)) answers refl (id-in k i h (id-below c f d)) (at_once c launch go (ArrivesAsValue c (word k (pos i))) (value k (id_form (walks c) f d)) st (record { kind = refl; form = form_id c news f d }) s))
   term_sound (Load a site e) h =
       let p = and_parts (c.spaces a.space) (covers_term c.spaces e) h in
       let t = term_sound e p.1 in
@@ -169,22 +175,23 @@ module _ {E : Type 0} (c : View E) (launch : List Fact) (laws : DividesLawfully 
       let p = and_parts (is_covered_unary op k) (covers_term c.spaces e) h in
       let t = term_sound e p.1 in
       value_sound _ (evaluate (setup c) c.item (Unary op k site e)) (Honest (Unary op k site e)) (λ facts n news st go vars answers hq m s.
-      goes_then c launch (λ a r. settled (calculate_unary op k a.value) site r) (t.value facts n news st (λ x st1. unary (walks c) op k x (at_site site st1) go) vars answers hq m s) (λ a r is i q.
+      goes_then c launch (λ a r. settled (calculate_unary op Exact k a.value) site r) (t.value facts n news st (λ x st1. unary (walks c) op k x (at_site site st1) go) vars answers hq m s) (λ a r is i q.
       yields_goes site r (unary_sound c launch op k p.0 a q.arrived (at_site site q.state) go i q.right q.stands)))
   term_sound (Binary op k site a b) h =
       let p = and_parts (covers_term c.spaces a) (covers_term c.spaces b) h in
       let ta = term_sound a p.0 in
       let tb = term_sound b p.1 in
       value_sound _ (evaluate (setup c) c.item (Binary op k site a b)) (Honest (Binary op k site a b)) (λ facts n news st go vars answers hq m s.
-      pair_sound (walk (walks c) a) (walk (walks c) b) (evaluate (setup c) c.item a) (evaluate (setup c) c.item b) (Honest a) (Honest b) ta tb facts n news st (λ x y st2. both_brought (walks c) k x y (at_site site st2) (λ x' y' st3. binary (walks c) op k x'.form y'.form st3 go)) go (ArrivesAsValue c) (λ u v r. settled (operate op k u v) site r) vars answers hq m
+      pair_sound (walk (walks c) a) (walk (walks c) b) (evaluate (setup c) c.item a) (evaluate (setup c) c.item b) (Honest a) (Honest b) ta tb facts n news st (λ x y st2. both_brought (walks c) k x y (at_site site st2) (λ x' y' st3. binary (walks c) op k x'.form y'.form st3 go)) go (ArrivesAsValue c) (λ u v r. settled (operate op Exact k u v) site r) vars answers hq m
       (λ path j more st2 x y u v rest iu iv mx my s'.
       let q = both_sound c launch k u v x y (at_site site st2) (λ x' y' st3. binary (walks c) op k x'.form y'.form st3 go) iu iv mx my s' in
       let y' = binary_sound c launch op laws k q.arrived.0.form q.arrived.1.form (as_kind k u.value) (as_kind k v.value) q.state go (as_kind-in_kind k u.value) (as_kind-in_kind k v.value) q.right.0.form q.right.1.form q.stands in
-      yields_goes site rest (record { result = y'.result; is = y'.is; right = y'.right; comes = onward c launch q y'.comes })) s)
+      let t = both_taken c launch k u v x y (at_site site st2) (λ x' y' st3. binary (walks c) op k x'.form y'.form st3 go) iu iv mx my s' in
+      yields_goes site rest (record { result = y'.result; is = ap₂ (calculate op Exact k) t.0 t.1 ∙ y'.is; right = y'.right; comes = onward c launch q y'.comes })) s)
   term_sound (Convert k site e) h =
       let t = term_sound e h in
       value_sound _ (evaluate (setup c) c.item (Convert k site e)) (Honest (Convert k site e)) (λ facts n news st go vars answers hq m s.
-      goes_then c launch (λ a r. settled (convert k a.value) site r) (t.value facts n news st (λ x st1. brought (walks c) k x (at_site site st1) go) vars answers hq m s) (λ a r is i q.
+      goes_then c launch (λ a r. settled (convert Exact k a.value) site r) (t.value facts n news st (λ x st1. brought (walks c) k x (at_site site st1) go) vars answers hq m s) (λ a r is i q.
       yields_goes site r (settled_yields c launch k a.value go (brought_sound c launch k a q.arrived (at_site site q.state) go i q.right q.stands))))
   term_sound (Compare r k a b) h =
       let p = and_parts (covers_term c.spaces a) (covers_term c.spaces b) h in
@@ -195,7 +202,8 @@ module _ {E : Type 0} (c : View E) (launch : List Fact) (laws : DividesLawfully 
       (λ path j more st2 x y u v rest iu iv mx my s'.
       let q = both_sound c launch k u v x y st2 (λ x' y' st3. split (walks c) false r x'.form y'.form st3 go) iu iv mx my s' in
       let t = split_sound c launch false r q.arrived.0.form q.arrived.1.form (as_kind k u.value) (as_kind k v.value) q.state go q.right.0.form q.right.1.form q.stands in
-      gives (truth (compare r k u v)) rest refl (truth-in (compare r k u v)) (onward c launch q (restated c launch (λ more b kept e. ap truth (sym e)) t))) s)
+      let o = both_taken c launch k u v x y st2 (λ x' y' st3. split (walks c) false r x'.form y'.form st3 go) iu iv mx my s' in
+      gives (truth (compare r k u v)) rest refl (truth-in (compare r k u v)) (onward c launch q (restated c launch (λ more b kept e. ap truth (ap₂ (holds r) o.0 o.1 ∙ sym e)) t))) s)
   term_sound (Not e) h =
       let t = term_sound e h in
       truth_sound _ (evaluate (setup c) c.item (Not e)) (Honest (Not e)) (λ facts n news st go vars answers hq m s.

@@ -1,7 +1,7 @@
 -- The bits of two operands, as the wide walk has them.
 use Rattle.std.specs.Prelude.{ℕ, zero, suc, ◌^◌, ℤ, pos, ◌+ℤ◌, ◌-ℤ◌, Bool, true, false, ◌&&◌, ◌||◌, cond, int_le, int_lt, int_div, Option, Some, None}
 use Rattle.std.specs.Ordering.{int_eq}
-use Rattle.semantics.specs.Word.{Kind, Int, Uint}
+use Rattle.semantics.specs.Word.{Kind, Int, Uint, Size}
 use Rattle.linear.specs.Exact.{sum, multiple, fits}
 use Rattle.facts.specs.Symbols.{Fact, constant, minus}
 use Rattle.facts.specs.Elements.{between, is_from_zero}
@@ -29,6 +29,7 @@ bits_from s k x (suc b) st go = quotient s k x (pos (2 ^ suc b)) st (λ q r st'.
 abbrev pub is_upper : Kind → (lowest : ℕ) → ℤ → Bool
 is_upper Int b c = int_eq (c +ℤ pos (2 ^ b)) (pos 0)
 is_upper Uint b c = int_eq (c +ℤ pos (2 ^ b)) (pos 4294967296)
+is_upper Size b c = int_eq (c +ℤ pos (2 ^ b)) (pos 4294967296)
 
 abbrev pub is_run : Kind → (lowest : ℕ) → ℤ → Bool
 is_run k b c = is_upper k b c || (int_lt (pos 0) c && is_power 31 (c +ℤ pos (2 ^ b)))

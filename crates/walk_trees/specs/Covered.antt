@@ -1,11 +1,18 @@
 -- The terms that the walk covers.
 use Rattle.std.specs.Prelude.{Bool, true, false, ◌&&◌, nat_lt}
-use Rattle.semantics.specs.Word.{Kind, Int, Uint, in_kind, UnaryOperator, Negate, Complement, ShiftLeft, ShiftRight}
+use Rattle.semantics.specs.Word.{Kind, Int, Uint, Size, in_kind, UnaryOperator, Negate, Complement, ShiftLeft, ShiftRight}
 use Rattle.semantics.specs.Core.{Space, Term, Literal, Variable, Id, Load, Unary, Binary, Convert, Compare, Not, And, Or, Select, Minimum, Maximum}
 
 abbrev pub is_uint : Kind → Bool
 is_uint Int = false
 is_uint Uint = true
+is_uint Size = false
+
+-- the kinds of ids: they are numbers of 32 bits
+abbrev pub is_id_kind : Kind → Bool
+is_id_kind Int = false
+is_id_kind Uint = true
+is_id_kind Size = true
 
 -- a shift is by 0 to 31, and of a `uint`
 abbrev pub is_covered_unary : UnaryOperator → Kind → Bool
@@ -18,7 +25,7 @@ is_covered_unary (ShiftRight by) k = nat_lt by 32 && is_uint k
 abbrev pub covers_term : (spaces : Space → Bool) → Term → Bool
 covers_term sp (Literal k z) = in_kind k z
 covers_term sp (Variable x) = true
-covers_term sp (Id f d) = true
+covers_term sp (Id k f d) = is_id_kind k
 covers_term sp (Load a site i) = sp a.space && covers_term sp i
 covers_term sp (Unary op k site e) = is_covered_unary op k && covers_term sp e
 covers_term sp (Binary op k site a b) = covers_term sp a && covers_term sp b

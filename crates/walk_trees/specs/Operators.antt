@@ -1,6 +1,6 @@
 -- The forms of operators, of operands that have been brought to one kind.
 use Rattle.std.specs.Prelude.{ℕ, ◌+◌, ◌^◌, ℤ, pos, negsuc, ◌+ℤ◌, [], ◌∷◌, Bool, true, false, not, ◌&&◌, ◌||◌, cond, int_lt, nat_le, length, Option, Some, None}
-use Rattle.semantics.specs.Word.{Kind, Int, Uint, Operator, Add, Subtract, Multiply, Divide, Remainder, BitAnd, BitOr, BitXor, UnaryOperator, Negate, Complement, ShiftLeft, ShiftRight}
+use Rattle.semantics.specs.Word.{Kind, Int, Uint, Size, Operator, Add, Subtract, Multiply, Divide, Remainder, BitAnd, BitOr, BitXor, UnaryOperator, Negate, Complement, ShiftLeft, ShiftRight}
 use Rattle.linear.specs.Exact.{Terms, sum, multiple}
 use Rattle.linear.specs.Products.{and_then, product as form_product}
 use Rattle.domain.specs.declared.Bounds.{Bounds}
@@ -57,6 +57,7 @@ quotient_goal x y = Either y (minus x (constant (negsuc 2147483646)))
 
 abbrev pub claim_quotient : {E : Type 0} → Setting E → Kind → (dividend divisor : Fact) → State E → (State E → Tree E) → Tree E
 claim_quotient s Uint x y st go = go st
+claim_quotient s Size x y st go = go st
 claim_quotient s Int x y st go = claim OfQuotient true (lacks (bounds_of s st y) (negsuc 0) || lacks (bounds_of s st x) (negsuc 2147483647)) (quotient_goal x y) st go
 
 abbrev pub claim_divisor : {E : Type 0} → Setting E → Kind → (dividend divisor : Fact) → State E → (State E → Tree E) → Tree E
@@ -91,10 +92,11 @@ abbrev pub remaining : {E : Type 0} → Setting E → Bool → Kind → (dividen
 remaining s true k x y st go = left_by s k x y.constant st go
 remaining s false k x y st go = share s k x y st (λ q st'. left_or_new s q x y st' go)
 
--- the lowest bits of a `uint`; in the wide walk those of an `int`, too
+-- the lowest bits of a `uint` or a size; in the wide walk those of an `int`, too
 abbrev pub is_mask : (is_wide : Bool) → Kind → Fact → Bool
 is_mask w Int y = w && (is_number y && is_power 31 (y.constant +ℤ pos 1))
 is_mask w Uint y = is_number y && is_power 32 (y.constant +ℤ pos 1)
+is_mask w Size y = is_number y && is_power 32 (y.constant +ℤ pos 1)
 
 abbrev pub are_from_zero : {E : Type 0} → Setting E → State E → Fact → Fact → Bool
 are_from_zero s st x y = is_from_zero (bounds_of s st x).low && is_from_zero (bounds_of s st y).low
@@ -136,10 +138,12 @@ binary s BitXor k x y st go = known_operands s BitXor k x y st go
 abbrev pub complement : Kind → Fact → Fact
 complement Int f = minus (constant (negsuc 0)) f
 complement Uint f = minus (constant (pos 4294967295)) f
+complement Size f = minus (constant (negsuc 0)) f
 
--- of a `uint` the quotient
+-- of a `uint` or a size the quotient
 abbrev pub shifted : {E : Type 0} → Setting E → (from to : Kind) → Fact → ℕ → State E → Onward E → Tree E
 shifted s Uint k f by st go = quotient s k f (pos (2 ^ by)) st (λ q r st'. go (value k q) st')
+shifted s Size k f by st go = quotient s k f (pos (2 ^ by)) st (λ q r st'. go (value k q) st')
 shifted s Int k f by st go = unknown s k st go
 
 abbrev pub unary : {E : Type 0} → Setting E → UnaryOperator → Kind → Value → State E → Onward E → Tree E

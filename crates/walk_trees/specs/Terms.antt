@@ -1,6 +1,6 @@
 -- The walk of a term, as a value and as a test.
 use Rattle.std.specs.Prelude.{ℕ, pos, List, [], ◌∷◌, Bool, true, false, not, ◌&&◌, cond, nat_lt, slice_index_or}
-use Rattle.semantics.specs.Word.{Kind, Int, Uint, Less}
+use Rattle.semantics.specs.Word.{Kind, Int, Less}
 use Rattle.semantics.specs.Memory.{no_array}
 use Rattle.semantics.specs.Core.{Space, Global, Local, Array, Site, Function, GlobalId, LocalId, GroupId, GlobalSize, LocalSize, NumGroups, Term, Literal, Variable, Id, Load, Unary, Binary, Convert, Compare, Not, And, Or, Select, Minimum, Maximum}
 use Rattle.semantics.specs.Setup.{along}
@@ -123,7 +123,7 @@ pick s g x y second first st go = cond (is_joined_pick s x y st) (pick_joined s 
 abbrev pub walk : {E : Type 0} → Setting E → Term → Walks E
 walk s (Literal k z) = by_value s (λ st go. go (value k (constant z)) st)
 walk s (Variable x) = by_value s (λ st go. go (variable st x) st)
-walk s (Id f d) = by_value s (λ st go. go (value Uint (id_form s f d)) st)
+walk s (Id k f d) = by_value s (λ st go. go (value k (id_form s f d)) st)
 walk s (Load a site i) = by_value s (λ st go. (walk s i).value st (λ x st1. load s a site x.form st1 go))
 walk s (Unary op k site e) = by_value s (λ st go. (walk s e).value st (λ x st1. unary s op k x (at_site site st1) go))
 walk s (Binary op k site a b) = by_value s (λ st go.

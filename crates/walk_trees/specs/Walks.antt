@@ -1,7 +1,7 @@
 -- The steps of a walk: claims, facts, new symbols, and the ranges of kinds. A walk is written with what goes on from its form.
 use Rattle.std.specs.Prelude.{ℕ, suc, ◌+◌, ℤ, pos, negsuc, List, [], ◌∷◌, length, Bool, true, false, ◌&&◌, ◌||◌, Option, Some, None, int_lt, cond, nat_eq}
 use Rattle.std.specs.Ordering.{int_eq}
-use Rattle.semantics.specs.Word.{Kind, Int, Uint}
+use Rattle.semantics.specs.Word.{Kind, Int, Uint, Size}
 use Rattle.semantics.specs.Core.{Site}
 use Rattle.semantics.specs.Launch.{Three, LocalArray}
 use Rattle.linear.specs.Exact.{fits, fits_i64}
@@ -132,10 +132,12 @@ invent s e st go = know_all (bound_facts (newest st) (s.domain.bounds_of e)) (go
 abbrev pub least : Kind → ℤ
 least Int = negsuc 2147483647
 least Uint = pos 0
+least Size = pos 0
 
 abbrev pub greatest : Kind → ℤ
 greatest Int = pos 2147483647
 greatest Uint = pos 4294967295
+greatest Size = pos 4294967295
 
 -- any number of a kind
 abbrev pub any_of : {E : Type 0} → Ghosts E → Kind → E
@@ -163,16 +165,22 @@ abbrev pub kept_or_new : {E : Type 0} → Setting E → Bool → Fact → State 
 kept_or_new s true f st go = go (value Uint f) st
 kept_or_new s false f st go = unknown s Uint st go
 
--- an exact result in its kind: of an `int` both ends are to be shown, a `uint` of which they are not kept has wrapped
+-- an exact result in its kind: of an `int` and of a size both ends are to be shown, a `uint` of which they are not kept has wrapped
 abbrev pub ranged : {E : Type 0} → Setting E → Kind → Fact → State E → Onward E → Tree E
 ranged s Int f st go = in_range s true Int f st (λ st'. go (value Int f) st')
 ranged s Uint f st go = in_range s (is_kept s f st) Uint f st (λ st'. kept_or_new s (is_kept s f st) f st' go)
+ranged s Size f st go = in_range s true Size f st (λ st'. go (value Size f) st')
 
 abbrev pub brought_from : {E : Type 0} → Setting E → (to from : Kind) → Fact → State E → Onward E → Tree E
 brought_from s Int Int f st go = go (value Int f) st
 brought_from s Int Uint f st go = ranged s Int f st go
 brought_from s Uint Int f st go = ranged s Uint f st go
 brought_from s Uint Uint f st go = go (value Uint f) st
+brought_from s Int Size f st go = ranged s Int f st go
+brought_from s Uint Size f st go = go (value Uint f) st
+brought_from s Size Int f st go = ranged s Size f st go
+brought_from s Size Uint f st go = go (value Size f) st
+brought_from s Size Size f st go = go (value Size f) st
 
 -- a value brought to a kind
 abbrev pub brought : {E : Type 0} → Setting E → Kind → Value → State E → Onward E → Tree E

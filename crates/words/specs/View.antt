@@ -11,15 +11,18 @@ use Rattle.words.specs.declared.word.Fault.TheVariants as faults
 abbrev pub kind : Kind → semantics.Kind
 kind kinds.Int = semantics.Int
 kind kinds.Uint = semantics.Uint
+kind kinds.Size = semantics.Size
 
 -- a word's kind and number
 abbrev pub kind_of : Word → semantics.Kind
 kind_of (words.Int z) = semantics.Int
 kind_of (words.Uint n) = semantics.Uint
+kind_of (words.Size n) = semantics.Size
 
 abbrev pub value_of : Word → ℤ
 value_of (words.Int z) = z
 value_of (words.Uint n) = pos n
+value_of (words.Size n) = pos n
 
 abbrev pub word : Word → semantics.Word
 word w = semantics.word (kind_of w) (value_of w)

@@ -1,5 +1,5 @@
 // Words, and the operations on them.
-ghost use Rattle.std.specs.Prelude.{◌≡◌, ◌≤◌, ◌<◌, ◌^◌, Ok};
+ghost use Rattle.std.specs.Prelude.{◌≡◌, ◌≤◌, ◌<◌, ◌^◌, Ok, pos};
 ghost use Rattle.semantics.specs.Word as semantics;
 ghost use Rattle.words.specs.View.{kind, kind_of, value_of, word, number_of, seen};
 
@@ -10,6 +10,8 @@ pub enum Kind {
     Int,
     /// Unsigned: 0 to 4294967295.
     Uint,
+    /// Ids and sizes, and what is computed of them (`size_t`): 0 to 4294967295, and no result wraps.
+    Size,
 }
 
 /// A number of a kind.
@@ -17,6 +19,7 @@ pub enum Kind {
 pub enum Word {
     Int(i32),
     Uint(u32),
+    Size(u32),
 }
 
 /// The faults that no step of a kernel may make. C99 leaves each undefined, but for the conversion, which is up to the compiler.
@@ -46,6 +49,7 @@ impl Word {
         match self {
             Word::Int(_) => Kind::Int,
             Word::Uint(_) => Kind::Uint,
+            Word::Size(_) => Kind::Size,
         }
     }
 
@@ -55,7 +59,7 @@ impl Word {
     {
         match self {
             Word::Int(value) => value as i64,
-            Word::Uint(value) => value as i64,
+            Word::Uint(value) | Word::Size(value) => value as i64,
         }
     }
 
@@ -65,7 +69,7 @@ impl Word {
     {
         match self {
             Word::Int(value) => value.cast_unsigned(),
-            Word::Uint(value) => value,
+            Word::Uint(value) | Word::Size(value) => value,
         }
     }
 
@@ -76,26 +80,30 @@ impl Word {
         match to {
             Kind::Int => Word::Int(bits.cast_signed()),
             Kind::Uint => Word::Uint(bits),
+            Kind::Size => Word::Size(bits),
         }
     }
 }
 
-/// An exact result in its kind: modulo 2^32 (C99 6.2.5), or an overflow where `int` lacks it (6.5).
+/// An exact result in its kind: `uint` modulo 2^32 (C99 6.2.5), or an overflow where `int` lacks it (6.5) or a size would wrap (ours).
 pub fn settle(to: Kind, exact: i64) -> Result<Word, Fault>
-    ensures { seen result ≡ semantics.settle (kind to) exact }
+    ensures { seen result ≡ semantics.settle semantics.Exact (kind to) exact }
 {
     match to {
         Kind::Int => i32::try_from(exact)
             .map(Word::Int)
             .map_err(|_| Fault::Overflow),
         Kind::Uint => Ok(Word::Uint(exact.rem_euclid(1 << 32) as u32)),
+        Kind::Size => u32::try_from(exact)
+            .map(Word::Size)
+            .map_err(|_| Fault::Overflow),
     }
 }
 
 /// The sum (C99 6.5.6).
 pub fn add(a: Word, b: Word) -> Result<Word, Fault>
     requires { kind_of a ≡ kind_of b }
-    ensures { seen result ≡ semantics.calculate semantics.Add (kind_of a) (value_of a) (value_of b) }
+    ensures { seen result ≡ semantics.calculate semantics.Add semantics.Exact (kind_of a) (value_of a) (value_of b) }
 {
     settle(a.kind(), a.value() + b.value())
 }
@@ -103,7 +111,7 @@ pub fn add(a: Word, b: Word) -> Result<Word, Fault>
 /// The difference (C99 6.5.6).
 pub fn sub(a: Word, b: Word) -> Result<Word, Fault>
     requires { kind_of a ≡ kind_of b }
-    ensures { seen result ≡ semantics.calculate semantics.Subtract (kind_of a) (value_of a) (value_of b) }
+    ensures { seen result ≡ semantics.calculate semantics.Subtract semantics.Exact (kind_of a) (value_of a) (value_of b) }
 {
     settle(a.kind(), a.value() - b.value())
 }
@@ -111,11 +119,15 @@ pub fn sub(a: Word, b: Word) -> Result<Word, Fault>
 /// The product (C99 6.5.5).
 pub fn mul(a: Word, b: Word) -> Result<Word, Fault>
     requires { kind_of a ≡ kind_of b }
-    ensures { seen result ≡ semantics.calculate semantics.Multiply (kind_of a) (value_of a) (value_of b) }
+    ensures { seen result ≡ semantics.calculate semantics.Multiply semantics.Exact (kind_of a) (value_of a) (value_of b) }
 {
     match (a, b) {
         (Word::Int(a), Word::Int(b)) => settle(Kind::Int, a as i64 * b as i64),
         (Word::Uint(a), Word::Uint(b)) => Ok(Word::Uint(a.wrapping_mul(b))),
+        (Word::Size(a), Word::Size(b)) => match a.checked_mul(b) {
+            Some(product) => Ok(Word::Size(product)),
+            None => Err(Fault::Overflow),
+        },
         _ => unreachable!(),
     }
 }
@@ -123,7 +135,7 @@ pub fn mul(a: Word, b: Word) -> Result<Word, Fault>
 /// The quotient, rounded toward zero (C99 6.5.5).
 pub fn div(a: Word, b: Word) -> Result<Word, Fault>
     requires { kind_of a ≡ kind_of b }
-    ensures { seen result ≡ semantics.calculate semantics.Divide (kind_of a) (value_of a) (value_of b) }
+    ensures { seen result ≡ semantics.calculate semantics.Divide semantics.Exact (kind_of a) (value_of a) (value_of b) }
 {
     if b.value() == 0 {
         return Err(Fault::DivisionByZero);
@@ -131,19 +143,53 @@ pub fn div(a: Word, b: Word) -> Result<Word, Fault>
     settle(a.kind(), a.value() / b.value())
 }
 
+/// The remainder of two `int`s, with the sign of `a`; an overflow where the quotient is one (C99 6.5.5).
+fn rem_of_ints(a: Word, b: Word) -> Result<Word, Fault>
+    requires first { kind_of a ≡ semantics.Int }
+    requires second { kind_of b ≡ semantics.Int }
+    ensures { seen result ≡ semantics.calculate semantics.Remainder semantics.Exact semantics.Int (value_of a) (value_of b) }
+{
+    let _quotient = div(a, b)?;
+    settle(Kind::Int, a.value() % b.value())
+}
+
+/// The remainder of two `uint`s (C99 6.5.5).
+fn rem_of_uints(a: u32, b: u32) -> Result<Word, Fault>
+    ensures { seen result ≡ semantics.calculate semantics.Remainder semantics.Exact semantics.Uint (pos a) (pos b) }
+{
+    match a.checked_rem(b) {
+        Some(rest) => Ok(Word::Uint(rest)),
+        None => Err(Fault::DivisionByZero),
+    }
+}
+
+/// The remainder of two sizes (C99 6.5.5).
+fn rem_of_sizes(a: u32, b: u32) -> Result<Word, Fault>
+    ensures { seen result ≡ semantics.calculate semantics.Remainder semantics.Exact semantics.Size (pos a) (pos b) }
+{
+    match a.checked_rem(b) {
+        Some(rest) => Ok(Word::Size(rest)),
+        None => Err(Fault::DivisionByZero),
+    }
+}
+
 /// The remainder, with the sign of `a`; an overflow where the quotient is one (C99 6.5.5).
 pub fn rem(a: Word, b: Word) -> Result<Word, Fault>
     requires { kind_of a ≡ kind_of b }
-    ensures { seen result ≡ semantics.calculate semantics.Remainder (kind_of a) (value_of a) (value_of b) }
+    ensures { seen result ≡ semantics.calculate semantics.Remainder semantics.Exact (kind_of a) (value_of a) (value_of b) }
 {
-    let _quotient = div(a, b)?;
-    settle(a.kind(), a.value() % b.value())
+    match (a, b) {
+        (Word::Int(_), Word::Int(_)) => rem_of_ints(a, b),
+        (Word::Uint(a), Word::Uint(b)) => rem_of_uints(a, b),
+        (Word::Size(a), Word::Size(b)) => rem_of_sizes(a, b),
+        _ => unreachable!(),
+    }
 }
 
 /// The bits that both have (C99 6.5.10).
 pub fn bit_and(a: Word, b: Word) -> Result<Word, Fault>
     requires { kind_of a ≡ kind_of b }
-    ensures { seen result ≡ semantics.calculate semantics.BitAnd (kind_of a) (value_of a) (value_of b) }
+    ensures { seen result ≡ semantics.calculate semantics.BitAnd semantics.Exact (kind_of a) (value_of a) (value_of b) }
 {
     Ok(Word::from_bits(a.kind(), a.bits() & b.bits()))
 }
@@ -151,7 +197,7 @@ pub fn bit_and(a: Word, b: Word) -> Result<Word, Fault>
 /// The bits that either has (C99 6.5.12).
 pub fn bit_or(a: Word, b: Word) -> Result<Word, Fault>
     requires { kind_of a ≡ kind_of b }
-    ensures { seen result ≡ semantics.calculate semantics.BitOr (kind_of a) (value_of a) (value_of b) }
+    ensures { seen result ≡ semantics.calculate semantics.BitOr semantics.Exact (kind_of a) (value_of a) (value_of b) }
 {
     Ok(Word::from_bits(a.kind(), a.bits() | b.bits()))
 }
@@ -159,7 +205,7 @@ pub fn bit_or(a: Word, b: Word) -> Result<Word, Fault>
 /// The bits that just one has (C99 6.5.11).
 pub fn bit_xor(a: Word, b: Word) -> Result<Word, Fault>
     requires { kind_of a ≡ kind_of b }
-    ensures { seen result ≡ semantics.calculate semantics.BitXor (kind_of a) (value_of a) (value_of b) }
+    ensures { seen result ≡ semantics.calculate semantics.BitXor semantics.Exact (kind_of a) (value_of a) (value_of b) }
 {
     Ok(Word::from_bits(a.kind(), a.bits() ^ b.bits()))
 }
@@ -174,23 +220,26 @@ pub fn less(a: Word, b: Word) -> Result<Word, Fault>
 
 /// The negative (C99 6.5.3.3).
 pub fn neg(w: Word) -> Result<Word, Fault>
-    ensures { seen result ≡ semantics.calculate_unary semantics.Negate (kind_of w) (value_of w) }
+    ensures { seen result ≡ semantics.calculate_unary semantics.Negate semantics.Exact (kind_of w) (value_of w) }
 {
     settle(w.kind(), -w.value())
 }
 
-/// The complement of each bit (C99 6.5.3.3).
+/// The complement of each bit (C99 6.5.3.3); of a size, which has more bits than 32 or as many, an overflow (ours).
 pub fn not(w: Word) -> Result<Word, Fault>
-    ensures { seen result ≡ semantics.calculate_unary semantics.Complement (kind_of w) (value_of w) }
+    ensures { seen result ≡ semantics.calculate_unary semantics.Complement semantics.Exact (kind_of w) (value_of w) }
 {
-    Ok(Word::from_bits(w.kind(), !w.bits()))
+    match w {
+        Word::Int(_) | Word::Uint(_) => Ok(Word::from_bits(w.kind(), !w.bits())),
+        Word::Size(_) => Err(Fault::Overflow),
+    }
 }
 
 /// `w` times 2^k (C99 6.5.7; OpenCL 1.2, 6.3).
 pub fn shl(w: Word, k: u32) -> Result<Word, Fault>
     requires unsigned { kind_of w ≡ semantics.Uint }
     requires count { k ≤ 31 }
-    ensures { seen result ≡ semantics.calculate_unary (semantics.ShiftLeft k) (kind_of w) (value_of w) }
+    ensures { seen result ≡ semantics.calculate_unary (semantics.ShiftLeft k) semantics.Exact (kind_of w) (value_of w) }
 {
     Ok(Word::Uint(w.bits() << k))
 }
@@ -199,14 +248,14 @@ pub fn shl(w: Word, k: u32) -> Result<Word, Fault>
 pub fn shr(w: Word, k: u32) -> Result<Word, Fault>
     requires unsigned { kind_of w ≡ semantics.Uint }
     requires count { k ≤ 31 }
-    ensures { seen result ≡ semantics.calculate_unary (semantics.ShiftRight k) (kind_of w) (value_of w) }
+    ensures { seen result ≡ semantics.calculate_unary (semantics.ShiftRight k) semantics.Exact (kind_of w) (value_of w) }
 {
     Ok(Word::Uint(w.bits() >> k))
 }
 
-/// The word's number in a kind: modulo 2^32 in `Uint`, an overflow where `Int` lacks it (C99 6.3.1.3).
+/// The word's number in a kind: modulo 2^32 in `Uint`, an overflow where `Int` or `Size` lacks it (C99 6.3.1.3).
 pub fn convert(w: Word, to: Kind) -> Result<Word, Fault>
-    ensures { seen result ≡ semantics.convert (kind to) (value_of w) }
+    ensures { seen result ≡ semantics.convert semantics.Exact (kind to) (value_of w) }
 {
     settle(to, w.value())
 }

@@ -1,7 +1,7 @@
 -- Proper kernels: each value of a term is a word of 32 bits, and all work-items of a launch have numbers of 64 bits. Those which are read
 -- from a text are proper (`sound_kernels`); of others `is_proper` tests it.
 use Rattle.std.specs.Prelude.{ℕ, List, [], ◌∷◌, Bool, true, false, ◌&&◌, nat_le, nat_lt}
-use Rattle.semantics.specs.Word.{Kind, Int, Uint, UnaryOperator, Negate, Complement, ShiftLeft, ShiftRight, in_kind}
+use Rattle.semantics.specs.Word.{Kind, Int, Uint, Size, UnaryOperator, Negate, Complement, ShiftLeft, ShiftRight, in_kind}
 use Rattle.semantics.specs.Core.{Term, Literal, Variable, Id, Load, Unary, Binary, Convert, Compare, Not, And, Or, Select, Minimum, Maximum, Statement, Set, Store, If, Loop, Barrier, Return, Break, Continue, Statements, none, one}
 use Rattle.semantics.specs.Launch.{Three, product, Kernel}
 use Rattle.semantics.specs.Item.{Entry}
@@ -10,6 +10,13 @@ use Rattle.semantics.specs.Item.{Entry}
 abbrev pub is_shift : Kind → ℕ → Bool
 is_shift Int by = false
 is_shift Uint by = nat_le by 31
+is_shift Size by = false
+
+-- an id is a number of 32 bits, and an `int` need not have it
+abbrev pub is_id_kind : Kind → Bool
+is_id_kind Int = false
+is_id_kind Uint = true
+is_id_kind Size = true
 
 abbrev pub is_proper_unary : UnaryOperator → Kind → Bool
 is_proper_unary Negate k = true
@@ -20,7 +27,7 @@ is_proper_unary (ShiftRight by) k = is_shift k by
 abbrev pub is_proper_term : Term → Bool
 is_proper_term (Literal k z) = in_kind k z
 is_proper_term (Variable x) = true
-is_proper_term (Id f d) = true
+is_proper_term (Id k f d) = is_id_kind k
 is_proper_term (Load a site index) = is_proper_term index
 is_proper_term (Unary op k site e) = is_proper_unary op k && is_proper_term e
 is_proper_term (Binary op k site a b) = is_proper_term a && is_proper_term b

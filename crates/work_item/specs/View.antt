@@ -3,7 +3,7 @@ use Rattle.std.specs.Prelude.{◌≡◌, ◌≤◌, ◌+◌, ◌*◌, ℕ, map, 
 use Rattle.semantics.specs.Core as core
 use Rattle.semantics.specs.Launch.{Three}
 use Rattle.semantics.specs.Setup as setup
-use Rattle.semantics.specs.Setup.{Setup}
+use Rattle.semantics.specs.Setup.{Setup, at_launch}
 use Rattle.semantics.specs.Evaluation.{Outcome, Gives, Needs, Faults}
 use Rattle.words.specs.View.{word, fault}
 use Rattle.core_code.specs.View.{kernel, array, site}
@@ -17,7 +17,7 @@ use Rattle.work_item.specs.declared.evaluation.Stop.{Stop}
 use Rattle.work_item.specs.declared.evaluation.Stop.TheVariants as stops
 
 abbrev pub setup_of : Core → Launch → Setup
-setup_of c l = record { kernel = kernel c; launch = launch l }
+setup_of c l = at_launch (kernel c) (launch l)
 
 -- an item's ids along a dimension, with the sizes there
 pub record Ids : Type 0 where

@@ -11,7 +11,7 @@ ghost use Rattle.work_item.specs.Proper.{is_proper_term};
 ghost use Rattle.work_item.specs.View.{setup_at, ids, ids_of, IsItem, outcome};
 
 use crate::dimension::Dimension;
-use crate::operations::{literal, operate, unary};
+use crate::operations::{id_word, literal, operate, unary};
 use core_code::tree::{Array, Core, Site, Space, Term};
 use launch::launches::Launch;
 use words::{Fault, Kind, Word, convert, is_zero, larger, read_as, smaller, truth};
@@ -74,7 +74,7 @@ pub fn index_within(length: usize, word: Word) -> Option<u32>
     ensures { MatchOption result (within length (value_of word) ≡ Outside) (λ k. within length (value_of word) ≡ At k) }
 {
     let index = match word {
-        Word::Uint(index) => index,
+        Word::Uint(index) | Word::Size(index) => index,
         Word::Int(index) if index >= 0 => index as u32,
         Word::Int(_) => return None,
     };
@@ -171,10 +171,11 @@ impl<'a> Identity<'a> {
                 rest: answers,
             }),
             Term::Id {
+                kind,
                 function,
                 dimension,
             } => Ok(Value {
-                word: Word::Uint(self.along(*dimension).id(*function)),
+                word: id_word(*kind, self.along(*dimension).id(*function)),
                 rest: answers,
             }),
             Term::Load { array, site, index } => {

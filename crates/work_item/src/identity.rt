@@ -38,7 +38,7 @@ pub fn product_of(counts: Counts) -> u64
 #[tactic(auto, unfolding(semantics::specs::Setup::group_size))]
 pub fn group_size(core: &Core) -> u64
     requires { are_sizes (kernel_seen core.now).sizes ≡ true }
-    ensures value { (l : launches.Launch) → result ≡ setup.group_size (record { kernel = kernel_seen core.now; launch = l }) }
+    ensures value { (l : launches.Launch) → result ≡ setup.group_size (setup.at_launch (kernel_seen core.now) l) }
     ensures small { result ≤ 1024 }
     ensures some { 0 < result }
 {

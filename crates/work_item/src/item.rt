@@ -58,6 +58,7 @@ fn zero(kind: Kind) -> Word
     match kind {
         Kind::Int => Word::Int(0),
         Kind::Uint => Word::Uint(0),
+        Kind::Size => Word::Size(0),
     }
 }
 

@@ -15,7 +15,9 @@ fn is_proper_unary(operator: UnaryOperator, kind: Kind) -> bool
     match (operator, kind) {
         (UnaryOperator::Negate | UnaryOperator::Complement, _) => true,
         (UnaryOperator::ShiftLeft(by) | UnaryOperator::ShiftRight(by), Kind::Uint) => by <= 31,
-        (UnaryOperator::ShiftLeft(_) | UnaryOperator::ShiftRight(_), Kind::Int) => false,
+        (UnaryOperator::ShiftLeft(_) | UnaryOperator::ShiftRight(_), Kind::Int | Kind::Size) => {
+            false
+        }
     }
 }
 
@@ -24,7 +26,16 @@ fn is_proper_literal(kind: Kind, value: u32) -> bool
 {
     match kind {
         Kind::Int => value < 1 << 31,
-        Kind::Uint => true,
+        Kind::Uint | Kind::Size => true,
+    }
+}
+
+fn is_id_kind(kind: Kind) -> bool
+    ensures { result ≡ specs.is_id_kind (kind_seen kind) }
+{
+    match kind {
+        Kind::Int => false,
+        Kind::Uint | Kind::Size => true,
     }
 }
 
@@ -33,7 +44,8 @@ fn is_proper_term(term: &Term) -> bool
 {
     match term {
         Term::Literal { kind, value } => is_proper_literal(*kind, *value),
-        Term::Variable { .. } | Term::Id { .. } => true,
+        Term::Variable { .. } => true,
+        Term::Id { kind, .. } => is_id_kind(*kind),
         Term::Load { index, .. } => is_proper_term(index),
         Term::Unary {
             operator,
@@ -115,8 +127,8 @@ fn are_sizes(sizes: &[u32; 3]) -> bool
     x <= 1024 && y <= 1024 && z <= 1024 && 0 < x * y * z && x * y * z <= 1024
 }
 
-/// Whether a kernel is proper: each literal is a number of its kind, no shift is by more than 31 or of an `int`, and a group has 1 to
-/// 1,024 work-items.
+/// Whether a kernel is proper: each literal is a number of its kind, no id is an `int`, each shift is of a `uint` and by 31 at most, and
+/// a group has 1 to 1,024 work-items.
 pub fn is_proper(core: &Core) -> bool
     ensures { result ≡ specs.is_proper (kernel_seen core.now) }
 {

@@ -1,12 +1,11 @@
 -- Lists of entries in rising order: one more at the end, a map of them, and what a search by halves finds.
-use Rattle.std.proofs.Common.{◌≡◌, ◌<◌, ◌≤◌, ◌+◌, ◌-◌, ℕ, List, [], ◌∷◌, ◌++◌, Bool, true, false, ◌&&◌, cond, Result, Ok, Err, refl, sym, ap, ◌∙◌, subst, arith, nat_eq, nat_lt, length, get_or, slice_get, length-append}
+use Rattle.std.proofs.Common.{◌≡◌, ◌<◌, ◌≤◌, ◌+◌, ◌-◌, ℕ, List, [], ◌∷◌, ◌++◌, Bool, true, false, ◌&&◌, cond, refl, sym, ap, ◌∙◌, subst, arith, nat_eq, nat_lt, length, get_or, slice_get, length-append}
 use Rattle.std.specs.Prelude.{Some, None}
 use Rattle.std.specs.BTreeMap.{is_at}
-use Rattle.std.specs.List.Sorted.{IsStrictlySortedBy, IsNonDecreasingBy, IsPartitionPoint, IsBinarySearchResult, IsSearchInRange}
+use Rattle.std.specs.List.Sorted.{IsStrictlySortedBy}
 use Rattle.std.specs.Map.{lookup, keys_of, update_all}
 use Rattle.std.specs.Option.{option_map}
-use Rattle.std.specs.Ordering.{nat_cmp, eq_by_cmp, is_lt, ordering_index, ordering_reverse}
-use Rattle.std.specs.Result.{MatchResult}
+use Rattle.std.specs.Ordering.{eq_by_cmp, is_lt}
 use Rattle.std.specs.declared.cmp.Ordering.{Ordering}
 use Rattle.std.specs.declared.cmp.Ordering.TheVariants.{Less, Equal, Greater}
 use Rattle.std.proofs.Math.ListN as lists
@@ -14,13 +13,11 @@ use Rattle.std.proofs.Math.Seq.{get_or-append_seam}
 use Rattle.std.proofs.lemmas.Bool.Decides.{nat_tests}
 use Rattle.std.proofs.lemmas.Cmp.{eq_by_cmp_equiv}
 use Rattle.std.proofs.lemmas.List.{map-append}
-use Rattle.std.proofs.lemmas.List.Sorted.{searchable_from_sorted}
 use Rattle.std.proofs.lemmas.Map.{update_all_push}
-use Rattle.std.proofs.lemmas.Map.Entries.{lookup_from_place, lookup_at_gap, length-keys_of}
+use Rattle.std.proofs.lemmas.Map.Entries.{length-keys_of}
 use Rattle.std.proofs.lemmas.Map.Keys.{IsDistinct-from_sorted, Less-from_sorted, sorted_from_all_adjacent}
-use Rattle.std.proofs.lemmas.Map.Lookups.{exact_pairs, exact_unsigned}
 use Rattle.std.proofs.lemmas.Map.Made.{update_all_none}
-use Rattle.std.proofs.lemmas.Option.{get_or_from_slice_get, slice_get-get_or, slice_get_within}
+use Rattle.std.proofs.lemmas.Option.{get_or_from_slice_get}
 use Rattle.words.specs.View.{value_of}
 use Rattle.words.specs.declared.word.Word.{Word}
 use Rattle.write_log.specs.Elements.{Entry, by_element, found}
@@ -53,7 +50,7 @@ lookup-pushed es k w s t q =
 pub found-pushed : (es fs : List Entry) (k : ℕ × ℕ) (w : Word) → IsStrictlySortedBy by_element (keys_of es) → IsStrictlySortedBy by_element (keys_of es ++ k ∷ []) → fs ≡ es ++ (k, w) ∷ [] → (b i : ℕ) → found fs b i ≡ cond (nat_eq b k.0 && nat_eq i k.1) (Some (value_of w)) (found es b i)
 found-pushed es fs k w s t e = found-updated es fs k w (λ q. ap (lookup (is_at (by_element q))) e ∙ lookup-pushed es k w s t q)
 
-is_less : (o : Ordering) → is_lt o ≡ true → o ≡ Less
+pub is_less : (o : Ordering) → is_lt o ≡ true → o ≡ Less
 is_less Less h = refl
 is_less Equal h = cc
 is_less Greater h = cc
@@ -87,47 +84,7 @@ rises-entry es e k s last less =
     ∙ ap (λ (x : Entry). x.0) (get_or_from_slice_get es (length es - 1) e ((0, 0), e.1) (sym last)))
     (is_less (by_element e.0 k) less)
 
--- the same of an empty list, which has no last one
-pub rises-first : (es : List Entry) (k : ℕ × ℕ) → None ≡ slice_get es (length es - 1) → IsStrictlySortedBy by_element (keys_of es ++ k ∷ [])
+-- one element alone
+pub rises-alone : (k : ℕ × ℕ) → IsStrictlySortedBy by_element (k ∷ [])
 unfolding IsStrictlySortedBy
-rises-first [] k h = (tt, tt)
-rises-first (e ∷ es) k h =
-    absurd (by (length (e ∷ es) - 1) (omega arith) h)
-  where
-    by : (n : ℕ) → n < length (e ∷ es) → None ≡ slice_get (e ∷ es) n → ⊥
-    by n l h = let g = slice_get-get_or (e ∷ es) n e l in cc
-
--- a search by halves for an element
-module _ (es : List Entry) (s : IsStrictlySortedBy by_element (keys_of es)) (q : ℕ × ℕ) where
-  turned : (x y : ℕ × ℕ) (o : Ordering) → by_element x y ≡ o → by_element y x ≡ ordering_reverse o
-  turned x y o h = order.antisymm y x ∙ ap ordering_reverse h
-
-  key_at : (i : ℕ) (d : Entry) → get_or (keys_of es) i d.0 ≡ (get_or es i d).0
-  key_at i d = lists.get_or-map (λ (x : Entry). x.0) es i d
-
-  next_above : (i : ℕ) (d : Entry) → i + 1 < length es → is_lt (by_element (get_or es (i + 1) d).0 (get_or es i d).0) ≡ false
-  next_above i d l =
-      let less = Less-from_sorted by_element (keys_of es) i (i + 1) d.0 s (omega arith) (subst (λ n. i + 1 < n) (sym (length-keys_of es)) l) in
-      ap is_lt (turned (get_or es i d).0 (get_or es (i + 1) d).0 Less (subst (λ x. by_element (get_or es i d).0 x ≡ Less) (key_at (i + 1) d) (subst (λ x. by_element x (get_or (keys_of es) (i + 1) d.0) ≡ Less) (key_at i d) less)))
-
-  answers_rise : IsNonDecreasingBy (λ (e : Entry). ordering_index (by_element e.0 q)) es
-  answers_rise = searchable_from_sorted order (λ (e : Entry). e.0) es q (λ i d _ l. next_above i d l)
-
-  at_place : (i : ℕ) (d : Entry) → i < length es → by_element (get_or es i d).0 q ≡ Equal → lookup (is_at (by_element q)) es ≡ Some (get_or es i d).1
-  at_place i d l e =
-      let same : (get_or es i d).0 ≡ q = exact_pairs nat_cmp nat_cmp exact_unsigned exact_unsigned _ _ e in
-      lookup_from_place (eq_by_cmp_equiv order) es i q (get_or es i d).1 (IsDistinct-from_sorted by_element (keys_of es) s) (slice_get-get_or es i d l ∙ ap (λ k. Some (k, (get_or es i d).1)) same)
-
-  at_gap : (i : ℕ) → IsPartitionPoint (λ (e : Entry). by_element e.0 q ≡ Less) (λ (e : Entry). by_element e.0 q ≡ Greater) es i → lookup (is_at (by_element q)) es ≡ None
-  at_gap i p =
-      lookup_at_gap order q es i s
-      (λ j e l g. turned e.0 q Less (subst (λ (x : Entry). by_element x.0 q ≡ Less) (get_or_from_slice_get es j e e g) (p.0 j e (omega arith) l)))
-      (λ e g. turned e.0 q Greater (subst (λ (x : Entry). by_element x.0 q ≡ Greater) (get_or_from_slice_get es i e e g) (p.1 i e (omega arith) (slice_get_within es i e g))))
-
-  found_by : (r : Result ℕ ℕ) → IsSearchInRange r (length es) → IsBinarySearchResult (λ (e : Entry). by_element e.0 q) es r → MatchResult r (λ i. (d : Entry) → Some (get_or es i d).1 ≡ lookup (is_at (by_element q)) es) (λ _. None ≡ lookup (is_at (by_element q)) es)
-  found_by (Ok i) l h = λ d. sym (at_place i d l (h d))
-  found_by (Err i) l h = sym (at_gap i (h answers_rise))
-
-  -- in the slice of those entries
-  pub searched : (xs : List Entry) → es ≡ xs → (r : Result ℕ ℕ) → IsSearchInRange r (length xs) → IsBinarySearchResult (λ (e : Entry). by_element e.0 q) xs r → MatchResult r (λ i. (d : Entry) → Some (get_or xs i d).1 ≡ lookup (is_at (by_element q)) es) (λ _. None ≡ lookup (is_at (by_element q)) es)
-  searched xs same = subst (λ xs. (r : Result ℕ ℕ) → IsSearchInRange r (length xs) → IsBinarySearchResult (λ (e : Entry). by_element e.0 q) xs r → MatchResult r (λ i. (d : Entry) → Some (get_or xs i d).1 ≡ lookup (is_at (by_element q)) es) (λ _. None ≡ lookup (is_at (by_element q)) es)) same found_by
+rises-alone k = (tt, tt)

@@ -1,5 +1,5 @@
 -- Runs of entries: sorted where the first one is above all before, and what they have of each element.
-use Rattle.std.proofs.Common.{◌≡◌, ◌+◌, ◌-◌, ℕ, zero, suc, List, [], ◌∷◌, ◌++◌, Bool, true, false, ◌&&◌, cond, refl, sym, ap, ◌∙◌, subst, arith, nat_eq, nat_lt, length, get_or, length-append, append_assoc}
+use Rattle.std.proofs.Common.{◌≡◌, ◌+◌, ◌-◌, ℕ, zero, suc, List, [], ◌∷◌, ◌++◌, true, false, ◌&&◌, cond, refl, sym, ap, ◌∙◌, subst, arith, nat_eq, nat_lt, length, get_or, length-append, append_assoc}
 use Rattle.std.specs.Prelude.{Some}
 use Rattle.std.specs.List.Sorted.{IsStrictlySortedBy}
 use Rattle.std.specs.Map.{keys_of}
@@ -58,13 +58,12 @@ module _ (es : List Entry) (b i : ℕ) (ws : List Word) (s : IsStrictlySortedBy 
   pub run_rises : (n : ℕ) → IsStrictlySortedBy by_element (keys_of (es ++ run b i ws n))
   run_rises n = (rises n).0
 
+  -- and with the next element
+  pub run_next : (n : ℕ) → IsStrictlySortedBy by_element (keys_of (es ++ run b i ws n) ++ (b, i + n) ∷ [])
+  run_next n = (rises n).1
+
   pub run_found : (n c j : ℕ) → found (es ++ run b i ws n) c j ≡ noted b i ws n c j (found es c j)
   run_found zero c j = ap (λ fs. found fs c j) (append-nil es)
   run_found (suc n) c j =
       found-pushed (all n) (all (suc n)) (b, i + n) (word_at ws n) (rises n).0 (rises n).1 (all_next n) c j
       ∙ ap (λ o. cond (nat_eq c b && nat_eq j (i + n)) (Some (value_of (word_at ws n))) o) (run_found n c j)
-
-  -- one entry more is pushed, or refused
-  pub pushed_rises : (n : ℕ) (pushed : Bool) (now next : List Entry) → now ≡ es ++ run b i ws n → IsStrictlySortedBy by_element (keys_of now) → next ≡ cond pushed (now ++ ((b, i + n), word_at ws n) ∷ []) now → IsStrictlySortedBy by_element (keys_of next)
-  pushed_rises n true now next h r e = subst (λ xs. IsStrictlySortedBy by_element (keys_of xs)) (sym (e ∙ ap (λ xs. xs ++ ((b, i + n), word_at ws n) ∷ []) h ∙ sym (all_next n))) (run_rises (suc n))
-  pushed_rises n false now next h r e = subst (λ xs. IsStrictlySortedBy by_element (keys_of xs)) (sym e) r

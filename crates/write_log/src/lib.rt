@@ -5,5 +5,6 @@
 
 mod log;
 mod rising;
+mod stretch;
 
 pub use log::{WriteLog, apply};

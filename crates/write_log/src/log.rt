@@ -1,14 +1,16 @@
 //! The log, and writing it.
 
-ghost use Rattle.std.specs.Prelude.{◌≡◌, ◌<◌, ◌≤◌, ◌+◌, ◌&&◌, ℕ, true, Some, None, IfOk, OnOk, cond, length, map, nat_eq, slice_index_or, []};
+ghost use Rattle.std.specs.Prelude.{◌≡◌, ◌<◌, ◌≤◌, ◌+◌, ◌-◌, ◌&&◌, ℕ, ℤ, List, true, Some, None, IfOk, OnOk, cond, length, map, nat_eq, slice_index_or, []};
 ghost use Rattle.std.specs.Option.{option_map};
 ghost use Rattle.std.specs.List.Sorted.{IsStrictlySortedBy};
 ghost use Rattle.std.specs.Map.{keys_of};
 ghost use Rattle.semantics.specs.Rounds.{logged};
 ghost use Rattle.words.specs.View.{value_of};
-ghost use Rattle.write_log.specs.Written.{written, entries, found, by_element, noted, put_all, put_word, words_of, element};
+ghost use Rattle.write_log.specs.Elements.{border, entries_in, first_entries};
+ghost use Rattle.write_log.specs.Written.{written, entries, found, by_element, noted, put_all, put_bits, put_word, words_of, element};
 
 use crate::rising::RisingList;
+use crate::stretch::{Stretch, read_word};
 use launch::launches::Buffers;
 use std::alloc::{AllocError, Global};
 use std::collections::BTreeMap;
@@ -29,7 +31,7 @@ fn map_with(
     at: (u32, u32),
     word: Word,
 ) -> Result<BTreeMap<(u32, u32), Word>, AllocError>
-    ensures { IfOk result (λ map. (b i : ℕ) → found map.entries b i ≡ cond (nat_eq b at.0 && nat_eq i at.1) (Some (value_of word)) (found list.now.entries.items b i)) }
+    ensures { IfOk result (λ map. (b i : ℕ) → found map.entries b i ≡ cond (nat_eq b at.0 && nat_eq i at.1) (Some (value_of word)) (found (entries_in list.now.stretches.items list.now.bits.items) b i)) }
 {
     let mut map = list.as_map()?;
     map.insert(at, word)?;
@@ -112,7 +114,7 @@ impl WriteLog {
     pub fn is_empty(&self) -> bool
         ensures { result ≡ true → (buffer index : ℕ) → written self.now buffer index ≡ None }
     {
-        self.rises && self.list.entries.is_empty()
+        self.rises && self.list.bits.is_empty()
     }
 
     /// Each element that was written, as its buffer and index, with its word: in rising order.
@@ -121,7 +123,7 @@ impl WriteLog {
         ensures rising { IsStrictlySortedBy by_element (keys_of (entries self.now)) }
     {
         if self.rises {
-            return self.list.entries.iter().copied().collect(alloc);
+            return self.list.records(alloc);
         }
         list_of(alloc, &self.map)
     }
@@ -153,12 +155,37 @@ fn put(buffers: &mut Buffers, buffer: u32, index: u32, word: Word)
     }
 }
 
-/// Writes the entries of a list one after another.
-fn write_list(buffers: &mut Buffers, list: &[((u32, u32), Word)])
-    ensures { words_of buffers.new ≡ put_all list.now (words_of buffers.old) }
+/// Writes the words of a stretch to the elements of its buffer that are there.
+fn write_bits(words: &mut [Word], stretch: &Stretch, end: usize, bits: &[u32])
+    requires { (stretch.now.start ≤ end) × (end ≤ length bits.now) }
+    ensures { map value_of words.new ≡ put_bits stretch.now bits.now (end - stretch.now.start) (map value_of words.old) }
 {
-    for (at, word) in list {
-        put(buffers, at.0, at.1, *word);
+    let first = stretch.first as usize;
+    let start = stretch.start as usize;
+    let inside = words.len().saturating_sub(first);
+    for step in 0..inside.min(end - start) {
+        words[first + step] = read_word(stretch.kind, bits[start + step]);
+    }
+}
+
+/// Writes the entries of a stretch of a list, after those before it.
+fn write_stretch(buffers: &mut Buffers, list: &RisingList, number: usize)
+    requires { number < length list.now.stretches.items }
+    ensures { (bs : List (List ℤ)) → words_of buffers.old ≡ put_all (first_entries list.now.stretches.items list.now.bits.items (border list.now.stretches.items (length list.now.bits.items) number)) bs → words_of buffers.new ≡ put_all (first_entries list.now.stretches.items list.now.bits.items (border list.now.stretches.items (length list.now.bits.items) (number + 1))) bs }
+{
+    let stretch = &list.stretches[number];
+    let end = list.border(number + 1);
+    if let Some(words) = buffers.words.get_mut(stretch.buffer as usize) {
+        write_bits(words.as_mut_slice(), stretch, end, list.bits.as_slice());
+    }
+}
+
+/// Writes the entries of a list one after another.
+fn write_list(buffers: &mut Buffers, list: &RisingList)
+    ensures { words_of buffers.new ≡ put_all (entries_in list.now.stretches.items list.now.bits.items) (words_of buffers.old) }
+{
+    for number in 0..list.stretches.len() {
+        write_stretch(buffers, list, number);
     }
 }
 
@@ -178,7 +205,7 @@ fn write(buffers: &mut Buffers, log: &WriteLog)
     ensures rising { IsStrictlySortedBy by_element (keys_of (entries log.now)) }
 {
     if log.rises {
-        write_list(buffers, log.list.entries.as_slice());
+        write_list(buffers, &log.list);
     } else {
         write_map(buffers, &log.map);
     }

@@ -7,14 +7,14 @@ use Rattle.facts.proofs.Unmade.{passed}
 use Rattle.walk_trees.specs.Shown.{IsShownWithProducts}
 use Rattle.obligations.specs.View.{seen}
 use Rattle.obligations.specs.Shown.{obligations}
-use Rattle.two_thread.specs.Listed.{listed, made_fit}
-use Rattle.two_thread.specs.Refusals.{DoNotFit}
-use Rattle.walk.specs.Unfound.{IsFirstOfMany, IsUnfound, IsUnlisted}
+use Rattle.two_thread.specs.Listed.{found_fits, listed}
+use Rattle.walk.specs.Fitting.{own_fits}
+use Rattle.walk.specs.Unfound.{IsFirstOfMany, IsUnfound}
 use Rattle.obligations.specs.Listing.{all_trees}
-use Rattle.entry_check.specs.Lacking.{AreListed, ArePassed, Lacks, LacksOf, TellsBy, TellsOwing, owing, with_entries}
+use Rattle.entry_check.specs.Lacking.{AreListed, ArePassed, HasUnfit, Lacks, LacksOf, TellsBy, TellsOfWalk, TellsOwing, WalkTells, owing, owing_fits, with_entries}
 use Rattle.entry_check.specs.Numbers.{show_of}
 use Rattle.entry_check.specs.View.{said as said_seen, stated}
-use Rattle.entry_check.proofs.Owing.{are_listed, same_notes, told_unfound, unfit_unlisted}
+use Rattle.entry_check.proofs.Owing.{are_listed, same_notes, told_unfound, unfit_owing}
 use Rattle.entry_check.proofs.Unshown.{gains, mapped, named}
 use Rattle.entry_check.proofs.showing.show_all.Goals as goal
 
@@ -53,11 +53,13 @@ returns-clause-lacks g c =
     let noted = same_notes es c.args.said.now.notes.now c.args.flags.items c.requires.flags.1 in
     let x = seen c.args.said.now.notes.now c.args.flags.items in
     let same : listed d f ≡ owing d k cs n es = c.in_ok-found.ensures.listed ∙ ap (obligations d k cs) noted in
+    let fits : found_fits f ≡ owing_fits d k cs n es = c.in_ok-found.ensures.own ∙ ap (own_fits d k cs) noted in
     let l : AreListed d k cs n es = are_listed d k cs es n x f noted c.in_ok-found.ensures.listed c.in_ok-found.ensures.few c.in_ok-found.ensures.fits in
-    let unfit = DoNotFit (made_fit f) in
-    mapped c.show_found.result (TellsBy (Lacks q es (listed d f)) (λ _. ⊥) unfit) (TellsOwing d k cs (stated c.args.said.now.names) n es)
-    (λ e t. named (Lacks q es (listed d f)) (LacksOf d k cs (stated c.args.said.now.names) n es) (λ _. ⊥) (λ s. IsFirstOfMany s (all_trees d k cs (with_entries es n))) unfit (IsUnlisted d k cs (with_entries es n)) e
-    (λ m s. (l, subst (λ os. Lacks q es os m) same s)) (λ m u. absurd u) (λ w u. unfit_unlisted d k cs (with_entries es n) (made_fit f) c.in_ok-found.ensures.made w u) t) c.show_found.ensures.lacks
+    let m = stated c.args.said.now.names in
+    let first = WalkTells ⊥ (HasUnfit q es (found_fits f) 0 (listed d f)) in
+    mapped c.show_found.result (TellsBy (Lacks q es (found_fits f) (listed d f)) (λ _. ⊥) first) (TellsOwing d k cs m n es)
+    (λ e t. named (Lacks q es (found_fits f) (listed d f)) (LacksOf d k cs m n es) (λ _. ⊥) (λ s. IsFirstOfMany s (all_trees d k cs (with_entries es n))) first (TellsOfWalk d k cs m n es) e
+    (λ i s. (l, subst (λ bs. Lacks q es bs (owing d k cs n es) i) fits (subst (λ os. Lacks q es (found_fits f) os i) same s))) (λ i u. absurd u) (λ w u. unfit_owing d k cs m es n f l fits same w u) t) c.show_found.ensures.lacks
 
 pub returns-clause-passed : goal.returns-clause-passed
 returns-clause-passed g c =
@@ -71,5 +73,7 @@ returns-clause-passed g c =
     let noted = same_notes es c.args.said.now.notes.now c.args.flags.items c.requires.flags.1 in
     let x = seen c.args.said.now.notes.now c.args.flags.items in
     let same : listed d f ≡ owing d k cs n es = c.in_ok-found.ensures.listed ∙ ap (obligations d k cs) noted in
+    let fits : found_fits f ≡ owing_fits d k cs n es = c.in_ok-found.ensures.own ∙ ap (own_fits d k cs) noted in
     let l : AreListed d k cs n es = are_listed d k cs es n x f noted c.in_ok-found.ensures.listed c.in_ok-found.ensures.few c.in_ok-found.ensures.fits in
-    gains (ArePassed q es (owing d k cs n es)) (AreListed d k cs n es) c.show_found.result l (subst (λ os. IfOk c.show_found.result (λ _. ArePassed q es os)) same c.show_found.ensures.passed)
+    gains (ArePassed q es (owing_fits d k cs n es) (owing d k cs n es)) (AreListed d k cs n es) c.show_found.result l
+    (subst (λ bs. IfOk c.show_found.result (λ _. ArePassed q es bs (owing d k cs n es))) fits (subst (λ os. IfOk c.show_found.result (λ _. ArePassed q es (found_fits f) os)) same c.show_found.ensures.passed))

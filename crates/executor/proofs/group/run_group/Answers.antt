@@ -1,11 +1,11 @@
-use Rattle.std.proofs.Common.{◌≡◌, ◌∙◌, ℕ, ap, subst}
+use Rattle.std.proofs.Common.{◌≡◌, ◌∙◌, ℕ, ap, refl, subst}
 use Rattle.std.specs.Prelude.{IfOk}
 use Rattle.std.proofs.lemmas.Result.{IfOk-weaker}
 use Rattle.core_code.specs.View.{kernel}
 use Rattle.launch.specs.View.{launch, conditions}
+use Rattle.semantics.specs.Setup.{at_launch}
 use Rattle.semantics.specs.Rounds.{group_log}
 use Rattle.lane_groups.specs.Logs.{lane_log}
-use Rattle.cert_check.specs.Accepting.{at_launch}
 use Rattle.cert_check.specs.View.{typed_of, kept}
 use Rattle.write_log.specs.Written.{written}
 use Rattle.executor.proofs.Kernels.{some-items}
@@ -30,5 +30,5 @@ returns c =
     (λ log. (buffer index : ℕ) → written log buffer index ≡ group_log s bound g buffer index)
     (λ log h buffer index.
     h buffer index
-    ∙ c.lane_logs_are_by_rounds.ensures given.contents s bound g buffer index (some-items k l a.has_items) c.requires.group c.requires.fits c.typed-typed.ensures.orderly (a.is_pair_safe l c.requires.fits c.requires.meets) begins)
+    ∙ c.lane_logs_are_by_rounds.ensures given.contents s refl bound g buffer index (some-items k l a.has_items) c.requires.group c.requires.fits c.typed-typed.ensures.orderly (a.is_pair_safe l c.requires.fits c.requires.meets) begins)
     of_kernel

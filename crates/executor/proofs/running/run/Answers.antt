@@ -1,8 +1,8 @@
 use Rattle.std.proofs.Common.{sym, ◌∙◌, subst, ap, length, refl}
 use Rattle.core_code.specs.View.{kernel}
 use Rattle.launch.specs.View.{launch, conditions}
+use Rattle.semantics.specs.Setup.{at_launch}
 use Rattle.semantics.specs.Conditions.{Meets}
-use Rattle.cert_check.specs.Accepting.{at_launch}
 use Rattle.cert_check.specs.View.{typed_of, kept}
 use Rattle.write_log.specs.Written.{words_of}
 use Rattle.executor.proofs.Kernels.{some-items, arguments-alike, buffers-alike}

@@ -9,4 +9,4 @@ use Rattle.samples.proofs.computed.words_are_exact.Goals as goal
 
 pub returns : goal.returns
 unfolding opening_world happens ask evaluate opening put_item put group_size group_count may_go released
-returns c = record { quotient = refl; remainder = refl; least = refl; zero = refl; wraps = refl; converts = refl; mixed = refl }
+returns c = record { quotient = λ w. refl; remainder = λ w. refl; least = λ w. refl; zero = λ w. refl; wraps = λ w. refl; converts = λ w. refl; mixed = refl }

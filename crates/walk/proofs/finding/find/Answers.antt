@@ -6,7 +6,7 @@ use Rattle.facts.proofs.Unmade.{passed}
 use Rattle.obligations.specs.View.{seen}
 use Rattle.walk.specs.Unfound.{IsUnfound}
 use Rattle.walk.specs.declared.error.FindError.TheVariants as errors
-use Rattle.walk.proofs.AllFound.{stuck_all, few_all, own_accesses, own_ends, found_is, all_fitting, ungathered}
+use Rattle.walk.proofs.AllFound.{stuck_all, few_all, trees_fitting, own_accesses, own_ends, found_is, own_found, ungathered}
 use Rattle.walk.proofs.finding.find.Goals as goal
 
 pub returns-in_err-walked-clause-unfound : goal.returns-in_err-walked-clause-unfound
@@ -58,6 +58,15 @@ returns-clause-listed g c =
     let s = c.in_ok-setting.ensures in
     found_is g.D.Domain core cs said entries c.in_ok-setting.setting s.wide s.joins s.known s.sizes s.buffers s.arrays s.contents s.entries c.args.places.now c.requires.places c.in_ok-walked.walked.items c.in_ok-walked.ensures.walked (forms c.in_ok-launch.launch.items) c.in_ok-launch.ensures _ (c.in_ok-found.ensures.listed entries)
 
+pub returns-clause-own : goal.returns-clause-own
+returns-clause-own g c =
+    let core = c.args.core.now in
+    let cs = conditions c.args.conditions.now in
+    let said = c.args.notes.now in
+    let entries = c.args.entries.items in
+    let s = c.in_ok-setting.ensures in
+    own_found g.D.Domain core cs said entries c.in_ok-setting.setting s.wide s.joins s.known s.sizes s.buffers s.arrays s.contents s.entries c.args.places.now c.requires.places c.in_ok-walked.walked.items c.in_ok-walked.ensures.walked (forms c.in_ok-launch.launch.items) c.in_ok-launch.ensures _ (c.in_ok-found.ensures.fits entries)
+
 pub returns-clause-fits : goal.returns-clause-fits
 returns-clause-fits g c =
     let core = c.args.core.now in
@@ -65,8 +74,7 @@ returns-clause-fits g c =
     let said = c.args.notes.now in
     let entries = c.args.entries.items in
     let s = c.in_ok-setting.ensures in
-    sym (all_fitting g.D.Domain core cs said entries c.in_ok-setting.setting s.wide s.joins s.known s.sizes s.buffers s.arrays s.contents s.entries c.args.places.now c.requires.places c.in_ok-walked.walked.items c.in_ok-walked.ensures.walked (forms c.in_ok-launch.launch.items) c.in_ok-launch.ensures)
-    ∙ c.in_ok-found.ensures.fits entries
+    sym (trees_fitting g.D.Domain core cs said entries c.in_ok-setting.setting s.wide s.joins s.known s.sizes s.buffers s.arrays s.contents s.entries c.args.places.now c.requires.places c.in_ok-walked.walked.items c.in_ok-walked.ensures.walked) ∙ c.in_ok-found.ensures.denied
 
 pub returns-clause-few : goal.returns-clause-few
 returns-clause-few g c =

@@ -1,7 +1,7 @@
 use Rattle.std.proofs.Common.{rules, ◌≡◌, ◌≤◌, ◌<◌, length, get_or}
 use Rattle.std.specs.Prelude.{true}
 use Rattle.facts.proofs.Unmade.{handed}
-use Rattle.two_thread.specs.Fitting.{crossing_fits}
+use Rattle.obligations.specs.Fitting.{crossing_fits}
 use Rattle.two_thread.specs.View.{crossing, met_accesses}
 use Rattle.two_thread.proofs.Listing.{crossing_unfit, crossings-next, crossings-end}
 use Rattle.two_thread.proofs.numbered.Obligations.try_crossings.Goals as goal

@@ -1,5 +1,5 @@
 use Rattle.std.proofs.Common.{◌≡◌, drop}
-use Rattle.two_thread.specs.Fitting.{crossings_fit}
+use Rattle.obligations.specs.Fitting.{crossings_fit}
 use Rattle.two_thread.specs.Listed.{found_crossings}
 use Rattle.two_thread.proofs.numbered.Obligations.try_crossings.Given as goal
 

@@ -1,9 +1,5 @@
-use Rattle.std.proofs.Common.{arith, refl, ◌<◌, ◌+◌, ◌-◌, ◌≡◌, ◌&&◌, length}
-use Rattle.two_thread.specs.Fitting.{claims_fit, crossings_fit}
-use Rattle.two_thread.specs.Listed.{found_meetings, found_crossings}
-use Rattle.two_thread.specs.Meetings.{meetings_fit}
-use Rattle.two_thread.specs.View.{met_claims, met_accesses, crossing}
-use Rattle.two_thread.proofs.Listing.{listed_length, nth_is_claim, nth_is_meeting, nth_is_crossing, claim_unfit, meeting_unfit, crossing_unfit, unfit_left, unfit_right, fit_unfit, inside_at}
+use Rattle.std.proofs.Common.{arith, refl, ◌<◌, ◌+◌, ◌-◌, ◌≡◌, length}
+use Rattle.two_thread.proofs.Listing.{listed_length, nth_is_claim, nth_is_meeting, nth_is_crossing, claim_fit_at, meeting_fit_at, crossing_fit_at, inside_at}
 use Rattle.two_thread.proofs.numbered.Obligations.which.Goals as goal
 
 pub returns-then-i-claims-clause-is : goal.returns-then-i-claims-clause-is
@@ -18,7 +14,7 @@ returns-then-i-claims-clause-fits g c =
     let o = c.args.self.now in
     let n = c.args.number in
     let h : n - 1 < length o.met.claims.items = omega (arith, c.if-i-claims.true, c.len-claims.ensures) in
-    λ x u. unfit_left (claims_fit (met_claims o.met)) (meetings_fit (found_meetings o.met o.meetings.items) && crossings_fit (found_crossings o.met o.crossings.items)) x (claim_unfit o.met (n - 1) x h u)
+    claim_fit_at o n (n - 1) refl h
 
 pub returns-then-j-meetings-clause-is : goal.returns-then-j-meetings-clause-is
 returns-then-j-meetings-clause-is g c =
@@ -36,7 +32,7 @@ returns-then-j-meetings-clause-fits g c =
     let j = n - 1 - c.len-claims.result in
     let e : n - 1 ≡ length o.met.claims.items + j = omega (arith, c.if-i-claims.false, c.len-claims.ensures) in
     let h : j < length o.meetings.items = omega (arith, c.if-j-meetings.true, c.len-meetings.ensures) in
-    λ x u. unfit_right (claims_fit (met_claims o.met)) (meetings_fit (found_meetings o.met o.meetings.items) && crossings_fit (found_crossings o.met o.crossings.items)) x (unfit_left (meetings_fit (found_meetings o.met o.meetings.items)) (crossings_fit (found_crossings o.met o.crossings.items)) x (meeting_unfit o.met o.meetings.items j c.index.result.now x h c.index.ensures u))
+    meeting_fit_at o n (n - 1) j c.index.result.now refl e h c.index.ensures
 
 pub index-requires-2 : goal.index-requires-2
 index-requires-2 g c = omega (arith, c.requires.first, c.requires.last, listed_length g.D.Domain c.args.self.now, c.if-i-claims.false, c.if-j-meetings.false, c.len-claims.ensures, c.len-meetings.ensures)
@@ -66,4 +62,4 @@ returns-clause-fits g c =
     let j = n - 1 - c.len-claims.result - c.len-meetings.result in
     let e : n - 1 ≡ length o.met.claims.items + (length o.meetings.items + j) = omega (arith, c.if-i-claims.false, c.if-j-meetings.false, c.len-claims.ensures, c.len-meetings.ensures) in
     let h : j < length o.crossings.items = omega (arith, c.requires.first, c.requires.last, listed_length g.D.Domain o, c.if-i-claims.false, c.if-j-meetings.false, c.len-claims.ensures, c.len-meetings.ensures) in
-    λ x u. unfit_right (claims_fit (met_claims o.met)) (meetings_fit (found_meetings o.met o.meetings.items) && crossings_fit (found_crossings o.met o.crossings.items)) x (unfit_right (meetings_fit (found_meetings o.met o.meetings.items)) (crossings_fit (found_crossings o.met o.crossings.items)) x (crossing_unfit o.met o.crossings.items j c.index-2.result.now x h c.index-2.ensures (fit_unfit (crossing (met_accesses o.met) c.index-2.result.now) x u)))
+    crossing_fit_at o n (n - 1) j c.index-2.result.now refl e h c.index-2.ensures

@@ -1,5 +1,6 @@
 use Rattle.std.proofs.Common.{◌≡◌, true, false, rules}
 use Rattle.std.proofs.lemmas.Result.{on_ok_weaker}
+use Rattle.write_log.specs.Elements.{entries_in}
 use Rattle.write_log.proofs.RisingEntries.{found-updated, found-pushed}
 use Rattle.write_log.proofs.log.WriteLog.note.Goals as goal
 
@@ -12,5 +13,6 @@ returns-then-not-self c =
 pub returns-then-ends_below : goal.returns-then-ends_below
 returns-then-ends_below c =
     let log = c.args.self.now in
+    let list = c.push.new.self in
     let rises : log.rises ≡ true = search rules in
-    rw rises (on_ok_weaker c.push.result (found-pushed log.list.entries.items c.push.new.self.entries.items (c.args.buffer, c.args.index) c.args.word log.list.rising (c.ends_below.ensures c.if-ends_below.true)) c.push.ensures)
+    rw rises (on_ok_weaker c.push.result (found-pushed (entries_in log.list.stretches.items log.list.bits.items) (entries_in list.stretches.items list.bits.items) (c.args.buffer, c.args.index) c.args.word log.list.laid.rising (c.ends_below.ensures c.if-ends_below.true)) c.push.ensures)

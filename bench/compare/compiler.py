@@ -4,6 +4,8 @@
     compiler.py KERNELS [NAME ..]        NAME.cl with NAME.cond and NAME.launch; all that have one, or these
     compiler.py random SECONDS SEED      kernels made at random: expressions of all operators over words at the ends of their ranges, and
                                          loops, jumps and barriers over a local array
+    compiler.py ids SECONDS SEED         kernels made at random of ids and sizes that are not cast, read for any devices: those that are
+                                         accepted are to have the same buffers whatever bits the device's `size_t` has
 
 A kernel that is not accepted is passed over, as is one whose buffers depend on what a local array begins with. The compiler is given
 exactly the bytes that were checked, and no `-D`. The ids of a launch are `size_t` in OpenCL, which may have 64 bits: the random kernels
@@ -106,8 +108,8 @@ def said(words):
     return done.returncode, done.stdout
 
 
-def compare(device, text, conditions, launches):
-    """What is told of a kernel: passed over, the same or not."""
+def compare(device, text, conditions, launches, options=()):
+    """What is told of a kernel: passed over, the same or not; with these options of the program."""
     with tempfile.TemporaryDirectory() as folder:
         names = [os.path.join(folder, it) for it in ("kernel.cl", "conditions", "certificate", "launch")]
 
@@ -117,14 +119,14 @@ def compare(device, text, conditions, launches):
 
         write(names[0], text)
         write(names[1], conditions)
-        status, answer = said(["prove", *names[:2], "--out", names[2]])
+        status, answer = said(["prove", *names[:2], "--out", names[2], *options])
         if status:
             return " ".join(answer.split()[:2])
         for launch in launches:
             wanted = []
             for fill in (0, 77):
                 write(names[3], launch.text(fill))
-                status, answer = said(["run", *names])
+                status, answer = said(["run", *names, *options])
                 wanted.append(buffers_of([line.split() for line in answer.splitlines()]))
                 if status:
                     return "not run"
@@ -299,11 +301,49 @@ def random_kernel(dice):
     return text, conditions, launches
 
 
-def random_kernels(seconds, seed):
+IDS = [f"get_{it}(0)" for it in ("global_id", "local_id", "group_id", "global_size", "local_size", "num_groups")]
+
+
+def of_ids(dice, depth):
+    """An expression of ids and sizes beside other words, many of which stay within 32 bits."""
+    if depth == 0 or dice.random() < 0.15:
+        return dice.choice([*IDS, *IDS, dice.choice("0123456789"), dice.choice(["1u", "3u", "64u", "1000u"]), "m", "n", "(u[g] & 255u)", "(s[g] & 15)"])
+    left, right = of_ids(dice, depth - 1), of_ids(dice, depth - 1)
+    small = dice.randint(1, 9)
+    if dice.random() < 0.02:
+        return dice.choice([f"({left} - {right})", f"(~({left}))", f"(-({left}))", f"({left} << 31)", f"min({left}, {right})"])
+    return dice.choice([
+        f"({left} + {right})", f"({left} + {right})", f"({left} * {small}u)", f"({left} + 100000u - (uint)({right}) % 4096u)",
+        f"({left} {dice.choice('&|^')} {right})", f"({left} {dice.choice('/%')} {small}u)", f"({left} / ({right} % 7u + 1u))",
+        f"({left} {dice.choice(['<<', '>>'])} {small})", f"({left} {dice.choice(['<', '<=', '==', '!=', '>'])} {right})",
+        f"({left} < {right} ? {left} : {right})", f"(uint)({left})", f"(int)({left} % 1000u)", f"(!({left}))",
+        f"min(get_global_id(0), {dice.choice(IDS)})", f"({left} | {right})",
+    ])
+
+
+def kernel_of_ids(dice):
+    """A kernel that computes with ids, its conditions and launches."""
+    size, groups = dice.choice([1, 2, 4, 8]), dice.choice([1, 2, 3])
+    kinds = {"u": "uint", "s": "int", "o": "uint", "p": "int"}
+    parameters = [f"__global {kind} *{name}" for name, kind in kinds.items()] + ["int m", "uint n"]
+    body = ["uint g = get_global_id(0);", f"uint x = {of_ids(dice, 2)};"]
+    body += [f"if ({of_ids(dice, 2)}) x ^= {of_ids(dice, 1)};"] if dice.random() < 0.5 else []
+    body += [f"o[get_global_id(0)] = {of_ids(dice, 3)} + x;", f"p[g] = (int)({of_ids(dice, 2)} % 65536u);"]
+    text = f"__kernel __attribute__((reqd_work_group_size({size}, 1, 1)))\nvoid k({', '.join(parameters)}) {{\n" + "\n".join(body) + "\n}\n"
+    lengths = "".join(f"length {name} >= {size}*groups.0\n" for name in kinds)
+    conditions = f"conditions 1\ngroups 1..{groups} 1..1 1..1\narg m {dice.choice([-3, 0])}..100\narg n 0..1000\n{lengths}budget 1000\n"
+    launches = []
+    for _ in range(3):
+        arguments = {"m": dice.randint(0, 100), "n": dice.randint(0, 1000)}
+        launches.append(Launch([groups, 1, 1], arguments, {name: some_words(dice, kind, size * groups) for name, kind in kinds.items()}))
+    return text, conditions, launches
+
+
+def random_kernels(make, seconds, seed):
     """Kernels made at random for so long."""
     end, number = time.monotonic() + seconds, 0
     while time.monotonic() < end:
-        yield f"{seed}:{number}", *random_kernel(random.Random(f"{seed}:{number}"))
+        yield f"{seed}:{number}", *make(random.Random(f"{seed}:{number}"))
         number += 1
 
 
@@ -319,12 +359,15 @@ def kernels_of(place, names):
 
 def main():
     words = sys.argv[1:]
-    if not words or words[0] == "random" and len(words) != 3:
+    makers = {"random": random_kernel, "ids": kernel_of_ids}
+    if not words or words[0] in makers and len(words) != 3:
         sys.exit(__doc__)
-    kernels = random_kernels(float(words[1]), words[2]) if words[0] == "random" else kernels_of(words[0], words[1:])
+    is_made = words[0] in makers
+    kernels = random_kernels(makers[words[0]], float(words[1]), words[2]) if is_made else kernels_of(words[0], words[1:])
+    options = ["--devices", "any"] if words[0] == "ids" else []
     device, counts = Device(), {}
     for name, text, conditions, launches in kernels:
-        told = compare(device, text, conditions, launches)
+        told = compare(device, text, conditions, launches, options)
         counts[told] = counts.get(told, 0) + 1
         if told == "NOT THE SAME":
             print(f"{name}: {told}\n{text}")

@@ -4,7 +4,7 @@ use certificate_search::{guess, table};
 use houdini::settle;
 use launch_text::read_conditions_as;
 use reading::laws::local_sizes_are_within_limits;
-use reading::read_kernel;
+use reading::{narrow, read_source};
 use std::alloc::{AllocError, Global};
 use std::sync::Wait;
 use std::thread::Threads;
@@ -48,7 +48,7 @@ pub fn push_guesses<R: Threads + Wait + Sync>(
     conditions: &[u8],
 ) -> Result<(), AllocError> {
     local_sizes_are_within_limits();
-    let typed = match read_kernel(alloc, kernel) {
+    let typed = match read_source(alloc, narrow(kernel)) {
         Ok(typed) => typed,
         Err(error) => return writeln!(out, "refused {error}"),
     };

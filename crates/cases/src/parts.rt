@@ -21,6 +21,7 @@ use launch_text::read_launch;
 use lexer::{Token, lex};
 use program::files::{FileFault, Files};
 use program::held::Held;
+use reading::narrow;
 use shown_kernels::kernel::read_proper_kernel;
 use std::alloc::{AllocError, Global};
 use std::str::from_utf8;
@@ -249,7 +250,7 @@ fn push_with_kernel<R: Threads + Wait + Sync>(
     out: &mut String,
     asked: Asked<'_>,
 ) -> Result<(), AllocError> {
-    match read_proper_kernel(alloc, asked.first) {
+    match read_proper_kernel(alloc, narrow(asked.first)) {
         Ok(typed) => push_of_kernel(rt, alloc, out, &typed, asked),
         Err(error) => writeln!(out, "refused {error}"),
     }

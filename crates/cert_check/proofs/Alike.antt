@@ -1,4 +1,5 @@
 -- What is told of a text holds of each text that says the same.
+use Rattle.reading.specs.Kernels.{Source}
 use Rattle.std.proofs.Common.{◌≡◌, ◌∙◌, ℕ, List, Bool, true, false, Ok, Err, refl, ap, subst, sym}
 use Rattle.syntax.specs.declared.tree.Kernel.{Kernel}
 use Rattle.core_code.specs.declared.tree.Core.{Core}
@@ -25,7 +26,7 @@ module _ (wide as_wide : Bool) (one two : List ℕ) (same : text_says wide one �
   passed_alike typed c (met, cert, n, read, said, passes) = (met, cert, n, sym same ∙ read, said, passes)
 
   -- and so do the conditions
-  module _ (kernel conditions : List ℕ) (alike : (ps : List Parameter) → conditions_of wide ps conditions ≡ conditions_of as_wide ps conditions) where
+  module _ (kernel : Source) (conditions : List ℕ) (alike : (ps : List Parameter) → conditions_of wide ps conditions ≡ conditions_of as_wide ps conditions) where
     read_alike : (typed : Kernel × Core) (found : Lined) → AreRead wide typed found kernel conditions → AreRead as_wide typed found kernel conditions
     read_alike typed found (is, said) = (is, sym (alike (tree_seen typed.0).parameters) ∙ said)
 

@@ -1,4 +1,5 @@
 -- What an error tells of a kernel, where it is plain.
+use Rattle.reading.specs.Kernels.{Source}
 use Rattle.std.proofs.Common.{◌≡◌, ℕ, zero, suc, ◌<◌, List, [], ◌∷◌, get_or, arith, sym, subst, ◌∙◌, inl, inr}
 use Rattle.std.specs.Prelude.{◌⊎◌, Bool, true, false, Err, Option, None}
 use Rattle.std.proofs.lemmas.Bool.{false≢true}
@@ -73,7 +74,7 @@ module _ (laws : Laws) (k : semantics.Kernel) (tree : surface.Kernel) (c : Condi
   tells_plain shows.Memory h = tt
 
 -- what stops the check of a kernel with such limits
-pub stops_plain : (laws : Laws) (is_wide : Bool) (typed : Kernel × Core) (found : Lined) (kernel conditions certificate : List ℕ) → HasLimits (core_seen typed.1) (meant found) → AreRead is_wide typed found kernel conditions → (e : CheckError) → checked.StopsBy is_wide typed (meant found) certificate e → OnPlainBy is_wide (Err e) kernel conditions certificate
+pub stops_plain : (laws : Laws) (is_wide : Bool) (typed : Kernel × Core) (found : Lined) (kernel : Source) (conditions certificate : List ℕ) → HasLimits (core_seen typed.1) (meant found) → AreRead is_wide typed found kernel conditions → (e : CheckError) → checked.StopsBy is_wide typed (meant found) certificate e → OnPlainBy is_wide (Err e) kernel conditions certificate
 stops_plain laws is_wide typed found k l p limits read (errors.Kernel e) s = tt
 stops_plain laws is_wide typed found k l p limits read (errors.Conditions e) s = tt
 stops_plain laws is_wide typed found k l p limits read (errors.Missed site) (loop, missed, at) = (typed, found, read, λ plain. let m = laws.met (core_seen typed.1) (meant found) plain in cc)

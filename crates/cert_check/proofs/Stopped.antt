@@ -1,4 +1,5 @@
 -- What an error tells once the kernel and the conditions are read.
+use Rattle.reading.specs.Kernels.{Source}
 use Rattle.std.proofs.Common.{◌≡◌, ℕ, List, Bool, sym, subst}
 use Rattle.std.specs.Prelude.{Ok}
 use Rattle.semantics.specs.Conditions.{Conditions}
@@ -42,7 +43,7 @@ module _ (is_wide : Bool) (typed : Kernel × Core) (c : Conditions) (certificate
   stopped shows.Memory told h u = as_is shows.Memory told h u
 
 -- what stops the check refuses the texts
-pub refused : (is_wide : Bool) (typed : Kernel × Core) (found : Lined) (kernel conditions certificate : List ℕ) → AreRead is_wide typed found kernel conditions → (e : CheckError) → StopsBy is_wide typed (meant found) certificate e → RefusesBy is_wide e kernel conditions certificate
+pub refused : (is_wide : Bool) (typed : Kernel × Core) (found : Lined) (kernel : Source) (conditions certificate : List ℕ) → AreRead is_wide typed found kernel conditions → (e : CheckError) → StopsBy is_wide typed (meant found) certificate e → RefusesBy is_wide e kernel conditions certificate
 refused is_wide typed found k l p read (errors.Kernel e) s = absurd s
 refused is_wide typed found k l p read (errors.Conditions e) s = (typed, read.0, subst (λ x. answers.Refuses x (conditions_of is_wide (tree_seen typed.0).parameters l)) (sym s) tt)
 refused is_wide typed found k l p read (errors.Missed site) (loop, missed, at) = (typed, found, loop, read, missed, at)

@@ -2,11 +2,13 @@
 use Rattle.std.specs.Prelude.{◌≡◌, ◌<◌, [], Bool, true, false, length}
 use Rattle.semantics.specs.Launch.{Kernel, Launch, Fits, product}
 use Rattle.semantics.specs.Conditions.{Conditions, Meets}
-use Rattle.semantics.specs.Setup.{at_launch}
+use Rattle.semantics.specs.Word.{Width}
+use Rattle.semantics.specs.Setup.{at_launch, on_device}
 use Rattle.semantics.specs.Safety.{IsPairSafe, IsPairSafeWithin}
 use Rattle.semantics.specs.Headline.{Headline}
 
--- a work-group has work-items, and at each launch that meets the conditions the kernel is pair-safe within the budget
+-- a work-group has work-items, and at each launch that meets the conditions the kernel is pair-safe within the budget, where sizes are
+-- exact
 pub record IsAccepted (k : Kernel) (c : Conditions) : Type 0 where
   pub has_items : 0 < product k.sizes
   pub is_pair_safe : (l : Launch) → Fits k l → Meets c l → IsPairSafe (at_launch k l) c.budget
@@ -27,6 +29,6 @@ pub record HasParameters (k : Kernel) (c : Conditions) : Type 0 where
   pub arguments : length c.arguments ≡ length k.arguments
   pub buffers : length c.lengths ≡ length k.buffers
 
--- and the headline holds there
+-- and the headline holds there, however many bits sizes have
 abbrev pub HasHeadline : Kernel → Conditions → Type 0
-HasHeadline k c = (l : Launch) → Fits k l → Meets c l → Headline (at_launch k l) c.budget
+HasHeadline k c = (w : Width) (l : Launch) → Fits k l → Meets c l → Headline (on_device w (at_launch k l)) c.budget

@@ -1,4 +1,5 @@
 -- What a refusal says of a plain kernel, once its three texts are read.
+use Rattle.reading.specs.Kernels.{Source}
 use Rattle.std.specs.Prelude.{◌≡◌, ◌<◌, ◌⊎◌, ℕ, zero, suc, List, length, Bool, true, false, Result, Ok, Err}
 use Rattle.semantics.specs.Launch as semantics
 use Rattle.semantics.specs.Conditions.{Conditions}
@@ -49,11 +50,11 @@ TellsPlain k tree c cert shows.OverBudget = (n : Notes) × IsSaid k tree cert n 
 TellsPlain k tree c cert shows.Memory = Unit {0}
 
 -- the texts that come first are read, and the kernel is not plain: no barrier of a plain one is missed, and it has few paths
-abbrev pub IsNotPlain : (is_wide : Bool) → (kernel conditions : List ℕ) → Type 0
+abbrev pub IsNotPlain : (is_wide : Bool) → (kernel : Source) (conditions : List ℕ) → Type 0
 IsNotPlain is_wide kernel conditions = (typed : Kernel × Core) × (found : Lined) × AreRead is_wide typed found kernel conditions × (IsPlain (core_seen typed.1) (meant found) → ⊥)
 
 -- the texts are read, and where the kernel is plain the error tells this of it; the check is the wide one, or it is not
-abbrev pub OnPlainBy : (is_wide : Bool) → Result Accepted CheckError → (kernel conditions certificate : List ℕ) → Type 0
+abbrev pub OnPlainBy : (is_wide : Bool) → Result Accepted CheckError → (kernel : Source) (conditions certificate : List ℕ) → Type 0
 OnPlainBy is_wide (Err (errors.Show e)) kernel conditions certificate =
     (typed : Kernel × Core) × (found : Lined) × (cert : Certificate) × AreRead is_wide typed found kernel conditions × (text_says is_wide certificate ≡ Ok cert)
     × (IsPlain (core_seen typed.1) (meant found) → TellsPlain (core_seen typed.1) (tree_seen typed.0) (meant found) cert e)
@@ -65,5 +66,5 @@ OnPlainBy is_wide (Err (errors.Certificate e)) kernel conditions certificate = U
 OnPlainBy is_wide (Ok a) kernel conditions certificate = Unit {0}
 
 -- of the check of conditions of version 1, and of certificates of versions 1 and 2
-abbrev pub OnPlain : Result Accepted CheckError → (kernel conditions certificate : List ℕ) → Type 0
+abbrev pub OnPlain : Result Accepted CheckError → (kernel : Source) (conditions certificate : List ℕ) → Type 0
 OnPlain answer kernel conditions certificate = OnPlainBy false answer kernel conditions certificate

@@ -10,7 +10,7 @@ use Rattle.syntax.specs.declared.tree.Kernel.{Kernel}
 use Rattle.core_code.specs.View.{kernel as core_seen}
 use Rattle.core_code.specs.declared.tree.Core.{Core}
 use Rattle.core_code.specs.declared.tree.Site.{Site}
-use Rattle.reading.specs.Kernels.{read}
+use Rattle.reading.specs.Kernels.{read, Source}
 use Rattle.reading.specs.Answers as reading
 use Rattle.launch_text.specs.Answers as launches
 use Rattle.certificate.specs.Certificates.{Says}
@@ -33,11 +33,11 @@ use Rattle.entry_check.specs.declared.error.ShowError.{ShowError}
 use Rattle.entry_check.specs.declared.error.ShowError.TheVariants as shows
 
 -- the kernel is read, to this tree and core
-abbrev pub IsRead : Kernel × Core → (kernel : List ℕ) → Type 0
+abbrev pub IsRead : Kernel × Core → (kernel : Source) → Type 0
 IsRead typed kernel = read kernel ≡ Ok (reading.kernel_seen typed)
 
 -- and the conditions, of its parameters; of version 2 where the check is the wide one
-abbrev pub AreRead : (is_wide : Bool) → Kernel × Core → Lined → (kernel conditions : List ℕ) → Type 0
+abbrev pub AreRead : (is_wide : Bool) → Kernel × Core → Lined → (kernel : Source) (conditions : List ℕ) → Type 0
 AreRead is_wide typed found kernel conditions = IsRead typed kernel × (conditions_of is_wide (tree_seen typed.0).parameters conditions ≡ Ok found)
 
 -- what a certificate says of a kernel's places and loops, where it names nothing that the kernel lacks
@@ -60,7 +60,7 @@ AreMet typed = unmet (core_seen typed.1).body ≡ None
 
 -- the kernel and the conditions are read, the kernel's barriers are met, and the certificate is read; the check is the wide one, or it is
 -- not
-abbrev pub AllReadBy : (is_wide : Bool) → Kernel × Core → Lined → Certificate → (kernel conditions certificate : List ℕ) → Type 0
+abbrev pub AllReadBy : (is_wide : Bool) → Kernel × Core → Lined → Certificate → (kernel : Source) (conditions certificate : List ℕ) → Type 0
 AllReadBy is_wide typed found cert kernel conditions certificate = AreRead is_wide typed found kernel conditions × AreMet typed × (text_says is_wide certificate ≡ Ok cert)
 
 -- over 256 paths come to an end from a place whose statement begins there
@@ -68,7 +68,7 @@ abbrev pub HasManyPathsAt : Site → Kernel × Core → Conditions → Certifica
 HasManyPathsAt site typed c cert =
     (n : Notes) × (s : Option ℕ) × IsSaid (core_seen typed.1) (tree_seen typed.0) cert n × IsFirstOfMany s (all_trees domain (core_seen typed.1) c (with_entries cert.entries n)) × (site_seen site ≡ site_at (tree_seen typed.0) s)
 
-abbrev pub RefusesBy : (is_wide : Bool) → CheckError → (kernel conditions certificate : List ℕ) → Type 0
+abbrev pub RefusesBy : (is_wide : Bool) → CheckError → (kernel : Source) (conditions certificate : List ℕ) → Type 0
 RefusesBy is_wide (errors.Kernel e) kernel conditions certificate = reading.Refuses e (read kernel)
 RefusesBy is_wide (errors.Conditions e) kernel conditions certificate = (typed : Kernel × Core) × IsRead typed kernel × launches.Refuses e (conditions_of is_wide (tree_seen typed.0).parameters conditions)
 RefusesBy is_wide (errors.Missed site) kernel conditions certificate =
@@ -77,7 +77,7 @@ RefusesBy is_wide (errors.Certificate e) kernel conditions certificate = (typed 
 RefusesBy is_wide (errors.ManyPaths site) kernel conditions certificate = (typed : Kernel × Core) × (found : Lined) × (cert : Certificate) × AllReadBy is_wide typed found cert kernel conditions certificate × HasManyPathsAt site typed (meant found) cert
 RefusesBy is_wide (errors.Show e) kernel conditions certificate = (typed : Kernel × Core) × (found : Lined) × (cert : Certificate) × AllReadBy is_wide typed found cert kernel conditions certificate × Shows (core_seen typed.1) (tree_seen typed.0) (meant found) cert e
 
-abbrev pub TellsBy : (is_wide : Bool) → Result Accepted CheckError → (kernel conditions certificate : List ℕ) → Type 0
+abbrev pub TellsBy : (is_wide : Bool) → Result Accepted CheckError → (kernel : Source) (conditions certificate : List ℕ) → Type 0
 TellsBy is_wide (Ok a) kernel conditions certificate = Unit {0}
 TellsBy is_wide (Err e) kernel conditions certificate = RefusesBy is_wide e kernel conditions certificate
 
@@ -88,10 +88,10 @@ IsPassedBy is_wide typed c certificate =
     AreMet typed × (cert : Certificate) × (n : Notes) × (text_says is_wide certificate ≡ Ok cert) × IsSaid (core_seen typed.1) (tree_seen typed.0) cert n × PassesOf domain (core_seen typed.1) c (stated (core_seen typed.1) (tree_seen typed.0)) n cert.entries
 
 -- of the check of conditions of version 1, and of certificates of versions 1 and 2
-abbrev pub Refuses : CheckError → (kernel conditions certificate : List ℕ) → Type 0
+abbrev pub Refuses : CheckError → (kernel : Source) (conditions certificate : List ℕ) → Type 0
 Refuses e kernel conditions certificate = RefusesBy false e kernel conditions certificate
 
-abbrev pub Tells : Result Accepted CheckError → (kernel conditions certificate : List ℕ) → Type 0
+abbrev pub Tells : Result Accepted CheckError → (kernel : Source) (conditions certificate : List ℕ) → Type 0
 Tells answer kernel conditions certificate = TellsBy false answer kernel conditions certificate
 
 abbrev pub IsPassed : Kernel × Core → Conditions → (certificate : List ℕ) → Type 0

@@ -11,7 +11,9 @@ ghost use Rattle.facts.specs.Launching.{are_sizes};
 ghost use Rattle.arrivals.specs.Places as meant;
 ghost use Rattle.places.specs.Answers.{IsRefused};
 ghost use Rattle.places.specs.View.{place as place_seen};
-ghost use Rattle.reading.specs.Kernels.{read};
+ghost use Rattle.texts.specs.Scope.{Narrow};
+ghost use Rattle.reading.specs.Kernels.{read, text_for};
+ghost use Rattle.reading.specs.Sources.{source};
 ghost use Rattle.reading.specs.Answers.{kernel_seen};
 ghost use Rattle.cert_check.specs.Accepting.{IsAccepted, IsAcceptedBy, IsAcceptedWithin, HasHeadline};
 ghost use Rattle.cert_check.specs.Alike.{AreAlike, AreNotOfTwo, HoldsOf, HoldsOfBy, IsOfOneOrTwo};
@@ -37,8 +39,8 @@ use plain_kernels::laws::{
     forms_of_plain_kernels_fit, plain_kernels_have_one_place, ranges_of_plain_kernels_are_settled,
 };
 use reading::laws::local_sizes_are_within_limits;
-use reading::read_kernel;
-use reduction::headline_within;
+use reading::{Source, narrow, read_source};
+use reduction::pair_safe_within_on_devices;
 use semantics::honesty::{launches_begin_kept, without_lines_all_runs_are_honest};
 use shown_kernels::laws::what_is_read_and_shown_is_pair_safe_within;
 use shown_kernels::proper::what_is_read_is_proper;
@@ -145,22 +147,23 @@ fn accept(
     )
 }
 
-/// The check as `check` has it, or as `check_wide` does.
+/// The check as `check` has it, or as `check_wide` does, of a kernel that is read for these devices: for any, ids have a kind of their own,
+/// and what is accepted has the headline on each.
 pub fn check_as(
     alloc: Global,
-    kernel: &[u8],
+    kernel: Source<'_>,
     conditions: &[u8],
     certificate: &[u8],
     is_wide: bool,
 ) -> Result<Accepted, CheckError>
-    ensures kernel { IfOk result (λ a. read kernel.now ≡ Ok (kernel_seen (typed_of a))) }
+    ensures kernel { IfOk result (λ a. read (source kernel.entry) ≡ Ok (kernel_seen (typed_of a))) }
     ensures conditions { IfOk result (λ a. conditions_of is_wide (tree_seen (typed_of a).0).parameters conditions.now ≡ Ok (lined (kept a))) }
     ensures passed { IfOk result (λ a. IsPassedBy is_wide (typed_of a) (conditions_seen (kept a)) certificate.now) }
-    ensures refused { TellsBy is_wide result kernel.now conditions.now certificate.now }
-    ensures plain { OnPlainBy is_wide result kernel.now conditions.now certificate.now }
-    ensures two { (two : List ℕ) → AreAlike certificate.now two → HoldsOfBy is_wide result kernel.now conditions.now two }
-    ensures one { (one : List ℕ) → AreAlike one certificate.now → HoldsOfBy is_wide result kernel.now conditions.now one }
-    ensures alike { IsOfOneOrTwo certificate.now → AreNotOfTwo conditions.now → HoldsOf result kernel.now conditions.now certificate.now }
+    ensures refused { TellsBy is_wide result (source kernel.entry) conditions.now certificate.now }
+    ensures plain { OnPlainBy is_wide result (source kernel.entry) conditions.now certificate.now }
+    ensures two { (two : List ℕ) → AreAlike certificate.now two → HoldsOfBy is_wide result (source kernel.entry) conditions.now two }
+    ensures one { (one : List ℕ) → AreAlike one certificate.now → HoldsOfBy is_wide result (source kernel.entry) conditions.now one }
+    ensures alike { IsOfOneOrTwo certificate.now → AreNotOfTwo conditions.now → HoldsOf result (source kernel.entry) conditions.now certificate.now }
     ensures pair { IfOk result (λ a. IsAcceptedBy is_wide (core_seen (typed_of a).1) (conditions_seen (kept a))) }
     ensures headline { IfOk result (λ a. HasHeadline (core_seen (typed_of a).1) (conditions_seen (kept a))) }
 {
@@ -169,7 +172,7 @@ pub fn check_as(
     plain_kernels_have_one_place();
     forms_of_plain_kernels_fit();
     ranges_of_plain_kernels_are_settled();
-    let typed = match read_kernel(alloc, kernel) {
+    let typed = match read_source(alloc, kernel) {
         Ok(typed) => typed,
         Err(error) => return Err(CheckError::Kernel(error)),
     };
@@ -182,7 +185,7 @@ pub fn check_as(
         Ok(()) => {}
         Err(error) => return Err(error),
     }
-    headline_within();
+    pair_safe_within_on_devices();
     launches_begin_kept();
     without_lines_all_runs_are_honest();
     what_is_read_is_proper();
@@ -202,17 +205,17 @@ pub fn check(
     conditions: &[u8],
     certificate: &[u8],
 ) -> Result<Accepted, CheckError>
-    ensures kernel { IfOk result (λ a. read kernel.now ≡ Ok (kernel_seen (typed_of a))) }
+    ensures kernel { IfOk result (λ a. read (text_for Narrow kernel.now) ≡ Ok (kernel_seen (typed_of a))) }
     ensures conditions { IfOk result (λ a. conditions_of false (tree_seen (typed_of a).0).parameters conditions.now ≡ Ok (lined (kept a))) }
     ensures passed { IfOk result (λ a. IsPassed (typed_of a) (conditions_seen (kept a)) certificate.now) }
-    ensures refused { Tells result kernel.now conditions.now certificate.now }
-    ensures plain { OnPlain result kernel.now conditions.now certificate.now }
-    ensures two { (two : List ℕ) → AreAlike certificate.now two → HoldsOf result kernel.now conditions.now two }
-    ensures one { (one : List ℕ) → AreAlike one certificate.now → HoldsOf result kernel.now conditions.now one }
+    ensures refused { Tells result (text_for Narrow kernel.now) conditions.now certificate.now }
+    ensures plain { OnPlain result (text_for Narrow kernel.now) conditions.now certificate.now }
+    ensures two { (two : List ℕ) → AreAlike certificate.now two → HoldsOf result (text_for Narrow kernel.now) conditions.now two }
+    ensures one { (one : List ℕ) → AreAlike one certificate.now → HoldsOf result (text_for Narrow kernel.now) conditions.now one }
     ensures pair { IfOk result (λ a. IsAccepted (core_seen (typed_of a).1) (conditions_seen (kept a))) }
     ensures headline { IfOk result (λ a. HasHeadline (core_seen (typed_of a).1) (conditions_seen (kept a))) }
 {
-    check_as(alloc, kernel, conditions, certificate, false)
+    check_as(alloc, narrow(kernel), conditions, certificate, false)
 }
 
 /// As `check`, of conditions of version 2 and of certificates of version 4, too: these are wide, and with them the check knows more of a
@@ -225,16 +228,16 @@ pub fn check_wide(
     conditions: &[u8],
     certificate: &[u8],
 ) -> Result<Accepted, CheckError>
-    ensures kernel { IfOk result (λ a. read kernel.now ≡ Ok (kernel_seen (typed_of a))) }
+    ensures kernel { IfOk result (λ a. read (text_for Narrow kernel.now) ≡ Ok (kernel_seen (typed_of a))) }
     ensures conditions { IfOk result (λ a. conditions_of true (tree_seen (typed_of a).0).parameters conditions.now ≡ Ok (lined (kept a))) }
     ensures passed { IfOk result (λ a. IsPassedBy true (typed_of a) (conditions_seen (kept a)) certificate.now) }
-    ensures refused { TellsBy true result kernel.now conditions.now certificate.now }
-    ensures plain { OnPlainBy true result kernel.now conditions.now certificate.now }
-    ensures two { (two : List ℕ) → AreAlike certificate.now two → HoldsOfBy true result kernel.now conditions.now two }
-    ensures one { (one : List ℕ) → AreAlike one certificate.now → HoldsOfBy true result kernel.now conditions.now one }
-    ensures alike { IsOfOneOrTwo certificate.now → AreNotOfTwo conditions.now → HoldsOf result kernel.now conditions.now certificate.now }
+    ensures refused { TellsBy true result (text_for Narrow kernel.now) conditions.now certificate.now }
+    ensures plain { OnPlainBy true result (text_for Narrow kernel.now) conditions.now certificate.now }
+    ensures two { (two : List ℕ) → AreAlike certificate.now two → HoldsOfBy true result (text_for Narrow kernel.now) conditions.now two }
+    ensures one { (one : List ℕ) → AreAlike one certificate.now → HoldsOfBy true result (text_for Narrow kernel.now) conditions.now one }
+    ensures alike { IsOfOneOrTwo certificate.now → AreNotOfTwo conditions.now → HoldsOf result (text_for Narrow kernel.now) conditions.now certificate.now }
     ensures pair { IfOk result (λ a. IsAcceptedWithin (core_seen (typed_of a).1) (conditions_seen (kept a))) }
     ensures headline { IfOk result (λ a. HasHeadline (core_seen (typed_of a).1) (conditions_seen (kept a))) }
 {
-    check_as(alloc, kernel, conditions, certificate, true)
+    check_as(alloc, narrow(kernel), conditions, certificate, true)
 }

@@ -5,6 +5,8 @@ use Rattle.std.specs.Option.{option_map}
 use Rattle.std.specs.Fmt.{decimal}
 use Rattle.std.specs.String.{string_bytes}
 use Rattle.std.specs.declared.alloc.Global.{Global}
+use Rattle.texts.specs.Scope.{Devices, Narrow, Any}
+use Rattle.types.specs.Names.{devices as devices_seen}
 use Rattle.command_line.specs.declared.Names.{Names}
 use Rattle.command_line.specs.declared.Search.{Search}
 use Rattle.command_line.specs.declared.Subject.{Subject}
@@ -15,7 +17,7 @@ abbrev pub texts : List (String Global) → List (List ℕ)
 texts ws = map string_bytes ws
 
 abbrev pub is_option : List ℕ → Bool
-is_option w = bytes_eq w (codes "--workers") || bytes_eq w (codes "--out")
+is_option w = bytes_eq w (codes "--workers") || (bytes_eq w (codes "--out") || bytes_eq w (codes "--devices"))
 
 -- an option that has no value
 abbrev pub is_flag : List ℕ → Bool
@@ -52,32 +54,53 @@ IsNumberOf (Some w) n = w ≡ decimal n
 abbrev pub AsksWorkers : List (List ℕ) → ℕ → Type 0
 AsksWorkers ws n = IsNumberOf (workers_as false ws) n
 
+-- the word behind the first `--devices` says which
+abbrev pub devices_as : (is_name : Bool) → List (List ℕ) → Option (List ℕ)
+devices_as is_name [] = None
+devices_as true (w ∷ ws) = Some w
+devices_as false (w ∷ ws) = devices_as (bytes_eq w (codes "--devices")) ws
+
+-- `32` or `any`, and no other word; `32` where there is no word
+abbrev pub IsDevicesOf : Option (List ℕ) → Devices → Type 0
+IsDevicesOf None d = d ≡ Narrow
+IsDevicesOf (Some w) Narrow = w ≡ codes "32"
+IsDevicesOf (Some w) Any = w ≡ codes "any"
+
+-- the devices that the kernel is read for
+abbrev pub AsksDevices : List (List ℕ) → Devices → Type 0
+AsksDevices ws d = IsDevicesOf (devices_as false ws) d
+
 -- this is the n-th of them, from 0
 abbrev pub HasWord : List (List ℕ) → ℕ → List ℕ → Type 0
 HasWord ws n w = slice_get (operands false ws) n ≡ Some w
 
--- the files of the kernel, its conditions and its certificate come first; `--wide` asks for the wide check
+-- the files of the kernel, its conditions and its certificate come first; `--wide` asks for the wide check, and `--devices` says for which
+-- devices the kernel is read
 pub record HasNames (ws : List (List ℕ)) (names : Names) : Type 0 where
   pub kernel : HasWord ws 1 names.kernel.now
   pub conditions : HasWord ws 2 names.conditions.now
   pub certificate : HasWord ws 3 names.certificate.now
   pub wide : names.is_wide ≡ has_wide ws
+  pub devices : AsksDevices ws (devices_seen names.devices)
 
--- the kernel and the conditions come first, `--out` names the file to write, `--workers` the number of workers, and `--wide` asks for the
--- wide search
+-- the kernel and the conditions come first, `--out` names the file to write, `--workers` the number of workers, `--wide` asks for the wide
+-- search, and `--devices` says for which devices the kernel is read
 pub record HasSearch (ws : List (List ℕ)) (search : Search) : Type 0 where
   pub kernel : HasWord ws 1 search.kernel.now
   pub conditions : HasWord ws 2 search.conditions.now
   pub out : option_map (λ w. w.now) search.out ≡ saved_as false ws
   pub workers : AsksWorkers ws search.workers
   pub wide : search.is_wide ≡ has_wide ws
+  pub devices : AsksDevices ws (devices_seen search.devices)
 
--- the kernel and the conditions come first, then the certificate, where there is one; `--wide` asks for the wide check
+-- the kernel and the conditions come first, then the certificate, where there is one; `--wide` asks for the wide check, and `--devices`
+-- says for which devices the kernel is read
 pub record HasSubject (ws : List (List ℕ)) (subject : Subject) : Type 0 where
   pub kernel : HasWord ws 1 subject.kernel.now
   pub conditions : HasWord ws 2 subject.conditions.now
   pub certificate : option_map (λ w. w.now) subject.certificate ≡ slice_get (operands false ws) 3
   pub wide : subject.is_wide ≡ has_wide ws
+  pub devices : AsksDevices ws (devices_seen subject.devices)
 
 abbrev pub Asks : List (List ℕ) → Line → Type 0
 Asks ws lines.First = ws ≡ []

@@ -1,4 +1,4 @@
-//! Section: Program. Promises which words name which files; stands on `clap`.
+//! Section: Program. Promises which words name which files and devices; stands on `types` and `clap`.
 //!
 //! The command line. `clap` says whether the words are one; the files are the words that are no option, in their order.
 #![tactic(auto)]
@@ -6,11 +6,14 @@
 ghost use Rattle.std.specs.Prelude.{◌≡◌, ℕ, List, IfOk, IfSome, false, codes, slice_get};
 ghost use Rattle.std.specs.Fmt.{decimal};
 ghost use Rattle.std.specs.Option.{option_map};
-ghost use Rattle.command_line.specs.Words.{texts, operands, saved_as, workers_as, has_wide, IsNumberOf, AsksWorkers, HasWord, HasNames, HasSubject, Asks};
+ghost use Rattle.types.specs.Names.{devices as devices_seen};
+ghost use Rattle.command_line.specs.Words.{texts, operands, saved_as, workers_as, devices_as, has_wide, IsNumberOf, AsksWorkers, IsDevicesOf, AsksDevices};
+ghost use Rattle.command_line.specs.Words.{HasWord, HasNames, HasSubject, Asks};
 
 use clap::error::{Error, ErrorKind};
 use clap::{Arg, ArgAction, Command};
 use std::alloc::{AllocError, Global};
+use types::devices::Devices;
 
 /// A command, with the names of the files that it is asked of.
 #[derive(Clone, Copy)]
@@ -36,17 +39,19 @@ pub enum Line<'a> {
     Usage,
 }
 
-/// The files of a kernel, its conditions and its certificate, and whether the wide check is asked for.
+/// The files of a kernel, its conditions and its certificate, whether the wide check is asked for, and the devices that the kernel is read
+/// for.
 #[derive(Clone, Copy)]
 pub struct Names<'a> {
     pub kernel: &'a str,
     pub conditions: &'a str,
     pub certificate: &'a str,
     pub is_wide: bool,
+    pub devices: Devices,
 }
 
-/// The files that `prove` is asked of, a kernel's and its conditions', the file to write, where one is named, how many workers, and whether
-/// the wide search is asked for.
+/// The files that `prove` is asked of, a kernel's and its conditions', the file to write, where one is named, how many workers, whether
+/// the wide search is asked for, and the devices that the kernel is read for.
 #[derive(Clone, Copy)]
 pub struct Search<'a> {
     pub kernel: &'a str,
@@ -54,16 +59,18 @@ pub struct Search<'a> {
     pub out: Option<&'a str>,
     pub workers: u32,
     pub is_wide: bool,
+    pub devices: Devices,
 }
 
-/// The files that `explain` is asked of: a kernel's, its conditions', and a certificate's, where one is named; and whether it is of the
-/// wide check.
+/// The files that `explain` is asked of: a kernel's, its conditions', and a certificate's, where one is named; whether it is of the wide
+/// check, and the devices that the kernel is read for.
 #[derive(Clone, Copy)]
 pub struct Subject<'a> {
     pub kernel: &'a str,
     pub conditions: &'a str,
     pub certificate: Option<&'a str>,
     pub is_wide: bool,
+    pub devices: Devices,
 }
 
 /// A decimal of at most 4294967295, with no sign and no zero before it.
@@ -97,28 +104,28 @@ fn form_of(command: Option<&str>) -> Option<Form<'static>> {
             "check",
             &["KERNEL", "CONDITIONS", "CERTIFICATE"],
             3,
-            &[],
+            &["devices"],
             FLAGS,
         ),
         "run" => (
             "run",
             &["KERNEL", "CONDITIONS", "CERTIFICATE", "LAUNCH"],
             4,
-            &["workers"],
+            &["workers", "devices"],
             FLAGS,
         ),
         "prove" => (
             "prove",
             &["KERNEL", "CONDITIONS"],
             2,
-            &["workers", "out"],
+            &["workers", "out", "devices"],
             FLAGS,
         ),
         "explain" => (
             "explain",
             &["KERNEL", "CONDITIONS", "CERTIFICATE"],
             2,
-            &[],
+            &["devices"],
             FLAGS,
         ),
         "print" => ("print", &["KERNEL"], 1, &[], &[]),
@@ -179,7 +186,10 @@ fn operand(words: &[String], n: u32) -> Option<&str>
     for word in words {
         if is_value {
             is_value = false;
-        } else if word.as_str() == "--workers" || word.as_str() == "--out" {
+        } else if word.as_str() == "--workers"
+            || word.as_str() == "--out"
+            || word.as_str() == "--devices"
+        {
             is_value = true;
         } else if word.as_str() != "--wide" {
             if left == 0 {
@@ -217,7 +227,40 @@ fn out_of(words: &[String]) -> Option<&str>
     None
 }
 
-/// The files that words name, behind the command; none where there are too few.
+/// The word behind the first `--devices`.
+fn devices_word(words: &[String]) -> Option<&str>
+    ensures { option_map (λ w. w.now) result ≡ devices_as false (texts words.now) }
+{
+    let mut is_name = false;
+    for word in words {
+        if is_name {
+            return Some(word.as_str());
+        }
+        is_name = word.as_str() == "--devices";
+    }
+    None
+}
+
+/// The devices that a word says, those with 32 address bits where there is no word; none where it is neither `any` nor `32`.
+fn devices_of(word: Option<&str>) -> Option<Devices>
+    ensures { IfSome result (λ d. IsDevicesOf (option_map (λ w. w.now) word.entry) (devices_seen d)) }
+{
+    match word {
+        Some(text) if text == "any" => Some(Devices::Any),
+        Some(text) if text == "32" => Some(Devices::Narrow),
+        Some(_) => None,
+        None => Some(Devices::Narrow),
+    }
+}
+
+/// The devices that the words say, those with 32 address bits where they say none; none where they say no such devices.
+fn devices_in(words: &[String]) -> Option<Devices>
+    ensures { IfSome result (λ d. AsksDevices (texts words.now) (devices_seen d)) }
+{
+    devices_of(devices_word(words))
+}
+
+/// The files that words name, behind the command, and the devices; none where there are too few files, or the devices are none.
 fn names_of<'a>(words: &'a [String]) -> Option<Names<'a>>
     ensures { IfSome result (λ names. HasNames (texts words.now) names) }
 {
@@ -226,6 +269,7 @@ fn names_of<'a>(words: &'a [String]) -> Option<Names<'a>>
         conditions: operand(words, 2)?,
         certificate: operand(words, 3)?,
         is_wide: is_wide(words),
+        devices: devices_in(words)?,
     })
 }
 
@@ -279,7 +323,7 @@ fn workers_in(alloc: Global, words: &[String]) -> Result<Option<u32>, AllocError
     number_of(alloc, workers_word(words))
 }
 
-/// `check` of the three files that the words name, or no command line where they name fewer.
+/// `check` of the three files that the words name, or no command line where they name fewer, or devices that are none.
 fn check_of<'a>(words: &'a [String]) -> Line<'a>
     requires { HasWord (texts words.now) 0 (codes "check") }
     ensures { Asks (texts words.now) result }
@@ -290,7 +334,7 @@ fn check_of<'a>(words: &'a [String]) -> Line<'a>
     }
 }
 
-/// `run` of the four files that the words name, or no command line where they name fewer.
+/// `run` of the four files that the words name, or no command line where they name fewer, or devices that are none.
 fn run_of<'a>(words: &'a [String], workers: u32) -> Line<'a>
     requires command { HasWord (texts words.now) 0 (codes "run") }
     requires workers { AsksWorkers (texts words.now) workers }
@@ -306,13 +350,17 @@ fn run_of<'a>(words: &'a [String], workers: u32) -> Line<'a>
     }
 }
 
-/// `prove` of the two files that the words name, or no command line where they name fewer.
+/// `prove` of the two files that the words name, or no command line where they name fewer, or devices that are none.
 fn prove_of<'a>(words: &'a [String], workers: u32) -> Line<'a>
     requires command { HasWord (texts words.now) 0 (codes "prove") }
     requires workers { AsksWorkers (texts words.now) workers }
     ensures { Asks (texts words.now) result }
 {
-    let (Some(kernel), Some(conditions)) = (operand(words, 1), operand(words, 2)) else {
+    let (Some(kernel), Some(conditions), Some(devices)) = (
+        operand(words, 1),
+        operand(words, 2),
+        devices_in(words),
+    ) else {
         return Line::Usage;
     };
     Line::Prove(Search {
@@ -321,10 +369,11 @@ fn prove_of<'a>(words: &'a [String], workers: u32) -> Line<'a>
         out: out_of(words),
         workers,
         is_wide: is_wide(words),
+        devices,
     })
 }
 
-/// The kernel, the conditions and the certificate that the words name, if they name one.
+/// The kernel, the conditions and the certificate that the words name, if they name one, and the devices.
 fn subject_of<'a>(words: &'a [String]) -> Option<Subject<'a>>
     ensures { IfSome result (λ subject. HasSubject (texts words.now) subject) }
 {
@@ -333,10 +382,11 @@ fn subject_of<'a>(words: &'a [String]) -> Option<Subject<'a>>
         conditions: operand(words, 2)?,
         certificate: operand(words, 3),
         is_wide: is_wide(words),
+        devices: devices_in(words)?,
     })
 }
 
-/// `explain` of the two or three files that the words name, or no command line where they name fewer.
+/// `explain` of the two or three files that the words name, or no command line where they name fewer, or devices that are none.
 fn explain_of<'a>(words: &'a [String]) -> Line<'a>
     requires { HasWord (texts words.now) 0 (codes "explain") }
     ensures { Asks (texts words.now) result }

@@ -1,10 +1,11 @@
 -- Buffers with the results of groups.
 use Rattle.std.proofs.Common.{◌≡◌, ◌<◌, ℕ, zero, suc, List, ap, sym, ◌∙◌, subst, refl, arith}
 use Rattle.std.specs.Prelude.{ℤ}
-use Rattle.semantics.specs.Setup.{Setup, group_count}
+use Rattle.semantics.specs.Word.{Width}
+use Rattle.semantics.specs.Setup.{Setup, group_count, on_device}
 use Rattle.semantics.specs.Memory.{opening_memory}
 use Rattle.semantics.specs.Headline.{Headline}
-use Rattle.semantics.specs.Rounds.{logged, group_log, group_stores, result_of}
+use Rattle.semantics.specs.Rounds.{result_by_rounds, logged, group_log, group_stores, result_of}
 use Rattle.semantics.proofs.Logs.{applied-log}
 use Rattle.write_log.specs.Written.{element}
 use Rattle.group_workers.specs.Writing.{Log, in_order, HasLogs}
@@ -43,3 +44,9 @@ all-written s bound old new e h =
 -- a run that is over ends with the result
 pub every-end : (s : Setup) (bound : ℕ) (b : List (List ℤ)) → Headline s bound → IsResultOf s bound b → EndsEvery s b
 every-end s bound b h r = λ es w ran over. subst (λ m. HasBuffers s m b) (sym ((h es w ran).ends_with_the_result over)) r
+
+-- the result on another device, where that is the same memory
+pub same-on-device : (w : Width) (s : Setup) (bound : ℕ) (b : List (List ℤ)) → result_by_rounds (on_device w s) bound ≡ result_by_rounds s bound → IsResultOf s bound b → IsResultOf (on_device w s) bound b
+same-on-device w s bound b e r =
+    let k = subst (λ m. HasBuffers s m b) (sym e) r in
+    record { lengths = k.lengths; elements = k.elements }

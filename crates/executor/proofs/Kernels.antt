@@ -4,7 +4,8 @@ use Rattle.std.proofs.lemmas.List.{length-map}
 use Rattle.std.proofs.lemmas.Slice.Zip.{AllZip-long}
 use Rattle.std.specs.List.{AllZip}
 use Rattle.semantics.specs.Launch.{Kernel, Launch, IsArgument, IsBuffer, product}
-use Rattle.semantics.specs.Setup.{group_size, at_launch}
+use Rattle.semantics.specs.Word.{Width}
+use Rattle.semantics.specs.Setup.{group_size, at_launch, on_device}
 use Rattle.std.specs.Prelude.{Vec}
 use Rattle.std.specs.declared.alloc.Global.{Global}
 use Rattle.words.specs.View.{word}
@@ -16,6 +17,10 @@ use Rattle.words.specs.declared.word.Word as code
 pub some-items : (k : Kernel) (l : Launch) → 0 < product k.sizes → 0 < group_size (at_launch k l)
 unfolding group_size
 some-items k l h = h
+
+pub some-items-on : (w : Width) (k : Kernel) (l : Launch) → 0 < product k.sizes → 0 < group_size (on_device w (at_launch k l))
+unfolding group_size
+some-items-on w k l h = h
 
 -- as many as the kernel has parameters
 pub arguments-alike : (k : Kernel) (rs : List ArgumentRange) (ws : List code.Word) → length (map argument_range rs) ≡ length k.arguments → AllZip IsArgument k.arguments (map word ws) → length rs ≡ length ws

@@ -1,7 +1,8 @@
 //! The run of a launch.
 
 ghost use Rattle.std.specs.Prelude.{◌≡◌, ◌≤◌, ℕ, IfOk, map, length};
-ghost use Rattle.semantics.specs.Setup.{at_launch};
+ghost use Rattle.semantics.specs.Word.{Width};
+ghost use Rattle.semantics.specs.Setup.{at_launch, on_device};
 ghost use Rattle.semantics.specs.Launch.{Fits};
 ghost use Rattle.semantics.specs.Conditions.{Meets};
 ghost use Rattle.core_code.specs.View.{kernel as core_seen};
@@ -21,7 +22,7 @@ use kernel_code::lower;
 use lane_groups::laws::lane_logs_are_by_rounds;
 use launch::launches::{Buffers, Launch};
 use launch::meets::meets;
-use reduction::{headline_within, result_is_defined_within};
+use reduction::{headline_defines_the_result, pair_safe_within_on_devices};
 use semantics::honesty::launches_begin_kept;
 use std::alloc::{AllocError, Global};
 use std::sync::Wait;
@@ -69,10 +70,10 @@ fn run_groups<R: Threads + Wait + Sync, G: Gate>(
 }
 
 /// Runs an accepted kernel at a launch that fits it: the result by rounds, whatever the number of workers, and so what each
-/// interleaving of all work-items that is over ends with. Each worker has a thread of its own, but worker 1, which is the calling thread;
-/// where there is little to do fewer are started, and a worker whose thread cannot be started is run by the calling thread in its turn, with
-/// the same answers. `gate` is told which groups a worker has claimed and has run, and that it ends, and changes no answer. Each word that
-/// is answered has the kind of its buffer's parameter, whatever kind the launch's word has.
+/// interleaving of all work-items that is over ends with, however many bits sizes have. Each worker has a thread of its own, but worker 1,
+/// which is the calling thread; where there is little to do fewer are started, and a worker whose thread cannot be started is run by the
+/// calling thread in its turn, with the same answers. `gate` is told which groups a worker has claimed and has run, and that it ends, and
+/// changes no answer. Each word that is answered has the kind of its buffer's parameter, whatever kind the launch's word has.
 pub fn run<R: Threads + Wait + Sync, G: Gate>(
     rt: &R,
     alloc: Global,
@@ -83,11 +84,11 @@ pub fn run<R: Threads + Wait + Sync, G: Gate>(
 ) -> Result<Buffers, RunError>
     requires { Fits (core_seen (typed_of accepted.now).1) (launch_seen launch.now) }
     ensures answers { Answers (kept accepted.now) (launch_seen launch.now) workers result }
-    ensures value { IfOk result (λ b. IsResultOf (at_launch (core_seen (typed_of accepted.now).1) (launch_seen launch.now)) (kept accepted.now).budget (words_of b)) }
+    ensures value { IfOk result (λ b. (w : Width) → IsResultOf (on_device w (at_launch (core_seen (typed_of accepted.now).1) (launch_seen launch.now))) (kept accepted.now).budget (words_of b)) }
     ensures kinds { IfOk result (λ b. HaveKinds (core_seen (typed_of accepted.now).1).buffers (typed b)) }
-    ensures every { IfOk result (λ b. EndsEvery (at_launch (core_seen (typed_of accepted.now).1) (launch_seen launch.now)) (words_of b)) }
+    ensures every { IfOk result (λ b. (w : Width) → EndsEvery (on_device w (at_launch (core_seen (typed_of accepted.now).1) (launch_seen launch.now))) (words_of b)) }
     ensures meets { IfOk result (λ _. Meets (conditions_seen (kept accepted.now)) (launch_seen launch.now)) }
-    ensures defined { IfOk result (λ _. IsDefined (at_launch (core_seen (typed_of accepted.now).1) (launch_seen launch.now)) (kept accepted.now).budget) }
+    ensures defined { IfOk result (λ _. (w : Width) → IsDefined (on_device w (at_launch (core_seen (typed_of accepted.now).1) (launch_seen launch.now))) (kept accepted.now).budget) }
 {
     meets(accepted.conditions(), launch)?;
     if workers < 1 || workers > 64 {
@@ -95,8 +96,8 @@ pub fn run<R: Threads + Wait + Sync, G: Gate>(
     }
     let buffers = run_groups(rt, alloc, accepted, launch, workers, gate)?;
     launches_begin_kept();
-    headline_within();
-    result_is_defined_within();
+    pair_safe_within_on_devices();
+    headline_defines_the_result();
     let answer = of_parameters(alloc, accepted, &buffers)?;
     Ok(answer)
 }

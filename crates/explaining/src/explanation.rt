@@ -25,17 +25,19 @@ use launch::probe::probe;
 use launch_text::laws::a_least_launch_fits;
 use launch_text::read_conditions_as;
 use machine::world::Event;
+use reading::Source;
 use shown_kernels::kernel::read_proper_kernel;
 use std::alloc::{AllocError, Global};
+use types::devices::Devices;
 use types::typed::Typed;
 
 /// The number of the refusal where there are too many paths from one place.
 const MANY_PATHS: u8 = 53;
 
-/// The texts of a kernel and its conditions.
+/// The text of a kernel, the devices that it is read for, and the text of its conditions.
 #[derive(Clone, Copy)]
 struct Subject<'a> {
-    kernel: &'a [u8],
+    source: Source<'a>,
     conditions: &'a [u8],
 }
 
@@ -52,18 +54,19 @@ pub struct Refused<'a> {
 /// The number and the title of a finding.
 fn push_title(
     alloc: Global,
+    devices: Devices,
     number: usize,
     finding: &Finding,
     out: &mut String,
 ) -> Result<(), AllocError> {
-    let meant = meant(finding.kind);
+    let meant = meant(finding.kind, devices);
     let text = match finding.grade {
         Grade::Possible => {
-            let name = possible(finding.kind);
+            let name = possible(finding.kind, devices);
             format!(in alloc; "{number}. Possible {name}: {meant}")?
         }
         Grade::Confirmed(_) => {
-            let name = confirmed(finding.kind);
+            let name = confirmed(finding.kind, devices);
             format!(in alloc; "{number}. {name}, confirmed by a replay: {meant}")?
         }
     };
@@ -155,7 +158,7 @@ fn push_shown(
     events: &[Event],
     out: &mut String,
 ) -> Result<(), AllocError> {
-    match read_proper_kernel(alloc, subject.kernel) {
+    match read_proper_kernel(alloc, subject.source) {
         Ok(typed) => push_under(alloc, &typed, subject.conditions, finding, events, out),
         Err(_) => Err(AllocError),
     }
@@ -170,8 +173,8 @@ fn push_finding(
     out: &mut String,
 ) -> Result<(), AllocError> {
     out.push_str("\n")?;
-    push_title(alloc, number, finding, out)?;
-    push_spots(alloc, subject.kernel, finding, out)?;
+    push_title(alloc, subject.source.devices, number, finding, out)?;
+    push_spots(alloc, subject.source.bytes, finding, out)?;
     match &finding.grade {
         Grade::Confirmed(events) => push_shown(alloc, subject, finding, events.as_slice(), out),
         Grade::Possible => Ok(()),
@@ -241,7 +244,7 @@ impl Told {
         }
         push_hints(
             alloc,
-            telling.subject.kernel,
+            telling.subject.source.bytes,
             &telling.names,
             hints.as_slice(),
             !self.has_hints,
@@ -264,7 +267,7 @@ impl Told {
         let number = self.count.saturating_add(1);
         match members {
             [finding] => push_finding(alloc, subject, number, finding, out)?,
-            _ => push_group(alloc, subject.kernel, number, members, out)?,
+            _ => push_group(alloc, subject.source, number, members, out)?,
         }
         Ok(Told {
             count: number,
@@ -328,7 +331,7 @@ fn push_findings(
     if findings.is_empty() {
         return Ok(());
     }
-    match read_proper_kernel(alloc, subject.kernel) {
+    match read_proper_kernel(alloc, subject.source) {
         Ok(typed) => push_known(alloc, subject, &typed, findings, out)?,
         Err(_) => return Err(AllocError),
     }
@@ -350,7 +353,7 @@ fn push_known_tests(
     match read_conditions_as(alloc, typed, subject.conditions, true) {
         Ok(conditions) => {
             let known = Known::of(alloc, typed, &conditions)?;
-            push_paths(alloc, subject.kernel, typed, &known, place, out)
+            push_paths(alloc, subject.source.bytes, typed, &known, place, out)
         }
         Err(_) => Err(AllocError),
     }
@@ -363,7 +366,7 @@ fn push_tests(
     place: Site,
     out: &mut String,
 ) -> Result<(), AllocError> {
-    match read_proper_kernel(alloc, subject.kernel) {
+    match read_proper_kernel(alloc, subject.source) {
         Ok(typed) => push_known_tests(alloc, subject, &typed, place, out),
         Err(_) => Err(AllocError),
     }
@@ -372,12 +375,12 @@ fn push_tests(
 /// How many steps a work-item takes by a certificate.
 fn push_cost(
     alloc: Global,
-    kernel: &[u8],
+    source: Source<'_>,
     certificate: &[u8],
     out: &mut String,
 ) -> Result<(), AllocError> {
-    match read_proper_kernel(alloc, kernel) {
-        Ok(typed) => push_steps(alloc, kernel, &typed, certificate, out),
+    match read_proper_kernel(alloc, source) {
+        Ok(typed) => push_steps(alloc, source.bytes, &typed, certificate, out),
         Err(_) => Err(AllocError),
     }
 }
@@ -398,7 +401,7 @@ fn explanation(
         push_tests(alloc, subject, place, &mut out)?;
     }
     if let Some(certificate) = refused.over_budget {
-        push_cost(alloc, subject.kernel, certificate, &mut out)?;
+        push_cost(alloc, subject.source, certificate, &mut out)?;
     }
     Ok(out)
 }
@@ -406,14 +409,14 @@ fn explanation(
 /// Adds to a text what a refusal means, in plain words.
 pub fn explain(
     alloc: Global,
-    kernel: &[u8],
+    source: Source<'_>,
     conditions: &[u8],
     refused: &Refused<'_>,
     out: &mut String,
 ) -> Result<(), AllocError>
     ensures { OnOk result ((more : List ℕ) × (string_bytes out.new ≡ string_bytes out.old ++ more)) }
 {
-    let subject = Subject { kernel, conditions };
+    let subject = Subject { source, conditions };
     let text = explanation(alloc, subject, refused)?;
     out.push_str(&text)
 }

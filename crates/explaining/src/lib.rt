@@ -2,7 +2,8 @@
 //!
 //! What a refusal means, in plain words: of findings where they are in the source, and of a confirmed one who comes there, with which
 //! values and by which schedule; of those that are only possible, by their causes, on which values they depend of which little is known;
-//! and where there are too many paths, which tests multiply them. Nothing is proved of what is said here, and nothing believes it.
+//! where there are too many paths, which tests multiply them; and of a kernel that is accepted, where it computes with ids. Nothing is
+//! proved of what is said here, and nothing believes it.
 #![tactic(auto)]
 
 mod causes;
@@ -22,9 +23,11 @@ mod paths;
 mod pieces;
 mod scene;
 mod schedule;
+mod sizes;
 mod source;
 mod steps;
 mod titles;
 mod vague;
 
 pub use explanation::{Refused, explain};
+pub use sizes::{computes_with_sizes, explain_sizes};

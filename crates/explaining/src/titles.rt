@@ -2,15 +2,19 @@
 
 use findings::{FindingKind, Spot, WorkItem};
 use std::alloc::{AllocError, Global};
+use types::devices::Devices;
 use words::Fault;
 
-/// The title of a confirmed finding of a kind, in plain words.
-pub fn confirmed(kind: FindingKind) -> &'static str {
+/// The title of a confirmed finding of a kind, in plain words: for any devices a size overflows, too.
+pub fn confirmed(kind: FindingKind, devices: Devices) -> &'static str {
     match kind {
         FindingKind::Race => "Data race",
         FindingKind::Divergence => "Barrier divergence",
         FindingKind::Fault(Fault::DivisionByZero) => "Division by zero",
-        FindingKind::Fault(Fault::Overflow) => "Signed overflow",
+        FindingKind::Fault(Fault::Overflow) => match devices {
+            Devices::Narrow => "Signed overflow",
+            Devices::Any => "Overflow, signed or of a size",
+        },
         FindingKind::Fault(Fault::OutOfBounds) => "Read or write out of bounds",
         FindingKind::Bound => "Loop that nothing bounds",
         FindingKind::Values => "Store of a value that its buffer may not hold",
@@ -18,12 +22,15 @@ pub fn confirmed(kind: FindingKind) -> &'static str {
 }
 
 /// The title of a finding of a kind that is only possible, behind "possible", in plain words.
-pub fn possible(kind: FindingKind) -> &'static str {
+pub fn possible(kind: FindingKind, devices: Devices) -> &'static str {
     match kind {
         FindingKind::Race => "data race",
         FindingKind::Divergence => "barrier divergence",
         FindingKind::Fault(Fault::DivisionByZero) => "division by zero",
-        FindingKind::Fault(Fault::Overflow) => "signed overflow",
+        FindingKind::Fault(Fault::Overflow) => match devices {
+            Devices::Narrow => "signed overflow",
+            Devices::Any => "overflow, signed or of a size",
+        },
         FindingKind::Fault(Fault::OutOfBounds) => "read or write out of bounds",
         FindingKind::Bound => "loop that nothing bounds",
         FindingKind::Values => "store of a value that its buffer may not hold",
@@ -31,7 +38,7 @@ pub fn possible(kind: FindingKind) -> &'static str {
 }
 
 /// The meaning of a finding's kind, as a clause with a full stop.
-pub fn meant(kind: FindingKind) -> &'static str {
+pub fn meant(kind: FindingKind, devices: Devices) -> &'static str {
     match kind {
         FindingKind::Race => {
             "two work-items touch one element, one of them stores, and no barrier orders them."
@@ -40,7 +47,14 @@ pub fn meant(kind: FindingKind) -> &'static str {
             "a work-item waits at a barrier to which another of its group does not come."
         }
         FindingKind::Fault(Fault::DivisionByZero) => "the divisor is 0.",
-        FindingKind::Fault(Fault::Overflow) => "the result does not fit an int.",
+        FindingKind::Fault(Fault::Overflow) => match devices {
+            Devices::Narrow => "the result does not fit an int.",
+            Devices::Any => {
+                "the result does not fit an int; or it is an id or a size below 0, or of 2^32 and more, which devices \
+                 with 32 and with 64 address bits have otherwise. A cast, as (uint)get_global_id(0), computes with \
+                 32 bits on all."
+            }
+        },
         FindingKind::Fault(Fault::OutOfBounds) => "the index is not below the array's length.",
         FindingKind::Bound => "no number of turns is shown to be enough.",
         FindingKind::Values => "a values line of the conditions does not allow it.",

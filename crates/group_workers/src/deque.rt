@@ -1,4 +1,4 @@
-//! A worker's deque of groups.
+//! A worker's deque of stretches of groups, by their numbers.
 
 ghost use Rattle.std.specs.Prelude.{◌≡◌, ◌<◌, ◌%◌, ℕ, true, [], IfOk, IfSome, MatchOption};
 ghost use Rattle.crossbeam_deque.specs.Handles.{view, IsPassOf, stealer_deque, worker_deque, worker_flavor, worker_view};
@@ -11,7 +11,7 @@ use crossbeam_deque::{Pass, Steal, Stealer, Worker};
 use std::alloc::{AllocError, Global};
 use std::marker::{Brand, PhantomData};
 
-/// How many workers share the groups. Each call picks it.
+/// How many workers share the stretches. Each call picks it.
 pub trait Shares {
     ghost workers: { ℕ };
 }
@@ -60,7 +60,7 @@ impl<D: Shares> Outcome<u64, Hand> for Takes<D> {
     ghost then = { λ v xs w. Took D.workers v (slice_index xs 0) w };
 }
 
-/// The side of a deque from which thieves take groups, in any thread.
+/// The side of a deque from which thieves take stretches, in any thread.
 pub type Source<D> = Stealer<u64, Global, Hand, Dealt<D>>;
 
 /// A deque whose owner takes at the front.
@@ -72,7 +72,8 @@ pub struct Deque<D: Shares> {
 }
 
 impl<D: Shares> Deque<D> {
-    /// The deque of a share: the groups below `count` that are the share modulo the number of workers. A refused push leaves its group out.
+    /// The deque of a share: the stretches below `count` that are the share modulo the number of workers. A refused push leaves its stretch
+    /// out.
     pub fn dealt(
         alloc: Global,
         share: u64,
@@ -84,13 +85,13 @@ impl<D: Shares> Deque<D> {
         ensures share { IfOk result (λ d. IsOfShare workers share (worker_view d.worker)) }
     {
         let mut worker = Worker::fifo_as(alloc, 1)?;
-        let mut group = share;
-        while group < count {
-            let _pushed = worker.push_as::<Puts<D>>(group);
-            let Some(next) = group.checked_add(workers) else {
+        let mut stretch = share;
+        while stretch < count {
+            let _pushed = worker.push_as::<Puts<D>>(stretch);
+            let Some(next) = stretch.checked_add(workers) else {
                 break;
             };
-            group = next;
+            stretch = next;
         }
         Ok(Deque { worker })
     }
@@ -102,7 +103,7 @@ impl<D: Shares> Deque<D> {
         self.worker.stealer()
     }
 
-    /// The first group that is left. The owner had not taken it before.
+    /// The first stretch that is left. The owner had not taken it before.
     pub fn take(&mut self) -> Option<u64>
         ensures same { worker_deque self.new.worker ≡ worker_deque self.old.worker }
         ensures took { MatchOption result (worker_view self.new.worker ≡ worker_view self.old.worker) (λ x. Took D.workers (worker_view self.old.worker) x (worker_view self.new.worker)) }
@@ -112,7 +113,7 @@ impl<D: Shares> Deque<D> {
     }
 }
 
-/// A taker of groups from one deque, in any thread. It keeps what it has taken from one steal to the next.
+/// A taker of stretches from one deque, in any thread. It keeps what it has taken from one steal to the next.
 #[derive(Drop)]
 pub struct Thief<'d, D: Shares> {
     source: &'d Source<D>,
@@ -132,7 +133,7 @@ impl<'d, D: Shares> Thief<'d, D> {
         }
     }
 
-    /// Takes the first group that is left, if it can. This thief had not taken it before.
+    /// Takes the first stretch that is left, if it can. This thief had not taken it before.
     pub fn steal(&mut self) -> Steal<u64>
         ensures same { stealer_deque self.new.source.now ≡ stealer_deque self.old.source.now }
         ensures took { MatchSteal result (view self.new.pass ≡ view self.old.pass) (view self.new.pass ≡ view self.old.pass) (λ x. Took D.workers (view self.old.pass) x (view self.new.pass)) }

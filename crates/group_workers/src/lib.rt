@@ -2,13 +2,14 @@
 //!
 //! The groups of a launch, run by workers that steal from one another.
 //!
-//! Before the workers start, group k goes to the deque of worker 1 + (k modulo the number of workers). Each worker empties its own deque,
-//! then steals from each once round, until a round gave nothing. The calling thread is worker 1. A deque changes by a push, a pop and a
+//! Groups are taken in stretches of some groups, one after another. Before the workers start, stretch k goes to the deque of worker 1 + (k
+//! modulo the number of workers). Each worker empties its own deque, then steals from each once round, until a round gave nothing. The
+//! calling thread is worker 1. A deque changes by a push, a pop and a
 //! steal, and all three keep one rule: the deque, and what its owner and all passes have taken, hold only numbers of that worker's share
 //! below the owner's next one, none twice. So who takes a number learns that it had not taken it before (`Took`); a thief of a worker keeps
 //! what it has taken from one steal to the next. What is written rests on none of that: the type of a log says which group's it is, and the
-//! collector runs each group of which no log came. A log is written under a lock as soon as those of all groups below are, by the worker
-//! that hands it in; one that comes before its turn waits there.
+//! collector runs each group of which no log came. The logs of a stretch are handed in together, under a lock. A log is written as soon as
+//! those of all groups below are, by the worker that hands it in; one that comes before its turn waits there.
 #![tactic(auto)]
 
 use std::collections::LinkedList;

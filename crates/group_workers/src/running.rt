@@ -52,7 +52,7 @@ fn run_workers<J: Logged + Send + Sync, D: Shares + Send + Sync, R: Threads + Wa
     );
 }
 
-/// The deques of all workers, each with its share of the groups, and what thieves take from.
+/// The deques of all workers, each with its share of the stretches, and what thieves take from.
 fn deal<D: Shares>(
     alloc: Global,
     workers: u32,
@@ -71,7 +71,7 @@ fn deal<D: Shares>(
 }
 
 /// The steps of items that take about as long as a worker takes to start.
-const STEPS_OF_A_START: u64 = 100_000;
+const STEPS_OF_A_START: u64 = 200_000;
 
 /// How many of so many workers have enough to do, at most: fewer where the budget of all items together is small.
 fn busy_workers(task: &Task, workers: u32) -> u32
@@ -91,6 +91,29 @@ fn busy_workers(task: &Task, workers: u32) -> u32
     starts as u32
 }
 
+/// How many stretches of groups a worker takes at least, where there are as many groups.
+const STRETCHES_OF_A_WORKER: u64 = 16;
+
+/// The most groups of a stretch.
+const MOST_TOGETHER: u64 = 32;
+
+/// How many groups, one after another, so many workers take together, of so many groups.
+fn together(groups: u64, workers: u32) -> u64
+    ensures { 1 ≤ result }
+{
+    let stretches = workers as u64 * STRETCHES_OF_A_WORKER;
+    let most = groups.checked_div(stretches).unwrap_or(1);
+    most.min(MOST_TOGETHER).max(1)
+}
+
+/// How many stretches of so many groups there are.
+fn stretches_of(groups: u64, together: u64) -> u64
+    requires { 1 ≤ together }
+{
+    let whole = groups / together;
+    whole.saturating_add(1)
+}
+
 fn run_as<J: Logged + Send + Sync, D: Shares + Send + Sync, R: Threads + Wait + Sync, G: Gate>(
     rt: &R,
     alloc: Global,
@@ -104,7 +127,9 @@ fn run_as<J: Logged + Send + Sync, D: Shares + Send + Sync, R: Threads + Wait + 
     requires before { J.before ≡ words_of buffers.old }
     ensures { OnOk result (HasLogs (logs_of task.entry) (groups task.entry) (words_of buffers.old) (words_of buffers.new)) }
 {
-    let (deques, sources) = deal::<D>(alloc, workers, task.groups())?;
+    let together = together(task.groups(), workers);
+    let stretches = stretches_of(task.groups(), together);
+    let (deques, sources) = deal::<D>(alloc, workers, stretches)?;
     let none = Buffers {
         words: Vec::new(alloc),
     };
@@ -116,6 +141,7 @@ fn run_as<J: Logged + Send + Sync, D: Shares + Send + Sync, R: Threads + Wait + 
         sources: sources.as_slice(),
         collected: &collected,
         gate,
+        together,
     };
     run_workers(&shared, deques);
     let mut all = collected.into_inner();

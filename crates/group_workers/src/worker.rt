@@ -20,21 +20,37 @@ pub struct Shared<'w, J: Logged, D: Shares, R, G> {
     pub sources: &'w [Source<D>],
     pub collected: &'w Mutex<Collected<J>>,
     pub gate: &'w G,
+    /// How many groups, one after another, a worker takes together, and hands over together.
+    pub together: u64,
 }
 
 impl<J: Logged, D: Shares, R: Wait, G: Gate> Shared<'_, J, D, R, G> {
-    // Runs a group that was taken, and hands its log over.
-    fn hand_over(&self, group: u64, room: &mut Room, worker: u32) -> Result<(), AllocError>
+    // Hands over the logs of groups.
+    fn hand_over(&self, logs: Vec<GroupLog<J>>) -> Result<(), AllocError> {
+        let mut collected = self.collected.lock(self.rt);
+        for log in logs {
+            collected.take(log)?;
+        }
+        Ok(())
+    }
+
+    // Runs the groups of a stretch that was taken, and hands their logs over.
+    fn run_stretch(&self, stretch: u64, room: &mut Room, worker: u32) -> Result<(), AllocError>
         requires { IsTask J.logs J.count self.now.task }
     {
-        // What a taker learns of a number does not say that this is a group of the launch.
-        if group >= self.task.groups() {
-            return Ok(());
+        // What a taker learns of a number does not say that this is a stretch of the launch's groups.
+        let count = self.task.groups();
+        let first = stretch.saturating_mul(self.together).min(count);
+        let end = first.saturating_add(self.together).min(count);
+        let mut logs = Vec::new(self.alloc);
+        for group in first..end {
+            self.gate.at(worker, Moment::Claimed(group));
+            logs.push(GroupLog::of(self.alloc, self.task, group, room)?)?;
         }
-        self.gate.at(worker, Moment::Claimed(group));
-        let log = GroupLog::of(self.alloc, self.task, group, room)?;
-        self.collected.lock(self.rt).take(log)?;
-        self.gate.at(worker, Moment::Done(group));
+        self.hand_over(logs)?;
+        for group in first..end {
+            self.gate.at(worker, Moment::Done(group));
+        }
         Ok(())
     }
 
@@ -43,10 +59,10 @@ impl<J: Logged, D: Shares, R: Wait, G: Gate> Shared<'_, J, D, R, G> {
         requires { IsTask J.logs J.count self.now.task }
     {
         for _ in self.rt.forever() {
-            let Some(group) = deque.take() else {
+            let Some(stretch) = deque.take() else {
                 break;
             };
-            self.hand_over(group, room, worker)?;
+            self.run_stretch(stretch, room, worker)?;
         }
         Ok(())
     }
@@ -72,8 +88,8 @@ impl<J: Logged, D: Shares, R: Wait, G: Gate> Shared<'_, J, D, R, G> {
         let mut gave = false;
         for thief in thieves.iter_mut() {
             match thief.steal() {
-                Steal::Success(group) => {
-                    self.hand_over(group, room, worker)?;
+                Steal::Success(stretch) => {
+                    self.run_stretch(stretch, room, worker)?;
                     gave = true;
                 }
                 Steal::Retry => gave = true,

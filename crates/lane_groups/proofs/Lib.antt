@@ -21,3 +21,4 @@ pub mod Standings
 pub mod Spilled
 pub mod Distinct
 pub mod Placed
+pub mod Flagged

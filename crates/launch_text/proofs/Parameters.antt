@@ -1,20 +1,23 @@
 -- The kinds of a kernel's parameters.
-use Rattle.std.proofs.Common.{◌≡◌, ℕ, ◌+◌, ◌<◌, Bool, true, false, List, [], ◌∷◌, ◌++◌, length, Option, None, Some, Ok, Err, refl, ap, sym, ◌∙◌, append_assoc, subst, inl, inr, ◌⊎◌, arith}
+use Rattle.std.proofs.Common.{◌≡◌, ℕ, zero, suc, ◌+◌, ◌<◌, Bool, true, false, List, [], ◌∷◌, ◌++◌, length, Option, None, Some, Ok, Err, refl, ap, sym, ◌∙◌, append_assoc, subst, inl, inr, ◌⊎◌, arith}
 use Rattle.std.specs.Prelude.{bytes_eq}
+use Rattle.std.specs.Coded.{Coded, Coded-set, coded_ℕ, coded_list, code_by, ×_prop}
 use Rattle.std.specs.List.{AllZip}
 use Rattle.std.proofs.lemmas.Bool.{cond_both}
 use Rattle.std.proofs.lemmas.List.{append-nil}
+use Rattle.std.proofs.Math.Logic.{∥∥₁_elim}
 use Rattle.semantics.specs.Core.{Site}
-use Rattle.semantics.specs.Word.{Kind}
+use Rattle.semantics.specs.Word.{Kind, Int, Uint, Size}
 use Rattle.semantics.specs.Launch.{Kernel}
 use Rattle.texts.specs.Surface as surface
 use Rattle.texts.specs.Surface.{Parameter, Buffer, Value}
 use Rattle.texts.specs.TypeFaults as checks
-use Rattle.texts.specs.Scope.{Scope, empty_scope, may_declare, may_name_kernel}
+use Rattle.texts.specs.Scope.{Devices, Scope, empty_scope, may_declare, may_name_kernel}
 use Rattle.texts.specs.Elaboration.{InKernel, declare_parameter, declare_parameters, elaborate_inside, elaborate, elaborate_all}
 use Rattle.texts.specs.LaunchFaults.{Cursor, Step, then}
 use Rattle.texts.specs.LaunchWords.{go_on, each}
 use Rattle.texts.specs.LaunchSums.{value_number, buffer_number}
+use Rattle.types.specs.Elaborated.{IsElaborated}
 use Rattle.launch_text.specs.Parameters.{value_kind, buffer_kind, onto, kinds}
 use Rattle.launch_text.proofs.Back.{then_back}
 
@@ -69,15 +72,42 @@ declared_all (p ∷ ps) before after e =
 made : (a b : Kernel) → (let r : checks.Checked Kernel = Ok a in r ≡ Ok b) → a ≡ b
 made a b e = cc
 
-pub kernel_back : (tree : surface.Kernel) (k : Kernel) → elaborate tree ≡ Ok k → (k.arguments ≡ kinds value_kind tree.parameters) × (k.buffers ≡ kinds buffer_kind tree.parameters)
+pub kernel_back : (d : Devices) (tree : surface.Kernel) (k : Kernel) → elaborate d tree ≡ Ok k → (k.arguments ≡ kinds value_kind tree.parameters) × (k.buffers ≡ kinds buffer_kind tree.parameters)
 unfolding elaborate elaborate_inside
-kernel_back tree k e =
-    let named = checked_back (checks.when (may_name_kernel tree.name) checks.NameTwice tree.name_site empty_scope) _ k e in
-    let outer = checked_back (declare_parameters empty_scope tree.parameters) _ k named.2 in
+kernel_back d tree k e =
+    let named = checked_back (checks.when (may_name_kernel tree.name) checks.NameTwice tree.name_site (empty_scope d)) _ k e in
+    let outer = checked_back (declare_parameters (empty_scope d) tree.parameters) _ k named.2 in
     let body = checked_back (elaborate_all InKernel outer.0 tree.body) _ k outer.2 in
-    let all = declared_all tree.parameters empty_scope outer.0 outer.1 in
+    let all = declared_all tree.parameters (empty_scope d) outer.0 outer.1 in
     let q = made _ k body.2 in
     (ap (λ m. m.arguments) (sym q) ∙ all.0, ap (λ m. m.buffers) (sym q) ∙ all.1)
+
+-- that two lists of kinds are the same is so in one way
+abbrev kind_number : Kind → ℕ
+kind_number Int = 0
+kind_number Uint = 1
+kind_number Size = 2
+
+abbrev kind_numbered : ℕ → Kind
+kind_numbered zero = Int
+kind_numbered (suc zero) = Uint
+kind_numbered (suc (suc n)) = Size
+
+numbered_back : (k : Kind) → kind_numbered (kind_number k) ≡ k
+numbered_back Int = refl
+numbered_back Uint = refl
+numbered_back Size = refl
+
+coded_kind : Coded Kind
+coded_kind = code_by ℕ coded_ℕ kind_number kind_numbered numbered_back
+
+one_way : (a b : List Kind) → IsProp (a ≡ b)
+one_way a b = Coded-set (coded_list coded_kind) a b
+
+-- whatever the devices
+pub elaborated_back : (tree : surface.Kernel) (k : Kernel) → IsElaborated tree k → (k.arguments ≡ kinds value_kind tree.parameters) × (k.buffers ≡ kinds buffer_kind tree.parameters)
+elaborated_back tree k e =
+    ∥∥₁_elim e (×_prop (one_way k.arguments (kinds value_kind tree.parameters)) (one_way k.buffers (kinds buffer_kind tree.parameters))) (λ x. kernel_back x.0 tree k x.1)
 
 -- a line that is read gives what fits its parameter's kind; of other parameters there is none
 pub record Skips {A : Type 0} (line : List A → Parameter → Option (Cursor → Step (A × Cursor))) (of : Parameter → Option Kind) (done : List A) (p : Parameter) : Type 0 where

@@ -7,7 +7,7 @@ use Rattle.semantics.specs.Core.{Site}
 use Rattle.texts.specs.Bare.{nowhere, bare_expression, bare_expressions, bare_declaration, bare_index, bare_assignment, bare_first, bare_statement, bare_statements, bare_parameter, bare_kernel}
 use Rattle.texts.specs.Surface.{Arithmetic, LeftShift, RightShift, Comparison, LogicalAnd, LogicalOr, AssignSign, Plain, With, WithLeftShift, WithRightShift, Expression, Number, Name, Element, Call, Prefix, Cast, Infix, Conditional, Expressions, nothing, also, Declaration, Assignment, First, FirstDeclares, FirstAssigns, JumpWord, Return, Break, Continue, Statement, Declare, DeclareArray, Assign, If, While, For, Barrier, Jump, Block, Statements, none, one, Parameter, Buffer, Value, Kernel, site_of}
 use Rattle.texts.specs.TypeFaults.{UnknownName, NameTwice, WriteToConst, ArrayInBlock, LoadInCompoundIndex, BarrierFlags, JumpOutsideLoop, then, when}
-use Rattle.texts.specs.Scope.{Meaning, VariableAt, ArrayAt, Scope, empty_scope, leave_block, meaning_of, may_declare, may_name_kernel}
+use Rattle.texts.specs.Scope.{Devices, Meaning, VariableAt, ArrayAt, Scope, empty_scope, leave_block, meaning_of, may_declare, may_name_kernel}
 use Rattle.texts.specs.Typing.{TypedTerm, typed}
 use Rattle.texts.specs.Elaboration.{Elaborated, elaborated, single, join, assigned, either, first_load, first_load_in, without_load, site_or, target_array, target_slot, assign_to, elaborate_assignment, elaborate_declaration, elaborate_first, flag_named, one_flag, barrier_of, Around, InKernel, InLoop, is_in_kernel, inside, innermost_loop, jump_to, elaborate_statement, elaborate_all, declare_parameter, declare_parameters, elaborate_inside, elaborate}
 use Rattle.printer.specs.BareCore.{bare_term, bare_step, bare_steps, bare_core, bare_checked}
@@ -72,7 +72,7 @@ bare-loaded sign o p site i e =
 -- assignments and declarations
 bare-assigned : (sign : AssignSign) (site : Site) (e : Expression) (old new : TypedTerm) → assigned sign nowhere (bare_expression e) (bare_typed old) (bare_typed new) ≡ bare_checked bare_typed (assigned sign site e old new)
 bare-assigned Plain site e old new = refl
-bare-assigned (With operator) site e old new = refl
+bare-assigned (With operator) site e old new = bare-infix (Arithmetic operator) site e old new
 bare-assigned WithLeftShift site e old new = bare-infix LeftShift site e old new
 bare-assigned WithRightShift site e old new = bare-infix RightShift site e old new
 
@@ -86,12 +86,12 @@ bare-slot site (ArrayAt array kind writable) = refl
 
 bare-assign : (scope : Scope) (a : Assignment) (m : Meaning) (o : Option Expression) → assign_to scope (bare_assignment a) m (bare_index o) ≡ bare_checked bare_step (assign_to scope a m o)
 bare-assign scope a m None =
-    bare-then same bare_step _ _ _ _ (bare-slot a.site m) (λ x. bare-then bare_typed bare_step _ _ _ _ (bare-type scope.visible a.value) (λ v.
+    bare-then same bare_step _ _ _ _ (bare-slot a.site m) (λ x. bare-then bare_typed bare_step _ _ _ _ (bare-type scope.devices scope.visible a.value) (λ v.
     bare-then bare_typed bare_step _ _ _ _ (bare-assigned a.sign a.sign_site a.value (typed x.1 (core.Variable x.0)) v) (λ w. ap (λ t. Ok (core.Set a.number x.0 t)) (bare-bring x.1 a.site w))))
 bare-assign scope a m (Some index) =
-    bare-then same bare_step _ _ _ _ (bare-target a.site m) (λ x. bare-then bare_typed bare_step _ _ _ _ (bare-type scope.visible index) (λ i.
+    bare-then same bare_step _ _ _ _ (bare-target a.site m) (λ x. bare-then bare_typed bare_step _ _ _ _ (bare-type scope.devices scope.visible index) (λ i.
     bare-then bare_typed bare_step _ _ _ _ (bare-loaded a.sign (first_load index) (first_load (bare_expression index)) a.site i (bare-load index)) (λ j.
-    bare-then bare_typed bare_step _ _ _ _ (bare-type scope.visible a.value) (λ v.
+    bare-then bare_typed bare_step _ _ _ _ (bare-type scope.devices scope.visible a.value) (λ v.
     bare-then bare_typed bare_step _ _ _ _ (bare-assigned a.sign a.sign_site a.value (typed x.1 (core.Load x.0 a.site j.term)) v) (λ w.
     ap (λ t. Ok (core.Store a.number x.0 nowhere (bare_term j.term) t)) (bare-bring x.1 a.site w))))))
 
@@ -102,7 +102,7 @@ bare-elaborate_assignment scope a = bare-then same bare_step _ _ _ _ (bare-found
 bare-elaborate_declaration : (scope : Scope) (d : Declaration) → elaborate_declaration scope (bare_declaration d) ≡ bare_checked bare_elaborated (elaborate_declaration scope d)
 unfolding elaborate_declaration
 bare-elaborate_declaration scope d =
-    bare-then bare_typed bare_elaborated _ _ _ _ (bare-type scope.visible d.value) (λ v. bare-then same bare_elaborated _ _ _ _ (bare-when same (may_declare scope d.name) NameTwice d.name_site _) (λ inner.
+    bare-then bare_typed bare_elaborated _ _ _ _ (bare-type scope.devices scope.visible d.value) (λ v. bare-then same bare_elaborated _ _ _ _ (bare-when same (may_declare scope d.name) NameTwice d.name_site _) (λ inner.
     ap (λ t. Ok (elaborated (single (core.Set d.number (length scope.slots) t)) inner)) (bare-bring d.kind d.name_site v)))
 
 bare-elaborate_first : (scope : Scope) (f : First) → elaborate_first scope (bare_first f) ≡ bare_checked bare_elaborated (elaborate_first scope f)
@@ -174,12 +174,12 @@ mutual
       bare-then same bare_elaborated _ _ _ _ (bare-when same (may_declare outer x) NameTwice name_site _) (λ inner. refl))
   bare-elaborate_statement around scope (Assign a) = bare-then bare_step bare_elaborated _ _ _ _ (bare-elaborate_assignment scope a) (λ s. refl)
   bare-elaborate_statement around scope (If n site test taken skipped) =
-      bare-then bare_typed bare_elaborated _ _ _ _ (bare-type scope.visible test) (λ t. bare-then bare_elaborated bare_elaborated _ _ _ _ (bare-elaborate_all (inside around) scope taken) (λ a.
+      bare-then bare_typed bare_elaborated _ _ _ _ (bare-type scope.devices scope.visible test) (λ t. bare-then bare_elaborated bare_elaborated _ _ _ _ (bare-elaborate_all (inside around) scope taken) (λ a.
       bare-then bare_elaborated bare_elaborated _ _ _ _ (bare-elaborate_all (inside around) _ skipped) (λ b. refl)))
   bare-elaborate_statement around scope (While n site test body) =
-      bare-then bare_typed bare_elaborated _ _ _ _ (bare-type scope.visible test) (λ t. bare-then bare_elaborated bare_elaborated _ _ _ _ (bare-elaborate_all (InLoop n) scope body) (λ b. refl))
+      bare-then bare_typed bare_elaborated _ _ _ _ (bare-type scope.devices scope.visible test) (λ t. bare-then bare_elaborated bare_elaborated _ _ _ _ (bare-elaborate_all (InLoop n) scope body) (λ b. refl))
   bare-elaborate_statement around scope (For n site first test update body) =
-      bare-then bare_elaborated bare_elaborated _ _ _ _ (bare-elaborate_first scope first) (λ f. bare-then bare_typed bare_elaborated _ _ _ _ (bare-type f.scope.visible test) (λ t.
+      bare-then bare_elaborated bare_elaborated _ _ _ _ (bare-elaborate_first scope first) (λ f. bare-then bare_typed bare_elaborated _ _ _ _ (bare-type f.scope.devices f.scope.visible test) (λ t.
       bare-then bare_step bare_elaborated _ _ _ _ (bare-elaborate_assignment f.scope update) (λ u. bare-then bare_elaborated bare_elaborated _ _ _ _ (bare-elaborate_all (InLoop n) f.scope body) (λ b.
       ap (λ ss. Ok (elaborated ss (leave_block scope b.scope))) (bare-join f.statements (single (core.Loop n t.term b.statements (single u))))))))
   bare-elaborate_statement around scope (Barrier n site flags) = bare-then bare_step bare_elaborated _ _ _ _ (bare-barrier n flags) (λ s. refl)
@@ -201,11 +201,11 @@ bare-declare_all : (scope : Scope) (ps : List Parameter) → declare_parameters 
 bare-declare_all scope [] = refl
 bare-declare_all scope (p ∷ ps) = bare-then same same _ _ _ _ (bare-declare scope p) (λ inner. bare-declare_all inner ps)
 
-bare-inside : (k : Kernel) → elaborate_inside (bare_kernel k) ≡ bare_checked bare_core (elaborate_inside k)
+bare-inside : (d : Devices) (k : Kernel) → elaborate_inside d (bare_kernel k) ≡ bare_checked bare_core (elaborate_inside d k)
 unfolding elaborate_inside
-bare-inside k =
-    bare-then same bare_core _ _ _ _ (bare-declare_all empty_scope k.parameters) (λ outer. bare-then bare_elaborated bare_core _ _ _ _ (bare-elaborate_all InKernel outer k.body) (λ b. refl))
+bare-inside d k =
+    bare-then same bare_core _ _ _ _ (bare-declare_all (empty_scope d) k.parameters) (λ outer. bare-then bare_elaborated bare_core _ _ _ _ (bare-elaborate_all InKernel outer k.body) (λ b. refl))
 
-pub bare-elaborate : (k : Kernel) → elaborate (bare_kernel k) ≡ bare_checked bare_core (elaborate k)
+pub bare-elaborate : (d : Devices) (k : Kernel) → elaborate d (bare_kernel k) ≡ bare_checked bare_core (elaborate d k)
 unfolding elaborate
-bare-elaborate k = bare-then same bare_core _ _ _ _ (bare-when same (may_name_kernel k.name) NameTwice k.name_site empty_scope) (λ outside. bare-inside k)
+bare-elaborate d k = bare-then same bare_core _ _ _ _ (bare-when same (may_name_kernel k.name) NameTwice k.name_site (empty_scope d)) (λ outside. bare-inside d k)

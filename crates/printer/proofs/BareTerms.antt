@@ -1,14 +1,14 @@
 -- Typing, positions aside: an expression without positions has the term without positions, or the same fault.
 use Rattle.std.proofs.Common.{◌≡◌, ℕ, List, [], ◌∷◌, map, Bool, true, false, cond, Ok, Err, refl, ap, ◌∙◌}
 use Rattle.std.specs.Prelude.{Option, Some, None}
-use Rattle.semantics.specs.Word.{Kind, Int, Uint, Size, UnaryOperator, ShiftLeft, ShiftRight}
+use Rattle.semantics.specs.Word.{Kind, Int, Uint, Size, Operator, Multiply, Divide, Relation, UnaryOperator, ShiftLeft, ShiftRight}
 use Rattle.semantics.specs.Core as core
 use Rattle.semantics.specs.Core.{Site, Function, Term}
 use Rattle.texts.specs.Bare.{nowhere, bare_expression, bare_expressions}
 use Rattle.texts.specs.Surface.{PrefixSign, Minus, LogicalNot, BitNot, InfixSign, Arithmetic, LeftShift, RightShift, Comparison, LogicalAnd, LogicalOr, Expression, Number, Name, Element, Call, Prefix, Cast, Infix, Conditional, Expressions, nothing, also}
 use Rattle.texts.specs.TypeFaults.{TypeFault, UnknownName, WrongType, LeftOutWord, Checked, refused, then, when, found}
-use Rattle.texts.specs.Scope.{Meaning, VariableAt, ArrayAt, Binding, meaning_of}
-use Rattle.texts.specs.Typing.{TypedTerm, typed, common, brought, bring, variable_term, array_of, prefix_term, shift_count, shift_term, infix_term, conditional_term, function_named, is_left_out, id_term, same_kind, pick_term, are_two, call_other, call_term, type_of, types_of}
+use Rattle.texts.specs.Scope.{Devices, size_kind, Meaning, VariableAt, ArrayAt, Binding, meaning_of}
+use Rattle.texts.specs.Typing.{TypedTerm, typed, common, brought, bring, variable_term, array_of, prefix_term, shift_count, shifted, shift_term, widened, operand, arithmetic_term, comparison_term, infix_term, conditional_term, function_named, is_left_out, id_term, same_kind, pick_term, are_two, call_other, call_term, type_of, types_of}
 use Rattle.printer.specs.BareCore.{bare_term, bare_checked}
 
 abbrev pub same : {A : Type 0} → A → A
@@ -67,15 +67,40 @@ bare-count kind (Cast site k e) = refl
 bare-count kind (Infix site sign l r) = refl
 bare-count kind (Conditional site test a b) = refl
 
-bare-shift : (site : Site) (operator : ℕ → UnaryOperator) (l : TypedTerm) (o : Option ℕ) → shift_term nowhere operator (bare_typed l) o ≡ bare_checked bare_typed (shift_term site operator l o)
-bare-shift site operator l (Some n) = refl
-bare-shift site operator l None = refl
+bare-shifted : (shift : ℕ → UnaryOperator) (op : Operator) (site : Site) (kind : Kind) (t : Term) (n : ℕ) → shifted shift op nowhere kind (bare_term t) n ≡ bare_term (shifted shift op site kind t n)
+bare-shifted shift op site Int t n = refl
+bare-shifted shift op site Uint t n = refl
+bare-shifted shift op site Size t n = refl
+
+bare-shift : (site : Site) (shift : ℕ → UnaryOperator) (op : Operator) (l : TypedTerm) (o : Option ℕ) → shift_term nowhere shift op (bare_typed l) o ≡ bare_checked bare_typed (shift_term site shift op l o)
+bare-shift site shift op l (Some n) = ap (λ t. Ok (typed (common Uint l.kind) t)) (bare-shifted shift op site l.kind l.term n)
+bare-shift site shift op l None = refl
+
+bare-widened : (from : Kind) (site : Site) (t : Term) → widened from nowhere (bare_term t) ≡ bare_term (widened from site t)
+bare-widened Int site t = refl
+bare-widened Uint site t = refl
+bare-widened Size site t = refl
+
+bare-operand : (kind : Kind) (site : Site) (t : TypedTerm) → operand kind nowhere (bare_typed t) ≡ bare_term (operand kind site t)
+bare-operand Int site t = refl
+bare-operand Uint site t = refl
+bare-operand Size site t = bare-widened t.kind site t.term
+
+bare-arithmetic : (operator : Operator) (site : Site) (kind : Kind) (l r : TypedTerm) → arithmetic_term operator nowhere kind (bare_typed l) (bare_typed r) ≡ bare_typed (arithmetic_term operator site kind l r)
+bare-arithmetic operator site kind l r =
+    ap (λ t. typed kind (core.Binary operator kind nowhere t (operand kind nowhere (bare_typed r)))) (bare-operand kind site l)
+    ∙ ap (λ t. typed kind (core.Binary operator kind nowhere (bare_term (operand kind site l)) t)) (bare-operand kind site r)
+
+bare-comparison : (relation : Relation) (site : Site) (kind : Kind) (l r : TypedTerm) → comparison_term relation nowhere kind (bare_typed l) (bare_typed r) ≡ bare_typed (comparison_term relation site kind l r)
+bare-comparison relation site kind l r =
+    ap (λ t. typed Int (core.Compare relation kind t (operand kind nowhere (bare_typed r)))) (bare-operand kind site l)
+    ∙ ap (λ t. typed Int (core.Compare relation kind (bare_term (operand kind site l)) t)) (bare-operand kind site r)
 
 pub bare-infix : (sign : InfixSign) (site : Site) (right : Expression) (l r : TypedTerm) → infix_term sign nowhere (bare_expression right) (bare_typed l) (bare_typed r) ≡ bare_checked bare_typed (infix_term sign site right l r)
-bare-infix (Arithmetic operator) site right l r = refl
-bare-infix LeftShift site right l r = ap (shift_term nowhere ShiftLeft (bare_typed l)) (bare-count l.kind right) ∙ bare-shift site ShiftLeft l (shift_count l.kind right)
-bare-infix RightShift site right l r = ap (shift_term nowhere ShiftRight (bare_typed l)) (bare-count l.kind right) ∙ bare-shift site ShiftRight l (shift_count l.kind right)
-bare-infix (Comparison relation) site right l r = refl
+bare-infix (Arithmetic operator) site right l r = ap Ok (bare-arithmetic operator site (common l.kind r.kind) l r)
+bare-infix LeftShift site right l r = ap (shift_term nowhere ShiftLeft Multiply (bare_typed l)) (bare-count l.kind right) ∙ bare-shift site ShiftLeft Multiply l (shift_count l.kind right)
+bare-infix RightShift site right l r = ap (shift_term nowhere ShiftRight Divide (bare_typed l)) (bare-count l.kind right) ∙ bare-shift site ShiftRight Divide l (shift_count l.kind right)
+bare-infix (Comparison relation) site right l r = ap Ok (bare-comparison relation site (common l.kind r.kind) l r)
 bare-infix LogicalAnd site right l r = refl
 bare-infix LogicalOr site right l r = refl
 
@@ -86,17 +111,17 @@ bare-conditional site test a b =
     ∙ ap (λ t. typed k (core.Select (bare_term test.term) (bare_term (bring k site a)) t)) (bare-bring k site b)
 
 -- calls
-bare-id : (site : Site) (function : Function) (es : Expressions) → id_term nowhere function (bare_expressions es) ≡ bare_checked bare_typed (id_term site function es)
-bare-id site function nothing = refl
-bare-id site function (also (Number at kind n) nothing) = refl
-bare-id site function (also (Number at kind n) (also e es)) = refl
-bare-id site function (also (Name at x) es) = refl
-bare-id site function (also (Element at x index) es) = refl
-bare-id site function (also (Call at x arguments) es) = refl
-bare-id site function (also (Prefix at sign e) es) = refl
-bare-id site function (also (Cast at kind e) es) = refl
-bare-id site function (also (Infix at sign l r) es) = refl
-bare-id site function (also (Conditional at test a b) es) = refl
+bare-id : (ids : Kind) (site : Site) (function : Function) (es : Expressions) → id_term ids nowhere function (bare_expressions es) ≡ bare_checked bare_typed (id_term ids site function es)
+bare-id ids site function nothing = refl
+bare-id ids site function (also (Number at kind n) nothing) = refl
+bare-id ids site function (also (Number at kind n) (also e es)) = refl
+bare-id ids site function (also (Name at x) es) = refl
+bare-id ids site function (also (Element at x index) es) = refl
+bare-id ids site function (also (Call at x arguments) es) = refl
+bare-id ids site function (also (Prefix at sign e) es) = refl
+bare-id ids site function (also (Cast at kind e) es) = refl
+bare-id ids site function (also (Infix at sign l r) es) = refl
+bare-id ids site function (also (Conditional at test a b) es) = refl
 
 bare-two : (es : Expressions) → are_two (bare_expressions es) ≡ are_two es
 bare-two nothing = refl
@@ -127,9 +152,9 @@ bare-picked site es terms others e true most = bare-two-arguments site core.Mini
 bare-picked site es terms others e false true = bare-two-arguments site core.Maximum (λ a b. refl) es terms others e
 bare-picked site es terms others e false false = refl
 
-bare-call : (site : Site) (x : List ℕ) (es : Expressions) (terms others : Checked (List TypedTerm)) → others ≡ bare_checked (map bare_typed) terms → (o : Option Function) → call_term nowhere x (bare_expressions es) others o ≡ bare_checked bare_typed (call_term site x es terms o)
-bare-call site x es terms others e (Some function) = bare-id site function es
-bare-call site x es terms others e None = bare-picked site es terms others e _ _
+bare-call : (ids : Kind) (site : Site) (x : List ℕ) (es : Expressions) (terms others : Checked (List TypedTerm)) → others ≡ bare_checked (map bare_typed) terms → (o : Option Function) → call_term ids nowhere x (bare_expressions es) others o ≡ bare_checked bare_typed (call_term ids site x es terms o)
+bare-call ids site x es terms others e (Some function) = bare-id ids site function es
+bare-call ids site x es terms others e None = bare-picked site es terms others e _ _
 
 bare-left-out : (b : Bool) (site : Site) (a c : Checked TypedTerm) → c ≡ bare_checked bare_typed a → cond b (refused LeftOutWord nowhere) c ≡ bare_checked bare_typed (cond b (refused LeftOutWord site) a)
 bare-left-out true site a c e = refl
@@ -138,22 +163,22 @@ bare-left-out false site a c e = e
 mutual
   unfolding type_of
 
-  pub bare-type : (names : List Binding) (e : Expression) → type_of names (bare_expression e) ≡ bare_checked bare_typed (type_of names e)
-  bare-type names (Number site kind n) = refl
-  bare-type names (Name site x) = bare-then same bare_typed _ _ _ _ (bare-found (meaning_of names x) UnknownName site) (λ m. bare-variable site m)
-  bare-type names (Element site x index) =
+  pub bare-type : (d : Devices) (names : List Binding) (e : Expression) → type_of d names (bare_expression e) ≡ bare_checked bare_typed (type_of d names e)
+  bare-type d names (Number site kind n) = refl
+  bare-type d names (Name site x) = bare-then same bare_typed _ _ _ _ (bare-found (meaning_of names x) UnknownName site) (λ m. bare-variable site m)
+  bare-type d names (Element site x index) =
       bare-then same bare_typed _ _ _ _ (bare-found (meaning_of names x) UnknownName site) (λ m. bare-then same bare_typed _ _ _ _ (bare-array site m) (λ a.
-      bare-then bare_typed bare_typed _ _ _ _ (bare-type names index) (λ i. refl)))
-  bare-type names (Call site x es) =
-      bare-left-out (is_left_out x) site _ _ (bare-call site x es (types_of names es) (types_of names (bare_expressions es)) (bare-types names es) (function_named x))
-  bare-type names (Prefix site sign e) = bare-then bare_typed bare_typed _ _ _ _ (bare-type names e) (λ t. ap Ok (bare-prefix sign site t))
-  bare-type names (Cast site kind e) = bare-then bare_typed bare_typed _ _ _ _ (bare-type names e) (λ t. ap (λ u. Ok (typed kind u)) (bare-bring kind site t))
-  bare-type names (Infix site sign l r) =
-      bare-then bare_typed bare_typed _ _ _ _ (bare-type names l) (λ a. bare-then bare_typed bare_typed _ _ _ _ (bare-type names r) (λ b. bare-infix sign site r a b))
-  bare-type names (Conditional site test a b) =
-      bare-then bare_typed bare_typed _ _ _ _ (bare-type names test) (λ t. bare-then bare_typed bare_typed _ _ _ _ (bare-type names a) (λ u.
-      bare-then bare_typed bare_typed _ _ _ _ (bare-type names b) (λ v. ap Ok (bare-conditional site t u v))))
+      bare-then bare_typed bare_typed _ _ _ _ (bare-type d names index) (λ i. refl)))
+  bare-type d names (Call site x es) =
+      bare-left-out (is_left_out x) site _ _ (bare-call (size_kind d) site x es (types_of d names es) (types_of d names (bare_expressions es)) (bare-types d names es) (function_named x))
+  bare-type d names (Prefix site sign e) = bare-then bare_typed bare_typed _ _ _ _ (bare-type d names e) (λ t. ap Ok (bare-prefix sign site t))
+  bare-type d names (Cast site kind e) = bare-then bare_typed bare_typed _ _ _ _ (bare-type d names e) (λ t. ap (λ u. Ok (typed kind u)) (bare-bring kind site t))
+  bare-type d names (Infix site sign l r) =
+      bare-then bare_typed bare_typed _ _ _ _ (bare-type d names l) (λ a. bare-then bare_typed bare_typed _ _ _ _ (bare-type d names r) (λ b. bare-infix sign site r a b))
+  bare-type d names (Conditional site test a b) =
+      bare-then bare_typed bare_typed _ _ _ _ (bare-type d names test) (λ t. bare-then bare_typed bare_typed _ _ _ _ (bare-type d names a) (λ u.
+      bare-then bare_typed bare_typed _ _ _ _ (bare-type d names b) (λ v. ap Ok (bare-conditional site t u v))))
 
-  bare-types : (names : List Binding) (es : Expressions) → types_of names (bare_expressions es) ≡ bare_checked (map bare_typed) (types_of names es)
-  bare-types names nothing = refl
-  bare-types names (also e es) = bare-then bare_typed (map bare_typed) _ _ _ _ (bare-type names e) (λ t. bare-then (map bare_typed) (map bare_typed) _ _ _ _ (bare-types names es) (λ ts. refl))
+  bare-types : (d : Devices) (names : List Binding) (es : Expressions) → types_of d names (bare_expressions es) ≡ bare_checked (map bare_typed) (types_of d names es)
+  bare-types d names nothing = refl
+  bare-types d names (also e es) = bare-then bare_typed (map bare_typed) _ _ _ _ (bare-type d names e) (λ t. bare-then (map bare_typed) (map bare_typed) _ _ _ _ (bare-types d names es) (λ ts. refl))

@@ -3,6 +3,8 @@ use Rattle.std.proofs.Common.{◌≡◌, ℕ, List, [], ◌∷◌, ◌++◌, map
 use Rattle.std.specs.Prelude.{◌⊎◌, Option, Some, None, Result, Ok, Err, IfSome, IfOk, Vec, String}
 use Rattle.std.specs.declared.alloc.Global.{Global}
 use Rattle.std.specs.String.{string_bytes}
+use Rattle.texts.specs.Scope.{Devices, Narrow}
+use Rattle.reading.specs.Kernels.{Source, text_for}
 use Rattle.reading.specs.Answers as kernels
 use Rattle.launch_text.specs.Answers as launches
 use Rattle.cert_check.specs.Numbers as checks
@@ -17,12 +19,12 @@ use Rattle.semantics.specs.Launch.{Launch, Kernel, Fits}
 use Rattle.semantics.specs.Conditions.{Conditions, Meets}
 use Rattle.launch.specs.Least.{probe}
 use Rattle.launch.specs.View.{conditions as conditions_seen}
-use Rattle.telling.specs.Telling.{accepted_line}
+use Rattle.telling.specs.Telling.{IsAcceptedText, accepted_line}
 use Rattle.telling.specs.Proving.{no_launch_line}
-use Rattle.telling.specs.ProvingVerdicts.{Begins, Explains}
+use Rattle.telling.specs.ProvingVerdicts.{Begins, Explains, IsProvedBySome}
 use Rattle.telling.specs.Migrating.{IsUnmigrated}
 use Rattle.cert_check.specs.declared.error.CheckError.TheVariants as errors
-use Rattle.program.specs.Running.{kernel_read, conditions_read, certificate_read, saving, Request, CheckOwn, Check, Run, Prove, Explain, ExplainCheck, Print, Migrate, Texts, Asks, Answered, IsSafeText, Fulfils}
+use Rattle.program.specs.Running.{kernel_read, conditions_read, certificate_read, saving, Request, CheckOwn, Check, Run, Prove, Explain, ExplainCheck, Print, Migrate, Texts, Asks, Answered, IsSafeText, IsSought, Fulfils}
 use Rattle.program.specs.Running.{Read, Write, IsOf, Reads, Does, Saves, IsRefusalText, Success, Output, done, refused, silent, torn}
 use Rattle.program.specs.Refusing.{Refuses, Refusal}
 use Rattle.program.specs.Verdicts.{IsAnsweredBy, Tells, Finds, Kept, Moves, Moved, Explained, IsTold, IsWritten}
@@ -30,21 +32,21 @@ use Rattle.telling.specs.declared.Verdict.{Verdict}
 use Rattle.telling.specs.declared.Verdict.TheVariants as verdicts
 
 -- a line that refuses has a number and a place
-check_line : (is_wide : Bool) (k c p line : List ℕ) → IsRefusedText is_wide k c p line → IsRefusalLine line
+check_line : (is_wide : Bool) (k : Source) (c p line : List ℕ) → IsRefusedText is_wide k c p line → IsRefusalLine line
 check_line is_wide k c p line (e, r, h) = (checks.error_number e, place_seen (checks.error_place e), h)
 
-run_line : (is_wide : Bool) (workers : ℕ) (k c p l line : List ℕ) → IsUnanswered is_wide workers k c p l line → IsRefusalLine line
+run_line : (is_wide : Bool) (workers : ℕ) (k : Source) (c p l line : List ℕ) → IsUnanswered is_wide workers k c p l line → IsRefusalLine line
 run_line is_wide workers k c p l line (inl h) = check_line is_wide k c p line h
 run_line is_wide workers k c p l line (inr (inl (e, kernel, conditions, s, r, h))) = (launches.error_number e, place_seen (checks.at_line (launches.error_place e)), h)
 run_line is_wide workers k c p l line (inr (inr (e, kernel, conditions, launch, s, q, r, h))) = (runs.error_number e, place_seen (checks.at_line (runs.error_line e)), h)
 
-print_line : (k line : List ℕ) → IsRefusedKernel k line → IsRefusalLine line
+print_line : (k : Source) (line : List ℕ) → IsRefusedKernel k line → IsRefusalLine line
 print_line k line (e, r, h) = (kernels.error_number e, place_seen (checks.at_place (kernels.error_place e)), h)
 
 migrate_line : (old line : List ℕ) → IsUnmigrated old line → IsRefusalLine line
 migrate_line old line (e, r, h) = (checks.error_number (errors.Certificate e), place_seen (checks.error_place (errors.Certificate e)), h)
 
-search_text : (is_wide : Bool) (workers : ℕ) (kernel conditions text : List ℕ) → IsUnproved is_wide workers kernel conditions text → IsRefusalText text
+search_text : (is_wide : Bool) (workers : ℕ) (kernel : Source) (conditions text : List ℕ) → IsUnproved is_wide workers kernel conditions text → IsRefusalText text
 search_text is_wide workers kernel conditions text (e, h) =
     (refusal_line (searches.error_number e) (place_seen (searches.error_place e)), findings_text (map finding_seen (found e)), (searches.error_number e, place_seen (searches.error_place e), refl), h.lines)
 
@@ -60,33 +62,34 @@ begun tells f text h =
 
 text_of : (r : Request) (t : Texts) (saved : Option Write) (text : List ℕ) → Refuses r t saved text → IsRefusalText text
 text_of CheckOwn t saved text h = alone text (check_line false _ _ _ text h)
-text_of (Check k c p wide) t saved text h = alone text (check_line wide t.kernel t.conditions t.certificate text h)
-text_of (Run k c p l workers wide) t saved text h = alone text (run_line wide workers t.kernel t.conditions t.certificate t.launch text h)
-text_of (Prove k c workers out wide) t saved text h = search_text wide workers t.kernel t.conditions text h.0
-text_of (Explain k c wide) t saved text h = begun (IsUnproved wide 1 t.kernel t.conditions) (search_text wide 1 t.kernel t.conditions) text h
-text_of (ExplainCheck k c p wide) t saved text h =
-    begun (IsRefusedText wide t.kernel t.conditions t.certificate) (λ line refusal. alone line (check_line wide t.kernel t.conditions t.certificate line refusal)) text h
-text_of (Print k) t saved text h = alone text (print_line t.kernel text h)
+text_of (Check k c p wide d) t saved text h = alone text (check_line wide (text_for d t.kernel) t.conditions t.certificate text h)
+text_of (Run k c p l workers wide d) t saved text h = alone text (run_line wide workers (text_for d t.kernel) t.conditions t.certificate t.launch text h)
+text_of (Prove k c workers out wide d) t saved text h = search_text wide workers (text_for d t.kernel) t.conditions text h.0
+text_of (Explain k c wide d) t saved text h = begun (IsUnproved wide 1 (text_for d t.kernel) t.conditions) (search_text wide 1 (text_for d t.kernel) t.conditions) text h
+text_of (ExplainCheck k c p wide d) t saved text h =
+    let kernel = text_for d t.kernel in
+    begun (IsRefusedText wide kernel t.conditions t.certificate) (λ line refusal. alone line (check_line wide kernel t.conditions t.certificate line refusal)) text h
+text_of (Print k) t saved text h = alone text (print_line (text_for Narrow t.kernel) text h)
 text_of (Migrate o n) t saved text h = alone text (migrate_line t.certificate text h.0)
 
 -- what a verdict tells fulfils the request, or refuses it
 fulfils : (text : Vec ℕ Global) (r : Request) (t : Texts) (saved : Option Write) → IsAnsweredBy (verdicts.Done text) r t saved → Fulfils IsProvedText r t saved text.items
 fulfils text CheckOwn t saved h = h
-fulfils text (Check k c p wide) t saved h = h
-fulfils text (Run k c p l workers wide) t saved h = h
-fulfils text (Prove k c workers out wide) t saved h = h
-fulfils text (Explain k c wide) t saved h = h
-fulfils text (ExplainCheck k c p wide) t saved h = h
+fulfils text (Check k c p wide d) t saved h = h
+fulfils text (Run k c p l workers wide d) t saved h = h
+fulfils text (Prove k c workers out wide d) t saved h = h
+fulfils text (Explain k c wide d) t saved h = h
+fulfils text (ExplainCheck k c p wide d) t saved h = h
 fulfils text (Print k) t saved h = h
 fulfils text (Migrate o n) t saved h = h
 
 refuses : (line : String Global) (r : Request) (t : Texts) (saved : Option Write) → IsAnsweredBy (verdicts.Refused line) r t saved → Refuses r t saved (string_bytes line)
 refuses line CheckOwn t saved h = h
-refuses line (Check k c p wide) t saved h = h
-refuses line (Run k c p l workers wide) t saved h = h
-refuses line (Prove k c workers out wide) t saved h = h
-refuses line (Explain k c wide) t saved h = h
-refuses line (ExplainCheck k c p wide) t saved h = h
+refuses line (Check k c p wide d) t saved h = h
+refuses line (Run k c p l workers wide d) t saved h = h
+refuses line (Prove k c workers out wide d) t saved h = h
+refuses line (Explain k c wide d) t saved h = h
+refuses line (ExplainCheck k c p wide d) t saved h = h
 refuses line (Print k) t saved h = h
 refuses line (Migrate o n) t saved h = h
 
@@ -128,16 +131,19 @@ told_of : (k : Kernel) (m : Conditions) (written : List ℕ) (o : Option Launch)
 told_of k m written (Some l) h e = inl (l, h.0, h.1, e)
 told_of k m written None h e = inr e
 
-is_safe_text : (is_wide : Bool) (kernel conditions certificate written : List ℕ) → IsProvedText is_wide kernel conditions certificate written → IsSafeText is_wide kernel conditions written
+is_safe_text : (is_wide : Bool) (kernel : Source) (conditions certificate written : List ℕ) → IsProvedText is_wide kernel conditions certificate written → IsSafeText is_wide kernel conditions written
 is_safe_text is_wide kernel conditions certificate written h = (h.0, conditions_seen h.1, h.2.safe, told_of h.0.core (conditions_seen h.1) written (probe h.1) h.2.least h.2.text)
 
-pub is_explained : (is_wide : Bool) (kernel conditions : List ℕ) (v : Verdict) → Explains is_wide v kernel conditions → Explained is_wide v kernel conditions
-is_explained is_wide kernel conditions (verdicts.Done text) h = (is_safe_text is_wide kernel conditions h.0 text.items h.1, h)
+is_sought : (is_wide : Bool) (kernel : Source) (conditions told : List ℕ) → IsProvedBySome is_wide kernel conditions told → IsSought IsProvedText is_wide kernel conditions told
+is_sought is_wide kernel conditions told h = (is_safe_text is_wide kernel conditions h.0 told h.1, h)
+
+pub is_explained : (is_wide : Bool) (kernel : Source) (conditions : List ℕ) (v : Verdict) → Explains is_wide v kernel conditions → Explained is_wide v kernel conditions
+is_explained is_wide kernel conditions (verdicts.Done text) h = (h.0, h.1, is_sought is_wide kernel conditions h.0 h.2, h.3)
 is_explained is_wide kernel conditions (verdicts.Refused text) h = h
 is_explained is_wide kernel conditions verdicts.OutOfMemory h = tt
 
 -- a search of files whose answer was kept tells of it
-module _ {F : Type 0} (contents : F → List ℕ → Option (List ℕ)) (gives : F → List ℕ → ℕ → List ℕ → F → Type 0) (before next after : F) (ws : List (List ℕ)) (k c kernel conditions : List ℕ) (workers : ℕ) (out : Option (List ℕ)) (is_wide : Bool) where
+module _ {F : Type 0} (contents : F → List ℕ → Option (List ℕ)) (gives : F → List ℕ → ℕ → List ℕ → F → Type 0) (before next after : F) (ws : List (List ℕ)) (k c kernel conditions : List ℕ) (workers : ℕ) (out : Option (List ℕ)) (is_wide : Bool) (devices : Devices) where
   abbrev Given : Type 0
   Given = Reads contents gives before next (kernel_read k kernel ∷ conditions_read c conditions ∷ [])
 
@@ -145,12 +151,12 @@ module _ {F : Type 0} (contents : F → List ℕ → Option (List ℕ)) (gives :
   of_search = record { kernel = kernel; conditions = conditions; certificate = []; launch = [] }
 
   -- with this file written, or none
-  asked_of : (v : Verdict) (saved : Option Write) → Asks ws (Prove k c workers out is_wide) → Given → Saves contents next after saved → Finds out v is_wide workers kernel conditions saved → Tells (Does contents gives before after) ws v
+  asked_of : (v : Verdict) (saved : Option Write) → Asks ws (Prove k c workers out is_wide devices) → Given → Saves contents next after saved → Finds out v is_wide workers (text_for devices kernel) conditions saved → Tells (Does contents gives before after) ws v
   asked_of v saved w r s h =
-      record { request = Prove k c workers out is_wide; texts = of_search; saved = saved; asked = w; done = does contents gives before next after (kernel_read k kernel ∷ conditions_read c conditions ∷ []) saved r s; may_write = tt; is_told = h }
+      record { request = Prove k c workers out is_wide devices; texts = of_search; saved = saved; asked = w; done = does contents gives before next after (kernel_read k kernel ∷ conditions_read c conditions ∷ []) saved r s; may_write = tt; is_told = h }
 
-  pub tells : (v : Verdict) → Asks ws (Prove k c workers out is_wide) → Given → Kept contents next after out is_wide workers kernel conditions v → Tells (Does contents gives before after) ws v
-  tells (verdicts.Done text) w r h = asked_of (verdicts.Done text) (saving out h.0) w r h.2 (is_safe_text is_wide kernel conditions h.0 text.items h.1, (h.0, h.1, refl))
+  pub tells : (v : Verdict) → Asks ws (Prove k c workers out is_wide devices) → Given → Kept contents next after out is_wide workers (text_for devices kernel) conditions v → Tells (Does contents gives before after) ws v
+  tells (verdicts.Done text) w r h = asked_of (verdicts.Done text) (saving out h.0) w r h.2 (is_safe_text is_wide (text_for devices kernel) conditions h.0 text.items h.1, (h.0, h.1, refl))
   tells (verdicts.Refused line) w r h = asked_of (verdicts.Refused line) None w r h.1 (h.0, refl)
   tells verdicts.OutOfMemory w r h = asked_of verdicts.OutOfMemory None w r h tt
 

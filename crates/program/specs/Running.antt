@@ -3,12 +3,14 @@ use Rattle.std.specs.Prelude.{◌≡◌, ◌≢◌, ◌+◌, ◌++◌, ◌⊎◌
 use Rattle.std.specs.Io.KnownBytes.{Appends, Keeps}
 use Rattle.semantics.specs.Launch.{Launch, Fits}
 use Rattle.semantics.specs.Conditions.{Conditions, Meets}
-use Rattle.reading.specs.Kernels.{Kernel}
+use Rattle.texts.specs.Scope.{Devices, Narrow}
+use Rattle.reading.specs.Kernels.{Kernel, Source, text_for}
 use Rattle.telling.specs.Telling.{AreSafeTexts, IsAcceptedText, IsResultText, IsPrintedText, accepted_line}
 use Rattle.telling.specs.Proving.{no_launch_line}
+use Rattle.telling.specs.ProvingVerdicts.{Begins}
 use Rattle.telling.specs.Migrating.{IsMigrated}
 use Rattle.telling.specs.Refusals.{IsRefusalLine}
-use Rattle.command_line.specs.Words.{operands, has_wide, HasWord, AsksWorkers, saved_as}
+use Rattle.command_line.specs.Words.{operands, has_wide, HasWord, AsksWorkers, AsksDevices, saved_as}
 use Rattle.program.specs.First.{first_kernel, first_conditions}
 
 -- a read of a file: its name, the limit of its text, and the bytes that it gave
@@ -63,15 +65,16 @@ certificate_read name bytes = record { name = name; limit = 16777216; bytes = by
 abbrev pub launch_read : (name bytes : List ℕ) → Read
 launch_read name bytes = record { name = name; limit = 4194304; bytes = bytes }
 
--- what the words ask of it: a check of the texts that stand in the program, or a check, a run, a search, an explanation, a canonical text or
--- a certificate in version 2 of files, each by its name; by the wide check or search, or by the one that is not
+-- what the words ask of it: a check of the texts that stand in the program, or a check, a run, a search, an explanation, a canonical text
+-- or a certificate in version 2 of files, each by its name; by the wide check or search, or by the one that is not; of a kernel that is
+-- read for these devices
 pub data Request : Type 0 where
   CheckOwn : Request
-  Check : (kernel conditions certificate : List ℕ) (is_wide : Bool) → Request
-  Run : (kernel conditions certificate launch : List ℕ) (workers : ℕ) (is_wide : Bool) → Request
-  Prove : (kernel conditions : List ℕ) (workers : ℕ) (out : Option (List ℕ)) (is_wide : Bool) → Request
-  Explain : (kernel conditions : List ℕ) (is_wide : Bool) → Request
-  ExplainCheck : (kernel conditions certificate : List ℕ) (is_wide : Bool) → Request
+  Check : (kernel conditions certificate : List ℕ) (is_wide : Bool) (devices : Devices) → Request
+  Run : (kernel conditions certificate launch : List ℕ) (workers : ℕ) (is_wide : Bool) (devices : Devices) → Request
+  Prove : (kernel conditions : List ℕ) (workers : ℕ) (out : Option (List ℕ)) (is_wide : Bool) (devices : Devices) → Request
+  Explain : (kernel conditions : List ℕ) (is_wide : Bool) (devices : Devices) → Request
+  ExplainCheck : (kernel conditions certificate : List ℕ) (is_wide : Bool) (devices : Devices) → Request
   Print : (kernel : List ℕ) → Request
   Migrate : (old new : List ℕ) → Request
 
@@ -82,13 +85,14 @@ HasNoWord ws n = slice_get (operands false ws) n ≡ None
 -- which words ask for it, options left out
 abbrev pub Asks : List (List ℕ) → Request → Type 0
 Asks ws CheckOwn = ws ≡ []
-Asks ws (Check k c p wide) = HasWord ws 0 (codes "check") × HasWord ws 1 k × HasWord ws 2 c × HasWord ws 3 p × (wide ≡ has_wide ws)
-Asks ws (Run k c p l workers wide) =
-    HasWord ws 0 (codes "run") × HasWord ws 1 k × HasWord ws 2 c × HasWord ws 3 p × HasWord ws 4 l × AsksWorkers ws workers × (wide ≡ has_wide ws)
-Asks ws (Prove k c workers out wide) =
-    HasWord ws 0 (codes "prove") × HasWord ws 1 k × HasWord ws 2 c × AsksWorkers ws workers × (out ≡ saved_as false ws) × (wide ≡ has_wide ws)
-Asks ws (Explain k c wide) = HasWord ws 0 (codes "explain") × HasWord ws 1 k × HasWord ws 2 c × HasNoWord ws 3 × (wide ≡ has_wide ws)
-Asks ws (ExplainCheck k c p wide) = HasWord ws 0 (codes "explain") × HasWord ws 1 k × HasWord ws 2 c × HasWord ws 3 p × (wide ≡ has_wide ws)
+Asks ws (Check k c p wide d) = HasWord ws 0 (codes "check") × HasWord ws 1 k × HasWord ws 2 c × HasWord ws 3 p × (wide ≡ has_wide ws) × AsksDevices ws d
+Asks ws (Run k c p l workers wide d) =
+    HasWord ws 0 (codes "run") × HasWord ws 1 k × HasWord ws 2 c × HasWord ws 3 p × HasWord ws 4 l × AsksWorkers ws workers × (wide ≡ has_wide ws) × AsksDevices ws d
+Asks ws (Prove k c workers out wide d) =
+    HasWord ws 0 (codes "prove") × HasWord ws 1 k × HasWord ws 2 c × AsksWorkers ws workers × (out ≡ saved_as false ws) × (wide ≡ has_wide ws) × AsksDevices ws d
+Asks ws (Explain k c wide d) = HasWord ws 0 (codes "explain") × HasWord ws 1 k × HasWord ws 2 c × HasNoWord ws 3 × (wide ≡ has_wide ws) × AsksDevices ws d
+Asks ws (ExplainCheck k c p wide d) =
+    HasWord ws 0 (codes "explain") × HasWord ws 1 k × HasWord ws 2 c × HasWord ws 3 p × (wide ≡ has_wide ws) × AsksDevices ws d
 Asks ws (Print k) = HasWord ws 0 (codes "print") × HasWord ws 1 k
 Asks ws (Migrate o n) = HasWord ws 0 (codes "migrate") × HasWord ws 1 o × HasWord ws 2 n
 
@@ -102,22 +106,22 @@ pub record Texts : Type 0 where
 -- the reads that gave it, in this order
 abbrev pub reads : Request → Texts → List Read
 reads CheckOwn t = []
-reads (Check k c p wide) t = kernel_read k t.kernel ∷ conditions_read c t.conditions ∷ certificate_read p t.certificate ∷ []
-reads (Run k c p l workers wide) t = kernel_read k t.kernel ∷ conditions_read c t.conditions ∷ certificate_read p t.certificate ∷ launch_read l t.launch ∷ []
-reads (Prove k c workers out wide) t = kernel_read k t.kernel ∷ conditions_read c t.conditions ∷ []
-reads (Explain k c wide) t = kernel_read k t.kernel ∷ conditions_read c t.conditions ∷ []
-reads (ExplainCheck k c p wide) t = kernel_read k t.kernel ∷ conditions_read c t.conditions ∷ certificate_read p t.certificate ∷ []
+reads (Check k c p wide d) t = kernel_read k t.kernel ∷ conditions_read c t.conditions ∷ certificate_read p t.certificate ∷ []
+reads (Run k c p l workers wide d) t = kernel_read k t.kernel ∷ conditions_read c t.conditions ∷ certificate_read p t.certificate ∷ launch_read l t.launch ∷ []
+reads (Prove k c workers out wide d) t = kernel_read k t.kernel ∷ conditions_read c t.conditions ∷ []
+reads (Explain k c wide d) t = kernel_read k t.kernel ∷ conditions_read c t.conditions ∷ []
+reads (ExplainCheck k c p wide d) t = kernel_read k t.kernel ∷ conditions_read c t.conditions ∷ certificate_read p t.certificate ∷ []
 reads (Print k) t = kernel_read k t.kernel ∷ []
 reads (Migrate o n) t = certificate_read o t.certificate ∷ []
 
 -- a search may write a file, and so may `migrate`
 abbrev pub MayWrite : Request → Option Write → Type 0
 MayWrite CheckOwn saved = saved ≡ None
-MayWrite (Check k c p wide) saved = saved ≡ None
-MayWrite (Run k c p l workers wide) saved = saved ≡ None
-MayWrite (Prove k c workers out wide) saved = Unit {0}
-MayWrite (Explain k c wide) saved = saved ≡ None
-MayWrite (ExplainCheck k c p wide) saved = saved ≡ None
+MayWrite (Check k c p wide d) saved = saved ≡ None
+MayWrite (Run k c p l workers wide d) saved = saved ≡ None
+MayWrite (Prove k c workers out wide d) saved = Unit {0}
+MayWrite (Explain k c wide d) saved = saved ≡ None
+MayWrite (ExplainCheck k c p wide d) saved = saved ≡ None
 MayWrite (Print k) saved = saved ≡ None
 MayWrite (Migrate o n) saved = Unit {0}
 
@@ -132,36 +136,37 @@ pub record Answered (given : List Read → Option Write → Type 0) (ws : List (
   pub is_told : told request texts saved
 
 -- the headline holds at each launch that meets the conditions: `accepted` where some launch of the kernel does, or else a line more
-abbrev pub IsSafeText : (is_wide : Bool) → (kernel conditions written : List ℕ) → Type 0
+abbrev pub IsSafeText : (is_wide : Bool) → (kernel : Source) (conditions written : List ℕ) → Type 0
 IsSafeText is_wide kernel conditions written =
     (k : Kernel) × (c : Conditions) × AreSafeTexts is_wide kernel conditions k c × (((l : Launch) × Fits k.core l × Meets c l × (written ≡ accepted_line)) ⊎ (written ≡ accepted_line ++ no_launch_line))
 
 -- and what was found, a certificate, was written to the file behind `--out`, where there is one; `proof` says of it that it is one, of a wide
 -- search or of one that is not
-abbrev pub IsFound : (proof : (is_wide : Bool) (kernel conditions certificate written : List ℕ) → Type 0) (is_wide : Bool) (out : Option (List ℕ)) (kernel conditions written : List ℕ) → Option Write → Type 0
+abbrev pub IsFound : (proof : (is_wide : Bool) (kernel : Source) (conditions certificate written : List ℕ) → Type 0) (is_wide : Bool) (out : Option (List ℕ)) (kernel : Source) (conditions written : List ℕ) → Option Write → Type 0
 IsFound proof is_wide out kernel conditions written saved =
     IsSafeText is_wide kernel conditions written × ((certificate : List ℕ) × proof is_wide kernel conditions certificate written × (saved ≡ saving out certificate))
 
 -- the same where no file is written
-abbrev pub IsSought : (proof : (is_wide : Bool) (kernel conditions certificate written : List ℕ) → Type 0) (is_wide : Bool) (kernel conditions written : List ℕ) → Type 0
+abbrev pub IsSought : (proof : (is_wide : Bool) (kernel : Source) (conditions certificate written : List ℕ) → Type 0) (is_wide : Bool) (kernel : Source) (conditions written : List ℕ) → Type 0
 IsSought proof is_wide kernel conditions written = IsSafeText is_wide kernel conditions written × ((certificate : List ℕ) × proof is_wide kernel conditions certificate written)
 
 -- the certificate of version 1 that was read was written in version 2 to the file of this name
 abbrev pub IsMoved : (name old written : List ℕ) → Option Write → Type 0
 IsMoved name old written saved = (new : List ℕ) × IsMigrated old new written × (saved ≡ saving (Some name) new)
 
--- what fulfils a request: `accepted`, the buffers of a launch, a canonical text, or `migrated`
-abbrev pub Fulfils : (proof : (is_wide : Bool) (kernel conditions certificate written : List ℕ) → Type 0) → Request → Texts → Option Write → (written : List ℕ) → Type 0
-Fulfils proof CheckOwn t saved written = IsAcceptedText false first_kernel first_conditions written
-Fulfils proof (Check k c p wide) t saved written = IsAcceptedText wide t.kernel t.conditions written
-Fulfils proof (Run k c p l workers wide) t saved written = IsResultText wide t.kernel t.conditions t.launch written
-Fulfils proof (Prove k c workers out wide) t saved written = IsFound proof wide out t.kernel t.conditions written saved
-Fulfils proof (Explain k c wide) t saved written = IsSought proof wide t.kernel t.conditions written
-Fulfils proof (ExplainCheck k c p wide) t saved written = IsAcceptedText wide t.kernel t.conditions written
-Fulfils proof (Print k) t saved written = IsPrintedText t.kernel written
+-- what fulfils a request: `accepted`, the buffers of a launch, a canonical text, or `migrated`; where an answer is explained, it begins the
+-- text
+abbrev pub Fulfils : (proof : (is_wide : Bool) (kernel : Source) (conditions certificate written : List ℕ) → Type 0) → Request → Texts → Option Write → (written : List ℕ) → Type 0
+Fulfils proof CheckOwn t saved written = IsAcceptedText false (text_for Narrow first_kernel) first_conditions written
+Fulfils proof (Check k c p wide d) t saved written = IsAcceptedText wide (text_for d t.kernel) t.conditions written
+Fulfils proof (Run k c p l workers wide d) t saved written = IsResultText wide (text_for d t.kernel) t.conditions t.launch written
+Fulfils proof (Prove k c workers out wide d) t saved written = IsFound proof wide out (text_for d t.kernel) t.conditions written saved
+Fulfils proof (Explain k c wide d) t saved written = Begins (IsSought proof wide (text_for d t.kernel) t.conditions) written
+Fulfils proof (ExplainCheck k c p wide d) t saved written = Begins (IsAcceptedText wide (text_for d t.kernel) t.conditions) written
+Fulfils proof (Print k) t saved written = IsPrintedText (text_for Narrow t.kernel) written
 Fulfils proof (Migrate o n) t saved written = IsMoved n t.certificate written saved
 
-abbrev pub Success : (given : List Read → Option Write → Type 0) (proof : (is_wide : Bool) (kernel conditions certificate written : List ℕ) → Type 0) (ws : List (List ℕ)) (written : List ℕ) → Type 0
+abbrev pub Success : (given : List Read → Option Write → Type 0) (proof : (is_wide : Bool) (kernel : Source) (conditions certificate written : List ℕ) → Type 0) (ws : List (List ℕ)) (written : List ℕ) → Type 0
 Success given proof ws written = Answered given ws (λ request texts saved. Fulfils proof request texts saved written)
 
 -- the one file that may change: that which `prove` or `migrate` is asked to write

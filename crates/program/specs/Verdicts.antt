@@ -2,6 +2,8 @@
 use Rattle.std.specs.Prelude.{◌≡◌, ◌⊎◌, ℕ, List, Bool, false, Option, None, take}
 use Rattle.std.specs.String.{string_bytes}
 use Rattle.std.specs.Io.KnownBytes.{Appends, Keeps}
+use Rattle.texts.specs.Scope.{Narrow}
+use Rattle.reading.specs.Kernels.{Source, text_for}
 use Rattle.telling.specs.Verdicts.{Checks, Runs, Prints}
 use Rattle.telling.specs.Proving.{IsProvedText, IsUnproved}
 use Rattle.telling.specs.declared.Verdict.{Verdict}
@@ -12,19 +14,19 @@ use Rattle.program.specs.First.{first_kernel, first_conditions, first_certificat
 use Rattle.program.specs.Running.{Read, Write, Request, CheckOwn, Check, Run, Prove, Explain, ExplainCheck, Print, Migrate, Texts, Answered, Saves, saving, IsFound, IsSought, IsMoved}
 
 -- of a search: what was found is in the file that the words name, if they name one; a refusal writes none
-abbrev pub Finds : (out : Option (List ℕ)) → Verdict → (is_wide : Bool) → (workers : ℕ) → (kernel conditions : List ℕ) → Option Write → Type 0
+abbrev pub Finds : (out : Option (List ℕ)) → Verdict → (is_wide : Bool) → (workers : ℕ) → (kernel : Source) (conditions : List ℕ) → Option Write → Type 0
 Finds out (verdicts.Done text) is_wide workers kernel conditions saved = IsFound IsProvedText is_wide out kernel conditions text.items saved
 Finds out (verdicts.Refused line) is_wide workers kernel conditions saved = IsUnproved is_wide workers kernel conditions (string_bytes line) × (saved ≡ None)
 Finds out verdicts.OutOfMemory is_wide workers kernel conditions saved = Unit {0}
 
--- of a search whose refusal is explained
-abbrev pub Explained : (is_wide : Bool) → Verdict → (kernel conditions : List ℕ) → Type 0
-Explained is_wide (verdicts.Done text) kernel conditions = IsSought IsProvedText is_wide kernel conditions text.items
+-- of a search whose answer is explained
+abbrev pub Explained : (is_wide : Bool) → Verdict → (kernel : Source) (conditions : List ℕ) → Type 0
+Explained is_wide (verdicts.Done text) kernel conditions = Begins (IsSought IsProvedText is_wide kernel conditions) text.items
 Explained is_wide (verdicts.Refused text) kernel conditions = Begins (IsUnproved is_wide 1 kernel conditions) (string_bytes text)
 Explained is_wide verdicts.OutOfMemory kernel conditions = Unit {0}
 
 -- of a search, where what is found is put into a file of this name
-abbrev pub Kept : {F : Type 0} → (contents : F → List ℕ → Option (List ℕ)) → (before after : F) → (out : Option (List ℕ)) → (is_wide : Bool) → (workers : ℕ) → (kernel conditions : List ℕ) → Verdict → Type 0
+abbrev pub Kept : {F : Type 0} → (contents : F → List ℕ → Option (List ℕ)) → (before after : F) → (out : Option (List ℕ)) → (is_wide : Bool) → (workers : ℕ) → (kernel : Source) (conditions : List ℕ) → Verdict → Type 0
 Kept contents before after out is_wide workers kernel conditions (verdicts.Done text) = (certificate : List ℕ) × IsProvedText is_wide kernel conditions certificate text.items × Saves contents before after (saving out certificate)
 Kept contents before after out is_wide workers kernel conditions (verdicts.Refused line) = IsUnproved is_wide workers kernel conditions (string_bytes line) × (after ≡ before)
 Kept contents before after out is_wide workers kernel conditions verdicts.OutOfMemory = after ≡ before
@@ -43,13 +45,13 @@ Moved contents before after out old verdicts.OutOfMemory = after ≡ before
 
 -- of a request and the texts that it is about
 abbrev pub IsAnsweredBy : Verdict → Request → Texts → Option Write → Type 0
-IsAnsweredBy v CheckOwn t saved = Checks false v first_kernel first_conditions first_certificate
-IsAnsweredBy v (Check k c p wide) t saved = Checks wide v t.kernel t.conditions t.certificate
-IsAnsweredBy v (Run k c p l workers wide) t saved = Runs wide v workers t.kernel t.conditions t.certificate t.launch
-IsAnsweredBy v (Prove k c workers out wide) t saved = Finds out v wide workers t.kernel t.conditions saved
-IsAnsweredBy v (Explain k c wide) t saved = Explained wide v t.kernel t.conditions
-IsAnsweredBy v (ExplainCheck k c p wide) t saved = ExplainsCheck wide v t.kernel t.conditions t.certificate
-IsAnsweredBy v (Print k) t saved = Prints v t.kernel
+IsAnsweredBy v CheckOwn t saved = Checks false v (text_for Narrow first_kernel) first_conditions first_certificate
+IsAnsweredBy v (Check k c p wide d) t saved = Checks wide v (text_for d t.kernel) t.conditions t.certificate
+IsAnsweredBy v (Run k c p l workers wide d) t saved = Runs wide v workers (text_for d t.kernel) t.conditions t.certificate t.launch
+IsAnsweredBy v (Prove k c workers out wide d) t saved = Finds out v wide workers (text_for d t.kernel) t.conditions saved
+IsAnsweredBy v (Explain k c wide d) t saved = Explained wide v (text_for d t.kernel) t.conditions
+IsAnsweredBy v (ExplainCheck k c p wide d) t saved = ExplainsCheck wide v (text_for d t.kernel) t.conditions t.certificate
+IsAnsweredBy v (Print k) t saved = Prints v (text_for Narrow t.kernel)
 IsAnsweredBy v (Migrate o n) t saved = Moves n v t.certificate saved
 
 abbrev pub Tells : (given : List Read → Option Write → Type 0) (ws : List (List ℕ)) → Verdict → Type 0

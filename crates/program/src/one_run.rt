@@ -2,11 +2,16 @@
 
 ghost use Rattle.std.specs.Prelude.{◌≡◌, ◌≢◌, ℕ, List, [], ◌∷◌, Bool, false, IfOk, OnOk, codes};
 ghost use Rattle.std.specs.Option.{option_map};
+ghost use Rattle.texts.specs.Scope.{Narrow};
+ghost use Rattle.types.specs.Names.{devices as devices_seen};
+ghost use Rattle.reading.specs.Kernels as kernels;
+ghost use Rattle.reading.specs.Kernels.{text_for};
+ghost use Rattle.reading.specs.Sources.{source};
 ghost use Rattle.telling.specs.Verdicts.{Checks};
 ghost use Rattle.telling.specs.Proving.{IsProvedText};
 ghost use Rattle.telling.specs.ProvingVerdicts.{Proves};
 ghost use Rattle.telling.specs.Migrating.{Migrates};
-ghost use Rattle.command_line.specs.Words.{texts, has_wide, HasWord, HasNames, AsksWorkers, HasSearch, HasSubject};
+ghost use Rattle.command_line.specs.Words.{texts, has_wide, HasWord, HasNames, AsksWorkers, AsksDevices, HasSearch, HasSubject};
 ghost use Rattle.program.specs.First.{first_kernel, first_conditions, first_certificate};
 ghost use Rattle.program.specs.Running.{IsOf, Reads, Does, IsPut, Saves, saving, kernel_read, conditions_read, certificate_read, HasNoWord, Success, IsOut, Output};
 ghost use Rattle.program.specs.Refusing.{Refusal};
@@ -16,6 +21,7 @@ use crate::files::{FileFault, Files};
 use crate::first::first_texts;
 use crate::writing::is_written;
 use command_line::{Line, Names, Search, Subject, read_line};
+use reading::Source;
 use std::alloc::Global;
 use std::io::Write;
 use std::sync::Wait;
@@ -24,6 +30,7 @@ use telling::{
     Effort, Sought, Texts, Unwatched, Verdict, Watcher, check_texts, explain_check, explain_texts,
     migrate_text, print_text, prove_texts, run_texts,
 };
+use types::devices::Devices;
 
 /// The line on the standard error where words are no command line.
 pub const USAGE: &str = "usage: kverify prove | check | run | print | migrate\n";
@@ -46,13 +53,17 @@ struct Found {
 }
 
 impl Found {
-    fn texts(&self) -> Texts<'_>
-        ensures kernel { result.kernel.now ≡ self.now.kernel.items }
+    /// The texts, of which the kernel's is read for these devices.
+    fn texts(&self, devices: Devices) -> Texts<'_>
+        ensures kernel { source result.kernel ≡ text_for (devices_seen devices) self.now.kernel.items }
         ensures conditions { result.conditions.now ≡ self.now.conditions.items }
         ensures certificate { result.certificate.now ≡ self.now.certificate.items }
     {
         Texts {
-            kernel: &self.kernel,
+            kernel: Source {
+                devices,
+                bytes: &self.kernel,
+            },
             conditions: &self.conditions,
             certificate: &self.certificate,
         }
@@ -89,7 +100,7 @@ fn texts_of<'a, F: Files>(files: &mut F, names: Names<'a>) -> Result<Found, Stop
 
 /// The check of the texts that stand in the program.
 fn first_verdict(alloc: Global) -> Verdict
-    ensures { Checks false result first_kernel first_conditions first_certificate }
+    ensures { Checks false result (text_for Narrow first_kernel) first_conditions first_certificate }
 {
     check_texts(alloc, first_texts(), false)
 }
@@ -104,7 +115,7 @@ fn checked<'a, F: Files>(
     ensures same { (n : List ℕ) → F.contents files.new n ≡ F.contents files.old n }
 {
     let found = texts_of(files, names)?;
-    Ok(check_texts(alloc, found.texts(), names.is_wide))
+    Ok(check_texts(alloc, found.texts(names.devices), names.is_wide))
 }
 
 /// The verdict of `run` on files.
@@ -121,7 +132,8 @@ fn ran<'a, R: Threads + Wait + Sync, F: Files>(
 {
     let found = texts_of(files, names)?;
     let launch = text_of(files, launch, 4_194_304)?;
-    Ok(run_texts(rt, alloc, found.texts(), &launch, workers, names.is_wide))
+    let texts = found.texts(names.devices);
+    Ok(run_texts(rt, alloc, texts, &launch, workers, names.is_wide))
 }
 
 /// Puts a text into a file.
@@ -153,7 +165,7 @@ fn kept<'a, F: Files>(
     out: Option<&'a str>,
     sought: Sought,
 ) -> Result<Verdict, Stop<'a>>
-    ensures verdict { (is_wide : Bool) (workers : ℕ) (kernel conditions : List ℕ) → Proves is_wide sought workers kernel conditions → IfOk result (λ v. Kept F.contents files.old files.new (option_map (λ w. w.now) out.entry) is_wide workers kernel conditions v) }
+    ensures verdict { (is_wide : Bool) (workers : ℕ) (kernel : kernels.Source) (conditions : List ℕ) → Proves is_wide sought workers kernel conditions → IfOk result (λ v. Kept F.contents files.old files.new (option_map (λ w. w.now) out.entry) is_wide workers kernel conditions v) }
     ensures moved { (old : List ℕ) → Migrates sought old → IfOk result (λ v. Moved F.contents files.old files.new (option_map (λ w. w.now) out.entry) old v) }
     ensures others { (n : List ℕ) → option_map (λ w. w.now) out.entry ≢ Some n → F.contents files.new n ≡ F.contents files.old n }
 {
@@ -178,7 +190,7 @@ fn searched<'a, R: Threads + Wait + Sync, F: Files, W: Watcher>(
     files: &mut F,
     watcher: &W,
 ) -> Result<Sought, Stop<'a>>
-    ensures reads { IfOk result (λ f. (kernel : List ℕ) × (conditions : List ℕ) × Reads F.contents F.gives files.old files.new (kernel_read search.entry.kernel.now kernel ∷ conditions_read search.entry.conditions.now conditions ∷ []) × Proves search.entry.is_wide f search.entry.workers kernel conditions) }
+    ensures reads { IfOk result (λ f. (kernel : List ℕ) × (conditions : List ℕ) × Reads F.contents F.gives files.old files.new (kernel_read search.entry.kernel.now kernel ∷ conditions_read search.entry.conditions.now conditions ∷ []) × Proves search.entry.is_wide f search.entry.workers (text_for (devices_seen search.entry.devices) kernel) conditions) }
     ensures same { (n : List ℕ) → F.contents files.new n ≡ F.contents files.old n }
 {
     let kernel = text_of(files, search.kernel, 65_536)?;
@@ -188,7 +200,11 @@ fn searched<'a, R: Threads + Wait + Sync, F: Files, W: Watcher>(
         is_wide: search.is_wide,
         may_widen: search.is_wide,
     };
-    Ok(prove_texts(rt, alloc, &kernel, &conditions, effort, watcher))
+    let text = Source {
+        devices: search.devices,
+        bytes: &kernel,
+    };
+    Ok(prove_texts(rt, alloc, text, &conditions, effort, watcher))
 }
 
 /// The search for a certificate of files.
@@ -206,7 +222,7 @@ fn proved<'a, R: Threads + Wait + Sync, F: Files, W: Watcher>(
     kept(files, search.out, sought)
 }
 
-/// The verdict of `explain` on files with a certificate: the check of it, its refusal explained.
+/// The verdict of `explain` on files with a certificate: the check of it, its answer explained.
 fn explained_check<'a, F: Files>(
     alloc: Global,
     names: Names<'a>,
@@ -216,10 +232,10 @@ fn explained_check<'a, F: Files>(
     ensures same { (n : List ℕ) → F.contents files.new n ≡ F.contents files.old n }
 {
     let found = texts_of(files, names)?;
-    Ok(explain_check(alloc, found.texts(), names.is_wide))
+    Ok(explain_check(alloc, found.texts(names.devices), names.is_wide))
 }
 
-/// The search for a certificate of files, its refusal explained.
+/// The search for a certificate of files, its answer explained.
 fn explained_search<'a, R: Threads + Wait + Sync, F: Files, W: Watcher>(
     rt: &R,
     alloc: Global,
@@ -227,16 +243,20 @@ fn explained_search<'a, R: Threads + Wait + Sync, F: Files, W: Watcher>(
     files: &mut F,
     watcher: &W,
 ) -> Result<Verdict, Stop<'a>>
-    ensures verdict { (ws : List (List ℕ)) → HasWord ws 0 (codes "explain") → HasWord ws 1 subject.entry.kernel.now → HasWord ws 2 subject.entry.conditions.now → HasNoWord ws 3 → subject.entry.is_wide ≡ has_wide ws → IfOk result (λ v. Tells (Does F.contents F.gives files.old files.new) ws v) }
+    ensures verdict { (ws : List (List ℕ)) → HasWord ws 0 (codes "explain") → HasWord ws 1 subject.entry.kernel.now → HasWord ws 2 subject.entry.conditions.now → HasNoWord ws 3 → subject.entry.is_wide ≡ has_wide ws → AsksDevices ws (devices_seen subject.entry.devices) → IfOk result (λ v. Tells (Does F.contents F.gives files.old files.new) ws v) }
     ensures same { (n : List ℕ) → F.contents files.new n ≡ F.contents files.old n }
 {
     let kernel = text_of(files, subject.kernel, 65_536)?;
     let conditions = text_of(files, subject.conditions, 65_536)?;
+    let text = Source {
+        devices: subject.devices,
+        bytes: &kernel,
+    };
     let is_wide = subject.is_wide;
-    Ok(explain_texts(rt, alloc, &kernel, &conditions, is_wide, watcher))
+    Ok(explain_texts(rt, alloc, text, &conditions, is_wide, watcher))
 }
 
-/// The verdict of `explain` on files, a refusal with its meaning: that of the check, where a certificate is named, else that of the search.
+/// The verdict of `explain` on files, with what it means: that of the check, where a certificate is named, else that of the search.
 fn explained<'a, R: Threads + Wait + Sync, F: Files, W: Watcher>(
     rt: &R,
     alloc: Global,
@@ -252,6 +272,7 @@ fn explained<'a, R: Threads + Wait + Sync, F: Files, W: Watcher>(
         conditions,
         certificate,
         is_wide,
+        devices,
     } = subject;
     match certificate {
         Some(certificate) => explained_check(
@@ -261,6 +282,7 @@ fn explained<'a, R: Threads + Wait + Sync, F: Files, W: Watcher>(
                 conditions,
                 certificate,
                 is_wide,
+                devices,
             },
             files,
         ),

@@ -6,7 +6,7 @@ use Rattle.semantics.specs.Launch.{Launch}
 use Rattle.semantics.specs.World.{Event}
 use Rattle.texts.specs.ConditionsReading.{Lined, meant}
 use Rattle.texts.specs.ConditionsText.{IsConditionsText}
-use Rattle.reading.specs.Kernels.{Kernel}
+use Rattle.reading.specs.Kernels.{Kernel, Source}
 use Rattle.reading.specs.Texts.{IsTextOf}
 use Rattle.reading.specs.Answers.{kernel_seen}
 use Rattle.syntax.specs.View.{kernel as tree_seen}
@@ -29,7 +29,7 @@ use Rattle.proof_search.specs.Searching.{AreSearched, IsCount, IsNoCount, Ends, 
 use Rattle.proof_search.specs.declared.error.VerifyError.{VerifyError}
 use Rattle.proof_search.specs.declared.error.VerifyError.TheVariants as errors
 
-module _ (is_wide : Bool) (kernel conditions : List ℕ) (k : Kernel) (c : Conditions) (text : IsTextOf kernel k) (said : IsConditionsText is_wide k.tree.parameters conditions c) (f : Finding) where
+module _ (is_wide : Bool) (kernel : Source) (conditions : List ℕ) (k : Kernel) (c : Conditions) (text : IsTextOf kernel k) (said : IsConditionsText is_wide k.tree.parameters conditions c) (f : Finding) where
   witnessed : (o : Option (List Event)) → IfSome o (λ events. (l : Launch) × IsWitness k c f l)
       → IfSome o (λ events. (k : Kernel) × (c : Conditions) × IsTextOf kernel k × IsConditionsText is_wide k.tree.parameters conditions c × ((l : Launch) × IsWitness k c f l))
   witnessed None h = tt
@@ -38,7 +38,7 @@ module _ (is_wide : Bool) (kernel conditions : List ℕ) (k : Kernel) (c : Condi
   is_true_of : IsTrue k c f → IsTrueOf is_wide kernel conditions f
   is_true_of h = witnessed f.schedule h
 
-module _ (is_wide : Bool) (t : trees.Kernel × Core) (c : code.Conditions) (workers : ℕ) (kernel conditions : List ℕ) (text : IsTextOf kernel (kernel_seen t)) (said : IsConditionsText is_wide (tree_seen t.0).parameters conditions (meant (lined c))) (count : IsCount workers) (searched : AreSearched is_wide kernel conditions) where
+module _ (is_wide : Bool) (t : trees.Kernel × Core) (c : code.Conditions) (workers : ℕ) (kernel : Source) (conditions : List ℕ) (text : IsTextOf kernel (kernel_seen t)) (said : IsConditionsText is_wide (tree_seen t.0).parameters conditions (meant (lined c))) (count : IsCount workers) (searched : AreSearched is_wide kernel conditions) where
   same : IsConditionsText is_wide (tree_seen t.0).parameters conditions (conditions_seen c)
   same = subst (IsConditionsText is_wide (tree_seen t.0).parameters conditions) (conditions_meant c) said
 
@@ -62,9 +62,9 @@ pub counted : {T : Type 0} (r : Result T VerifyError) (workers : ℕ) → IsCoun
 counted (Ok v) workers h = h
 counted (Err e) workers h = tt
 
-pub uncounted : (is_wide : Bool) (e : VerifyError) (workers : ℕ) (kernel conditions : List ℕ) → e ≡ errors.Workers → IsNoCount workers → AreSearched is_wide kernel conditions → TellsOf is_wide e workers kernel conditions
+pub uncounted : (is_wide : Bool) (e : VerifyError) (workers : ℕ) (kernel : Source) (conditions : List ℕ) → e ≡ errors.Workers → IsNoCount workers → AreSearched is_wide kernel conditions → TellsOf is_wide e workers kernel conditions
 uncounted is_wide e workers kernel conditions same count searched = subst (λ e. TellsOf is_wide e workers kernel conditions) (sym same) (count, searched)
 
 -- a loop that may miss its barrier
-pub none_placed : (is_wide : Bool) (t : trees.Kernel × Core) (found : Lined) (workers : ℕ) (kernel conditions : List ℕ) (loop : ℕ) (site : Site) → AreRead is_wide t found kernel conditions → unmet (core_seen t.1).body ≡ Some loop → site_seen site ≡ site_at (tree_seen t.0) (Some loop) → TellsOf is_wide (errors.Check (checks.Missed site)) workers kernel conditions
+pub none_placed : (is_wide : Bool) (t : trees.Kernel × Core) (found : Lined) (workers : ℕ) (kernel : Source) (conditions : List ℕ) (loop : ℕ) (site : Site) → AreRead is_wide t found kernel conditions → unmet (core_seen t.1).body ≡ Some loop → site_seen site ≡ site_at (tree_seen t.0) (Some loop) → TellsOf is_wide (errors.Check (checks.Missed site)) workers kernel conditions
 none_placed is_wide t found workers kernel conditions loop site read missed at = (t, found, loop, read, missed, at)

@@ -5,7 +5,7 @@ use Rattle.semantics.specs.Setup.{at_launch}
 use Rattle.semantics.specs.Launch.{Launch, Fits}
 use Rattle.semantics.specs.Conditions.{Conditions, Meets}
 use Rattle.texts.specs.ConditionsText.{IsConditionsText}
-use Rattle.reading.specs.Kernels.{Kernel}
+use Rattle.reading.specs.Kernels.{Kernel, Source}
 use Rattle.reading.specs.Texts.{IsTextOf}
 use Rattle.reading.specs.Answers.{kernel_seen}
 use Rattle.syntax.specs.declared.tree.Kernel as trees
@@ -29,7 +29,7 @@ IsTrue k c f = IfSome f.schedule (λ events. (l : Launch) × IsWitness k c f l)
 
 -- of the kernel and the conditions that the bytes say, by the grammar and case by case; the conditions are of version 2 only where the search is
 -- the wide one
-abbrev pub IsTrueOf : (is_wide : Bool) → (kernel conditions : List ℕ) → Finding → Type 0
+abbrev pub IsTrueOf : (is_wide : Bool) → (kernel : Source) (conditions : List ℕ) → Finding → Type 0
 IsTrueOf is_wide kernel conditions f =
     IfSome f.schedule (λ events. (k : Kernel) × (c : Conditions) × IsTextOf kernel k × IsConditionsText is_wide k.tree.parameters conditions c × ((l : Launch) × IsWitness k c f l))
 
@@ -37,5 +37,5 @@ IsTrueOf is_wide kernel conditions f =
 abbrev pub AreTrue : trees.Kernel × Core → code.Conditions → List findings.Finding → Type 0
 AreTrue t c fs = All (λ f. IsTrue (kernel_seen t) (conditions_seen c) (finding_seen f)) fs
 
-abbrev pub AreTrueOf : (is_wide : Bool) → (kernel conditions : List ℕ) → List findings.Finding → Type 0
+abbrev pub AreTrueOf : (is_wide : Bool) → (kernel : Source) (conditions : List ℕ) → List findings.Finding → Type 0
 AreTrueOf is_wide kernel conditions fs = All (λ f. IsTrueOf is_wide kernel conditions (finding_seen f)) fs

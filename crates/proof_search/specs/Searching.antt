@@ -1,4 +1,5 @@
 -- What an error of a search tells.
+use Rattle.reading.specs.Kernels.{Source}
 use Rattle.std.specs.Prelude.{◌<◌, ◌≤◌, ◌⊎◌, ◌≡◌, ℕ, List, [], Bool, true, false, cond}
 use Rattle.texts.specs.ConditionsReading.{Lined}
 use Rattle.syntax.specs.declared.tree.Kernel as trees
@@ -15,7 +16,7 @@ use Rattle.proof_search.specs.declared.error.VerifyError.TheVariants as errors
 
 -- the kernel and the conditions are read, and each loop with a barrier meets one on each way through: what stands before a search;
 -- conditions of version 2 are read where the search is the wide one
-abbrev pub AreSearched : (is_wide : Bool) → (kernel conditions : List ℕ) → Type 0
+abbrev pub AreSearched : (is_wide : Bool) → (kernel : Source) (conditions : List ℕ) → Type 0
 AreSearched is_wide kernel conditions = (typed : trees.Kernel × Core) × (found : Lined) × AreRead is_wide typed found kernel conditions × AreMet typed
 
 -- 1 to 64
@@ -27,7 +28,7 @@ IsNoCount workers = (workers ≡ 0) ⊎ (64 < workers)
 
 -- of the two texts, and of a loop that misses its barrier, what the check tells of them, which looks at no certificate there; the others
 -- come behind these, and nothing is promised of what the search did not show
-abbrev pub RefusesTexts : (is_wide : Bool) → CheckError → (workers : ℕ) → (kernel conditions : List ℕ) → Type 0
+abbrev pub RefusesTexts : (is_wide : Bool) → CheckError → (workers : ℕ) → (kernel : Source) (conditions : List ℕ) → Type 0
 RefusesTexts is_wide (checks.Kernel e) workers kernel conditions = RefusesBy is_wide (checks.Kernel e) kernel conditions []
 RefusesTexts is_wide (checks.Conditions e) workers kernel conditions = RefusesBy is_wide (checks.Conditions e) kernel conditions []
 RefusesTexts is_wide (checks.Missed site) workers kernel conditions = RefusesBy is_wide (checks.Missed site) kernel conditions []
@@ -36,7 +37,7 @@ RefusesTexts is_wide (checks.ManyPaths site) workers kernel conditions = IsCount
 RefusesTexts is_wide (checks.Show e) workers kernel conditions = IsCount workers × AreSearched is_wide kernel conditions
 
 -- what findings confirm is true of the texts, and 70 is told of workers outside 1 to 64 alone, behind the refusals of the texts
-abbrev pub TellsOf : (is_wide : Bool) → VerifyError → (workers : ℕ) → (kernel conditions : List ℕ) → Type 0
+abbrev pub TellsOf : (is_wide : Bool) → VerifyError → (workers : ℕ) → (kernel : Source) (conditions : List ℕ) → Type 0
 TellsOf is_wide (errors.Check e) workers kernel conditions = RefusesTexts is_wide e workers kernel conditions
 TellsOf is_wide errors.Workers workers kernel conditions = IsNoCount workers × AreSearched is_wide kernel conditions
 TellsOf is_wide (errors.NotShown findings) workers kernel conditions = IsCount workers × AreSearched is_wide kernel conditions × AreTrueOf is_wide kernel conditions findings.items

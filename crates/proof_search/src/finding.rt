@@ -14,6 +14,10 @@ ghost use Rattle.texts.specs.ConditionsReading.{Lined};
 ghost use Rattle.certificate_text.specs.NumberedText.{text_of_two};
 ghost use Rattle.certificate.specs.Certificates.{certificate as certificate_seen};
 ghost use Rattle.cert_check.specs.Refusing.{AreRead};
+ghost use Rattle.texts.specs.Scope.{Narrow};
+ghost use Rattle.reading.specs.Kernels as kernels;
+ghost use Rattle.reading.specs.Kernels.{text_for};
+ghost use Rattle.reading.specs.Sources.{source};
 ghost use Rattle.proof_search.specs.Searching.{IsCount, IsNoCount, Ends, TellsOf, text_found, text_by};
 ghost use Rattle.proof_search.specs.declared.error.VerifyError.TheVariants as errors;
 
@@ -30,7 +34,7 @@ use launch_text::laws::what_is_read_of_conditions_is_their_text;
 use launch_text::read_conditions_as;
 use places::{Place, PlaceError, places};
 use reading::laws::{bytes_are_the_text_of_what_is_read, local_sizes_are_within_limits};
-use reading::read_kernel;
+use reading::{Source, narrow, read_source};
 use shown_kernels::proper::what_is_read_is_proper;
 use std::alloc::{AllocError, Global};
 use std::thread::Threads;
@@ -91,7 +95,7 @@ fn unfound(alloc: Global, typed: &Typed, conditions: &Conditions, error: SearchE
 /// The refusal by 55: a loop with a barrier can miss it; or want of memory.
 fn unplaced(typed: &Typed, error: PlaceError) -> VerifyError
     requires { IsRefused (core_seen typed.now.1).body error }
-    ensures { (is_wide : Bool) (found : Lined) (workers : ℕ) (kernel conditions : List ℕ) → AreRead is_wide typed.now found kernel conditions → TellsOf is_wide result workers kernel conditions }
+    ensures { (is_wide : Bool) (found : Lined) (workers : ℕ) (kernel : kernels.Source) (conditions : List ℕ) → AreRead is_wide typed.now found kernel conditions → TellsOf is_wide result workers kernel conditions }
 {
     match error {
         PlaceError::Missed(number) => {
@@ -315,19 +319,19 @@ fn searched<R: Threads + Sync, W: Watcher>(
 pub fn find_watched<R: Threads + Sync, W: Watcher>(
     rt: &R,
     alloc: Global,
-    kernel: &[u8],
+    kernel: Source<'_>,
     conditions: &[u8],
     effort: Effort,
     watcher: &W,
 ) -> Result<Found, VerifyError>
     ensures written { IfOk result (λ f. f.text.items ≡ text_by effort.is_wide (certificate_seen f.certificate)) }
     ensures workers { IfOk result (λ _. IsCount effort.workers) }
-    ensures told { IfErr result (λ e. TellsOf effort.is_wide e effort.workers kernel.now conditions.now) }
+    ensures told { IfErr result (λ e. TellsOf effort.is_wide e effort.workers (source kernel.entry) conditions.now) }
 {
     bytes_are_the_text_of_what_is_read();
     what_is_read_of_conditions_is_their_text();
     what_is_read_is_proper();
-    let typed = match read_kernel(alloc, kernel) {
+    let typed = match read_source(alloc, kernel) {
         Ok(typed) => typed,
         Err(error) => return Err(VerifyError::Check(CheckError::Kernel(error))),
     };
@@ -367,14 +371,14 @@ pub fn find<R: Threads + Sync>(
 ) -> Result<Found, VerifyError>
     ensures written { IfOk result (λ f. f.text.items ≡ text_of_two (certificate_seen f.certificate)) }
     ensures workers { IfOk result (λ _. IsCount workers) }
-    ensures told { IfErr result (λ e. TellsOf false e workers kernel.now conditions.now) }
+    ensures told { IfErr result (λ e. TellsOf false e workers (text_for Narrow kernel.now) conditions.now) }
 {
     let effort = Effort {
         workers,
         is_wide: false,
         may_widen: false,
     };
-    find_watched(rt, alloc, kernel, conditions, effort, &Unwatched)
+    find_watched(rt, alloc, narrow(kernel), conditions, effort, &Unwatched)
 }
 
 /// What `find` finds, also under conditions of version 2: the narrow walk, run to its end.
@@ -387,14 +391,14 @@ pub fn find_narrowly<R: Threads + Sync>(
 ) -> Result<Found, VerifyError>
     ensures written { IfOk result (λ f. f.text.items ≡ text_found (certificate_seen f.certificate)) }
     ensures workers { IfOk result (λ _. IsCount workers) }
-    ensures told { IfErr result (λ e. TellsOf true e workers kernel.now conditions.now) }
+    ensures told { IfErr result (λ e. TellsOf true e workers (text_for Narrow kernel.now) conditions.now) }
 {
     let effort = Effort {
         workers,
         is_wide: true,
         may_widen: false,
     };
-    find_watched(rt, alloc, kernel, conditions, effort, &Unwatched)
+    find_watched(rt, alloc, narrow(kernel), conditions, effort, &Unwatched)
 }
 
 /// What `find_narrowly` finds; or, where that is refused for want of what is shown, for its size or by the budget, a certificate of the wide
@@ -408,12 +412,12 @@ pub fn find_wide<R: Threads + Sync>(
 ) -> Result<Found, VerifyError>
     ensures written { IfOk result (λ f. f.text.items ≡ text_found (certificate_seen f.certificate)) }
     ensures workers { IfOk result (λ _. IsCount workers) }
-    ensures told { IfErr result (λ e. TellsOf true e workers kernel.now conditions.now) }
+    ensures told { IfErr result (λ e. TellsOf true e workers (text_for Narrow kernel.now) conditions.now) }
 {
     let effort = Effort {
         workers,
         is_wide: true,
         may_widen: true,
     };
-    find_watched(rt, alloc, kernel, conditions, effort, &Unwatched)
+    find_watched(rt, alloc, narrow(kernel), conditions, effort, &Unwatched)
 }

@@ -4,9 +4,9 @@ use Rattle.semantics.specs.Launch as launch
 use Rattle.texts.specs.Surface as surface
 use Rattle.texts.specs.TypeFaults.{NameTwice, Checked, then, when}
 use Rattle.texts.specs.Elaboration.{elaborate_inside, elaborate, InKernel, elaborate_all, declare_parameters}
-use Rattle.texts.specs.Scope.{empty_scope, may_name_kernel}
+use Rattle.texts.specs.Scope.{Devices, empty_scope, may_name_kernel}
 use Rattle.texts.specs.KernelLimits.{IsLocalSize}
-use Rattle.reading.specs.Kernels.{Kernel, read}
+use Rattle.reading.specs.Kernels.{Kernel, Source, read}
 use Rattle.reading.specs.Limits.{HasLocalSizes}
 use Rattle.reading.proofs.Grammatical.{read-sound}
 
@@ -19,16 +19,16 @@ sizes-or : launch.Three ℕ → Checked launch.Kernel → launch.Three ℕ
 sizes-or d (Ok k) = k.sizes
 sizes-or d (Err e) = d
 
-core-sizes : (t : surface.Kernel) (k : launch.Kernel) → elaborate t ≡ Ok k → k.sizes ≡ t.sizes
+core-sizes : (d : Devices) (t : surface.Kernel) (k : launch.Kernel) → elaborate d t ≡ Ok k → k.sizes ≡ t.sizes
 unfolding elaborate elaborate_inside sizes-or
-core-sizes t k h =
-    let named = then-took (when (may_name_kernel t.name) NameTwice t.name_site empty_scope) _ k h in
-    let outer = then-took (declare_parameters empty_scope t.parameters) _ k named.1 in
+core-sizes d t k h =
+    let named = then-took (when (may_name_kernel t.name) NameTwice t.name_site (empty_scope d)) _ k h in
+    let outer = then-took (declare_parameters (empty_scope d) t.parameters) _ k named.1 in
     let body = then-took (elaborate_all InKernel outer.0 t.body) _ k outer.1 in
     sym (ap (sizes-or t.sizes) body.1)
 
-pub sizes-read : (bytes : List ℕ) (k : Kernel) → read bytes ≡ Ok k → HasLocalSizes k.core
-sizes-read bytes k h =
-    let t = read-sound bytes k h in
+pub sizes-read : (source : Source) (k : Kernel) → read source ≡ Ok k → HasLocalSizes k.core
+sizes-read source k h =
+    let t = read-sound source k h in
     let s = t.within_limits.1.local_sizes in
-    subst (λ z. IsLocalSize z.x × IsLocalSize z.y × IsLocalSize z.z) (sym (core-sizes k.tree k.core t.is_typed)) (s.0, s.1, s.2)
+    subst (λ z. IsLocalSize z.x × IsLocalSize z.y × IsLocalSize z.z) (sym (core-sizes source.devices k.tree k.core t.is_typed)) (s.0, s.1, s.2)

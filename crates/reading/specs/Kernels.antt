@@ -1,5 +1,5 @@
--- What the bytes of a kernel's text say: its tree and its core, or the first fault with its place: of the text, else of the tree, else
--- of its types.
+-- What the bytes of a kernel's text say where it is read for some devices: its tree and its core, or the first fault with its place: of the
+-- text, else of the tree, else of its types.
 use Rattle.std.specs.Prelude.{ℕ, List, Result, Ok, Err}
 use Rattle.semantics.specs.Launch as launch
 use Rattle.semantics.specs.Core.{Site}
@@ -9,8 +9,17 @@ use Rattle.texts.specs.TypeFaults.{TypeFault, Checked}
 use Rattle.texts.specs.Tokens.{Lexed, tokens_of}
 use Rattle.texts.specs.Lexemes.{lexemes}
 use Rattle.texts.specs.Surface as surface
+use Rattle.texts.specs.Scope.{Devices}
 use Rattle.texts.specs.Elaboration.{elaborate}
 use Rattle.parser.specs.Parsed.{Parsed, parsed}
+
+-- a kernel's text, and the devices that it is read for
+pub record Source : Type 0 where
+  pub devices : Devices
+  pub bytes : List ℕ
+
+abbrev pub text_for : Devices → List ℕ → Source
+text_for d bytes = record { devices = d; bytes = bytes }
 
 pub data Fault : Type 0 where
   OfText : (fault : TextFault) → Fault
@@ -28,13 +37,13 @@ abbrev pub of_types : surface.Kernel → Checked launch.Kernel → Read
 of_types tree (Ok core) = Ok (record { tree = tree; core = core })
 of_types tree (Err (fault, site)) = Err (OfTypes fault, site)
 
-abbrev pub of_tree : Parsed → Read
-of_tree (Ok tree) = of_types tree (elaborate tree)
-of_tree (Err (fault, site)) = Err (OfTree fault, site)
+abbrev pub of_tree : Devices → Parsed → Read
+of_tree d (Ok tree) = of_types tree (elaborate d tree)
+of_tree d (Err (fault, site)) = Err (OfTree fault, site)
 
-abbrev pub of_tokens : Lexed → Read
-of_tokens (Ok tokens) = of_tree (parsed (lexemes tokens))
-of_tokens (Err (fault, site)) = Err (OfText fault, site)
+abbrev pub of_tokens : Devices → Lexed → Read
+of_tokens d (Ok tokens) = of_tree d (parsed (lexemes tokens))
+of_tokens d (Err (fault, site)) = Err (OfText fault, site)
 
-unfoldable pub read : List ℕ → Read
-read bytes = of_tokens (tokens_of bytes)
+unfoldable pub read : Source → Read
+read s = of_tokens s.devices (tokens_of s.bytes)

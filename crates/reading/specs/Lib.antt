@@ -1,4 +1,5 @@
 pub mod Kernels
 pub mod Answers
+pub mod Sources
 pub mod Texts
 pub mod Limits

@@ -4,8 +4,10 @@
 #![tactic(auto)]
 
 ghost use Rattle.std.specs.Prelude.{◌≡◌};
-ghost use Rattle.reading.specs.Kernels.{read};
+ghost use Rattle.texts.specs.Scope.{Narrow};
+ghost use Rattle.reading.specs.Kernels.{read, text_for};
 ghost use Rattle.reading.specs.Answers.{Gives};
+ghost use Rattle.reading.specs.Sources.{source};
 
 use lexer::{TextError, lex};
 use parser::error::ParseError;
@@ -13,6 +15,7 @@ use parser::parse;
 use std::alloc::Global;
 use thiserror::Error;
 use types::check::check_types;
+use types::devices::Devices;
 use types::error::TypeError;
 use types::typed::Typed;
 
@@ -55,12 +58,29 @@ impl KernelError {
     }
 }
 
+/// The bytes of a kernel's text, and the devices that it is read for.
+#[derive(Clone, Copy)]
+pub struct Source<'a> {
+    pub devices: Devices,
+    pub bytes: &'a [u8],
+}
+
+/// A text that is read for the devices with 32 address bits, where ids are `uint`.
+pub fn narrow(bytes: &[u8]) -> Source<'_>
+    ensures { source result ≡ text_for Narrow bytes.now }
+{
+    Source {
+        devices: Devices::Narrow,
+        bytes,
+    }
+}
+
 /// The kernel of a text, typed, or its first fault with its place (numbers 1 to 5, 10 to 12, 20 to 28).
 #[tactic(auto, using(crate::proofs::Lexemes::lexemes_seen), unfolding(crate::specs::Kernels::read))]
-pub fn read_kernel(alloc: Global, bytes: &[u8]) -> Result<Typed, KernelError>
-    ensures { Gives result (read bytes.now) }
+pub fn read_source(alloc: Global, text: Source<'_>) -> Result<Typed, KernelError>
+    ensures { Gives result (read (source text.entry)) }
 {
-    let tokens = match lex(alloc, bytes) {
+    let tokens = match lex(alloc, text.bytes) {
         Ok(tokens) => tokens,
         Err(error) => return Err(KernelError::Text(error)),
     };
@@ -68,8 +88,15 @@ pub fn read_kernel(alloc: Global, bytes: &[u8]) -> Result<Typed, KernelError>
         Ok(tree) => tree,
         Err(error) => return Err(KernelError::Tree(error)),
     };
-    match check_types(alloc, tree) {
+    match check_types(alloc, text.devices, tree) {
         Ok(typed) => Ok(typed),
         Err(error) => Err(KernelError::Types(error)),
     }
+}
+
+/// The kernel of a text that is read for the devices with 32 address bits.
+pub fn read_kernel(alloc: Global, bytes: &[u8]) -> Result<Typed, KernelError>
+    ensures { Gives result (read (text_for Narrow bytes.now)) }
+{
+    read_source(alloc, narrow(bytes))
 }

@@ -3,8 +3,9 @@ use Rattle.std.specs.Prelude.{ℕ, List, [], ◌∷◌, true, false, Option, Som
 use Rattle.semantics.specs.Word.{Kind, Int, Uint, Add, Multiply}
 use Rattle.semantics.specs.Core as core
 use Rattle.semantics.specs.Launch as launch
-use Rattle.texts.specs.Surface.{Arithmetic, AssignSign, Plain, With, Expression, Number, Name, Element, Infix, Statement, Declare, DeclareArray, Assign, Block, Statements, none, one, Parameter, Buffer, Value, Kernel}
+use Rattle.texts.specs.Surface.{InfixSign, Arithmetic, AssignSign, Plain, With, Expression, Number, Name, Element, Call, Infix, Expressions, nothing, also, Statement, Declare, DeclareArray, Assign, Block, Statements, none, one, Parameter, Buffer, Value, Kernel}
 use Rattle.texts.specs.TypeFaults.{Checked}
+use Rattle.texts.specs.Scope.{Binding, VariableAt}
 use Rattle.samples.specs.Terms.{at}
 
 abbrev pub name : List ℕ → Expression
@@ -66,6 +67,26 @@ renamed = kernel [] (declare 1 Uint (codes "_cl_abs") (number 1) ∷ [])
 -- void k(uint k) { }
 abbrev pub hidden : Kernel
 hidden = kernel (Value Uint (at 0) (codes "k") ∷ []) []
+
+-- int i; uint n;
+abbrev pub variables : List Binding
+variables = record { name = codes "i"; meaning = VariableAt 0 Int } ∷ record { name = codes "n"; meaning = VariableAt 1 Uint } ∷ []
+
+-- get_global_id(0u)
+abbrev pub global_id : Expression
+global_id = Call (at 8) (codes "get_global_id") (also (number 0) nothing)
+
+-- get_global_id(0u) SIGN e
+abbrev pub id_beside : InfixSign → Expression → Expression
+id_beside sign e = Infix (at 5) sign global_id e
+
+-- min(get_global_id(0u), n)
+abbrev pub least : Expression
+least = Call (at 9) (codes "min") (also global_id (also (name (codes "n")) nothing))
+
+-- uint x = get_global_id(0u);
+abbrev pub declared_by_id : Kernel
+declared_by_id = kernel [] (declare 1 Uint (codes "x") global_id ∷ [])
 
 abbrev pub arguments_of : Checked launch.Kernel → List Kind
 arguments_of (Ok k) = k.arguments

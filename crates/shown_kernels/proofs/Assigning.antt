@@ -43,16 +43,16 @@ assign-within : (scope : Scope) → AreSeen scope → (a : Assignment) (m : Mean
 assign-within scope s a m h None =
     let d : Declared = declared_in scope in
     then-holds (IsSlotOf d) (Within d) (target_slot a.site m) _ (slot-there d a.site m h) (λ x o.
-    then-holds (IsIn d) (Within d) (type_of scope.visible a.value) _ (type-in d scope.visible s a.value) (λ v p.
+    then-holds (IsIn d) (Within d) (type_of scope.devices scope.visible a.value) _ (type-in scope.devices d scope.visible s a.value) (λ v p.
     then-holds (IsIn d) (Within d) (assigned a.sign a.sign_site a.value (typed x.1 (core.Variable x.0)) v) _ (assigned-in d a.sign a.sign_site a.value (typed x.1 (core.Variable x.0)) v o p) (λ w q.
     (o, bring-in d x.1 a.site w q))))
 assign-within scope s a m h (Some index) =
     let d : Declared = declared_in scope in
     then-holds (IsArrayOf d) (Within d) (target_array a.site m) _ (array-there d a.site m h) (λ x o.
-    then-holds (IsIn d) (Within d) (type_of scope.visible index) _ (type-in d scope.visible s index) (λ i r.
+    then-holds (IsIn d) (Within d) (type_of scope.devices scope.visible index) _ (type-in scope.devices d scope.visible s index) (λ i r.
     then-holds (IsIn d) (Within d) (when (without_load a.sign (first_load index)) LoadInCompoundIndex (site_or (first_load index) a.site) i) _
     (when-holds (IsIn d) (without_load a.sign (first_load index)) LoadInCompoundIndex (site_or (first_load index) a.site) i r) (λ j t.
-    then-holds (IsIn d) (Within d) (type_of scope.visible a.value) _ (type-in d scope.visible s a.value) (λ v p.
+    then-holds (IsIn d) (Within d) (type_of scope.devices scope.visible a.value) _ (type-in scope.devices d scope.visible s a.value) (λ v p.
     then-holds (IsIn d) (Within d) (assigned a.sign a.sign_site a.value (typed x.1 (core.Load x.0 a.site j.term)) v) _ (assigned-in d a.sign a.sign_site a.value (typed x.1 (core.Load x.0 a.site j.term)) v (o, t) p) (λ w q.
     (o, t, bring-in d x.1 a.site w q))))))
 
@@ -65,7 +65,7 @@ assignment-within scope s a =
 pub declaration-within : (scope : Scope) → AreSeen scope → (d : Declaration) → Holds (Behind scope) (elaborate_declaration scope d)
 unfolding elaborate_declaration
 declaration-within scope s d =
-    then-holds (IsIn (declared_in scope)) (Behind scope) (type_of scope.visible d.value) _ (type-in (declared_in scope) scope.visible s d.value) (λ v p.
+    then-holds (IsIn (declared_in scope)) (Behind scope) (type_of scope.devices scope.visible d.value) _ (type-in scope.devices (declared_in scope) scope.visible s d.value) (λ v p.
     then-holds (NextSlot scope) (Behind scope) (declare_variable scope d.name_site d.name d.kind) _ (variable-declared scope d.name_site d.name d.kind s) (λ inner n.
     record {
       grows = n.larger.grows;

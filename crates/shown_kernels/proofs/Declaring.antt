@@ -8,7 +8,7 @@ use Rattle.semantics.specs.Core.{Site}
 use Rattle.semantics.specs.Launch as launch
 use Rattle.texts.specs.Surface.{JumpWord, Return, Break, Continue, Statement, Declare, DeclareArray, Assign, If, While, For, Barrier, Jump, Block, Statements, none, one, Kernel}
 use Rattle.texts.specs.TypeFaults.{NameTwice, ArrayInBlock, JumpOutsideLoop, then, when, found}
-use Rattle.texts.specs.Scope.{Scope, empty_scope, leave_block, may_name_kernel, declare_array}
+use Rattle.texts.specs.Scope.{Devices, Scope, empty_scope, leave_block, may_name_kernel, declare_array}
 use Rattle.texts.specs.Typing.{type_of}
 use Rattle.texts.specs.Elaboration.{Elaborated, elaborated, single, join, elaborate_assignment, elaborate_first, barrier_of, Around, InKernel, InLoop, is_in_kernel, inside, innermost_loop, jump_to, elaborate_statement, elaborate_all, declare_parameters, elaborate_inside, elaborate}
 use Rattle.shown_kernels.specs.Declared.{Declared, declared_by, Within, AllWithin}
@@ -48,7 +48,7 @@ mutual
       array-within scope h kind name_site x size (is_in_kernel around) site
   statement-within around scope h (Assign a) = single-within scope h a
   statement-within around scope h (If n site test taken skipped) =
-      then-holds (IsIn (declared_in scope)) (Behind scope) (type_of scope.visible test) _ (type-in (declared_in scope) scope.visible h test) (λ t p.
+      then-holds (IsIn (declared_in scope)) (Behind scope) (type_of scope.devices scope.visible test) _ (type-in scope.devices (declared_in scope) scope.visible h test) (λ t p.
       then-holds (Behind scope) (Behind scope) (elaborate_all (inside around) scope taken) _ (all-within (inside around) scope h taken) (λ a q.
       then-holds (Behind (leave_block scope a.scope)) (Behind scope) (elaborate_all (inside around) (leave_block scope a.scope) skipped) _
       (all-within (inside around) (leave_block scope a.scope) (left-there scope a.scope h q.grows) skipped) (λ b r.
@@ -56,13 +56,13 @@ mutual
       left scope b.scope (single (core.If n t.term a.statements b.statements)) h g (r.buffers ∙ q.buffers)
       ((term-grows (declared_in scope) (declared_in b.scope) g t.term p, all-grow (declared_in a.scope) (declared_in b.scope) r.grows a.statements q.within, r.within), tt))))
   statement-within around scope h (While n site test body) =
-      then-holds (IsIn (declared_in scope)) (Behind scope) (type_of scope.visible test) _ (type-in (declared_in scope) scope.visible h test) (λ t p.
+      then-holds (IsIn (declared_in scope)) (Behind scope) (type_of scope.devices scope.visible test) _ (type-in scope.devices (declared_in scope) scope.visible h test) (λ t p.
       then-holds (Behind scope) (Behind scope) (elaborate_all (InLoop n) scope body) _ (all-within (InLoop n) scope h body) (λ b q.
       left scope b.scope (single (core.Loop n t.term b.statements core.none)) h q.grows q.buffers
       ((term-grows (declared_in scope) (declared_in b.scope) q.grows t.term p, q.within, tt), tt)))
   statement-within around scope h (For n site first test update body) =
       then-holds (Behind scope) (Behind scope) (elaborate_first scope first) _ (first-within scope h first) (λ f o.
-      then-holds (IsIn (declared_in f.scope)) (Behind scope) (type_of f.scope.visible test) _ (type-in (declared_in f.scope) f.scope.visible o.there test) (λ t p.
+      then-holds (IsIn (declared_in f.scope)) (Behind scope) (type_of f.scope.devices f.scope.visible test) _ (type-in f.scope.devices (declared_in f.scope) f.scope.visible o.there test) (λ t p.
       then-holds (Within (declared_in f.scope)) (Behind scope) (elaborate_assignment f.scope update) _ (assignment-within f.scope o.there update) (λ u r.
       then-holds (Behind f.scope) (Behind scope) (elaborate_all (InLoop n) f.scope body) _ (all-within (InLoop n) f.scope o.there body) (λ b q.
       let g : Grows (declared_in scope) (declared_in b.scope) = grows-on (declared_in scope) (declared_in f.scope) (declared_in b.scope) o.grows q.grows in
@@ -98,12 +98,12 @@ grown outer b h a c e f =
     let k : length (drop (length outer.slots) b.scope.slots) ≡ length b.scope.slots - length outer.slots = length-drop (length outer.slots) b.scope.slots in
     record { slots = omega (arith, e, k); buffers = omega (arith, f, h.buffers); arrays = omega arith }
 
-kernel-within : (tree : Kernel) → Holds IsWithin (elaborate tree)
+kernel-within : (d : Devices) (tree : Kernel) → Holds IsWithin (elaborate d tree)
 unfolding elaborate elaborate_inside
-kernel-within tree =
-    then-any IsWithin (when (may_name_kernel tree.name) NameTwice tree.name_site empty_scope) _ (λ outside. then-holds AreSeen IsWithin (declare_parameters empty_scope tree.parameters) _ (parameters-declared empty_scope tree.parameters tt) (λ outer s.
+kernel-within d tree =
+    then-any IsWithin (when (may_name_kernel tree.name) NameTwice tree.name_site (empty_scope d)) _ (λ outside. then-holds AreSeen IsWithin (declare_parameters (empty_scope d) tree.parameters) _ (parameters-declared (empty_scope d) tree.parameters tt) (λ outer s.
     then-holds (Behind outer) IsWithin (elaborate_all InKernel outer tree.body) _ (all-within InKernel outer s tree.body) (λ b h.
     all-grow (declared_in b.scope) _ (grown outer b h (length outer.slots + length (drop (length outer.slots) b.scope.slots)) (length outer.buffers) refl refl) b.statements h.within)))
 
-pub elaborated-within : (tree : Kernel) (k : launch.Kernel) → elaborate tree ≡ Ok k → AllWithin (declared_by k) k.body
-elaborated-within tree k e = held IsWithin (elaborate tree) k e (kernel-within tree)
+pub elaborated-within : (d : Devices) (tree : Kernel) (k : launch.Kernel) → elaborate d tree ≡ Ok k → AllWithin (declared_by k) k.body
+elaborated-within d tree k e = held IsWithin (elaborate d tree) k e (kernel-within d tree)

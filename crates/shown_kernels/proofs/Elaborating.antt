@@ -7,7 +7,7 @@ use Rattle.semantics.specs.Core.{Site, Array}
 use Rattle.semantics.specs.Launch as launch
 use Rattle.texts.specs.Surface.{Arithmetic, LeftShift, RightShift, Comparison, LogicalAnd, LogicalOr, AssignSign, Plain, With, WithLeftShift, WithRightShift, Expression, Number, Name, Element, Call, Prefix, Cast, Infix, Conditional, Declaration, Assignment, First, FirstDeclares, FirstAssigns, JumpWord, Return, Break, Continue, Statement, Declare, DeclareArray, Assign, If, While, For, Barrier, Jump, Block, Statements, none, one, Kernel, site_of}
 use Rattle.texts.specs.TypeFaults.{UnknownName, NameTwice, LoadInCompoundIndex, ArrayInBlock, BarrierFlags, JumpOutsideLoop, then, when, found}
-use Rattle.texts.specs.Scope.{Meaning, Scope, empty_scope, meaning_of, leave_block, may_name_kernel, declare_variable, declare_array}
+use Rattle.texts.specs.Scope.{Devices, Meaning, Scope, empty_scope, meaning_of, leave_block, may_name_kernel, declare_variable, declare_array}
 use Rattle.texts.specs.Typing.{TypedTerm, typed, bring, type_of}
 use Rattle.texts.specs.Elaboration.{Elaborated, elaborated, single, join, assigned, first_load, without_load, site_or, target_array, target_slot, assign_to, elaborate_assignment, elaborate_declaration, elaborate_first, one_flag, barrier_of, Around, InKernel, InLoop, is_in_kernel, inside, innermost_loop, jump_to, elaborate_statement, elaborate_all, declare_parameters, elaborate_inside, elaborate}
 use Rattle.texts.specs.Spelling.{SpellsExpression, SpellsIndex, SpellsDeclaration, SpellsAssignment, SpellsFirst, SpellsStatement, SpellsStatements}
@@ -42,15 +42,15 @@ assigned-proper WithRightShift site e old new h k = infix-proper RightShift site
 assign-fit : (scope : Scope) (a : Assignment) (m : Meaning) (index : Option Expression) → SpellsIndex index → SpellsExpression a.value → Holds IsFit (assign_to scope a m index)
 assign-fit scope a m None h k =
     then-any IsFit (target_slot a.site m) _ (λ x.
-    then-holds IsProper IsFit (type_of scope.visible a.value) _ (type-proper scope.visible a.value k) (λ v p.
+    then-holds IsProper IsFit (type_of scope.devices scope.visible a.value) _ (type-proper scope.devices scope.visible a.value k) (λ v p.
     then-holds IsProper IsFit (assigned a.sign a.sign_site a.value (typed x.1 (core.Variable x.0)) v) _ (assigned-proper a.sign a.sign_site a.value (typed x.1 (core.Variable x.0)) v refl p) (λ w q.
     bring-proper x.1 a.site w q)))
 assign-fit scope a m (Some index) h k =
     then-any IsFit (target_array a.site m) _ (λ x.
-    then-holds IsProper IsFit (type_of scope.visible index) _ (type-proper scope.visible index h) (λ i r.
+    then-holds IsProper IsFit (type_of scope.devices scope.visible index) _ (type-proper scope.devices scope.visible index h) (λ i r.
     then-holds IsProper IsFit (when (without_load a.sign (first_load index)) LoadInCompoundIndex (site_or (first_load index) a.site) i) _
     (when-holds IsProper (without_load a.sign (first_load index)) LoadInCompoundIndex (site_or (first_load index) a.site) i r) (λ j t.
-    then-holds IsProper IsFit (type_of scope.visible a.value) _ (type-proper scope.visible a.value k) (λ v p.
+    then-holds IsProper IsFit (type_of scope.devices scope.visible a.value) _ (type-proper scope.devices scope.visible a.value k) (λ v p.
     then-holds IsProper IsFit (assigned a.sign a.sign_site a.value (typed x.1 (core.Load x.0 a.site j.term)) v) _ (assigned-proper a.sign a.sign_site a.value (typed x.1 (core.Load x.0 a.site j.term)) v t p) (λ w q.
     both (is_proper_term j.term) (is_proper_term (bring x.1 a.site w)) t (bring-proper x.1 a.site w q))))))
 
@@ -61,7 +61,7 @@ assignment-fit scope a h = then-any IsFit (found (meaning_of scope.visible a.nam
 declaration-fit : (scope : Scope) (d : Declaration) → SpellsDeclaration d → Holds AreFit (elaborate_declaration scope d)
 unfolding elaborate_declaration
 declaration-fit scope d h =
-    then-holds IsProper AreFit (type_of scope.visible d.value) _ (type-proper scope.visible d.value h.1) (λ v p.
+    then-holds IsProper AreFit (type_of scope.devices scope.visible d.value) _ (type-proper scope.devices scope.visible d.value h.1) (λ v p.
     then-any AreFit (declare_variable scope d.name_site d.name d.kind) _ (λ inner.
     single-fit (core.Set d.number (length scope.slots) (bring d.kind d.name_site v)) (bring-proper d.kind d.name_site v p)))
 
@@ -113,17 +113,17 @@ mutual
       then-any AreFit (when (is_in_kernel around) ArrayInBlock site scope) _ (λ outer. then-any AreFit (declare_array outer name_site x kind size) _ (λ inner. refl))
   statement-fit around scope (Assign a) h = single-assignment scope a h
   statement-fit around scope (If n site test taken skipped) h =
-      then-holds IsProper AreFit (type_of scope.visible test) _ (type-proper scope.visible test h.0) (λ t p.
+      then-holds IsProper AreFit (type_of scope.devices scope.visible test) _ (type-proper scope.devices scope.visible test h.0) (λ t p.
       then-holds AreFit AreFit (elaborate_all (inside around) scope taken) _ (all-fit (inside around) scope taken h.1) (λ a q.
       then-holds AreFit AreFit (elaborate_all (inside around) (leave_block scope a.scope) skipped) _ (all-fit (inside around) (leave_block scope a.scope) skipped h.2) (λ b r.
       single-fit (core.If n t.term a.statements b.statements) (both (is_proper_term t.term) (are_proper a.statements && are_proper b.statements) p (both (are_proper a.statements) (are_proper b.statements) q r)))))
   statement-fit around scope (While n site test body) h =
-      then-holds IsProper AreFit (type_of scope.visible test) _ (type-proper scope.visible test h.0) (λ t p.
+      then-holds IsProper AreFit (type_of scope.devices scope.visible test) _ (type-proper scope.devices scope.visible test h.0) (λ t p.
       then-holds AreFit AreFit (elaborate_all (InLoop n) scope body) _ (all-fit (InLoop n) scope body h.1) (λ b q.
       single-fit (core.Loop n t.term b.statements core.none) (both (is_proper_term t.term) (are_proper b.statements && true) p (both (are_proper b.statements) true q refl))))
   statement-fit around scope (For n site first test update body) h =
       then-holds AreFit AreFit (elaborate_first scope first) _ (first-fit scope first h.0) (λ f o.
-      then-holds IsProper AreFit (type_of f.scope.visible test) _ (type-proper f.scope.visible test h.1) (λ t p.
+      then-holds IsProper AreFit (type_of f.scope.devices f.scope.visible test) _ (type-proper f.scope.devices f.scope.visible test h.1) (λ t p.
       then-holds IsFit AreFit (elaborate_assignment f.scope update) _ (assignment-fit f.scope update h.2) (λ u r.
       then-holds AreFit AreFit (elaborate_all (InLoop n) f.scope body) _ (all-fit (InLoop n) f.scope body h.3) (λ b q.
       join-fit f.statements (single (core.Loop n t.term b.statements (single u))) o
@@ -141,11 +141,11 @@ mutual
 abbrev IsFitKernel : launch.Kernel → Type 0
 IsFitKernel k = are_proper k.body ≡ true
 
-elaborated-fit : (tree : Kernel) → SpellsStatements tree.body → Holds IsFitKernel (elaborate tree)
+elaborated-fit : (d : Devices) (tree : Kernel) → SpellsStatements tree.body → Holds IsFitKernel (elaborate d tree)
 unfolding elaborate elaborate_inside
-elaborated-fit tree h =
-    then-any IsFitKernel (when (may_name_kernel tree.name) NameTwice tree.name_site empty_scope) _ (λ outside. then-any IsFitKernel (declare_parameters empty_scope tree.parameters) _ (λ outer.
+elaborated-fit d tree h =
+    then-any IsFitKernel (when (may_name_kernel tree.name) NameTwice tree.name_site (empty_scope d)) _ (λ outside. then-any IsFitKernel (declare_parameters (empty_scope d) tree.parameters) _ (λ outer.
     then-holds AreFit IsFitKernel (elaborate_all InKernel outer tree.body) _ (all-fit InKernel outer tree.body h) (λ b q. q)))
 
-pub elaborated-proper : (tree : Kernel) (k : launch.Kernel) → SpellsStatements tree.body → elaborate tree ≡ Ok k → are_proper k.body ≡ true
-elaborated-proper tree k h e = held IsFitKernel (elaborate tree) k e (elaborated-fit tree h)
+pub elaborated-proper : (d : Devices) (tree : Kernel) (k : launch.Kernel) → SpellsStatements tree.body → elaborate d tree ≡ Ok k → are_proper k.body ≡ true
+elaborated-proper d tree k h e = held IsFitKernel (elaborate d tree) k e (elaborated-fit d tree h)

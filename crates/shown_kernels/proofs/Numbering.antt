@@ -8,7 +8,7 @@ use Rattle.semantics.specs.Launch as launch
 use Rattle.texts.specs.Surface.{Arithmetic, LeftShift, RightShift, Comparison, LogicalAnd, LogicalOr, Expression, Number, Name, Element, Call, Prefix, Cast, Infix, Conditional, Declaration, Assignment, First, FirstDeclares, FirstAssigns, JumpWord, Return, Break, Continue, Statement, Declare, DeclareArray, Assign, If, While, For, Barrier, Jump, Block, Statements, none, one, Kernel, site_of}
 use Rattle.texts.specs.KernelLimits.{statements_in, statements_of}
 use Rattle.texts.specs.TypeFaults.{UnknownName, NameTwice, LoadInCompoundIndex, ArrayInBlock, BarrierFlags, then, when, found}
-use Rattle.texts.specs.Scope.{Meaning, Scope, empty_scope, meaning_of, leave_block, may_name_kernel, declare_variable, declare_array}
+use Rattle.texts.specs.Scope.{Devices, Meaning, Scope, empty_scope, meaning_of, leave_block, may_name_kernel, declare_variable, declare_array}
 use Rattle.texts.specs.Spelling.{IsNumbered, AreNumbered, first_number}
 use Rattle.texts.specs.Typing.{typed, bring, type_of}
 use Rattle.texts.specs.Elaboration.{Elaborated, elaborated, single, join, assigned, first_load, without_load, site_or, target_array, target_slot, assign_to, elaborate_assignment, elaborate_declaration, elaborate_first, one_flag, barrier_of, Around, InKernel, InBlock, InLoop, is_in_kernel, inside, innermost_loop, jump_to, elaborate_statement, elaborate_all, declare_parameters, elaborate_inside, elaborate}
@@ -27,12 +27,12 @@ AreOneStep n e = AreStep n e.statements
 
 assign-steps : (scope : Scope) (a : Assignment) (m : Meaning) (index : Option Expression) → Holds (IsStep a.number) (assign_to scope a m index)
 assign-steps scope a m None =
-    then-any (IsStep a.number) (target_slot a.site m) _ (λ x. then-any (IsStep a.number) (type_of scope.visible a.value) _ (λ v.
+    then-any (IsStep a.number) (target_slot a.site m) _ (λ x. then-any (IsStep a.number) (type_of scope.devices scope.visible a.value) _ (λ v.
     then-any (IsStep a.number) (assigned a.sign a.sign_site a.value (typed x.1 (core.Variable x.0)) v) _ (λ w. (refl, tt))))
 assign-steps scope a m (Some index) =
-    then-any (IsStep a.number) (target_array a.site m) _ (λ x. then-any (IsStep a.number) (type_of scope.visible index) _ (λ i.
+    then-any (IsStep a.number) (target_array a.site m) _ (λ x. then-any (IsStep a.number) (type_of scope.devices scope.visible index) _ (λ i.
     then-any (IsStep a.number) (when (without_load a.sign (first_load index)) LoadInCompoundIndex (site_or (first_load index) a.site) i) _ (λ j.
-    then-any (IsStep a.number) (type_of scope.visible a.value) _ (λ v.
+    then-any (IsStep a.number) (type_of scope.devices scope.visible a.value) _ (λ v.
     then-any (IsStep a.number) (assigned a.sign a.sign_site a.value (typed x.1 (core.Load x.0 a.site j.term)) v) _ (λ w. (refl, tt))))))
 
 assignment-steps : (scope : Scope) (a : Assignment) → Holds (IsStep a.number) (elaborate_assignment scope a)
@@ -42,7 +42,7 @@ assignment-steps scope a = then-any (IsStep a.number) (found (meaning_of scope.v
 declaration-steps : (scope : Scope) (d : Declaration) → Holds (AreOneStep d.number) (elaborate_declaration scope d)
 unfolding elaborate_declaration
 declaration-steps scope d =
-    then-any (AreOneStep d.number) (type_of scope.visible d.value) _ (λ v. then-any (AreOneStep d.number) (declare_variable scope d.name_site d.name d.kind) _ (λ inner.
+    then-any (AreOneStep d.number) (type_of scope.devices scope.visible d.value) _ (λ v. then-any (AreOneStep d.number) (declare_variable scope d.name_site d.name d.kind) _ (λ inner.
     (core.Set d.number (length scope.slots) (bring d.kind d.name_site v), refl, (refl, tt))))
 
 single-steps : (scope : Scope) (a : Assignment) → Holds (AreOneStep a.number) (then (elaborate_assignment scope a) (λ s. Ok (elaborated (single s) scope)))
@@ -114,20 +114,20 @@ mutual
       step-ordered loops n (n + 1) a.number s p (omega (arith, h)) (omega (arith, h)))
   statement-ordered loops around e scope n (If m site test taken skipped) h =
       let high : ℕ = n + (1 + (statements_of taken + statements_of skipped)) in
-      then-any (AreFrom loops n high) (type_of scope.visible test) _ (λ t.
+      then-any (AreFrom loops n high) (type_of scope.devices scope.visible test) _ (λ t.
       then-holds (AreFrom loops (n + 1) (n + 1 + statements_of taken)) (AreFrom loops n high) (elaborate_all (inside around) scope taken) _ (all-ordered loops (inside around) (inside-same around ∙ e) scope (n + 1) taken h.1) (λ a q.
       then-holds (AreFrom loops (n + 1 + statements_of taken) (n + 1 + statements_of taken + statements_of skipped)) (AreFrom loops n high) (elaborate_all (inside around) (leave_block scope a.scope) skipped) _
       (all-ordered loops (inside around) (inside-same around ∙ e) (leave_block scope a.scope) (n + 1 + statements_of taken) skipped h.2) (λ b r.
       if-ordered loops n m (n + 1 + statements_of taken) (n + 1 + statements_of taken + statements_of skipped) high t.term a.statements b.statements h.0 (omega arith) (omega arith) (omega arith) q r)))
   statement-ordered loops around e scope n (While m site test body) h =
       let high : ℕ = n + (1 + statements_of body) in
-      then-any (AreFrom loops n high) (type_of scope.visible test) _ (λ t.
+      then-any (AreFrom loops n high) (type_of scope.devices scope.visible test) _ (λ t.
       then-holds (AreFrom (n ∷ loops) (n + 1) (n + 1 + statements_of body)) (AreFrom loops n high) (elaborate_all (InLoop m) scope body) _ (all-ordered (n ∷ loops) (InLoop m) (ap Some h.0) scope (n + 1) body h.1) (λ b q.
       while-ordered loops n m (n + 1 + statements_of body) high t.term b.statements h.0 (omega arith) (omega arith) q))
   statement-ordered loops around e scope n (For m site first test update body) h =
       let high : ℕ = n + (3 + statements_of body) in
       then-holds (AreOneStep (first_number first)) (AreFrom loops n high) (elaborate_first scope first) _ (first-steps scope first) (λ f o.
-      then-any (AreFrom loops n high) (type_of f.scope.visible test) _ (λ t.
+      then-any (AreFrom loops n high) (type_of f.scope.devices f.scope.visible test) _ (λ t.
       then-holds (IsStep update.number) (AreFrom loops n high) (elaborate_assignment f.scope update) _ (assignment-steps f.scope update) (λ u r.
       then-holds (AreFrom (n ∷ loops) (n + 3) (n + 3 + statements_of body)) (AreFrom loops n high) (elaborate_all (InLoop m) f.scope body) _ (all-ordered (n ∷ loops) (InLoop m) (ap Some h.0) f.scope (n + 3) body h.3) (λ b q.
       for-ordered loops n m (first_number first) update.number (n + 3 + statements_of body) high f.statements t.term b.statements u h.0 h.1 h.2 (omega arith) (omega arith) o r q))))
@@ -153,17 +153,17 @@ mutual
 abbrev IsFrom : (low high : ℕ) → launch.Kernel → Type 0
 IsFrom low high k = Ordered [] low high k.body
 
-kernel-ordered : (tree : Kernel) → AreNumbered 1 tree.body → Holds (IsFrom 1 (1 + statements_of tree.body)) (elaborate tree)
+kernel-ordered : (d : Devices) (tree : Kernel) → AreNumbered 1 tree.body → Holds (IsFrom 1 (1 + statements_of tree.body)) (elaborate d tree)
 unfolding elaborate elaborate_inside
-kernel-ordered tree h =
-    then-any (IsFrom 1 (1 + statements_of tree.body)) (when (may_name_kernel tree.name) NameTwice tree.name_site empty_scope) _ (λ outside. then-any (IsFrom 1 (1 + statements_of tree.body)) (declare_parameters empty_scope tree.parameters) _ (λ outer.
+kernel-ordered d tree h =
+    then-any (IsFrom 1 (1 + statements_of tree.body)) (when (may_name_kernel tree.name) NameTwice tree.name_site (empty_scope d)) _ (λ outside. then-any (IsFrom 1 (1 + statements_of tree.body)) (declare_parameters (empty_scope d) tree.parameters) _ (λ outer.
     then-holds (AreFrom [] 1 (1 + statements_of tree.body)) (IsFrom 1 (1 + statements_of tree.body)) (elaborate_all InKernel outer tree.body) _ (all-ordered [] InKernel refl outer 1 tree.body h) (λ b q. q)))
 
-pub elaborated-ordered : (tree : Kernel) (k : launch.Kernel) → AreNumbered 1 tree.body → elaborate tree ≡ Ok k → Ordered [] 1 (1 + statements_of tree.body) k.body
-elaborated-ordered tree k h e = held (IsFrom 1 (1 + statements_of tree.body)) (elaborate tree) k e (kernel-ordered tree h)
+pub elaborated-ordered : (d : Devices) (tree : Kernel) (k : launch.Kernel) → AreNumbered 1 tree.body → elaborate d tree ≡ Ok k → Ordered [] 1 (1 + statements_of tree.body) k.body
+elaborated-ordered d tree k h e = held (IsFrom 1 (1 + statements_of tree.body)) (elaborate d tree) k e (kernel-ordered d tree h)
 
-pub elaborated-told : (tree : Kernel) (k : launch.Kernel) → AreNumbered 1 tree.body → elaborate tree ≡ Ok k → AreTold k.body
-elaborated-told tree k h e = let o = elaborated-ordered tree k h e in record { once = o.once; placed = o.placed }
+pub elaborated-told : (d : Devices) (tree : Kernel) (k : launch.Kernel) → AreNumbered 1 tree.body → elaborate d tree ≡ Ok k → AreTold k.body
+elaborated-told d tree k h e = let o = elaborated-ordered d tree k h e in record { once = o.once; placed = o.placed }
 
-pub elaborated-rises : (tree : Kernel) (k : launch.Kernel) → AreNumbered 1 tree.body → elaborate tree ≡ Ok k → AllNumbered [] 1 (1 + statements_of tree.body) k.body
-elaborated-rises tree k h e = (elaborated-ordered tree k h e).rises
+pub elaborated-rises : (d : Devices) (tree : Kernel) (k : launch.Kernel) → AreNumbered 1 tree.body → elaborate d tree ≡ Ok k → AllNumbered [] 1 (1 + statements_of tree.body) k.body
+elaborated-rises d tree k h e = (elaborated-ordered d tree k h e).rises

@@ -6,10 +6,10 @@ use Rattle.semantics.specs.Launch.{Three, product}
 use Rattle.semantics.specs.Launch as launch
 use Rattle.texts.specs.Surface as surface
 use Rattle.texts.specs.TypeFaults.{NameTwice, when}
-use Rattle.texts.specs.Scope.{empty_scope, may_name_kernel}
+use Rattle.texts.specs.Scope.{Devices, empty_scope, may_name_kernel}
 use Rattle.texts.specs.Elaboration.{InKernel, elaborate_inside, elaborate, elaborate_all, declare_parameters}
 use Rattle.texts.specs.KernelLimits.{IsLocalSize}
-use Rattle.reading.specs.Kernels.{Kernel, read}
+use Rattle.reading.specs.Kernels.{Kernel, Source, read}
 use Rattle.reading.proofs.Grammatical.{read-sound, read-tree}
 use Rattle.work_item.specs.Proper.{are_sizes, are_proper, is_proper}
 use Rattle.shown_kernels.proofs.Holding.{Holds, then-any, held, both}
@@ -26,10 +26,10 @@ above (suc a) zero h k = absurd (omega arith)
 above (suc a) (suc b) h k = omega arith
 
 -- elaboration keeps the sizes
-core-sizes : (t : surface.Kernel) → Holds (λ (k : launch.Kernel). k.sizes ≡ t.sizes) (elaborate t)
+core-sizes : (d : Devices) (t : surface.Kernel) → Holds (λ (k : launch.Kernel). k.sizes ≡ t.sizes) (elaborate d t)
 unfolding elaborate elaborate_inside
-core-sizes t =
-    then-any (λ (k : launch.Kernel). k.sizes ≡ t.sizes) (when (may_name_kernel t.name) NameTwice t.name_site empty_scope) _ (λ outside. then-any (λ (k : launch.Kernel). k.sizes ≡ t.sizes) (declare_parameters empty_scope t.parameters) _ (λ outer.
+core-sizes d t =
+    then-any (λ (k : launch.Kernel). k.sizes ≡ t.sizes) (when (may_name_kernel t.name) NameTwice t.name_site (empty_scope d)) _ (λ outside. then-any (λ (k : launch.Kernel). k.sizes ≡ t.sizes) (declare_parameters (empty_scope d) t.parameters) _ (λ outer.
     then-any (λ (k : launch.Kernel). k.sizes ≡ t.sizes) (elaborate_all InKernel outer t.body) _ (λ b. refl)))
 
 sizes-fit : (t : Three ℕ) → IsLocalSize t.x → IsLocalSize t.y → IsLocalSize t.z → t.x * t.y * t.z ≤ 1024 → are_sizes t ≡ true
@@ -43,14 +43,14 @@ sizes-fit t x y z p =
     some : (a : ℕ) → 0 < a → nat_lt 0 a ≡ true
     some a h = grind (arith, nat_tests)
 
-pub read-proper : (bytes : List ℕ) (k : Kernel) → read bytes ≡ Ok k → is_proper k.core ≡ true
-read-proper bytes k h =
-    let t = read-sound bytes k h in
-    let s = t.within_limits.1.local_sizes in
+pub read-proper : (s : Source) (k : Kernel) → read s ≡ Ok k → is_proper k.core ≡ true
+read-proper s k h =
+    let t = read-sound s k h in
+    let z = t.within_limits.1.local_sizes in
     both (are_sizes k.core.sizes) (are_proper k.core.body)
-    (subst (λ z. are_sizes z ≡ true) (sym (held (λ (x : launch.Kernel). x.sizes ≡ k.tree.sizes) (elaborate k.tree) k.core t.is_typed (core-sizes k.tree))) (sizes-fit k.tree.sizes s.0 s.1 s.2 s.3))
-    (elaborated-proper k.tree k.core (read-tree bytes k h).body t.is_typed)
+    (subst (λ n. are_sizes n ≡ true) (sym (held (λ (x : launch.Kernel). x.sizes ≡ k.tree.sizes) (elaborate s.devices k.tree) k.core t.is_typed (core-sizes s.devices k.tree))) (sizes-fit k.tree.sizes z.0 z.1 z.2 z.3))
+    (elaborated-proper s.devices k.tree k.core (read-tree s k h).body t.is_typed)
 
-pub answers_proper : (r : Result (tree.Kernel × Core) KernelError) (bytes : List ℕ) → Gives r (read bytes) → IfOk r (λ t. is_proper (kernel t.1) ≡ true)
-answers_proper (Ok t) bytes h = read-proper bytes (kernel_seen t) h
-answers_proper (Err e) bytes h = tt
+pub answers_proper : (r : Result (tree.Kernel × Core) KernelError) (s : Source) → Gives r (read s) → IfOk r (λ t. is_proper (kernel t.1) ≡ true)
+answers_proper (Ok t) s h = read-proper s (kernel_seen t) h
+answers_proper (Err e) s h = tt

@@ -3,7 +3,7 @@ use Rattle.std.proofs.Common.{◌≡◌, ℕ, List}
 use Rattle.std.specs.Prelude.{Ok}
 use Rattle.semantics.specs.Core.{Term, Literal, Variable, Id, Load, Unary, Binary, Convert, Compare, Not, And, Or, Select, Minimum, Maximum, Statement, Set, Store, If, Loop, Barrier, Return, Break, Continue, Statements, none, one}
 use Rattle.lanes.specs.Lowering as lanes
-use Rattle.reading.specs.Kernels.{Kernel, read}
+use Rattle.reading.specs.Kernels.{Kernel, Source, read}
 use Rattle.shown_kernels.specs.Declared.{Declared, declared_by, TermWithin, Within, AllWithin}
 use Rattle.shown_kernels.proofs.FormedReads.{read-rises, read-within}
 
@@ -39,10 +39,10 @@ module _ (d : Declared) where
     all-slots none h = h
     all-slots (one st rest) h = (slots st h.0, all-slots rest h.1)
 
-pub read-orderly : (bytes : List ℕ) (k : Kernel) → read bytes ≡ Ok k → lanes.IsOrderly k.core
-read-orderly bytes k h = let r = read-rises bytes k h in record {
+pub read-orderly : (s : Source) (k : Kernel) → read s ≡ Ok k → lanes.IsOrderly k.core
+read-orderly s k h = let r = read-rises s k h in record {
   low = r.0;
   high = r.1;
   numbered = r.2;
-  within = all-slots (declared_by k.core) k.core.body (read-within bytes k h);
+  within = all-slots (declared_by k.core) k.core.body (read-within s k h);
 }

@@ -1,16 +1,18 @@
 -- Terms of expressions whose numbers are of their kinds are proper.
-use Rattle.std.proofs.Common.{◌≡◌, ℕ, List, [], ◌∷◌, Bool, true, false, ◌&&◌, cond, refl}
+use Rattle.std.proofs.Common.{◌≡◌, ◌≤◌, ◌<◌, ◌^◌, ℕ, List, [], ◌∷◌, Bool, true, false, ◌&&◌, cond, refl, arith, nat_lt}
 use Rattle.std.specs.Prelude.{pos, Option, Some, None, nat_le, bytes_eq, codes}
-use Rattle.semantics.specs.Word.{Kind, Int, Uint, Size, in_kind, ShiftLeft, ShiftRight}
+use Rattle.std.proofs.lemmas.Bool.Decides.{nat_tests}
+use Rattle.std.proofs.lemmas.Nat.{pow_below}
+use Rattle.semantics.specs.Word.{Kind, Int, Uint, Size, in_kind, Operator, Multiply, Divide, UnaryOperator, ShiftLeft, ShiftRight}
 use Rattle.semantics.specs.Core as core
 use Rattle.semantics.specs.Core.{Site, Array, Function, Term}
 use Rattle.texts.specs.Surface.{PrefixSign, Minus, LogicalNot, BitNot, InfixSign, Arithmetic, LeftShift, RightShift, Comparison, LogicalAnd, LogicalOr, Expression, Number, Name, Element, Call, Prefix, Cast, Infix, Conditional, Expressions, nothing, also}
 use Rattle.texts.specs.TypeFaults.{Checked, UnknownName, WrongType, LeftOutWord, refused, then, found}
-use Rattle.texts.specs.Scope.{Meaning, VariableAt, ArrayAt, Binding, meaning_of}
-use Rattle.texts.specs.Typing.{TypedTerm, typed, is_uint, common, brought, bring, variable_term, array_of, prefix_term, shift_count, shift_term, infix_term, conditional_term, function_named, is_left_out, id_term, same_kind, pick_term, are_two, call_other, call_term, type_of, types_of}
+use Rattle.texts.specs.Scope.{Devices, Narrow, Any, size_kind, Meaning, VariableAt, ArrayAt, Binding, meaning_of}
+use Rattle.texts.specs.Typing.{TypedTerm, typed, is_unsigned, common, brought, bring, variable_term, array_of, prefix_term, shift_count, shifted, shift_term, widened, operand, infix_term, conditional_term, function_named, is_left_out, id_term, same_kind, pick_term, are_two, call_other, call_term, type_of, types_of}
 use Rattle.texts.specs.Numbers.{is_literal}
 use Rattle.texts.specs.Spelling.{SpellsExpression, SpellsExpressions}
-use Rattle.work_item.specs.Proper.{is_proper_term}
+use Rattle.work_item.specs.Proper.{is_id_kind, is_proper_unary, is_proper_term}
 use Rattle.shown_kernels.proofs.Holding.{Holds, then-holds, then-any, when-holds, both}
 
 abbrev pub IsProper : TypedTerm → Type 0
@@ -49,43 +51,61 @@ prefix-proper Minus site t h = h
 prefix-proper LogicalNot site t h = h
 prefix-proper BitNot site t h = h
 
-left-shift : (site : Site) (l : TypedTerm) (b : Bool) (n : ℕ) → (b ≡ true → nat_le n 31 ≡ true) → IsProper l → Holds IsProper (shift_term site ShiftLeft l (cond b (Some n) None))
-left-shift site l true n k h = both (nat_le n 31) (is_proper_term l.term) (k refl) h
-left-shift site l false n k h = tt
-
-right-shift : (site : Site) (l : TypedTerm) (b : Bool) (n : ℕ) → (b ≡ true → nat_le n 31 ≡ true) → IsProper l → Holds IsProper (shift_term site ShiftRight l (cond b (Some n) None))
-right-shift site l true n k h = both (nat_le n 31) (is_proper_term l.term) (k refl) h
-right-shift site l false n k h = tt
-
 second : (a b : Bool) → (a && b) ≡ true → b ≡ true
 second true b h = h
 second false b h = cc
 
-left-proper : (site : Site) (right : Expression) (l : TypedTerm) → IsProper l → Holds IsProper (shift_term site ShiftLeft l (shift_count l.kind right))
-left-proper site (Number at kind n) l h = left-shift site l (is_uint l.kind && nat_le n 31) n (second (is_uint l.kind) (nat_le n 31)) h
-left-proper site (Name at x) l h = tt
-left-proper site (Element at x index) l h = tt
-left-proper site (Call at x arguments) l h = tt
-left-proper site (Prefix at sign e) l h = tt
-left-proper site (Cast at kind e) l h = tt
-left-proper site (Infix at sign a b) l h = tt
-left-proper site (Conditional at test a b) l h = tt
+at_most : (a b : ℕ) → nat_le a b ≡ true → a ≤ b
+at_most a b h = grind (arith, nat_tests)
 
-right-proper : (site : Site) (right : Expression) (l : TypedTerm) → IsProper l → Holds IsProper (shift_term site ShiftRight l (shift_count l.kind right))
-right-proper site (Number at kind n) l h = right-shift site l (is_uint l.kind && nat_le n 31) n (second (is_uint l.kind) (nat_le n 31)) h
-right-proper site (Name at x) l h = tt
-right-proper site (Element at x index) l h = tt
-right-proper site (Call at x arguments) l h = tt
-right-proper site (Prefix at sign e) l h = tt
-right-proper site (Cast at kind e) l h = tt
-right-proper site (Infix at sign a b) l h = tt
-right-proper site (Conditional at test a b) l h = tt
+below : (a b : ℕ) → a < b → nat_lt a b ≡ true
+below a b h = grind (arith, nat_tests)
+
+-- 2 to the count of a shift is a `uint`
+power-in : (n : ℕ) → nat_le n 31 ≡ true → in_kind Uint (pos (2 ^ n)) ≡ true
+power-in n h = let l : n ≤ 31 = at_most n 31 h in below (2 ^ n) (2 ^ 32) (pow_below n 32 (omega (arith, l)))
+
+-- shifts of a `uint` with a count that fits
+abbrev IsShift : (ℕ → UnaryOperator) → Type 0
+IsShift shift = (n : ℕ) → nat_le n 31 ≡ true → is_proper_unary (shift n) Uint ≡ true
+
+shifted-proper : (shift : ℕ → UnaryOperator) (op : Operator) → IsShift shift → (site : Site) (k : Kind) (t : Term) (n : ℕ) → nat_le n 31 ≡ true → is_proper_term t ≡ true → is_proper_term (shifted shift op site k t n) ≡ true
+shifted-proper shift op s site Int t n h p = both (is_proper_unary (shift n) Uint) (is_proper_term t) (s n h) p
+shifted-proper shift op s site Uint t n h p = both (is_proper_unary (shift n) Uint) (is_proper_term t) (s n h) p
+shifted-proper shift op s site Size t n h p = both (is_proper_term t) (in_kind Uint (pos (2 ^ n))) p (power-in n h)
+
+shift-proper : (shift : ℕ → UnaryOperator) (op : Operator) → IsShift shift → (site : Site) (l : TypedTerm) (b : Bool) (n : ℕ) → (b ≡ true → nat_le n 31 ≡ true) → IsProper l → Holds IsProper (shift_term site shift op l (cond b (Some n) None))
+shift-proper shift op s site l true n k h = shifted-proper shift op s site l.kind l.term n (k refl) h
+shift-proper shift op s site l false n k h = tt
+
+counted-proper : (shift : ℕ → UnaryOperator) (op : Operator) → IsShift shift → (site : Site) (right : Expression) (l : TypedTerm) → IsProper l → Holds IsProper (shift_term site shift op l (shift_count l.kind right))
+counted-proper shift op s site (Number at kind n) l h = shift-proper shift op s site l (is_unsigned l.kind && nat_le n 31) n (second (is_unsigned l.kind) (nat_le n 31)) h
+counted-proper shift op s site (Name at x) l h = tt
+counted-proper shift op s site (Element at x index) l h = tt
+counted-proper shift op s site (Call at x arguments) l h = tt
+counted-proper shift op s site (Prefix at sign e) l h = tt
+counted-proper shift op s site (Cast at kind e) l h = tt
+counted-proper shift op s site (Infix at sign a b) l h = tt
+counted-proper shift op s site (Conditional at test a b) l h = tt
+
+widened-proper : (from : Kind) (site : Site) (t : Term) → is_proper_term t ≡ true → is_proper_term (widened from site t) ≡ true
+widened-proper Int site t h = h
+widened-proper Uint site t h = h
+widened-proper Size site t h = h
+
+operand-proper : (k : Kind) (site : Site) (t : TypedTerm) → IsProper t → is_proper_term (operand k site t) ≡ true
+operand-proper Int site t h = h
+operand-proper Uint site t h = h
+operand-proper Size site t h = widened-proper t.kind site t.term h
+
+operands-proper : (k : Kind) (site : Site) (l r : TypedTerm) → IsProper l → IsProper r → (is_proper_term (operand k site l) && is_proper_term (operand k site r)) ≡ true
+operands-proper k site l r h m = both (is_proper_term (operand k site l)) (is_proper_term (operand k site r)) (operand-proper k site l h) (operand-proper k site r m)
 
 pub infix-proper : (sign : InfixSign) (site : Site) (right : Expression) (l r : TypedTerm) → IsProper l → IsProper r → Holds IsProper (infix_term sign site right l r)
-infix-proper (Arithmetic op) site right l r h k = both (is_proper_term l.term) (is_proper_term r.term) h k
-infix-proper LeftShift site right l r h k = left-proper site right l h
-infix-proper RightShift site right l r h k = right-proper site right l h
-infix-proper (Comparison relation) site right l r h k = both (is_proper_term l.term) (is_proper_term r.term) h k
+infix-proper (Arithmetic op) site right l r h k = operands-proper (common l.kind r.kind) site l r h k
+infix-proper LeftShift site right l r h k = counted-proper ShiftLeft Multiply (λ n q. q) site right l h
+infix-proper RightShift site right l r h k = counted-proper ShiftRight Divide (λ n q. q) site right l h
+infix-proper (Comparison relation) site right l r h k = operands-proper (common l.kind r.kind) site l r h k
 infix-proper LogicalAnd site right l r h k = both (is_proper_term l.term) (is_proper_term r.term) h k
 infix-proper LogicalOr site right l r h k = both (is_proper_term l.term) (is_proper_term r.term) h k
 
@@ -95,17 +115,22 @@ conditional-proper site t a b h k m =
     both (is_proper_term t.term) (is_proper_term (bring to site a) && is_proper_term (bring to site b)) h
     (both (is_proper_term (bring to site a)) (is_proper_term (bring to site b)) (bring-proper to site a k) (bring-proper to site b m))
 
-id-proper : (site : Site) (function : Function) (arguments : Expressions) → Holds IsProper (id_term site function arguments)
-id-proper site function nothing = tt
-id-proper site function (also (Number at kind n) nothing) = refl
-id-proper site function (also (Number at kind n) (also e es)) = tt
-id-proper site function (also (Name at x) es) = tt
-id-proper site function (also (Element at x index) es) = tt
-id-proper site function (also (Call at x arguments) es) = tt
-id-proper site function (also (Prefix at sign e) es) = tt
-id-proper site function (also (Cast at kind e) es) = tt
-id-proper site function (also (Infix at sign a b) es) = tt
-id-proper site function (also (Conditional at test a b) es) = tt
+-- sizes are of no `int`
+size-proper : (d : Devices) → is_id_kind (size_kind d) ≡ true
+size-proper Narrow = refl
+size-proper Any = refl
+
+id-proper : (d : Devices) (site : Site) (function : Function) (arguments : Expressions) → Holds IsProper (id_term (size_kind d) site function arguments)
+id-proper d site function nothing = tt
+id-proper d site function (also (Number at kind n) nothing) = size-proper d
+id-proper d site function (also (Number at kind n) (also e es)) = tt
+id-proper d site function (also (Name at x) es) = tt
+id-proper d site function (also (Element at x index) es) = tt
+id-proper d site function (also (Call at x arguments) es) = tt
+id-proper d site function (also (Prefix at sign e) es) = tt
+id-proper d site function (also (Cast at kind e) es) = tt
+id-proper d site function (also (Infix at sign a b) es) = tt
+id-proper d site function (also (Conditional at test a b) es) = tt
 
 -- `min` and `max`
 abbrev KeepsProper : (Term → Term → Term) → Type 0
@@ -126,9 +151,9 @@ other-proper site arguments terms h true c = picked-proper site arguments terms 
 other-proper site arguments terms h false true = picked-proper site arguments terms core.Maximum (λ a b. both (is_proper_term a) (is_proper_term b)) h (are_two arguments)
 other-proper site arguments terms h false false = tt
 
-call-proper : (site : Site) (name : List ℕ) (arguments : Expressions) (terms : Checked (List TypedTerm)) → Holds AreProper terms → (f : Option Function) → Holds IsProper (call_term site name arguments terms f)
-call-proper site name arguments terms h (Some function) = id-proper site function arguments
-call-proper site name arguments terms h None = other-proper site arguments terms h (bytes_eq name (codes "min")) (bytes_eq name (codes "max"))
+call-proper : (d : Devices) (site : Site) (name : List ℕ) (arguments : Expressions) (terms : Checked (List TypedTerm)) → Holds AreProper terms → (f : Option Function) → Holds IsProper (call_term (size_kind d) site name arguments terms f)
+call-proper d site name arguments terms h (Some function) = id-proper d site function arguments
+call-proper d site name arguments terms h None = other-proper site arguments terms h (bytes_eq name (codes "min")) (bytes_eq name (codes "max"))
 
 called-proper : (site : Site) (b : Bool) (c : Checked TypedTerm) → Holds IsProper c → Holds IsProper (cond b (refused LeftOutWord site) c)
 called-proper site true c h = tt
@@ -137,26 +162,26 @@ called-proper site false c h = h
 mutual
   unfolding type_of types_of
 
-  pub type-proper : (names : List Binding) (e : Expression) → SpellsExpression e → Holds IsProper (type_of names e)
-  type-proper names (Number site kind n) h = literal-in kind n h
-  type-proper names (Name site x) h = then-any IsProper (found (meaning_of names x) UnknownName site) (variable_term site) (variable-proper site)
-  type-proper names (Element site x index) h =
+  pub type-proper : (d : Devices) (names : List Binding) (e : Expression) → SpellsExpression e → Holds IsProper (type_of d names e)
+  type-proper d names (Number site kind n) h = literal-in kind n h
+  type-proper d names (Name site x) h = then-any IsProper (found (meaning_of names x) UnknownName site) (variable_term site) (variable-proper site)
+  type-proper d names (Element site x index) h =
       then-any IsProper (found (meaning_of names x) UnknownName site) _ (λ m. then-any IsProper (array_of site m) _ (λ a.
-      then-holds IsProper IsProper (type_of names index) _ (type-proper names index h.1) (λ i p. p)))
-  type-proper names (Call site x arguments) h =
-      called-proper site (is_left_out x) _ (call-proper site x arguments (types_of names arguments) (types-proper names arguments h.1) (function_named x))
-  type-proper names (Prefix site sign e) h = then-holds IsProper IsProper (type_of names e) _ (type-proper names e h) (λ t p. prefix-proper sign site t p)
-  type-proper names (Cast site kind e) h = then-holds IsProper IsProper (type_of names e) _ (type-proper names e h) (λ t p. bring-proper kind site t p)
-  type-proper names (Infix site sign left right) h =
-      then-holds IsProper IsProper (type_of names left) _ (type-proper names left h.0) (λ l p.
-      then-holds IsProper IsProper (type_of names right) _ (type-proper names right h.1) (λ r q. infix-proper sign site right l r p q))
-  type-proper names (Conditional site test taken skipped) h =
-      then-holds IsProper IsProper (type_of names test) _ (type-proper names test h.0) (λ t p.
-      then-holds IsProper IsProper (type_of names taken) _ (type-proper names taken h.1) (λ a q.
-      then-holds IsProper IsProper (type_of names skipped) _ (type-proper names skipped h.2) (λ b r. conditional-proper site t a b p q r)))
+      then-holds IsProper IsProper (type_of d names index) _ (type-proper d names index h.1) (λ i p. p)))
+  type-proper d names (Call site x arguments) h =
+      called-proper site (is_left_out x) _ (call-proper d site x arguments (types_of d names arguments) (types-proper d names arguments h.1) (function_named x))
+  type-proper d names (Prefix site sign e) h = then-holds IsProper IsProper (type_of d names e) _ (type-proper d names e h) (λ t p. prefix-proper sign site t p)
+  type-proper d names (Cast site kind e) h = then-holds IsProper IsProper (type_of d names e) _ (type-proper d names e h) (λ t p. bring-proper kind site t p)
+  type-proper d names (Infix site sign left right) h =
+      then-holds IsProper IsProper (type_of d names left) _ (type-proper d names left h.0) (λ l p.
+      then-holds IsProper IsProper (type_of d names right) _ (type-proper d names right h.1) (λ r q. infix-proper sign site right l r p q))
+  type-proper d names (Conditional site test taken skipped) h =
+      then-holds IsProper IsProper (type_of d names test) _ (type-proper d names test h.0) (λ t p.
+      then-holds IsProper IsProper (type_of d names taken) _ (type-proper d names taken h.1) (λ a q.
+      then-holds IsProper IsProper (type_of d names skipped) _ (type-proper d names skipped h.2) (λ b r. conditional-proper site t a b p q r)))
 
-  types-proper : (names : List Binding) (es : Expressions) → SpellsExpressions es → Holds AreProper (types_of names es)
-  types-proper names nothing h = tt
-  types-proper names (also e es) h =
-      then-holds IsProper AreProper (type_of names e) _ (type-proper names e h.0) (λ t p.
-      then-holds AreProper AreProper (types_of names es) _ (types-proper names es h.1) (λ ts q. (p, q)))
+  types-proper : (d : Devices) (names : List Binding) (es : Expressions) → SpellsExpressions es → Holds AreProper (types_of d names es)
+  types-proper d names nothing h = tt
+  types-proper d names (also e es) h =
+      then-holds IsProper AreProper (type_of d names e) _ (type-proper d names e h.0) (λ t p.
+      then-holds AreProper AreProper (types_of d names es) _ (types-proper d names es h.1) (λ ts q. (p, q)))

@@ -4,17 +4,18 @@ ghost use Rattle.std.specs.Prelude.{◌≡◌, true, IfOk};
 ghost use Rattle.core_code.specs.View.{kernel as core_seen};
 ghost use Rattle.reading.specs.Answers.{Gives};
 ghost use Rattle.reading.specs.Kernels.{read};
+ghost use Rattle.reading.specs.Sources.{source};
 ghost use Rattle.work_item.specs.Proper.{is_proper};
 
-use reading::{KernelError, read_kernel};
+use reading::{KernelError, Source, read_source};
 use std::alloc::Global;
 use types::typed::Typed;
 
 /// The kernel of a text, typed, or its first fault with its place. Its core is proper.
 #[tactic(auto, using(crate::proofs::ProperReads::answers_proper))]
-pub fn read_proper_kernel(alloc: Global, bytes: &[u8]) -> Result<Typed, KernelError>
-    ensures read { Gives result (read bytes.now) }
+pub fn read_proper_kernel(alloc: Global, text: Source<'_>) -> Result<Typed, KernelError>
+    ensures read { Gives result (read (source text.entry)) }
     ensures proper { IfOk result (λ t. is_proper (core_seen t.1) ≡ true) }
 {
-    read_kernel(alloc, bytes)
+    read_source(alloc, text)
 }

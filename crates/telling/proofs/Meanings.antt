@@ -1,8 +1,10 @@
 -- What the code's kernel, conditions, launch and buffers are in the promise.
+use Rattle.reading.specs.Kernels.{Source}
 use Rattle.std.proofs.Common.{◌≡◌, ℕ, List, Bool, [], ◌∷◌, map, refl, ap, sym, ◌∙◌, subst}
 use Rattle.std.specs.Prelude.{Vec}
 use Rattle.std.specs.declared.alloc.Global.{Global}
-use Rattle.semantics.specs.Setup.{at_launch}
+use Rattle.semantics.specs.Word.{Width}
+use Rattle.semantics.specs.Setup.{at_launch, on_device}
 use Rattle.semantics.specs.Launch.{Fits}
 use Rattle.semantics.specs.Conditions.{Meets}
 use Rattle.semantics.specs.Rounds.{IsDefined}
@@ -40,13 +42,13 @@ rows_seen : (bs : List (Vec Word Global)) → map (map number) (map view.words b
 rows_seen [] = refl
 rows_seen (b ∷ bs) = ap (λ x. x ∷ map (map number) (map view.words bs)) (row_seen b.items) ∙ ap (λ xs. buffer b ∷ xs) (rows_seen bs)
 
-pub is_safe : (is_wide : Bool) (kernel conditions : List ℕ) (t : Kernel × Core) (c : Conditions) → IsTextOf kernel (kernel_seen t) → IsConditionsText is_wide (tree_seen t.0).parameters conditions (meant (lined c)) → HasHeadline (core_seen t.1) (conditions_seen c)
+pub is_safe : (is_wide : Bool) (kernel : Source) (conditions : List ℕ) (t : Kernel × Core) (c : Conditions) → IsTextOf kernel (kernel_seen t) → IsConditionsText is_wide (tree_seen t.0).parameters conditions (meant (lined c)) → HasHeadline (core_seen t.1) (conditions_seen c)
     → AreSafeTexts is_wide kernel conditions (kernel_seen t) (conditions_seen c)
 is_safe is_wide kernel conditions t c text said h = record { kernel_text = text; conditions_text = subst (IsConditionsText is_wide (tree_seen t.0).parameters conditions) (conditions_meant c) said; headline = h }
 
 pub is_run : (t : Kernel × Core) (c : Conditions) (launch written : List ℕ) (l : Launch) (b : Buffers) → IsLaunchText (tree_seen t.0).parameters launch (given.meant (view.launch l)) → Fits (core_seen t.1) (launch_seen l)
-    → Meets (conditions_seen c) (launch_seen l) → IsDefined (at_launch (core_seen t.1) (launch_seen l)) c.budget → IsResultOf (at_launch (core_seen t.1) (launch_seen l)) c.budget (words_of b)
-    → EndsEvery (at_launch (core_seen t.1) (launch_seen l)) (words_of b) → HaveKinds (core_seen t.1).buffers (view.buffers b.words) → written ≡ buffers_text (tree_seen t.0).parameters (view.buffers b.words) → IsRun (kernel_seen t) (conditions_seen c) launch written (launch_seen l) (view.buffers b.words)
+    → Meets (conditions_seen c) (launch_seen l) → ((w : Width) → IsDefined (on_device w (at_launch (core_seen t.1) (launch_seen l))) c.budget) → ((w : Width) → IsResultOf (on_device w (at_launch (core_seen t.1) (launch_seen l))) c.budget (words_of b))
+    → ((w : Width) → EndsEvery (on_device w (at_launch (core_seen t.1) (launch_seen l))) (words_of b)) → HaveKinds (core_seen t.1).buffers (view.buffers b.words) → written ≡ buffers_text (tree_seen t.0).parameters (view.buffers b.words) → IsRun (kernel_seen t) (conditions_seen c) launch written (launch_seen l) (view.buffers b.words)
 is_run t c launch written l b said fits meets defined result every kinds text =
     let k = core_seen t.1 in
     let n = sym (rows_seen b.words.items) in
@@ -55,8 +57,8 @@ is_run t c launch written l b said fits meets defined result every kinds text =
       fits = fits;
       meets = meets;
       defined = defined;
-      result = subst (IsResultOf (at_launch k (launch_seen l)) c.budget) n result;
-      every = subst (EndsEvery (at_launch k (launch_seen l))) n every;
+      result = λ w. subst (IsResultOf (on_device w (at_launch k (launch_seen l))) c.budget) n (result w);
+      every = λ w. subst (EndsEvery (on_device w (at_launch k (launch_seen l)))) n (every w);
       kinds = kinds;
       text = text;
     }

@@ -3,7 +3,7 @@ use Rattle.std.proofs.Common.{inl, inr}
 use Rattle.std.specs.Prelude.{◌≡◌, ℕ, List, Bool, Ok, Err}
 use Rattle.semantics.specs.Conditions as meaning
 use Rattle.texts.specs.LaunchReading.{launch_of}
-use Rattle.reading.specs.Kernels.{Kernel}
+use Rattle.reading.specs.Kernels.{Kernel, Source}
 use Rattle.launch.specs.View.{conditions as conditions_seen, launch as launch_seen}
 use Rattle.launch.specs.declared.conditions.Conditions.{Conditions}
 use Rattle.launch.specs.declared.launches.Launch.{Launch}
@@ -22,7 +22,7 @@ use Rattle.telling.specs.Verdicts.{IsRefusal, Checks, Runs}
 use Rattle.telling.specs.declared.Verdict.{Verdict}
 use Rattle.telling.specs.declared.Verdict.TheVariants as verdicts
 
-module _ (is_wide : Bool) (k c p l : List ℕ) where
+module _ (is_wide : Bool) (k : Source) (c p l : List ℕ) where
   pub of_check : (v : Verdict) (e : CheckError) → RefusesBy is_wide e k c p → IsRefusal (checks.error_number e) (checks.error_place e) v → Checks is_wide v k c p
   of_check (verdicts.Done text) e r h = absurd h
   of_check (verdicts.Refused line) e r h = (e, r, h)

@@ -9,7 +9,7 @@ use Rattle.arrivals.specs.Loops.{unmet}
 use Rattle.launch.specs.Least.{probe}
 use Rattle.launch.specs.View.{conditions as conditions_seen}
 use Rattle.launch.specs.declared.conditions.Conditions.{Conditions}
-use Rattle.reading.specs.Kernels.{Kernel}
+use Rattle.reading.specs.Kernels.{Kernel, Source}
 use Rattle.cert_check.specs.Breadth.{text_says}
 use Rattle.cert_check.specs.Checked.{PassesWith}
 use Rattle.findings.specs.Findings.{Finding}
@@ -38,13 +38,13 @@ proved_lines None = accepted_line ++ no_launch_line
 
 -- the headline holds at each launch that meets the conditions, and the check accepts this certificate; the launch at the least values is one
 -- of the kernel and meets them, where there is one
-pub record IsProved (is_wide : Bool) (kernel conditions certificate written : List ℕ) (k : Kernel) (c : Conditions) : Type 0 where
+pub record IsProved (is_wide : Bool) (kernel : Source) (conditions certificate written : List ℕ) (k : Kernel) (c : Conditions) : Type 0 where
   pub safe : AreSafeTexts is_wide kernel conditions k (conditions_seen c)
   pub proof : IsProof is_wide k (conditions_seen c) certificate
   pub least : IfSome (probe c) (λ l. Fits k.core l × Meets (conditions_seen c) l)
   pub text : written ≡ proved_lines (probe c)
 
-abbrev pub IsProvedText : (is_wide : Bool) → (kernel conditions certificate written : List ℕ) → Type 0
+abbrev pub IsProvedText : (is_wide : Bool) → (kernel : Source) (conditions certificate written : List ℕ) → Type 0
 IsProvedText is_wide kernel conditions certificate written = (k : Kernel) × (c : Conditions) × IsProved is_wide kernel conditions certificate written k c
 
 -- the findings that an error has
@@ -62,9 +62,9 @@ findings_text fs = flat_map finding_text fs
 -- the line has the number and the place of an error, and behind it stands a line for each of its findings; a refusal of the two texts is true
 -- of them, 70 is told of such a number of workers, and what findings confirm is true of the kernel and the conditions that the bytes say;
 -- nothing else is said of the kernel
-pub record IsShortfall (is_wide : Bool) (workers : ℕ) (kernel conditions text : List ℕ) (e : VerifyError) : Type 0 where
+pub record IsShortfall (is_wide : Bool) (workers : ℕ) (kernel : Source) (conditions text : List ℕ) (e : VerifyError) : Type 0 where
   pub lines : text ≡ refusal_line (error_number e) (place_seen (error_place e)) ++ findings_text (map finding_seen (found e))
   pub tells : TellsOf is_wide e workers kernel conditions
 
-abbrev pub IsUnproved : (is_wide : Bool) → (workers : ℕ) → (kernel conditions text : List ℕ) → Type 0
+abbrev pub IsUnproved : (is_wide : Bool) → (workers : ℕ) → (kernel : Source) (conditions text : List ℕ) → Type 0
 IsUnproved is_wide workers kernel conditions text = (e : VerifyError) × IsShortfall is_wide workers kernel conditions text e

@@ -1,4 +1,5 @@
 -- What is told where a certificate is looked for.
+use Rattle.reading.specs.Kernels.{Source}
 use Rattle.std.specs.Prelude.{◌≡◌, ◌++◌, ℕ, List, Bool}
 use Rattle.std.specs.String.{string_bytes}
 use Rattle.telling.specs.Refusing.{IsRefusedText}
@@ -10,7 +11,7 @@ use Rattle.telling.specs.declared.proving.Sought.{Sought}
 use Rattle.telling.specs.declared.proving.Sought.TheVariants as answers
 
 -- the search is the wide one, or it is not
-abbrev pub Proves : (is_wide : Bool) → Sought → (workers : ℕ) → (kernel conditions : List ℕ) → Type 0
+abbrev pub Proves : (is_wide : Bool) → Sought → (workers : ℕ) → (kernel : Source) (conditions : List ℕ) → Type 0
 Proves is_wide (answers.Found text certificate) workers kernel conditions = IsProvedText is_wide kernel conditions certificate.items text.items
 Proves is_wide (answers.Refused text) workers kernel conditions = IsUnproved is_wide workers kernel conditions (string_bytes text)
 Proves is_wide answers.OutOfMemory workers kernel conditions = Unit {0}
@@ -25,14 +26,24 @@ GoesOn told (verdicts.Done text) = ⊥
 GoesOn told (verdicts.Refused text) = (more : List ℕ) × (string_bytes text ≡ told ++ more)
 GoesOn told verdicts.OutOfMemory = Unit {0}
 
--- where a refusal of a search is explained: what `prove` tells, with one worker, comes first
-abbrev pub Explains : (is_wide : Bool) → Verdict → (kernel conditions : List ℕ) → Type 0
-Explains is_wide (verdicts.Done text) kernel conditions = (certificate : List ℕ) × IsProvedText is_wide kernel conditions certificate text.items
+-- an acceptance that begins so, or want of memory
+abbrev pub GoesFurther : (told : List ℕ) → Verdict → Type 0
+GoesFurther told (verdicts.Done text) = (more : List ℕ) × (text.items ≡ told ++ more)
+GoesFurther told (verdicts.Refused text) = ⊥
+GoesFurther told verdicts.OutOfMemory = Unit {0}
+
+-- of a kernel and conditions some certificate is proved, and this is told of it
+abbrev pub IsProvedBySome : (is_wide : Bool) → (kernel : Source) (conditions told : List ℕ) → Type 0
+IsProvedBySome is_wide kernel conditions told = (certificate : List ℕ) × IsProvedText is_wide kernel conditions certificate told
+
+-- where the answer of a search is explained: what `prove` tells, with one worker, comes first
+abbrev pub Explains : (is_wide : Bool) → Verdict → (kernel : Source) (conditions : List ℕ) → Type 0
+Explains is_wide (verdicts.Done text) kernel conditions = Begins (IsProvedBySome is_wide kernel conditions) text.items
 Explains is_wide (verdicts.Refused text) kernel conditions = Begins (IsUnproved is_wide 1 kernel conditions) (string_bytes text)
 Explains is_wide verdicts.OutOfMemory kernel conditions = Unit {0}
 
--- where a refusal of a check is explained: what `check` tells comes first
-abbrev pub ExplainsCheck : (is_wide : Bool) → Verdict → (kernel conditions certificate : List ℕ) → Type 0
-ExplainsCheck is_wide (verdicts.Done text) kernel conditions certificate = IsAcceptedText is_wide kernel conditions text.items
+-- where the answer of a check is explained: what `check` tells comes first
+abbrev pub ExplainsCheck : (is_wide : Bool) → Verdict → (kernel : Source) (conditions certificate : List ℕ) → Type 0
+ExplainsCheck is_wide (verdicts.Done text) kernel conditions certificate = Begins (IsAcceptedText is_wide kernel conditions) text.items
 ExplainsCheck is_wide (verdicts.Refused text) kernel conditions certificate = Begins (IsRefusedText is_wide kernel conditions certificate) (string_bytes text)
 ExplainsCheck is_wide verdicts.OutOfMemory kernel conditions certificate = Unit {0}

@@ -2,7 +2,7 @@
 use Rattle.std.specs.Prelude.{◌≡◌, ◌⊎◌, ℕ, List, Bool, Ok, Err, Option}
 use Rattle.semantics.specs.Conditions as meaning
 use Rattle.texts.specs.LaunchReading.{launch_of}
-use Rattle.reading.specs.Kernels.{Kernel, read}
+use Rattle.reading.specs.Kernels.{Kernel, read, Source}
 use Rattle.reading.specs.Answers as kernels
 use Rattle.reading.specs.declared.KernelError.{KernelError}
 use Rattle.launch.specs.View.{conditions as conditions_seen, launch as launch_seen}
@@ -27,25 +27,25 @@ abbrev pub IsLineOf : (number : ℕ) → Option code.Pointer → (line : List �
 IsLineOf number place line = line ≡ refusal_line number (place_seen place)
 
 -- the text of the kernel is refused
-abbrev pub IsRefusedKernel : (kernel line : List ℕ) → Type 0
+abbrev pub IsRefusedKernel : (kernel : Source) (line : List ℕ) → Type 0
 IsRefusedKernel kernel line = (e : KernelError) × kernels.Refuses e (read kernel) × IsLineOf (kernels.error_number e) (checks.at_place (kernels.error_place e)) line
 
 -- the check, which is the wide one or is not, refuses the texts
-abbrev pub IsRefusedText : (is_wide : Bool) → (kernel conditions certificate line : List ℕ) → Type 0
+abbrev pub IsRefusedText : (is_wide : Bool) → (kernel : Source) (conditions certificate line : List ℕ) → Type 0
 IsRefusedText is_wide kernel conditions certificate line = (e : CheckError) × RefusesBy is_wide e kernel conditions certificate × IsLineOf (checks.error_number e) (checks.error_place e) line
 
 -- the kernel is accepted, and the launch's text is refused
-abbrev pub IsUnreadText : (is_wide : Bool) → (kernel conditions launch line : List ℕ) → Type 0
+abbrev pub IsUnreadText : (is_wide : Bool) → (kernel : Source) (conditions launch line : List ℕ) → Type 0
 IsUnreadText is_wide kernel conditions launch line =
     (e : LaunchTextError) × (k : Kernel) × (c : meaning.Conditions) × AreSafeTexts is_wide kernel conditions k c × launches.Refuses e (launch_of k.tree.parameters launch)
     × IsLineOf (launches.error_number e) (at_line (launches.error_place e)) line
 
 -- the launch is read, and is not run with so many workers: the first condition that it does not meet, or their number
-abbrev pub IsUnrunText : (is_wide : Bool) → (workers : ℕ) → (kernel conditions launch line : List ℕ) → Type 0
+abbrev pub IsUnrunText : (is_wide : Bool) → (workers : ℕ) → (kernel : Source) (conditions launch line : List ℕ) → Type 0
 IsUnrunText is_wide workers kernel conditions launch line =
     (e : RunError) × (k : Kernel) × (c : Conditions) × (l : Launch) × AreSafeTexts is_wide kernel conditions k (conditions_seen c) × (launch_of k.tree.parameters launch ≡ Ok (reading.launch l))
     × Answers c (launch_seen l) workers (Err e) × IsLineOf (runs.error_number e) (at_line (runs.error_line e)) line
 
 -- one of these
-abbrev pub IsUnanswered : (is_wide : Bool) → (workers : ℕ) → (kernel conditions certificate launch line : List ℕ) → Type 0
+abbrev pub IsUnanswered : (is_wide : Bool) → (workers : ℕ) → (kernel : Source) (conditions certificate launch line : List ℕ) → Type 0
 IsUnanswered is_wide workers kernel conditions certificate launch line = IsRefusedText is_wide kernel conditions certificate line ⊎ (IsUnreadText is_wide kernel conditions launch line ⊎ IsUnrunText is_wide workers kernel conditions launch line)

@@ -4,7 +4,9 @@ ghost use Rattle.std.specs.Prelude.{◌≡◌, ℕ, List, Bool};
 ghost use Rattle.std.specs.String.{string_bytes};
 ghost use Rattle.cert_check.specs.Refusing.{RefusesBy};
 ghost use Rattle.proof_search.specs.Searching.{TellsOf};
-ghost use Rattle.telling.specs.ProvingVerdicts.{Explains, ExplainsCheck, GoesOn};
+ghost use Rattle.reading.specs.Kernels as kernels;
+ghost use Rattle.reading.specs.Sources.{source};
+ghost use Rattle.telling.specs.ProvingVerdicts.{Explains, ExplainsCheck, GoesOn, GoesFurther};
 
 use crate::proving::{Proved, Sought, findings_of, found, unproved};
 use crate::refusal::Refusal;
@@ -12,13 +14,15 @@ use crate::{Texts, Verdict};
 use cert_check::check_as;
 use cert_check::error::{CheckError, Pointer};
 use core_code::tree::Site;
-use explaining::{Refused, explain};
+use explaining::{Refused, computes_with_sizes, explain, explain_sizes};
 use launch_text::laws::what_is_read_of_conditions_is_their_text;
 use proof_search::{Found, find_watched};
+use reading::Source;
 use reading::laws::bytes_are_the_text_of_what_is_read;
 use std::alloc::Global;
 use std::sync::Wait;
 use std::thread::Threads;
+use types::devices::Devices;
 use verify::{Effort, VerifyError, Watcher};
 
 /// The number of steps that pass the budget.
@@ -35,7 +39,7 @@ fn site_of(place: Option<Pointer>) -> Option<Site> {
 /// Writes what a refusal means behind the lines that tell it.
 fn going_on(
     alloc: Global,
-    kernel: &[u8],
+    kernel: Source<'_>,
     conditions: &[u8],
     refused: &Refused<'_>,
     told: String,
@@ -52,12 +56,12 @@ fn going_on(
 /// Tells and explains that no certificate was found, or that the steps of the one that was found pass the budget.
 fn unfound(
     alloc: Global,
-    kernel: &[u8],
+    kernel: Source<'_>,
     conditions: &[u8],
     error: &VerifyError,
     over_budget: Option<&[u8]>,
 ) -> Verdict
-    ensures { (is_wide : Bool) (k c : List ℕ) → TellsOf is_wide error.now 1 k c → Explains is_wide result k c }
+    ensures { (is_wide : Bool) (k : kernels.Source) (c : List ℕ) → TellsOf is_wide error.now 1 k c → Explains is_wide result k c }
 {
     let refused = Refused {
         number: error.number(),
@@ -75,7 +79,7 @@ fn unfound(
 fn found_narrowly<R: Threads + Sync, W: Watcher>(
     rt: &R,
     alloc: Global,
-    kernel: &[u8],
+    kernel: Source<'_>,
     conditions: &[u8],
     is_wide: bool,
     watcher: &W,
@@ -91,17 +95,93 @@ fn found_narrowly<R: Threads + Sync, W: Watcher>(
     }
 }
 
+/// Writes where an accepted kernel computes with sizes behind what is told of it, with what is said of it for any devices: the number of
+/// its refusal, or that it is accepted.
+fn going_further(alloc: Global, kernel: &[u8], refusal: Option<u8>, told: Vec<u8>) -> Verdict
+    ensures { GoesFurther told.items result }
+{
+    let mut text = String::new(alloc);
+    match explain_sizes(alloc, kernel, refusal, &mut text) {
+        Ok(()) => {}
+        Err(_) => return Verdict::OutOfMemory,
+    }
+    let mut told = told;
+    match told.extend_from_slice(text.as_bytes()) {
+        Ok(()) => Verdict::Done(told),
+        Err(_) => Verdict::OutOfMemory,
+    }
+}
+
+/// What is told of an accepted kernel, with nothing behind it.
+fn as_told(told: Vec<u8>) -> Verdict
+    ensures { GoesFurther told.items result }
+{
+    Verdict::Done(told)
+}
+
+/// The kernel is read for the devices with 32 address bits, and computes with sizes. Want of memory is taken as no.
+fn is_narrow(alloc: Global, kernel: Source<'_>) -> bool {
+    match (kernel.devices, computes_with_sizes(alloc, kernel.bytes)) {
+        (Devices::Narrow, Ok(computes)) => computes,
+        (Devices::Narrow, Err(_)) | (Devices::Any, _) => false,
+    }
+}
+
+/// The same text, read for any devices.
+fn for_any<'a>(kernel: Source<'a>) -> Source<'a> {
+    Source {
+        devices: Devices::Any,
+        bytes: kernel.bytes,
+    }
+}
+
+/// The number by which the search refuses a kernel for any devices; none where it is accepted.
+fn refusal_for_any<R: Threads + Wait + Sync, W: Watcher>(
+    rt: &R,
+    alloc: Global,
+    kernel: Source<'_>,
+    conditions: &[u8],
+    effort: Effort,
+    watcher: &W,
+) -> Option<u8> {
+    match found(rt, alloc, for_any(kernel), conditions, effort, watcher) {
+        Ok(_) => None,
+        Err(error) => Some(error.number()),
+    }
+}
+
+/// What is told of a kernel for which a certificate was found: where it computes with ids or sizes, and what the search says of it for any
+/// devices.
+fn proved<R: Threads + Wait + Sync, W: Watcher>(
+    rt: &R,
+    alloc: Global,
+    kernel: Source<'_>,
+    conditions: &[u8],
+    effort: Effort,
+    watcher: &W,
+    told: Vec<u8>,
+) -> Verdict
+    ensures { GoesFurther told.items result }
+{
+    if !is_narrow(alloc, kernel) {
+        return as_told(told);
+    }
+    let refusal = refusal_for_any(rt, alloc, kernel, conditions, effort, watcher);
+    going_further(alloc, kernel.bytes, refusal, told)
+}
+
 /// Looks for a certificate as `prove` does, with one worker, and tells whoever watches how far the search is: `accepted`, or why there is
-/// none and what that means. Of steps that pass the budget it tells by the certificate of the narrow walk.
+/// none and what that means. Of steps that pass the budget it tells by the certificate of the narrow walk. Of an accepted kernel that
+/// computes with ids or sizes it tells where, and what is said of it for any devices.
 pub fn explain_texts<R: Threads + Wait + Sync, W: Watcher>(
     rt: &R,
     alloc: Global,
-    kernel: &[u8],
+    kernel: Source<'_>,
     conditions: &[u8],
     is_wide: bool,
     watcher: &W,
 ) -> Verdict
-    ensures { Explains is_wide result kernel.now conditions.now }
+    ensures { Explains is_wide result (source kernel.entry) conditions.now }
 {
     let effort = Effort {
         workers: 1,
@@ -109,7 +189,9 @@ pub fn explain_texts<R: Threads + Wait + Sync, W: Watcher>(
         may_widen: is_wide,
     };
     match found(rt, alloc, kernel, conditions, effort, watcher) {
-        Ok(Proved { written, .. }) => Verdict::Done(written),
+        Ok(Proved { written, .. }) => {
+            proved(rt, alloc, kernel, conditions, effort, watcher, written)
+        }
         Err(error) => {
             let certificate = if error.number() == OVER_BUDGET {
                 found_narrowly(rt, alloc, kernel, conditions, is_wide, watcher)
@@ -123,7 +205,7 @@ pub fn explain_texts<R: Threads + Wait + Sync, W: Watcher>(
 
 /// Tells and explains why `check` refuses.
 fn unaccepted(alloc: Global, texts: Texts, error: &CheckError) -> Verdict
-    ensures { (is_wide : Bool) (k c p : List ℕ) → RefusesBy is_wide error.now k c p → ExplainsCheck is_wide result k c p }
+    ensures { (is_wide : Bool) (k : kernels.Source) (c p : List ℕ) → RefusesBy is_wide error.now k c p → ExplainsCheck is_wide result k c p }
 {
     let number = error.number();
     let refusal = Refusal {
@@ -142,9 +224,29 @@ fn unaccepted(alloc: Global, texts: Texts, error: &CheckError) -> Verdict
     }
 }
 
+/// What is told of an accepted kernel: where it computes with ids or sizes, and what the check says with this certificate for any devices.
+fn checked(alloc: Global, texts: Texts, is_wide: bool, told: Vec<u8>) -> Verdict
+    ensures { GoesFurther told.items result }
+{
+    if !is_narrow(alloc, texts.kernel) {
+        return as_told(told);
+    }
+    let refusal = match check_as(
+        alloc,
+        for_any(texts.kernel),
+        texts.conditions,
+        texts.certificate,
+        is_wide,
+    ) {
+        Ok(_) => None,
+        Err(error) => Some(error.number()),
+    };
+    going_further(alloc, texts.kernel.bytes, refusal, told)
+}
+
 /// Whether a kernel is accepted, by the wide check or by the one that is not: `accepted`, or why not and what that means.
 pub fn explain_check(alloc: Global, texts: Texts, is_wide: bool) -> Verdict
-    ensures { ExplainsCheck is_wide result texts.entry.kernel.now texts.entry.conditions.now texts.entry.certificate.now }
+    ensures { ExplainsCheck is_wide result (source texts.entry.kernel) texts.entry.conditions.now texts.entry.certificate.now }
 {
     match check_as(
         alloc,
@@ -158,7 +260,7 @@ pub fn explain_check(alloc: Global, texts: Texts, is_wide: bool) -> Verdict
             what_is_read_of_conditions_is_their_text();
             drop(accepted);
             match Vec::from_slice(alloc, b"accepted\n") {
-                Ok(text) => Verdict::Done(text),
+                Ok(text) => checked(alloc, texts, is_wide, text),
                 Err(_) => Verdict::OutOfMemory,
             }
         }

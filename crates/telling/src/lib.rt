@@ -10,6 +10,9 @@ ghost use Rattle.launch_text.specs.Answers as launches;
 ghost use Rattle.cert_check.specs.Numbers as checks;
 ghost use Rattle.cert_check.specs.Numbers.{at_line};
 ghost use Rattle.executor.specs.Numbers as runs;
+ghost use Rattle.texts.specs.Scope.{Narrow};
+ghost use Rattle.reading.specs.Kernels.{text_for};
+ghost use Rattle.reading.specs.Sources.{source};
 ghost use Rattle.telling.specs.Verdicts.{Checks, Runs, Prints, IsRefusal};
 
 mod explained;
@@ -30,7 +33,7 @@ pub use migrating::migrate_text;
 use printer::print;
 pub use proving::{Sought, prove_texts};
 use reading::laws::bytes_are_the_text_of_what_is_read;
-use reading::read_kernel;
+use reading::{Source, read_kernel};
 pub use refusal::Refusal;
 use std::alloc::Global;
 use std::sync::Wait;
@@ -49,7 +52,7 @@ pub enum Verdict {
 /// The texts of a kernel, its conditions and its certificate.
 #[derive(Clone, Copy)]
 pub struct Texts<'a> {
-    pub kernel: &'a [u8],
+    pub kernel: Source<'a>,
     pub conditions: &'a [u8],
     pub certificate: &'a [u8],
 }
@@ -97,7 +100,7 @@ fn not_run(alloc: Global, error: &RunError) -> Verdict
 
 /// Whether a kernel is accepted, by the wide check or by the one that is not: `accepted`, or why not.
 pub fn check_texts(alloc: Global, texts: Texts, is_wide: bool) -> Verdict
-    ensures { Checks is_wide result texts.entry.kernel.now texts.entry.conditions.now texts.entry.certificate.now }
+    ensures { Checks is_wide result (source texts.entry.kernel) texts.entry.conditions.now texts.entry.certificate.now }
 {
     match check_as(
         alloc,
@@ -128,7 +131,7 @@ pub fn run_texts<R: Threads + Wait + Sync>(
     workers: u32,
     is_wide: bool,
 ) -> Verdict
-    ensures { Runs is_wide result workers texts.entry.kernel.now texts.entry.conditions.now texts.entry.certificate.now launch.now }
+    ensures { Runs is_wide result workers (source texts.entry.kernel) texts.entry.conditions.now texts.entry.certificate.now launch.now }
 {
     bytes_are_the_text_of_what_is_read();
     what_is_read_of_conditions_is_their_text();
@@ -159,7 +162,7 @@ pub fn run_texts<R: Threads + Wait + Sync>(
 
 /// The canonical text of a kernel, or why the bytes are no kernel's text.
 pub fn print_text(alloc: Global, kernel: &[u8]) -> Verdict
-    ensures { Prints result kernel.now }
+    ensures { Prints result (text_for Narrow kernel.now) }
 {
     bytes_are_the_text_of_what_is_read();
     let typed = match read_kernel(alloc, kernel) {

@@ -9,6 +9,8 @@ ghost use Rattle.launch.specs.View.{conditions as conditions_seen};
 ghost use Rattle.findings.specs.View.{finding as finding_seen};
 ghost use Rattle.findings.specs.Wording.{finding_text};
 ghost use Rattle.proof_search.specs.Searching.{TellsOf, text_by, text_found};
+ghost use Rattle.reading.specs.Kernels as kernels;
+ghost use Rattle.reading.specs.Sources.{source};
 ghost use Rattle.telling.specs.Proving.{IsProvedText, proved_lines, found as found_in, findings_text};
 ghost use Rattle.telling.specs.ProvingVerdicts.{Proves};
 
@@ -18,6 +20,7 @@ use diagnostics::{Finding, line};
 use launch::conditions::Conditions;
 use launch::probe::probe;
 use launch_text::laws::{a_least_launch_fits, what_is_read_of_conditions_is_their_text};
+use reading::Source;
 use reading::laws::bytes_are_the_text_of_what_is_read;
 use std::alloc::{AllocError, Global};
 use std::sync::Wait;
@@ -88,7 +91,7 @@ fn push_lines(alloc: Global, text: &mut String, findings: &[Finding]) -> Result<
 
 /// The refusal where no certificate is found: a line of its number and place, and one for each finding.
 pub fn unproved(alloc: Global, error: &VerifyError) -> Sought
-    ensures { (is_wide : Bool) (workers : ℕ) (kernel conditions : List ℕ) → TellsOf is_wide error.now workers kernel conditions → Proves is_wide result workers kernel conditions }
+    ensures { (is_wide : Bool) (workers : ℕ) (kernel : kernels.Source) (conditions : List ℕ) → TellsOf is_wide error.now workers kernel conditions → Proves is_wide result workers kernel conditions }
 {
     let refusal = Refusal {
         number: error.number(),
@@ -129,13 +132,13 @@ fn text_as(alloc: Global, certificate: &Certificate, is_wide: bool) -> Result<Ve
 pub fn found<R: Threads + Wait + Sync, W: Watcher>(
     rt: &R,
     alloc: Global,
-    kernel: &[u8],
+    kernel: Source<'_>,
     conditions: &[u8],
     effort: Effort,
     watcher: &W,
 ) -> Result<Proved, VerifyError>
-    ensures proved { IfOk result (λ p. IsProvedText effort.is_wide kernel.now conditions.now p.certificate.items p.written.items) }
-    ensures told { IfErr result (λ e. TellsOf effort.is_wide e effort.workers kernel.now conditions.now) }
+    ensures proved { IfOk result (λ p. IsProvedText effort.is_wide (source kernel.entry) conditions.now p.certificate.items p.written.items) }
+    ensures told { IfErr result (λ e. TellsOf effort.is_wide e effort.workers (source kernel.entry) conditions.now) }
 {
     bytes_are_the_text_of_what_is_read();
     what_is_read_of_conditions_is_their_text();
@@ -165,12 +168,12 @@ pub fn found<R: Threads + Wait + Sync, W: Watcher>(
 pub fn prove_texts<R: Threads + Wait + Sync, W: Watcher>(
     rt: &R,
     alloc: Global,
-    kernel: &[u8],
+    kernel: Source<'_>,
     conditions: &[u8],
     effort: Effort,
     watcher: &W,
 ) -> Sought
-    ensures { Proves effort.is_wide result effort.workers kernel.now conditions.now }
+    ensures { Proves effort.is_wide result effort.workers (source kernel.entry) conditions.now }
 {
     match found(rt, alloc, kernel, conditions, effort, watcher) {
         Ok(

@@ -8,7 +8,7 @@ use Rattle.semantics.specs.Core.{Site, Array}
 use Rattle.semantics.specs.Launch as launch
 use Rattle.texts.specs.Surface.{Arithmetic, LeftShift, RightShift, AssignSign, Plain, With, WithLeftShift, WithRightShift, Expression, Number, Name, Element, Call, Prefix, Cast, Infix, Conditional, Expressions, nothing, also, Declaration, Assignment, First, FirstDeclares, FirstAssigns, JumpWord, Return, Break, Continue, Statement, Declare, DeclareArray, Assign, If, While, For, Barrier, Jump, Block, Statements, none, one, Parameter, Buffer, Value, Kernel, site_of}
 use Rattle.texts.specs.TypeFaults.{UnknownName, NameTwice, WrongType, WriteToConst, ArrayInBlock, LoadInCompoundIndex, BarrierFlags, JumpOutsideLoop, Checked, refused, then, when, found}
-use Rattle.texts.specs.Scope.{Meaning, VariableAt, ArrayAt, Scope, empty_scope, leave_block, meaning_of, may_name_kernel, declare_variable, declare_buffer, declare_array}
+use Rattle.texts.specs.Scope.{Devices, Meaning, VariableAt, ArrayAt, Scope, empty_scope, leave_block, meaning_of, may_name_kernel, declare_variable, declare_buffer, declare_array}
 use Rattle.texts.specs.Typing.{TypedTerm, typed, bring, infix_term, type_of}
 
 -- core statements, and the scope after them
@@ -74,12 +74,12 @@ target_slot site (ArrayAt array kind writable) = refused WrongType site
 
 abbrev pub assign_to : Scope → Assignment → Meaning → Option Expression → Checked core.Statement
 assign_to scope a m None =
-    then (target_slot a.site m) (λ x. then (type_of scope.visible a.value) (λ v.
+    then (target_slot a.site m) (λ x. then (type_of scope.devices scope.visible a.value) (λ v.
     then (assigned a.sign a.sign_site a.value (typed x.1 (core.Variable x.0)) v) (λ w. Ok (core.Set a.number x.0 (bring x.1 a.site w)))))
 assign_to scope a m (Some index) =
-    then (target_array a.site m) (λ x. then (type_of scope.visible index) (λ i.
+    then (target_array a.site m) (λ x. then (type_of scope.devices scope.visible index) (λ i.
     then (when (without_load a.sign (first_load index)) LoadInCompoundIndex (site_or (first_load index) a.site) i) (λ i'.
-    then (type_of scope.visible a.value) (λ v.
+    then (type_of scope.devices scope.visible a.value) (λ v.
     then (assigned a.sign a.sign_site a.value (typed x.1 (core.Load x.0 a.site i'.term)) v) (λ w.
     Ok (core.Store a.number x.0 a.site i'.term (bring x.1 a.site w)))))))
 
@@ -88,7 +88,7 @@ elaborate_assignment scope a = then (found (meaning_of scope.visible a.name) Unk
 
 unfoldable pub elaborate_declaration : Scope → Declaration → Checked Elaborated
 elaborate_declaration scope d =
-    then (type_of scope.visible d.value) (λ v. then (declare_variable scope d.name_site d.name d.kind) (λ inner.
+    then (type_of scope.devices scope.visible d.value) (λ v. then (declare_variable scope d.name_site d.name d.kind) (λ inner.
     Ok (elaborated (single (core.Set d.number (length scope.slots) (bring d.kind d.name_site v))) inner)))
 
 abbrev pub elaborate_first : Scope → First → Checked Elaborated
@@ -147,14 +147,14 @@ unfoldable mutual
       then (when (is_in_kernel around) ArrayInBlock site scope) (λ outer. then (declare_array outer name_site name kind size) (λ inner. Ok (elaborated core.none inner)))
   elaborate_statement around scope (Assign a) = then (elaborate_assignment scope a) (λ s. Ok (elaborated (single s) scope))
   elaborate_statement around scope (If n site test taken skipped) =
-      then (type_of scope.visible test) (λ t. then (elaborate_all (inside around) scope taken) (λ a.
+      then (type_of scope.devices scope.visible test) (λ t. then (elaborate_all (inside around) scope taken) (λ a.
       then (elaborate_all (inside around) (leave_block scope a.scope) skipped) (λ b.
       Ok (elaborated (single (core.If n t.term a.statements b.statements)) (leave_block scope b.scope)))))
   elaborate_statement around scope (While n site test body) =
-      then (type_of scope.visible test) (λ t. then (elaborate_all (InLoop n) scope body) (λ b.
+      then (type_of scope.devices scope.visible test) (λ t. then (elaborate_all (InLoop n) scope body) (λ b.
       Ok (elaborated (single (core.Loop n t.term b.statements core.none)) (leave_block scope b.scope))))
   elaborate_statement around scope (For n site first test update body) =
-      then (elaborate_first scope first) (λ f. then (type_of f.scope.visible test) (λ t.
+      then (elaborate_first scope first) (λ f. then (type_of f.scope.devices f.scope.visible test) (λ t.
       then (elaborate_assignment f.scope update) (λ u. then (elaborate_all (InLoop n) f.scope body) (λ b.
       Ok (elaborated (join f.statements (single (core.Loop n t.term b.statements (single u)))) (leave_block scope b.scope))))))
   elaborate_statement around scope (Barrier n site flags) =
@@ -178,9 +178,9 @@ declare_parameters scope [] = Ok scope
 declare_parameters scope (p ∷ ps) = then (declare_parameter scope p) (λ inner. declare_parameters inner ps)
 
 -- a kernel's parameters and its body: what is declared there may have the kernel's name, and hides it
-unfoldable pub elaborate_inside : Kernel → Checked launch.Kernel
-elaborate_inside k =
-    then (declare_parameters empty_scope k.parameters) (λ outer. then (elaborate_all InKernel outer k.body) (λ b. Ok (record {
+unfoldable pub elaborate_inside : Devices → Kernel → Checked launch.Kernel
+elaborate_inside d k =
+    then (declare_parameters (empty_scope d) k.parameters) (λ outer. then (elaborate_all InKernel outer k.body) (λ b. Ok (record {
       sizes = k.sizes;
       buffers = outer.buffers;
       arguments = outer.slots;
@@ -189,6 +189,6 @@ elaborate_inside k =
       body = b.statements;
     })))
 
--- the elaborated kernel, or the first fault: a kernel is well typed where this is `Ok`
-unfoldable pub elaborate : Kernel → Checked launch.Kernel
-elaborate k = then (when (may_name_kernel k.name) NameTwice k.name_site empty_scope) (λ outside. elaborate_inside k)
+-- the elaborated kernel for these devices, or the first fault: a kernel is well typed where this is `Ok`
+unfoldable pub elaborate : Devices → Kernel → Checked launch.Kernel
+elaborate d k = then (when (may_name_kernel k.name) NameTwice k.name_site (empty_scope d)) (λ outside. elaborate_inside d k)

@@ -1,10 +1,21 @@
 -- Which names are visible, and what they stand for (C99 6.2.1). Ours: a visible name is not declared again, and a name is not visible
 -- in its own initialiser.
 use Rattle.std.specs.Prelude.{ℕ, List, [], ◌∷◌, ◌++◌, length, take, Bool, true, false, not, cond, ◌||◌, ◌&&◌, nat_eq, nat_le, Option, Some, None, is_some, bytes_eq, codes}
-use Rattle.semantics.specs.Word.{Kind}
+use Rattle.semantics.specs.Word.{Kind, Uint, Size}
 use Rattle.semantics.specs.Core.{Site, Array, Global, Local}
 use Rattle.semantics.specs.Launch.{LocalArray}
 use Rattle.texts.specs.TypeFaults.{NameTwice, Checked, when}
+
+-- the devices that a kernel is read for: those of 32 address bits, where `size_t` is `uint`; or any, where it is a kind of its own, which has
+-- 32 bits or more (OpenCL 1.2, 6.1.1)
+pub data Devices : Type 0 where
+  Narrow : Devices
+  Any : Devices
+
+-- the kind of `size_t`, which ids and sizes have (6.12.1)
+abbrev pub size_kind : Devices → Kind
+size_kind Narrow = Uint
+size_kind Any = Size
 
 -- a private variable or value parameter, or a buffer parameter or local array
 pub data Meaning : Type 0 where
@@ -15,15 +26,16 @@ pub record Binding : Type 0 where
   pub name : List ℕ
   pub meaning : Meaning
 
--- what is visible, and all that was declared so far: the kinds of the slots, of the buffers, and the local arrays
+-- for which devices, what is visible, and all that was declared so far: the kinds of the slots, of the buffers, and the local arrays
 pub record Scope : Type 0 where
+  pub devices : Devices
   pub visible : List Binding
   pub slots : List Kind
   pub buffers : List Kind
   pub arrays : List LocalArray
 
-abbrev pub empty_scope : Scope
-empty_scope = record { visible = []; slots = []; buffers = []; arrays = [] }
+abbrev pub empty_scope : Devices → Scope
+empty_scope d = record { devices = d; visible = []; slots = []; buffers = []; arrays = [] }
 
 -- at the end of a block its names go, what was declared stays counted
 abbrev pub leave_block : Scope → Scope → Scope

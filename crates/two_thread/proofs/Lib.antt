@@ -12,6 +12,7 @@ pub mod Copied
 pub mod Small
 pub mod Growing
 pub mod Fencing
+pub mod FirstPath
 pub mod Turns
 pub mod MeetingLists
 pub mod AllMeetings

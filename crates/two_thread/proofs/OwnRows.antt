@@ -17,7 +17,7 @@ module _ {E : Type 0} where
       let p = and_parts (is_own_access u.it) (all_own_accesses us) h in
       and_from (is_own_access u.it) (all_own_accesses (us ++ vs)) p.0 (accesses-join us vs p.1 k)
 
-  accesses-part : (us vs : List (Of (Access E))) → all_own_accesses (us ++ vs) ≡ true → (all_own_accesses us ≡ true) × (all_own_accesses vs ≡ true)
+  pub accesses-part : (us vs : List (Of (Access E))) → all_own_accesses (us ++ vs) ≡ true → (all_own_accesses us ≡ true) × (all_own_accesses vs ≡ true)
   accesses-part [] vs h = (refl, h)
   accesses-part (u ∷ us) vs h =
       let p = and_parts (is_own_access u.it) (all_own_accesses (us ++ vs)) h in
@@ -30,7 +30,7 @@ module _ {E : Type 0} where
       let p = and_parts (is_own_end u.it) (all_own_ends us) h in
       and_from (is_own_end u.it) (all_own_ends (us ++ vs)) p.0 (ends-join us vs p.1 k)
 
-  ends-part : (us vs : List (Of (Ended E))) → all_own_ends (us ++ vs) ≡ true → (all_own_ends us ≡ true) × (all_own_ends vs ≡ true)
+  pub ends-part : (us vs : List (Of (Ended E))) → all_own_ends (us ++ vs) ≡ true → (all_own_ends us ≡ true) × (all_own_ends vs ≡ true)
   ends-part [] vs h = (refl, h)
   ends-part (u ∷ us) vs h =
       let p = and_parts (is_own_end u.it) (all_own_ends (us ++ vs)) h in

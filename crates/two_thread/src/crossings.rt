@@ -95,7 +95,7 @@ fn is_array(sought: Sought, target: Target) -> bool
 }
 
 /// An access is of the array.
-fn is_of<D: Copy>(sought: Sought, met: &Met<D>, i: usize) -> bool
+pub fn is_of<D: Copy>(sought: Sought, met: &Met<D>, i: usize) -> bool
     requires { i < length met.now.accesses.items }
     ensures { result ≡ specs.is_array (sought_array sought) (met_access met.now i).it.target }
 {
@@ -212,7 +212,7 @@ fn all_orders<D: Copy>(
 }
 
 /// Adds the crossings of one access of each item, if these conflict and may meet.
-fn with_one<D: Copy>(
+pub fn with_one<D: Copy>(
     found: &mut Vec<Crossing>,
     pairing: &Pairing<'_, D>,
     sought: Sought,

@@ -45,7 +45,7 @@ pub enum Owed {
 }
 
 /// The stop is a barrier, or the end of the kernel.
-fn is_rest(stop: Stop) -> bool
+pub fn is_rest(stop: Stop) -> bool
     ensures { result ≡ specs.is_rest (stop_seen stop) }
 {
     match stop {
@@ -180,7 +180,7 @@ fn owed_of<D: Copy>(
 }
 
 /// Adds the meetings of two ends that have one anchor, if the second one is a barrier or the kernel's end.
-fn two_meet<D: Copy>(
+pub fn two_meet<D: Copy>(
     found: &mut Vec<Meeting>,
     most: usize,
     alike: &[Alike],

@@ -25,10 +25,11 @@ pub struct Met<D> {
 }
 
 impl<D: Copy> Met<D> {
-    ghost use Rattle.std.specs.Prelude.{◌≡◌, IfOk, IfErr, true};
+    ghost use Rattle.std.specs.Prelude.{◌≡◌, IfOk, IfErr, length, true};
     ghost use Rattle.facts.specs.Refusals.{IsMemory};
     ghost use Rattle.obligations.specs.Owning.{all_own_accesses, all_own_ends};
-    ghost use Rattle.two_thread.specs.Paths.{all_accesses, all_ends};
+    ghost use Rattle.two_thread.specs.Paths.{all_accesses, all_ends, first_alone};
+    ghost use Rattle.two_thread.specs.View.{met_claims, met_accesses, met_ends};
 
     /// The claims, accesses and ends of these paths, whose accesses and ends have no symbols of the second item.
     pub fn of(alloc: Global, paths: Vec<Tagged<D>>) -> Result<Met<D>, WalkError>
@@ -46,5 +47,59 @@ impl<D: Copy> Met<D> {
             accesses,
             ends,
         })
+    }
+
+    /// The paths again, so that others can be put beside them.
+    pub fn into_paths(self) -> Vec<Tagged<D>>
+        ensures paths { result.items ≡ self.paths.items }
+        ensures accesses { all_own_accesses (all_accesses result.items) ≡ true }
+        ensures ends { all_own_ends (all_ends result.items) ≡ true }
+    {
+        let Met { paths, .. } = self;
+        paths
+    }
+
+    /// How many claims stand on the paths.
+    pub fn claim_count(&self) -> usize
+        ensures count { result ≡ length self.now.claims.items }
+        ensures seen { result ≡ length (met_claims self.now) }
+    {
+        self.claims.len()
+    }
+
+    /// How many accesses stand on the paths.
+    pub fn access_count(&self) -> usize
+        ensures count { result ≡ length self.now.accesses.items }
+        ensures seen { result ≡ length (met_accesses self.now) }
+    {
+        self.accesses.len()
+    }
+
+    /// How many of the paths come to an end.
+    pub fn end_count(&self) -> usize
+        ensures count { result ≡ length self.now.ends.items }
+        ensures seen { result ≡ length (met_ends self.now) }
+    {
+        self.ends.len()
+    }
+
+    /// How many accesses stand on the first path.
+    pub fn first_access_count(&self) -> usize
+        ensures { result ≡ length (all_accesses (first_alone self.now.paths.items)) }
+    {
+        if self.paths.is_empty() {
+            return 0;
+        }
+        self.paths[0].path.accesses.len()
+    }
+
+    /// How many ends stand on the first path.
+    pub fn first_end_count(&self) -> usize
+        ensures { result ≡ length (all_ends (first_alone self.now.paths.items)) }
+    {
+        if self.paths.is_empty() {
+            return 0;
+        }
+        self.paths[0].path.ends.len()
     }
 }

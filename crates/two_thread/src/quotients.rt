@@ -22,7 +22,7 @@ fn is_second(goal: &Goal) -> bool
 }
 
 /// A claim, given by its number, is the second one of a congruence or a multiple.
-fn claims_second<D: Copy>(met: &Met<D>, i: usize) -> bool
+pub fn claims_second<D: Copy>(met: &Met<D>, i: usize) -> bool
     requires { i < length met.now.claims.items }
     ensures { result ≡ is_second_claim (Some (nth_claim met.now i).goal) }
 {

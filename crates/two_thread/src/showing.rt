@@ -22,7 +22,7 @@ use linear::Form;
 use std::alloc::Global;
 
 /// The facts of a pair of accesses that is shown in a manner; none where the manner does not fit.
-fn crossing_facts_by<D: Copy>(
+pub fn crossing_facts_by<D: Copy>(
     alloc: Global,
     launch: &[Form],
     alike: &[Alike],

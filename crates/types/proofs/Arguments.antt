@@ -2,20 +2,21 @@
 use Rattle.std.proofs.Common.{◌≡◌, ◌≢◌, List, [], ◌∷◌, length, get_or, true, false, Ok, Err, refl, arith}
 use Rattle.semantics.specs.Core as core
 use Rattle.texts.specs.Surface.{Expression, Number, Expressions, nothing, also}
-use Rattle.texts.specs.Scope.{Binding}
+use Rattle.semantics.specs.Word.{Kind}
+use Rattle.texts.specs.Scope.{Devices, Binding}
 use Rattle.texts.specs.TypeFaults.{WrongType, Checked, refused, then}
 use Rattle.texts.specs.Typing.{TypedTerm, id_term, are_two, pick_term, type_of, types_of}
 use Rattle.syntax.specs.View.{expression, expressions}
 use Rattle.syntax.specs.declared.tree.Expr.{Expr}
 
-more : (site : core.Site) (f : core.Function) (e x : Expression) (es : Expressions) → id_term site f (also e (also x es)) ≡ refused WrongType site
-more site f (Number at kind n) x es = refl
-more site f e x es = refl
+more : (ids : Kind) (site : core.Site) (f : core.Function) (e x : Expression) (es : Expressions) → id_term ids site f (also e (also x es)) ≡ refused WrongType site
+more ids site f (Number at kind n) x es = refl
+more ids site f e x es = refl
 
-pub id_term-many : (site : core.Site) (f : core.Function) (es : List Expr) → length es ≢ 1 → id_term site f (expressions es) ≡ refused WrongType site
-id_term-many site f [] h = refl
-id_term-many site f (e ∷ []) h = absurd (h refl)
-id_term-many site f (e ∷ x ∷ es) h = more site f (expression e) (expression x) (expressions es)
+pub id_term-many : (ids : Kind) (site : core.Site) (f : core.Function) (es : List Expr) → length es ≢ 1 → id_term ids site f (expressions es) ≡ refused WrongType site
+id_term-many ids site f [] h = refl
+id_term-many ids site f (e ∷ []) h = absurd (h refl)
+id_term-many ids site f (e ∷ x ∷ es) h = more ids site f (expression e) (expression x) (expressions es)
 
 pub expressions-one : (es : List Expr) (d : Expr) → length es ≡ 1 → expressions es ≡ also (expression (get_or es 0 d)) nothing
 expressions-one [] d h = absurd (omega arith)
@@ -40,12 +41,12 @@ are_two-is (e ∷ x ∷ []) h = refl
 are_two-is (e ∷ x ∷ y ∷ es) h = absurd (omega arith)
 
 -- `min` or `max` of two arguments
-pub pick-two : (names : List Binding) (site : core.Site) (pick : core.Term → core.Term → core.Term) (es : List Expr) (d x : Expr) → length es ≡ 2 → then (types_of names (expressions es)) (pick_term site pick) ≡ then (type_of names (expression (get_or es 0 d))) (λ t. then (type_of names (expression (get_or es 1 x))) (λ u. pick_term site pick (t ∷ u ∷ [])))
+pub pick-two : (ds : Devices) (names : List Binding) (site : core.Site) (pick : core.Term → core.Term → core.Term) (es : List Expr) (d x : Expr) → length es ≡ 2 → then (types_of ds names (expressions es)) (pick_term site pick) ≡ then (type_of ds names (expression (get_or es 0 d))) (λ t. then (type_of ds names (expression (get_or es 1 x))) (λ u. pick_term site pick (t ∷ u ∷ [])))
 unfolding types_of
-pick-two names site pick [] d z h = absurd (omega arith)
-pick-two names site pick (e ∷ []) d z h = absurd (omega arith)
-pick-two names site pick (e ∷ x ∷ []) d z h = both (type_of names (expression e)) (type_of names (expression x)) site pick
-pick-two names site pick (e ∷ x ∷ y ∷ es) d z h = absurd (omega arith)
+pick-two ds names site pick [] d z h = absurd (omega arith)
+pick-two ds names site pick (e ∷ []) d z h = absurd (omega arith)
+pick-two ds names site pick (e ∷ x ∷ []) d z h = both (type_of ds names (expression e)) (type_of ds names (expression x)) site pick
+pick-two ds names site pick (e ∷ x ∷ y ∷ es) d z h = absurd (omega arith)
 
 pub ruleset arguments = (id_term-many, expressions-one)
 

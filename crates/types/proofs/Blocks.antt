@@ -21,11 +21,11 @@ then-then : {A B C : Type 0} → (a : Checked A) (f : A → Checked B) (g : B �
 then-then (Ok a) f g = refl
 then-then (Err e) f g = refl
 
-pub block-if : (around : Around) (sc : Scope) (n : ℕ) (s : core.Site) (e : surface.Expression) (a b : surface.Statements) → elaborate_statement around sc (surface.If n s e a b) ≡ then (type_of sc.visible e) (λ t. then (block around sc a) (λ x. otherwise around x.scope n t.term x.statements b))
+pub block-if : (around : Around) (sc : Scope) (n : ℕ) (s : core.Site) (e : surface.Expression) (a b : surface.Statements) → elaborate_statement around sc (surface.If n s e a b) ≡ then (type_of sc.devices sc.visible e) (λ t. then (block around sc a) (λ x. otherwise around x.scope n t.term x.statements b))
 unfolding elaborate_statement
 block-if around sc n s e a b = simp then-then
 
-pub block-while : (around : Around) (sc : Scope) (n : ℕ) (s : core.Site) (e : surface.Expression) (a : surface.Statements) → elaborate_statement around sc (surface.While n s e a) ≡ then (type_of sc.visible e) (λ t. then (block (InLoop n) sc a) (λ x. Ok (elaborated (single (core.Loop n t.term x.statements core.none)) x.scope)))
+pub block-while : (around : Around) (sc : Scope) (n : ℕ) (s : core.Site) (e : surface.Expression) (a : surface.Statements) → elaborate_statement around sc (surface.While n s e a) ≡ then (type_of sc.devices sc.visible e) (λ t. then (block (InLoop n) sc a) (λ x. Ok (elaborated (single (core.Loop n t.term x.statements core.none)) x.scope)))
 unfolding elaborate_statement
 block-while around sc n s e a = simp then-then
 
@@ -75,10 +75,10 @@ gives-alone (Ok s) x sc h = rw h refl
 gives-alone (Err (errors.At f s)) x sc h = rw h refl
 gives-alone (Err errors.Memory) x sc h = tt
 
-pub if-taken : (around : Around) (sc : Scope) (n : ℕ) (s : core.Site) (e : surface.Expression) (a b : surface.Statements) (t : TypedTerm) (x : Elaborated) → type_of sc.visible e ≡ Ok t → behind core.none (block around sc a) ≡ Ok x → elaborate_statement around sc (surface.If n s e a b) ≡ otherwise around x.scope n t.term x.statements b
+pub if-taken : (around : Around) (sc : Scope) (n : ℕ) (s : core.Site) (e : surface.Expression) (a b : surface.Statements) (t : TypedTerm) (x : Elaborated) → type_of sc.devices sc.visible e ≡ Ok t → behind core.none (block around sc a) ≡ Ok x → elaborate_statement around sc (surface.If n s e a b) ≡ otherwise around x.scope n t.term x.statements b
 if-taken around sc n s e a b t x p q = block-if around sc n s e a b ∙ rw (p, sym (behind-none (block around sc a)) ∙ q) refl
 
-pub if-refused : (around : Around) (sc : Scope) (n : ℕ) (s : core.Site) (e : surface.Expression) (a b : surface.Statements) (t : TypedTerm) (error : TypeError) (out : core.Statements) → type_of sc.visible e ≡ Ok t → Refuses error (behind core.none (block around sc a)) → Refuses error (behind out (elaborate_statement around sc (surface.If n s e a b)))
+pub if-refused : (around : Around) (sc : Scope) (n : ℕ) (s : core.Site) (e : surface.Expression) (a b : surface.Statements) (t : TypedTerm) (error : TypeError) (out : core.Statements) → type_of sc.devices sc.visible e ≡ Ok t → Refuses error (behind core.none (block around sc a)) → Refuses error (behind out (elaborate_statement around sc (surface.If n s e a b)))
 if-refused around sc n s e a b t (errors.At f at) out p q = rw (block-if around sc n s e a b, p, sym (behind-none (block around sc a)) ∙ q) refl
 if-refused around sc n s e a b t errors.Memory out p q = tt
 
@@ -92,7 +92,7 @@ block-done around sc body out x h = outside sc out (elaborate_all (inside around
 pub otherwise-done : (around : Around) (sc : Scope) (n : ℕ) (test : core.Term) (taken : core.Statements) (skipped : surface.Statements) (x : Elaborated) → behind core.none (block around sc skipped) ≡ Ok x → otherwise around sc n test taken skipped ≡ Ok (elaborated (single (core.If n test taken x.statements)) x.scope)
 otherwise-done around sc n test taken skipped x h = rw (sym (behind-none (block around sc skipped)) ∙ h) refl
 
-pub while-done : (around : Around) (sc : Scope) (n : ℕ) (s : core.Site) (e : surface.Expression) (body : surface.Statements) (t : TypedTerm) (x : Elaborated) → type_of sc.visible e ≡ Ok t → behind core.none (block (InLoop n) sc body) ≡ Ok x → elaborate_statement around sc (surface.While n s e body) ≡ Ok (elaborated (single (core.Loop n t.term x.statements core.none)) x.scope)
+pub while-done : (around : Around) (sc : Scope) (n : ℕ) (s : core.Site) (e : surface.Expression) (body : surface.Statements) (t : TypedTerm) (x : Elaborated) → type_of sc.devices sc.visible e ≡ Ok t → behind core.none (block (InLoop n) sc body) ≡ Ok x → elaborate_statement around sc (surface.While n s e body) ≡ Ok (elaborated (single (core.Loop n t.term x.statements core.none)) x.scope)
 while-done around sc n s e body t x p q = block-while around sc n s e body ∙ rw (p, sym (behind-none (block (InLoop n) sc body)) ∙ q) refl
 
 pub repeated-done : (sc : Scope) (n : ℕ) (e : surface.Expression) (update : surface.Assignment) (body : surface.Statements) (u : core.Term × core.Statement) (x : Elaborated) → turn sc e update ≡ Ok u → behind core.none (block (InLoop n) sc body) ≡ Ok x → repeated sc n e update body ≡ Ok (elaborated (single (core.Loop n u.0 x.statements (single u.1))) x.scope)

@@ -46,7 +46,7 @@ last xs x = length-append xs (x ∷ [])
 holds-declaration : (sc : Scope) (d : surface.Declaration) → Holds (declared sc + 1) (elaborate_declaration sc d)
 unfolding elaborate_declaration
 holds-declaration sc d =
-    holds-then (declared sc + 1) (type_of sc.visible d.value) _ (λ v.
+    holds-then (declared sc + 1) (type_of sc.devices sc.visible d.value) _ (λ v.
     holds-when (declared sc + 1) (may_declare sc d.name) NameTwice d.name_site (bind (record sc { slots = sc.slots ++ d.kind ∷ [] }) d.name (VariableAt (length sc.slots) d.kind)) _ (omega (arith, last sc.slots d.kind)))
 
 holds-array : (sc : Scope) (s : core.Site) (kind : Kind) (name : List ℕ) (size : ℕ) → Holds (declared sc + 1) (then (declare_array sc s name kind size) (λ inner. Ok (elaborated core.none inner)))
@@ -68,16 +68,16 @@ mutual
   holds-statement (InLoop loop) sc (surface.DeclareArray n s k t name size) = tt
   holds-statement around sc (surface.Assign a) = holds-then (declared sc + 0) (elaborate_assignment sc a) _ (λ s. omega arith)
   holds-statement around sc (surface.If n s test a b) =
-      holds-then (declared sc + (declared_by a + declared_by b)) (type_of sc.visible test) _ (λ t.
+      holds-then (declared sc + (declared_by a + declared_by b)) (type_of sc.devices sc.visible test) _ (λ t.
       holds-both (declared sc + declared_by a) (declared sc + (declared_by a + declared_by b)) (elaborate_all (inside around) sc a) _ (holds-all (inside around) sc a) (λ x h.
       holds-both (declared x.scope + declared_by b) (declared sc + (declared_by a + declared_by b)) (elaborate_all (inside around) (leave_block sc x.scope) b) _ (holds-all (inside around) (leave_block sc x.scope) b) (λ y k.
       omega (arith, h, k))))
   holds-statement around sc (surface.While n s test a) =
-      holds-then (declared sc + declared_by a) (type_of sc.visible test) _ (λ t.
+      holds-then (declared sc + declared_by a) (type_of sc.devices sc.visible test) _ (λ t.
       holds-both (declared sc + declared_by a) (declared sc + declared_by a) (elaborate_all (InLoop n) sc a) _ (holds-all (InLoop n) sc a) (λ x h. h))
   holds-statement around sc (surface.For n s first test update a) =
       holds-both (declared sc + declared_first first) (declared sc + (declared_first first + declared_by a)) (elaborate_first sc first) _ (holds-first sc first) (λ f h.
-      holds-then (declared sc + (declared_first first + declared_by a)) (type_of f.scope.visible test) _ (λ t.
+      holds-then (declared sc + (declared_first first + declared_by a)) (type_of f.scope.devices f.scope.visible test) _ (λ t.
       holds-then (declared sc + (declared_first first + declared_by a)) (elaborate_assignment f.scope update) _ (λ u.
       holds-both (declared f.scope + declared_by a) (declared sc + (declared_first first + declared_by a)) (elaborate_all (InLoop n) f.scope a) _ (holds-all (InLoop n) f.scope a) (λ x k.
       omega (arith, h, k)))))

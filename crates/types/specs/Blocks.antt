@@ -17,7 +17,7 @@ block around outer body = then (elaborate_all (inside around) outer body) (λ b.
 
 -- the test and the update of a loop
 abbrev pub turn : Scope → surface.Expression → surface.Assignment → Checked (core.Term × core.Statement)
-turn scope test update = then (type_of scope.visible test) (λ t. then (elaborate_assignment scope update) (λ u. Ok (t.term, u)))
+turn scope test update = then (type_of scope.devices scope.visible test) (λ t. then (elaborate_assignment scope update) (λ u. Ok (t.term, u)))
 
 -- a loop with an update, its scope that of its first part
 abbrev pub repeated : Scope → ℕ → surface.Expression → surface.Assignment → surface.Statements → Checked Elaborated

@@ -1,6 +1,7 @@
 pub mod Answers
 pub mod Arounds
 pub mod Blocks
+pub mod Elaborated
 pub mod Functions
 pub mod Names
 pub mod Rooms

@@ -10,6 +10,12 @@ use Rattle.core_code.specs.declared.tree.Statement.{Statement}
 use Rattle.types.specs.declared.scope.Meaning.{Meaning}
 use Rattle.types.specs.declared.scope.Meaning.TheVariants as meanings
 use Rattle.types.specs.declared.scope.Scope.{Scope}
+use Rattle.types.specs.declared.devices.Devices.{Devices}
+use Rattle.types.specs.declared.devices.Devices.TheVariants as variants
+
+abbrev pub devices : Devices → scope.Devices
+devices variants.Narrow = scope.Narrow
+devices variants.Any = scope.Any
 
 abbrev pub meaning_seen : Meaning → scope.Meaning
 meaning_seen (meanings.Variable slot k) = scope.VariableAt slot (kind k)
@@ -24,6 +30,7 @@ names visible = map binding visible.entries
 
 abbrev pub scope_seen : Scope → scope.Scope
 scope_seen s = record {
+  devices = devices s.devices;
   visible = names s.visible;
   slots = map kind s.slots.items;
   buffers = map kind s.buffers.items;

@@ -11,13 +11,13 @@ ghost use Rattle.words.specs.View.{kind as kind_of};
 ghost use Rattle.syntax.specs.View.{expression, assign_sign, assignment};
 ghost use Rattle.core_code.specs.View.{site};
 ghost use Rattle.core_code.specs.View.{array as array_of, statement, term};
-ghost use Rattle.types.specs.Names.{names, meaning_seen, scope_seen};
+ghost use Rattle.types.specs.Names.{devices, names, meaning_seen, scope_seen};
 ghost use Rattle.types.specs.Answers.{typed_term, Gives, IsTyped, IsArrayOf};
 
 use crate::conversions::{TypedTerm, bring};
 use crate::error::{TypeError, TypeFault};
 use crate::loads::first_load;
-use crate::scope::{Scope, Visible, meaning_of};
+use crate::scope::{Scope, meaning_of};
 use crate::targets::{target_array, target_slot};
 use crate::typing::{infix_term, type_of};
 use core_code::tree::{Array, Site, Statement, Term};
@@ -47,7 +47,7 @@ fn assign_variable(alloc: Global, scope: &Scope, a: &Assignment) -> Result<State
     ensures { Gives statement result (rules.then (rules.found (scoping.meaning_of (names scope.now.visible) (string_bytes a.now.name)) rules.UnknownName (site a.now.site)) (λ m. elaboration.assign_to (scope_seen scope.now) (assignment a.now) m None)) }
 {
     let (slot, kind) = target_slot(a.site, meaning_of(&scope.visible, a.name.as_str()))?;
-    let value = type_of(alloc, &scope.visible, &a.value)?;
+    let value = type_of(alloc, scope, &a.value)?;
     let old = TypedTerm {
         kind,
         term: Term::Variable { slot },
@@ -75,18 +75,18 @@ fn without_load(a: &Assignment, index: &Expr) -> Result<(), TypeError>
 // The value that an element gets: that of `a[i] op (e)` where the sign is `op=`, so the index is typed once more.
 fn assigned_element(
     alloc: Global,
-    visible: &Visible,
+    scope: &Scope,
     a: &Assignment,
     index: &Expr,
     element: (Array, Kind),
     value: TypedTerm,
 ) -> Result<TypedTerm, TypeError>
-    ensures { (i : typing.TypedTerm) → typing.type_of (names visible.now) (expression index.now) ≡ Ok i → IsTyped result (elaboration.assigned (assign_sign a.now.sign) (site a.now.sign_site) (expression a.now.value) (typing.typed (kind_of element.1) (core.Load (array_of element.0) (site a.now.site) i.term)) (typed_term value)) }
+    ensures { (i : typing.TypedTerm) → typing.type_of (devices scope.now.devices) (names scope.now.visible) (expression index.now) ≡ Ok i → IsTyped result (elaboration.assigned (assign_sign a.now.sign) (site a.now.sign_site) (expression a.now.value) (typing.typed (kind_of element.1) (core.Load (array_of element.0) (site a.now.site) i.term)) (typed_term value)) }
 {
     if let AssignSign::Plain = a.sign {
         return Ok(value);
     }
-    let index = type_of(alloc, visible, index)?;
+    let index = type_of(alloc, scope, index)?;
     let old = TypedTerm {
         kind: element.1,
         term: Term::Load {
@@ -125,12 +125,11 @@ fn assign_element(
 ) -> Result<Statement, TypeError>
     ensures { Gives statement result (rules.then (rules.found (scoping.meaning_of (names scope.now.visible) (string_bytes a.now.name)) rules.UnknownName (site a.now.site)) (λ m. elaboration.assign_to (scope_seen scope.now) (assignment a.now) m (Some (expression index.now)))) }
 {
-    let visible = &scope.visible;
-    let element = target_array(a.site, meaning_of(visible, a.name.as_str()))?;
-    let typed = type_of(alloc, visible, index)?;
+    let element = target_array(a.site, meaning_of(&scope.visible, a.name.as_str()))?;
+    let typed = type_of(alloc, scope, index)?;
     without_load(a, index)?;
-    let value = type_of(alloc, visible, &a.value)?;
-    let value = assigned_element(alloc, visible, a, index, element, value)?;
+    let value = type_of(alloc, scope, &a.value)?;
+    let value = assigned_element(alloc, scope, a, index, element, value)?;
     store(alloc, a, element, typed.term, value)
 }
 

@@ -33,7 +33,7 @@ pub fn elaborate_declaration<'a>(
     requires { HasRoom (scope_seen scope.old) 1 }
     ensures { Gives (one_seen scope.new) result (elaboration.elaborate_declaration (scope_seen scope.old) (declaration d.now)) }
 {
-    let value = type_of(alloc, &scope.visible, &d.value)?;
+    let value = type_of(alloc, scope, &d.value)?;
     let slot = scope.declare_variable(d.name_site, d.name.as_str(), d.kind)?;
     Ok(Statement::Set {
         number: d.number,

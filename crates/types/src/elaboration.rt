@@ -6,8 +6,10 @@ ghost use Rattle.texts.specs.Elaboration as elaboration;
 ghost use Rattle.syntax.specs.View.{kernel as tree_of};
 ghost use Rattle.core_code.specs.View.{kernel};
 ghost use Rattle.types.specs.Answers.{Gives};
+ghost use Rattle.types.specs.Names.{devices as devices_seen};
 
 use crate::declarations::may_name_kernel;
+use crate::devices::Devices;
 use crate::error::{TypeError, TypeFault};
 use crate::jumps::Around;
 use crate::scope::Scope;
@@ -31,11 +33,12 @@ fn behind(kinds: &[Kind], first: usize) -> &[Kind]
 
 // The core of a kernel, or the first broken rule of its parameters, then of its statements.
 #[tactic(auto, unfolding(texts::specs::Elaboration::elaborate_inside))]
-fn elaborate_inside(alloc: Global, tree: &Kernel) -> Result<Core, TypeError>
+fn elaborate_inside(alloc: Global, devices: Devices, tree: &Kernel) -> Result<Core, TypeError>
     requires { HasFewNames (tree_of tree.now) }
-    ensures { Gives kernel result (elaboration.elaborate_inside (tree_of tree.now)) }
+    ensures { Gives kernel result (elaboration.elaborate_inside (devices_seen devices) (tree_of tree.now)) }
 {
     let mut scope = Scope {
+        devices,
         visible: IndexMap::new(alloc),
         slots: Vec::new(alloc),
         buffers: Vec::new(alloc),
@@ -57,11 +60,11 @@ fn elaborate_inside(alloc: Global, tree: &Kernel) -> Result<Core, TypeError>
     })
 }
 
-/// The core of a kernel, or its first broken rule: of its name, of its parameters, then of its statements.
+/// The core of a kernel for these devices, or its first broken rule: of its name, of its parameters, then of its statements.
 #[tactic(auto, unfolding(texts::specs::Elaboration::elaborate))]
-pub fn elaborate(alloc: Global, tree: &Kernel) -> Result<Core, TypeError>
+pub fn elaborate(alloc: Global, devices: Devices, tree: &Kernel) -> Result<Core, TypeError>
     requires { HasFewNames (tree_of tree.now) }
-    ensures { Gives kernel result (elaboration.elaborate (tree_of tree.now)) }
+    ensures { Gives kernel result (elaboration.elaborate (devices_seen devices) (tree_of tree.now)) }
 {
     if !may_name_kernel(tree.name.as_str()) {
         return Err(TypeError::At {
@@ -69,5 +72,5 @@ pub fn elaborate(alloc: Global, tree: &Kernel) -> Result<Core, TypeError>
             site: tree.name_site,
         });
     }
-    elaborate_inside(alloc, tree)
+    elaborate_inside(alloc, devices, tree)
 }

@@ -11,6 +11,7 @@ pub mod check;
 pub mod conversions;
 pub mod declarations;
 pub mod declared;
+pub mod devices;
 pub mod elaboration;
 pub mod error;
 pub mod jumps;

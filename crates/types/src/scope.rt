@@ -5,6 +5,7 @@ ghost use Rattle.std.specs.Option.{option_map};
 ghost use Rattle.texts.specs.Scope as scope;
 ghost use Rattle.types.specs.Names.{meaning_seen, names};
 
+use crate::devices::Devices;
 use core_code::tree::{Array, LocalArray};
 use indexmap::IndexMap;
 use words::Kind;
@@ -26,10 +27,11 @@ pub enum Meaning {
 /// The visible names, in order of declaration, each with what it stands for.
 pub type Visible<'a> = IndexMap<&'a str, Meaning>;
 
-/// The visible names in order of declaration, and all that was declared so far: the kinds of the slots and of the buffers, and the local
-/// arrays.
+/// For which devices, the visible names in order of declaration, and all that was declared so far: the kinds of the slots and of the
+/// buffers, and the local arrays.
 #[derive(Drop)]
 pub struct Scope<'a> {
+    pub devices: Devices,
     pub visible: Visible<'a>,
     pub slots: Vec<Kind>,
     pub buffers: Vec<Kind>,

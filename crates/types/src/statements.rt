@@ -105,7 +105,7 @@ fn elaborate_while<'a>(
     requires { HasRoom (scope_seen scope.old) (declared_by (stmts body.now)) }
     ensures { (around : elaboration.Around) (at : core.Site) → Gives (one_seen scope.new) result (elaboration.elaborate_statement around (scope_seen scope.old) (surface.While number at (expression test.now) (stmts body.now))) }
 {
-    let test = type_of(alloc, &scope.visible, test)?;
+    let test = type_of(alloc, scope, test)?;
     let mut inside = Vec::new(alloc);
     elaborate_block(alloc, Around::InLoop(number), scope, body, &mut inside)?;
     Ok(Statement::Loop {
@@ -144,7 +144,7 @@ fn turn_of(
 ) -> Result<(Term, Statement), TypeError>
     ensures { Gives (λ x. (term x.0, statement x.1)) result (turn (scope_seen scope.now) (expression test.now) (assignment update.now)) }
 {
-    let test = type_of(alloc, &scope.visible, test)?;
+    let test = type_of(alloc, scope, test)?;
     let update = elaborate_assignment(alloc, scope, update)?;
     Ok((test.term, update))
 }
@@ -244,7 +244,7 @@ fn elaborate_statement<'a>(
             skipped,
             ..
         } => {
-            let test = type_of(alloc, &scope.visible, test)?;
+            let test = type_of(alloc, scope, test)?;
             let mut inside = Vec::new(alloc);
             elaborate_block(alloc, around, scope, taken, &mut inside)?;
             let branch = Branch {

@@ -1,6 +1,6 @@
 //! The kinds and terms of expressions.
 
-ghost use Rattle.std.specs.Prelude.{◌≡◌, [], ◌∷◌, length, Ok, IfOk};
+ghost use Rattle.std.specs.Prelude.{◌≡◌, ◌≤◌, ℕ, [], ◌∷◌, length, Ok, IfOk, IfSome};
 ghost use Rattle.std.specs.Option.{option_map};
 ghost use Rattle.semantics.specs.Core as core;
 ghost use Rattle.semantics.specs.Word as word;
@@ -10,19 +10,20 @@ ghost use Rattle.texts.specs.Typing as typing;
 ghost use Rattle.words.specs.View.{kind};
 ghost use Rattle.syntax.specs.View.{expression, expressions, infix_sign, prefix_sign};
 ghost use Rattle.core_code.specs.View.{site};
-ghost use Rattle.core_code.specs.View.{term, array as array_seen, unary_operator, function as function_of};
+ghost use Rattle.core_code.specs.View.{term, array as array_seen, operator as operator_seen, unary_operator, function as function_of};
 ghost use Rattle.types.specs.Functions.{pick as pick_of};
-ghost use Rattle.types.specs.Names.{names, meaning_seen};
+ghost use Rattle.types.specs.Names.{devices, names, meaning_seen};
 ghost use Rattle.types.specs.Answers.{typed_term, IsTyped, IsArrayOf};
 
 use crate::calls::{Pick, function_named, is_left_out, pick_named};
 use crate::conversions::{TypedTerm, bring, common};
+use crate::devices::Devices;
 use crate::error::{TypeError, TypeFault};
-use crate::scope::{Meaning, Visible, meaning_of};
-use core_code::tree::{Array, Function, Site, Term, UnaryOperator};
+use crate::scope::{Meaning, Scope, meaning_of};
+use core_code::tree::{Array, Function, Operator, Site, Term, UnaryOperator};
 use std::alloc::{AllocError, Global};
 use syntax::tree::{Expr, InfixSign, PrefixSign};
-use words::Kind;
+use words::{Kind, power};
 
 fn prefix_term(
     alloc: Global,
@@ -88,36 +89,70 @@ fn load_term(
     })
 }
 
-// The count of a shift: a number in the text, 0 to 31, beside a `uint`.
-fn shift_count(left: Kind, right: &Expr) -> Option<u32>
-    ensures { result ≡ typing.shift_count (kind left) (expression right.now) }
+// The kind has no negative numbers.
+fn is_unsigned(of: Kind) -> bool
+    ensures { result ≡ typing.is_unsigned (kind of) }
 {
-    let Kind::Uint = left else {
+    match of {
+        Kind::Int => false,
+        Kind::Uint | Kind::Size => true,
+    }
+}
+
+// The count of a shift: a number in the text, 0 to 31, beside a `uint` or a size.
+fn shift_count(left: Kind, right: &Expr) -> Option<u32>
+    ensures count { result ≡ typing.shift_count (kind left) (expression right.now) }
+    ensures small { IfSome result (λ n. n ≤ 31) }
+{
+    if !is_unsigned(left) {
         return None;
-    };
+    }
     match right {
         Expr::Number { value, .. } if *value <= 31 => Some(*value),
         _ => None,
     }
 }
 
-fn shift_term(
+// A shift of an operand by a count: bit by bit of a `uint`; of a size the product with a power of 2, or the quotient by it.
+fn shifted(
     alloc: Global,
-    operator: UnaryOperator,
+    shift: UnaryOperator,
+    by_power: Operator,
     at: Site,
     of: TypedTerm,
+    count: u32,
 ) -> Result<TypedTerm, TypeError>
-    ensures { IsTyped result (Ok (typing.typed word.Uint (core.Unary (unary_operator operator) word.Uint (site at) (term of.term)))) }
+    requires { count ≤ 31 }
+    ensures { (f : ℕ → word.UnaryOperator) → unary_operator shift ≡ f count → IsTyped result (Ok (typing.typed (typing.common word.Uint (kind of.kind)) (typing.shifted f (operator_seen by_power) (site at) (kind of.kind) (term of.term) count))) }
 {
-    Ok(TypedTerm {
-        kind: Kind::Uint,
-        term: Term::Unary {
-            operator,
+    match of.kind {
+        Kind::Int | Kind::Uint => Ok(TypedTerm {
             kind: Kind::Uint,
-            site: at,
-            of: Box::new(alloc, of.term)?,
-        },
-    })
+            term: Term::Unary {
+                operator: shift,
+                kind: Kind::Uint,
+                site: at,
+                of: Box::new(alloc, of.term)?,
+            },
+        }),
+        Kind::Size => {
+            let factor = Term::Literal {
+                kind: Kind::Uint,
+                value: power(count),
+            };
+            let (left, right) = boxes(alloc, of.term, factor)?;
+            Ok(TypedTerm {
+                kind: Kind::Size,
+                term: Term::Binary {
+                    operator: by_power,
+                    kind: Kind::Size,
+                    site: at,
+                    left,
+                    right,
+                },
+            })
+        }
+    }
 }
 
 fn left_shift(
@@ -126,10 +161,17 @@ fn left_shift(
     operand: &Expr,
     of: TypedTerm,
 ) -> Result<TypedTerm, TypeError>
-    ensures { IsTyped result (typing.shift_term (site at) word.ShiftLeft (typed_term of) (typing.shift_count (kind of.kind) (expression operand.now))) }
+    ensures { IsTyped result (typing.shift_term (site at) word.ShiftLeft word.Multiply (typed_term of) (typing.shift_count (kind of.kind) (expression operand.now))) }
 {
     match shift_count(of.kind, operand) {
-        Some(count) => shift_term(alloc, UnaryOperator::ShiftLeft(count), at, of),
+        Some(count) => shifted(
+            alloc,
+            UnaryOperator::ShiftLeft(count),
+            Operator::Multiply,
+            at,
+            of,
+            count,
+        ),
         None => Err(TypeError::At {
             fault: TypeFault::WrongType,
             site: at,
@@ -143,10 +185,17 @@ fn right_shift(
     operand: &Expr,
     of: TypedTerm,
 ) -> Result<TypedTerm, TypeError>
-    ensures { IsTyped result (typing.shift_term (site at) word.ShiftRight (typed_term of) (typing.shift_count (kind of.kind) (expression operand.now))) }
+    ensures { IsTyped result (typing.shift_term (site at) word.ShiftRight word.Divide (typed_term of) (typing.shift_count (kind of.kind) (expression operand.now))) }
 {
     match shift_count(of.kind, operand) {
-        Some(count) => shift_term(alloc, UnaryOperator::ShiftRight(count), at, of),
+        Some(count) => shifted(
+            alloc,
+            UnaryOperator::ShiftRight(count),
+            Operator::Divide,
+            at,
+            of,
+            count,
+        ),
         None => Err(TypeError::At {
             fault: TypeFault::WrongType,
             site: at,
@@ -161,6 +210,32 @@ fn boxes(alloc: Global, left: Term, right: Term) -> Result<(Box<Term>, Box<Term>
     let left = Box::new(alloc, left)?;
     let right = Box::new(alloc, right)?;
     Ok((left, right))
+}
+
+// An operand of an operator of a kind.
+fn operand_of(alloc: Global, to: Kind, at: Site, of: TypedTerm) -> Result<Term, AllocError>
+    ensures { IfOk result (λ t. term t ≡ typing.operand (kind to) (site at) (typed_term of)) }
+{
+    match (to, of.kind) {
+        (Kind::Size, Kind::Int) => bring(alloc, to, at, of),
+        (Kind::Size, Kind::Uint | Kind::Size) | (Kind::Int | Kind::Uint, _) => Ok(of.term),
+    }
+}
+
+// Both operands of an operator of a kind.
+fn operands_of(
+    alloc: Global,
+    to: Kind,
+    at: Site,
+    left: TypedTerm,
+    right: TypedTerm,
+) -> Result<(Box<Term>, Box<Term>), AllocError>
+    ensures left { IfOk result (λ both. term both.0.value ≡ typing.operand (kind to) (site at) (typed_term left)) }
+    ensures right { IfOk result (λ both. term both.1.value ≡ typing.operand (kind to) (site at) (typed_term right)) }
+{
+    let left = operand_of(alloc, to, at, left)?;
+    let right = operand_of(alloc, to, at, right)?;
+    boxes(alloc, left, right)
 }
 
 /// The term of an operator between two operands; `operand` is the right one in the text.
@@ -179,7 +254,7 @@ pub fn infix_term(
         InfixSign::LeftShift => left_shift(alloc, at, operand, left),
         InfixSign::RightShift => right_shift(alloc, at, operand, left),
         InfixSign::Arithmetic(operator) => {
-            let (left, right) = boxes(alloc, left.term, right.term)?;
+            let (left, right) = operands_of(alloc, kind, at, left, right)?;
             let term = Term::Binary {
                 operator,
                 kind,
@@ -190,7 +265,7 @@ pub fn infix_term(
             Ok(TypedTerm { kind, term })
         }
         InfixSign::Comparison(relation) => {
-            let (left, right) = boxes(alloc, left.term, right.term)?;
+            let (left, right) = operands_of(alloc, kind, at, left, right)?;
             Ok(TypedTerm {
                 kind: Kind::Int,
                 term: Term::Compare {
@@ -248,8 +323,13 @@ fn conditional_term(
 }
 
 #[tactic(auto, using(crate::proofs::Arguments::arguments))]
-fn id_term(function: Function, at: Site, arguments: &[Expr]) -> Result<TypedTerm, TypeError>
-    ensures { IsTyped result (typing.id_term (site at) (function_of function) (expressions arguments.now)) }
+fn id_term(
+    size: Kind,
+    function: Function,
+    at: Site,
+    arguments: &[Expr],
+) -> Result<TypedTerm, TypeError>
+    ensures { IsTyped result (typing.id_term (kind size) (site at) (function_of function) (expressions arguments.now)) }
 {
     if arguments.len() != 1 {
         return Err(TypeError::At {
@@ -259,9 +339,9 @@ fn id_term(function: Function, at: Site, arguments: &[Expr]) -> Result<TypedTerm
     }
     match &arguments[0] {
         Expr::Number { value, .. } => Ok(TypedTerm {
-            kind: Kind::Uint,
+            kind: size,
             term: Term::Id {
-                kind: Kind::Uint,
+                kind: size,
                 function,
                 dimension: *value,
             },
@@ -341,16 +421,16 @@ fn array_of(at: Site, meaning: Option<Meaning>) -> Result<(Array, Kind), TypeErr
 #[tactic(auto, using(crate::proofs::Arguments::both_typed))]
 fn pick_of_two(
     alloc: Global,
-    visible: &Visible,
+    scope: &Scope,
     pick: Pick,
     at: Site,
     arguments: &[Expr],
 ) -> Result<TypedTerm, TypeError>
     requires { length arguments.now ≡ 2 }
-    ensures { IsTyped result (rules.then (typing.types_of (names visible.now) (expressions arguments.now)) (typing.pick_term (site at) (pick_of pick))) }
+    ensures { IsTyped result (rules.then (typing.types_of (devices scope.now.devices) (names scope.now.visible) (expressions arguments.now)) (typing.pick_term (site at) (pick_of pick))) }
 {
-    let left = type_of(alloc, visible, &arguments[0])?;
-    let right = type_of(alloc, visible, &arguments[1])?;
+    let left = type_of(alloc, scope, &arguments[0])?;
+    let right = type_of(alloc, scope, &arguments[1])?;
     pick_term(alloc, pick, at, left, right)
 }
 
@@ -358,12 +438,12 @@ fn pick_of_two(
 #[tactic(auto, using(crate::proofs::Arguments::counted), unfolding(texts::specs::Typing::type_of))]
 fn call_term(
     alloc: Global,
-    visible: &Visible,
+    scope: &Scope,
     at: Site,
     name: &str,
     arguments: &[Expr],
 ) -> Result<TypedTerm, TypeError>
-    ensures { IsTyped result (typing.type_of (names visible.now) (surface.Call (site at) name.now (expressions arguments.now))) }
+    ensures { IsTyped result (typing.type_of (devices scope.now.devices) (names scope.now.visible) (surface.Call (site at) name.now (expressions arguments.now))) }
 {
     if is_left_out(name) {
         return Err(TypeError::At {
@@ -372,7 +452,7 @@ fn call_term(
         });
     }
     if let Some(function) = function_named(name) {
-        return id_term(function, at, arguments);
+        return id_term(scope.devices.size_kind(), function, at, arguments);
     }
     let Some(pick) = pick_named(name) else {
         return Err(TypeError::At {
@@ -386,15 +466,15 @@ fn call_term(
             site: at,
         });
     }
-    pick_of_two(alloc, visible, pick, at, arguments)
+    pick_of_two(alloc, scope, pick, at, arguments)
 }
 
-/// The kind and the term of an expression, where it is well typed among the visible names; else its first broken rule, from left to
+/// The kind and the term of an expression, where it is well typed among the visible names, for these devices; else its first broken rule, from left to
 /// right.
 #[cycle(typing)]
 #[tactic(auto, using(syntax::proofs::Rows::seen_call), unfolding(texts::specs::Typing::type_of))]
-pub fn type_of(alloc: Global, visible: &Visible, e: &Expr) -> Result<TypedTerm, TypeError>
-    ensures { IsTyped result (typing.type_of (names visible.now) (expression e.now)) }
+pub fn type_of(alloc: Global, scope: &Scope, e: &Expr) -> Result<TypedTerm, TypeError>
+    ensures { IsTyped result (typing.type_of (devices scope.now.devices) (names scope.now.visible) (expression e.now)) }
 {
     match e {
         Expr::Number { kind, value, .. } => Ok(TypedTerm {
@@ -404,23 +484,26 @@ pub fn type_of(alloc: Global, visible: &Visible, e: &Expr) -> Result<TypedTerm, 
                 value: *value,
             },
         }),
-        Expr::Name { site, name } => variable_term(*site, meaning_of(visible, name.as_str())),
+        Expr::Name { site, name } => variable_term(
+            *site,
+            meaning_of(&scope.visible, name.as_str()),
+        ),
         Expr::Element { site, name, index } => {
-            let element = array_of(*site, meaning_of(visible, name.as_str()))?;
-            let index = type_of(alloc, visible, index)?;
+            let element = array_of(*site, meaning_of(&scope.visible, name.as_str()))?;
+            let index = type_of(alloc, scope, index)?;
             load_term(alloc, *site, element, index)
         }
         Expr::Call {
             site,
             name,
             arguments,
-        } => call_term(alloc, visible, *site, name.as_str(), arguments.as_slice()),
+        } => call_term(alloc, scope, *site, name.as_str(), arguments.as_slice()),
         Expr::Prefix { site, sign, of } => {
-            let of = type_of(alloc, visible, of)?;
+            let of = type_of(alloc, scope, of)?;
             prefix_term(alloc, *sign, *site, of)
         }
         Expr::Cast { site, kind, of } => {
-            let of = type_of(alloc, visible, of)?;
+            let of = type_of(alloc, scope, of)?;
             cast_term(alloc, *kind, *site, of)
         }
         Expr::Infix {
@@ -429,8 +512,8 @@ pub fn type_of(alloc: Global, visible: &Visible, e: &Expr) -> Result<TypedTerm, 
             left,
             right,
         } => {
-            let first = type_of(alloc, visible, left)?;
-            let second = type_of(alloc, visible, right)?;
+            let first = type_of(alloc, scope, left)?;
+            let second = type_of(alloc, scope, right)?;
             infix_term(alloc, *sign, *site, right, first, second)
         }
         Expr::Conditional {
@@ -439,9 +522,9 @@ pub fn type_of(alloc: Global, visible: &Visible, e: &Expr) -> Result<TypedTerm, 
             taken,
             skipped,
         } => {
-            let test = type_of(alloc, visible, test)?;
-            let taken = type_of(alloc, visible, taken)?;
-            let skipped = type_of(alloc, visible, skipped)?;
+            let test = type_of(alloc, scope, test)?;
+            let taken = type_of(alloc, scope, taken)?;
+            let skipped = type_of(alloc, scope, skipped)?;
             conditional_term(alloc, *site, test, taken, skipped)
         }
     }

@@ -4,12 +4,17 @@ ghost use Rattle.std.specs.Prelude.{◌≡◌, ℕ, List, Bool, true, false, IfO
 ghost use Rattle.certificate.specs.Certificates.{certificate as certificate_seen};
 ghost use Rattle.cert_check.specs.Refusing.{RefusesBy};
 ghost use Rattle.proof_search.specs.Searching.{AreSearched, IsCount, TellsOf, text_by, text_found};
+ghost use Rattle.texts.specs.Scope.{Narrow};
+ghost use Rattle.reading.specs.Kernels as kernels;
+ghost use Rattle.reading.specs.Kernels.{text_for};
+ghost use Rattle.reading.specs.Sources.{source};
 ghost use Rattle.verify.specs.Verifying.{IsVerified, IsVerifiedBy};
 
 use cert_check::error::{CheckError, ShowError};
 use cert_check::{Accepted, check_as};
 use certificate::Certificate;
 use proof_search::{Effort, Found, Unwatched, VerifyError, Watcher, find_watched};
+use reading::{Source, narrow};
 use std::alloc::Global;
 use std::sync::Wait;
 use std::thread::Threads;
@@ -26,7 +31,7 @@ pub struct Verified {
 
 /// The error of `prove` where a certificate that was found does not show what it has to: no findings stand in it.
 fn unshown(alloc: Global, error: ShowError) -> VerifyError
-    ensures { (is_wide : Bool) (workers : ℕ) (k c : List ℕ) → IsCount workers → AreSearched is_wide k c → TellsOf is_wide result workers k c }
+    ensures { (is_wide : Bool) (workers : ℕ) (k : kernels.Source) (c : List ℕ) → IsCount workers → AreSearched is_wide k c → TellsOf is_wide result workers k c }
 {
     match error {
         ShowError::NotShown(_) => VerifyError::NotShown(Vec::new(alloc)),
@@ -37,7 +42,7 @@ fn unshown(alloc: Global, error: ShowError) -> VerifyError
 /// The error of `prove` where the check refuses the certificate that was found.
 #[tactic(auto, using(crate::proofs::Unproved::told))]
 fn unproved(alloc: Global, error: CheckError) -> VerifyError
-    ensures { (is_wide : Bool) (workers : ℕ) (k c p : List ℕ) → IsCount workers → RefusesBy is_wide error k c p → TellsOf is_wide result workers k c }
+    ensures { (is_wide : Bool) (workers : ℕ) (k : kernels.Source) (c p : List ℕ) → IsCount workers → RefusesBy is_wide error k c p → TellsOf is_wide result workers k c }
 {
     match error {
         CheckError::Show(error) => unshown(alloc, error),
@@ -48,14 +53,14 @@ fn unproved(alloc: Global, error: CheckError) -> VerifyError
 /// A kernel that is proved with this certificate, as the check has it; or why it is not.
 fn verify_with(
     alloc: Global,
-    kernel: &[u8],
+    kernel: Source<'_>,
     conditions: &[u8],
     found: Found,
     is_wide: bool,
 ) -> Result<Verified, CheckError>
     requires { found.text.items ≡ text_by is_wide (certificate_seen found.certificate) }
-    ensures verified { IfOk result (λ v. IsVerifiedBy is_wide kernel.now conditions.now (text_by is_wide (certificate_seen v.certificate)) v.accepted) }
-    ensures refused { IfErr result (λ e. RefusesBy is_wide e kernel.now conditions.now found.text.items) }
+    ensures verified { IfOk result (λ v. IsVerifiedBy is_wide (source kernel.entry) conditions.now (text_by is_wide (certificate_seen v.certificate)) v.accepted) }
+    ensures refused { IfErr result (λ e. RefusesBy is_wide e (source kernel.entry) conditions.now found.text.items) }
 {
     let Found { certificate, text } = found;
     match check_as(alloc, kernel, conditions, &text, is_wide) {
@@ -71,14 +76,14 @@ fn verify_with(
 fn verify_narrowly<R: Threads + Wait + Sync, W: Watcher>(
     rt: &R,
     alloc: Global,
-    kernel: &[u8],
+    kernel: Source<'_>,
     conditions: &[u8],
     effort: Effort,
     watcher: &W,
 ) -> Result<Verified, VerifyError>
-    ensures verified { IfOk result (λ v. IsVerifiedBy effort.is_wide kernel.now conditions.now (text_by effort.is_wide (certificate_seen v.certificate)) v.accepted) }
+    ensures verified { IfOk result (λ v. IsVerifiedBy effort.is_wide (source kernel.entry) conditions.now (text_by effort.is_wide (certificate_seen v.certificate)) v.accepted) }
     ensures workers { IfOk result (λ _. IsCount effort.workers) }
-    ensures told { IfErr result (λ e. TellsOf effort.is_wide e effort.workers kernel.now conditions.now) }
+    ensures told { IfErr result (λ e. TellsOf effort.is_wide e effort.workers (source kernel.entry) conditions.now) }
 {
     let narrowly = Effort {
         workers: effort.workers,
@@ -100,14 +105,14 @@ fn verify_narrowly<R: Threads + Wait + Sync, W: Watcher>(
 pub fn verify_watched<R: Threads + Wait + Sync, W: Watcher>(
     rt: &R,
     alloc: Global,
-    kernel: &[u8],
+    kernel: Source<'_>,
     conditions: &[u8],
     effort: Effort,
     watcher: &W,
 ) -> Result<Verified, VerifyError>
-    ensures verified { IfOk result (λ v. IsVerifiedBy effort.is_wide kernel.now conditions.now (text_by effort.is_wide (certificate_seen v.certificate)) v.accepted) }
+    ensures verified { IfOk result (λ v. IsVerifiedBy effort.is_wide (source kernel.entry) conditions.now (text_by effort.is_wide (certificate_seen v.certificate)) v.accepted) }
     ensures workers { IfOk result (λ _. IsCount effort.workers) }
-    ensures told { IfErr result (λ e. TellsOf effort.is_wide e effort.workers kernel.now conditions.now) }
+    ensures told { IfErr result (λ e. TellsOf effort.is_wide e effort.workers (source kernel.entry) conditions.now) }
 {
     let found = match find_watched(rt, alloc, kernel, conditions, effort, watcher) {
         Ok(found) => found,
@@ -136,16 +141,16 @@ pub fn verify<R: Threads + Wait + Sync>(
     conditions: &[u8],
     workers: u32,
 ) -> Result<Verified, VerifyError>
-    ensures verified { IfOk result (λ v. IsVerified kernel.now conditions.now (certificate_seen v.certificate) v.accepted) }
+    ensures verified { IfOk result (λ v. IsVerified (text_for Narrow kernel.now) conditions.now (certificate_seen v.certificate) v.accepted) }
     ensures workers { IfOk result (λ _. IsCount workers) }
-    ensures told { IfErr result (λ e. TellsOf false e workers kernel.now conditions.now) }
+    ensures told { IfErr result (λ e. TellsOf false e workers (text_for Narrow kernel.now) conditions.now) }
 {
     let effort = Effort {
         workers,
         is_wide: false,
         may_widen: false,
     };
-    verify_watched(rt, alloc, kernel, conditions, effort, &Unwatched)
+    verify_watched(rt, alloc, narrow(kernel), conditions, effort, &Unwatched)
 }
 
 /// As `verify`, also under conditions of version 2, with a certificate that is wide where one that is not shows too little: it is found by
@@ -157,14 +162,14 @@ pub fn verify_wide<R: Threads + Wait + Sync>(
     conditions: &[u8],
     workers: u32,
 ) -> Result<Verified, VerifyError>
-    ensures verified { IfOk result (λ v. IsVerifiedBy true kernel.now conditions.now (text_found (certificate_seen v.certificate)) v.accepted) }
+    ensures verified { IfOk result (λ v. IsVerifiedBy true (text_for Narrow kernel.now) conditions.now (text_found (certificate_seen v.certificate)) v.accepted) }
     ensures workers { IfOk result (λ _. IsCount workers) }
-    ensures told { IfErr result (λ e. TellsOf true e workers kernel.now conditions.now) }
+    ensures told { IfErr result (λ e. TellsOf true e workers (text_for Narrow kernel.now) conditions.now) }
 {
     let effort = Effort {
         workers,
         is_wide: true,
         may_widen: true,
     };
-    verify_watched(rt, alloc, kernel, conditions, effort, &Unwatched)
+    verify_watched(rt, alloc, narrow(kernel), conditions, effort, &Unwatched)
 }

@@ -68,7 +68,7 @@ module _ {E : Type 0} (g : Ghosts E) (core : Core) (c : Conditions) (said : code
       (λ i. all_by g (record { is_wide = has_wide i; joins = has_joins i; domain = g; known = has_known i; sizes = ap three has_sizes i; buffers = has_buffers i; arrays = has_arrays i; contents = has_contents i; has_entry = λ m. slice_index_or (has_entries i) m false }) k (seen said (has_entries i)) m ps)
       ∙ all_by_is g k c n m ps
 
-  trees_are : found ≡ all_trees g k c n
+  pub trees_are : found ≡ all_trees g k c n
   trees_are = from_are 0 (map places.place all) ∙ ap (planted_from g k c n 0) are
 
   stuck_at : (x : FindError) → IsAnyStuck (all_trees g k c n) x → IsUnfound g k c n x

@@ -1,5 +1,7 @@
 pub mod AllFound
+pub mod AtHand
 pub mod Behind
+pub mod CursorSteps
 pub mod EveryPlace
 pub mod Fits
 pub mod Last
@@ -8,5 +10,6 @@ pub mod OnePath
 pub mod OnePlace
 pub mod Onward
 pub mod OwnForms
+pub mod Stepping
 pub mod Stuck
 pub mod Trees

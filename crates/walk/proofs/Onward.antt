@@ -32,19 +32,19 @@ ends_more : {E : Type 0} (ps : List (Path E)) (p : Path E) → all_ends (ps ++ p
 ends_more [] p = append-nil (followed p).found.ends
 ends_more (q ∷ ps) p = ap (λ l. (followed q).found.ends ++ l) (ends_more ps p) ∙ sym (append_assoc (followed q).found.ends (all_ends ps) (followed p).found.ends)
 
-taken_seen : {E : Type 0} (p : Path E) → (followed p).found.taken ≡ map choice p.taken.items
+pub taken_seen : {E : Type 0} (p : Path E) → (followed p).found.taken ≡ map choice p.taken.items
 unfolding followed
 taken_seen p = refl
 
-count_seen : {E : Type 0} (p : Path E) → (followed p).found.count ≡ p.count
+pub count_seen : {E : Type 0} (p : Path E) → (followed p).found.count ≡ p.count
 unfolding followed
 count_seen p = refl
 
-ends_length : {E : Type 0} (p : Path E) → length (followed p).found.ends ≡ length p.ends.items
+pub ends_length : {E : Type 0} (p : Path E) → length (followed p).found.ends ≡ length p.ends.items
 unfolding followed
 ends_length p = length-map p.ends.items (ended_seen (forms p.facts.items) p.news.items p.narrowed.items)
 
-fit_seen : {E : Type 0} (p : Path E) → (followed p).found.is_fit ≡ true
+pub fit_seen : {E : Type 0} (p : Path E) → (followed p).found.is_fit ≡ true
 unfolding followed
 fit_seen p = refl
 
@@ -53,21 +53,21 @@ pub next_from : {E : Type 0} (p : Path E) (x : Option (List Choice)) (taken : Li
 next_from p x taken e d = e ∙ ap (λ l. next_choices (map choice l) p.count) d
 
 -- as many ends are listed as there are leaves
-all_counted : {E : Type 0} (facts : List Fact) (n : ℕ) (t : Tree E) → length (from listed_ends facts [] n t) ≡ leaves n t
+pub all_counted : {E : Type 0} (facts : List Fact) (n : ℕ) (t : Tree E) → length (from listed_ends facts [] n t) ≡ leaves n t
 all_counted facts n t = ap length (tree_ends facts n t) ∙ ends_counted facts n t
 
 module _ {E : Type 0} (facts : List Fact) (n : ℕ) (t : Tree E) where
   module _ (p : Path E) (cs : List Choice) (d : (followed p).found ≡ collect (begun facts n cs) t) where
-    path_claims : (followed p).found.claims ≡ along listed_claims facts cs n t
+    pub path_claims : (followed p).found.claims ≡ along listed_claims facts cs n t
     path_claims = ap (λ (m : Found E). m.claims) d ∙ found_claims (begun facts n cs) t
 
-    path_accesses : (followed p).found.accesses ≡ along listed_accesses facts cs n t
+    pub path_accesses : (followed p).found.accesses ≡ along listed_accesses facts cs n t
     path_accesses = ap (λ (m : Found E). m.accesses) d ∙ found_accesses (begun facts n cs) t
 
-    path_ends : (followed p).found.ends ≡ along listed_ends facts cs n t
+    pub path_ends : (followed p).found.ends ≡ along listed_ends facts cs n t
     path_ends = ap (λ (m : Found E). m.ends) d ∙ found_ends (begun facts n cs) t
 
-    path_count : p.count ≡ count_in cs n t
+    pub path_count : p.count ≡ count_in cs n t
     path_count = sym (count_seen p) ∙ ap (λ (m : Found E). m.count) d ∙ found_count (begun facts n cs) t
 
     pub next_is : (x : Option (List Choice)) → x ≡ next_choices (map choice p.taken.items) p.count → x ≡ next_choices (taken_in cs t) (count_in cs n t)

@@ -1,8 +1,12 @@
 pub mod Behind
+pub mod Cursors
 pub mod Fitting
+pub mod Given
 pub mod Owned
 pub mod Paths
 pub mod Planting
+pub mod Stepped
+pub mod Steps
 pub mod Unfound
 pub mod View
 pub mod Walked

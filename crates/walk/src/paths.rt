@@ -43,7 +43,7 @@ pub struct FromPlace<D> {
 }
 
 /// The count of paths that came to an end, with so many more; an error where there would be more than 256.
-fn count_ends(statement: Option<u32>, ends: usize, more: usize) -> Result<usize, FindError>
+pub fn count_ends(statement: Option<u32>, ends: usize, more: usize) -> Result<usize, FindError>
     requires { ends ≤ 256 }
     ensures { MatchResult result (λ n. (n ≡ ends + more) × (n ≤ 256)) (λ e. (e ≡ errors.ManyPaths statement) × (256 < ends + more)) }
 {

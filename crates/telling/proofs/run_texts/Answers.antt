@@ -1,3 +1,4 @@
+use Rattle.reading.specs.Sources.{source}
 use Rattle.std.proofs.Common.{◌≡◌, ap, ◌∙◌, subst}
 use Rattle.std.specs.Prelude.{Ok}
 use Rattle.std.specs.String.{string_bytes}
@@ -22,7 +23,7 @@ returns-in-Ok-write_buffers g c =
     let t = typed_of a in
     let l = c.in-Ok-read_launch.launch in
     let b = c.in-Ok-run.buffers in
-    let k = c.args.texts.kernel.now in (
+    let k = (source c.args.texts.kernel) in (
       kernel_seen t,
       conditions (kept a),
       launch l,
@@ -43,20 +44,20 @@ returns-in-Ok-write_buffers g c =
 pub returns-in-Err : goal.returns-in-Err
 returns-in-Err g c =
     let t = c.args.texts in
-    unaccepted_run c.args.is_wide t.kernel.now t.conditions.now t.certificate.now c.args.launch.now c.args.workers c.unaccepted.result c.in-Err.error c.in-Err.ensures.refused c.unaccepted.ensures
+    unaccepted_run c.args.is_wide (source t.kernel) t.conditions.now t.certificate.now c.args.launch.now c.args.workers c.unaccepted.result c.in-Err.error c.in-Err.ensures.refused c.unaccepted.ensures
 
 pub returns-in-Err-read_launch : goal.returns-in-Err-read_launch
 returns-in-Err-read_launch g c =
     let t = typed_of c.in-Ok.accepted in
     let x = c.args.texts in
-    let safe = is_safe c.args.is_wide x.kernel.now x.conditions.now t (kept c.in-Ok.accepted) (c.bytes_are_the_text_of_what_is_read.ensures x.kernel.now (kernel_seen t) c.in-Ok.ensures.kernel) (c.what_is_read_of_conditions_is_their_text.ensures c.args.is_wide (kernel t.0).parameters x.conditions.now (lined (kept c.in-Ok.accepted)) c.in-Ok.ensures.conditions) c.in-Ok.ensures.headline in
-    unread_run c.args.is_wide x.kernel.now x.conditions.now x.certificate.now c.args.launch.now c.args.workers c.unread.result c.in-Err-read_launch.error (kernel_seen t) (conditions (kept c.in-Ok.accepted)) safe
+    let safe = is_safe c.args.is_wide (source x.kernel) x.conditions.now t (kept c.in-Ok.accepted) (c.bytes_are_the_text_of_what_is_read.ensures (source x.kernel) (kernel_seen t) c.in-Ok.ensures.kernel) (c.what_is_read_of_conditions_is_their_text.ensures c.args.is_wide (kernel t.0).parameters x.conditions.now (lined (kept c.in-Ok.accepted)) c.in-Ok.ensures.conditions) c.in-Ok.ensures.headline in
+    unread_run c.args.is_wide (source x.kernel) x.conditions.now x.certificate.now c.args.launch.now c.args.workers c.unread.result c.in-Err-read_launch.error (kernel_seen t) (conditions (kept c.in-Ok.accepted)) safe
     (subst (λ t. texts.Refuses c.in-Err-read_launch.error (launch_of (kernel t.0).parameters c.args.launch.now)) c.typed.ensures.value c.in-Err-read_launch.ensures.value) c.unread.ensures
 
 pub returns-in-Err-run : goal.returns-in-Err-run
 returns-in-Err-run g c =
     let t = typed_of c.in-Ok.accepted in
     let x = c.args.texts in
-    let safe = is_safe c.args.is_wide x.kernel.now x.conditions.now t (kept c.in-Ok.accepted) (c.bytes_are_the_text_of_what_is_read.ensures x.kernel.now (kernel_seen t) c.in-Ok.ensures.kernel) (c.what_is_read_of_conditions_is_their_text.ensures c.args.is_wide (kernel t.0).parameters x.conditions.now (lined (kept c.in-Ok.accepted)) c.in-Ok.ensures.conditions) c.in-Ok.ensures.headline in
-    not_run c.args.is_wide x.kernel.now x.conditions.now x.certificate.now c.args.launch.now c.not_run.result c.in-Err-run.error (kernel_seen t) (kept c.in-Ok.accepted) c.in-Ok-read_launch.launch c.args.workers safe
+    let safe = is_safe c.args.is_wide (source x.kernel) x.conditions.now t (kept c.in-Ok.accepted) (c.bytes_are_the_text_of_what_is_read.ensures (source x.kernel) (kernel_seen t) c.in-Ok.ensures.kernel) (c.what_is_read_of_conditions_is_their_text.ensures c.args.is_wide (kernel t.0).parameters x.conditions.now (lined (kept c.in-Ok.accepted)) c.in-Ok.ensures.conditions) c.in-Ok.ensures.headline in
+    not_run c.args.is_wide (source x.kernel) x.conditions.now x.certificate.now c.args.launch.now c.not_run.result c.in-Err-run.error (kernel_seen t) (kept c.in-Ok.accepted) c.in-Ok-read_launch.launch c.args.workers safe
     (subst (λ t. launch_of (kernel t.0).parameters c.args.launch.now ≡ Ok (reading.launch c.in-Ok-read_launch.launch)) c.typed.ensures.value c.in-Ok-read_launch.ensures.value) c.in-Err-run.ensures.answers c.not_run.ensures

@@ -4,7 +4,7 @@ use Rattle.texts.specs.ConditionsReading.{conditions_of}
 use Rattle.syntax.specs.View.{kernel as tree_of, parameter}
 use Rattle.core_code.specs.View.{kernel as core_of}
 use Rattle.launch_text.specs.View as view
-use Rattle.launch_text.proofs.Parameters.{kernel_back}
+use Rattle.launch_text.proofs.Parameters.{elaborated_back}
 use Rattle.launch_text.proofs.ConditionsFit.{conditions_fit}
 use Rattle.launch_text.proofs.LeastFits.{conditions_meant}
 use Rattle.launch_text.proofs.reader.read_conditions_as.Goals as goal
@@ -12,7 +12,7 @@ use Rattle.launch_text.proofs.reader.read_conditions_as.Goals as goal
 pub returns-clause-of : goal.returns-clause-of
 returns-clause-of c =
     let tree = tree_of c.args.typed.now.0 in
-    let own = kernel_back tree (core_of c.args.typed.now.1) c.kernel-tree.ensures.typed in
+    let own = elaborated_back tree (core_of c.args.typed.now.1) c.kernel-tree.ensures.typed in
     let text = c.args.text.now in
     let may = c.args.may_be_two in
     let read : conditions_of may tree.parameters text ≡ Ok (view.lined c.in_ok-conditions.conditions) =

@@ -2,4 +2,4 @@ use Rattle.printer.proofs.ReadBack.{read-printable, read-numbered, read-opens}
 use Rattle.printer.proofs.laws.what_is_read_can_be_printed.Goals as goal
 
 pub returns : goal.returns
-returns c = λ bytes k h. (read-printable bytes k h, read-numbered bytes k h, read-opens bytes k h)
+returns c = λ s k h. (read-printable s k h, read-numbered s k h, read-opens s k h)

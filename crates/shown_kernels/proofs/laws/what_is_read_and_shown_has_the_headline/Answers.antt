@@ -6,8 +6,8 @@ use Rattle.shown_kernels.proofs.Sizes.{sizes}
 use Rattle.shown_kernels.proofs.laws.what_is_read_and_shown_has_the_headline.Goals as goal
 
 pub returns : goal.returns
-returns g c = λ bytes k conditions n l is met tell are shown fits meets.
+returns g c = λ text k conditions n l is met tell are shown fits meets.
     let s : Setup = at_launch k.core l in
-    let z = sizes k.core l (c.what_is_read_is_proper.ensures bytes k is) in
-    let sound = c.what_is_read_is_sound_where_barriers_are_met.ensures bytes k s is refl met in
+    let z = sizes k.core l (c.what_is_read_is_proper.ensures text k is) in
+    let sound = c.what_is_read_is_sound_where_barriers_are_met.ensures text k s is refl met in
     c.headline_within.ensures conditions.contents s (cost (turns_at n) k.core.body) z.1 (c.what_is_shown_by_places_is_safe_within_its_cost.ensures k.core conditions n l z.0 tell are shown fits meets sound) (c.launches_begin_kept.ensures s conditions fits meets)

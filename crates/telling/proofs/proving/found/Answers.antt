@@ -1,3 +1,4 @@
+use Rattle.reading.specs.Sources.{source}
 use Rattle.std.proofs.Common.{◌≡◌, sym, subst}
 use Rattle.std.specs.Prelude.{IfSome}
 use Rattle.semantics.specs.Conditions.{Meets}
@@ -20,11 +21,11 @@ pub returns-in-Ok-lines-clause-proved : goal.returns-in-Ok-lines-clause-proved
 returns-in-Ok-lines-clause-proved g c =
     let a = c.in-Ok.verified.accepted in
     let t = typed_of a in
-    let k = c.args.kernel.now in
+    let k = (source c.args.kernel) in
     let o = c.args.conditions.now in
     let is = c.in-Ok.ensures.verified in
     let text = c.bytes_are_the_text_of_what_is_read.ensures k (kernel_seen t) is.kernel in
-    let own = kernel_back (kernel t.0) (core t.1) text.is_typed in
+    let own = kernel_back k.devices (kernel t.0) (core t.1) text.is_typed in
     let of = conditions_fit c.args.effort.is_wide (core t.1) (kernel t.0).parameters own.0 own.1 o (lined (kept a)) is.conditions in (
       kernel_seen t,
       kept a,

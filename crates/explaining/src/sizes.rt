@@ -1,0 +1,132 @@
+//! Where a kernel computes with ids that are not cast, whose bits differ from device to device.
+
+ghost use Rattle.std.specs.Prelude.{◌≡◌, ◌++◌, ℕ, List, OnOk};
+ghost use Rattle.std.specs.String.{string_bytes};
+
+use crate::hints::order_of;
+use crate::paragraph::push_paragraph;
+use crate::parts::{statements_of, terms_of};
+use crate::source::push_site;
+use core_code::tree::{Core, Site, Term};
+use reading::{KernelError, Source, read_source};
+use std::alloc::{AllocError, Global};
+use types::devices::Devices;
+use words::Kind;
+
+/// What a kernel does on devices with other address bits.
+const COMPUTED: &str =
+    "The kernel computes with an id or a size that is not cast. This answer is for devices with 32 address bits, where that is \
+    done modulo 2^32; a device with 64 computes with 64 bits.";
+
+/// What it means that a kernel is accepted for any devices, too.
+const SAME: &str =
+    "With --devices any the kernel is accepted, too: it has the same results on every device.";
+
+/// What helps where it is not.
+const CAST: &str =
+    "Where 32 bits are meant, cast the id: (uint)get_global_id(0) is the same on every device.";
+
+/// The place of an operator that computes with a size.
+fn size_at(term: &Term) -> Option<Site> {
+    match term {
+        Term::Unary {
+            kind: Kind::Size,
+            site,
+            ..
+        }
+        | Term::Binary {
+            kind: Kind::Size,
+            site,
+            ..
+        } => Some(*site),
+        _ => None,
+    }
+}
+
+/// The first one of two places in the source.
+fn first_of(one: Option<Site>, other: Site) -> Site {
+    match one {
+        Some(site) if order_of(site) <= order_of(other) => site,
+        _ => other,
+    }
+}
+
+/// The first operator of a kernel, in the order of the source, that computes with a size.
+fn first_operator(alloc: Global, core: &Core) -> Result<Option<Site>, AllocError> {
+    let mut first = None;
+    let statements = statements_of(alloc, core.body.as_slice())?;
+    for statement in &statements {
+        let terms = terms_of(alloc, statement)?;
+        for term in &terms {
+            if let Some(site) = size_at(term) {
+                first = Some(first_of(first, site));
+            }
+        }
+    }
+    Ok(first)
+}
+
+/// The place where a kernel that is refused for any devices breaks a rule.
+fn fault_of(error: &KernelError) -> Option<Site> {
+    match error.place() {
+        Some((line, column)) => Some(Site { line, column }),
+        None => None,
+    }
+}
+
+/// The first place where a kernel's text computes with a size, or is no kernel for any devices; none where there is none.
+fn first_place(alloc: Global, kernel: &[u8]) -> Result<Option<Site>, AllocError> {
+    let source = Source {
+        devices: Devices::Any,
+        bytes: kernel,
+    };
+    match read_source(alloc, source) {
+        Ok(typed) => first_operator(alloc, typed.core()),
+        Err(error) => Ok(fault_of(&error)),
+    }
+}
+
+/// Whether a kernel computes with ids or sizes that are not cast: by an operator, and not only by an index, a comparison or a conversion.
+pub fn computes_with_sizes(alloc: Global, kernel: &[u8]) -> Result<bool, AllocError> {
+    let place = first_place(alloc, kernel)?;
+    Ok(place.is_some())
+}
+
+/// Where a kernel computes with sizes, and what is said of it for any devices: the number of its refusal, or that it is accepted.
+fn told_sizes(
+    alloc: Global,
+    kernel: &[u8],
+    site: Site,
+    refusal: Option<u8>,
+) -> Result<String, AllocError> {
+    let mut out = String::new(alloc);
+    out.push_str("\n")?;
+    push_paragraph(&mut out, "", COMPUTED)?;
+    push_site(alloc, &mut out, kernel, site, false, "computed with an id")?;
+    match refusal {
+        None => push_paragraph(&mut out, "", SAME)?,
+        Some(number) => {
+            let refused = format!(in alloc; "With --devices any it is refused by {number}.")?;
+            push_paragraph(&mut out, "", &refused)?;
+            push_paragraph(&mut out, "", CAST)?;
+        }
+    }
+    Ok(out)
+}
+
+/// Adds to a text where an accepted kernel computes with ids or sizes that are not cast, and what is said of it for any devices: the number
+/// by which it is refused, or that it is accepted.
+pub fn explain_sizes(
+    alloc: Global,
+    kernel: &[u8],
+    refusal: Option<u8>,
+    out: &mut String,
+) -> Result<(), AllocError>
+    ensures { OnOk result ((more : List ℕ) × (string_bytes out.new ≡ string_bytes out.old ++ more)) }
+{
+    let Some(site) = first_place(alloc, kernel)? else {
+        return out.push_str("");
+    };
+    let text = told_sizes(alloc, kernel, site, refusal)?;
+    out.push_str(&text)
+}

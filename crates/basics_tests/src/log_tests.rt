@@ -1,7 +1,7 @@
 //! A log's records, by its list and by its map.
 
 use std::alloc::{AllocError, Global};
-use words::Word;
+use words::{Kind, Word};
 use write_log::WriteLog;
 
 /// Whether a log has just these records, in this order.
@@ -17,7 +17,7 @@ fn has_records(
 /// Whether a run of words and one word behind it are recorded.
 fn records_a_run(alloc: Global) -> Result<bool, AllocError> {
     let mut log = WriteLog::new(alloc);
-    log.note_run(0, 3, &[Word::Uint(4); 2])?;
+    log.note_run(0, 3, Kind::Uint, &[4; 2])?;
     log.note(1, 2, Word::Uint(8))?;
     let wanted = [
         ((0, 3), Word::Uint(4)),

@@ -1,5 +1,5 @@
-//! What it tells of places that variables step by what is no number but a form of the launch, as the number of all items: that their ways are
-//! multiples of it, and how these compare with the ways of variables that step by numbers.
+//! What it tells of places that variables step by what is no number but a form of the launch, as the number of all items: that their ways
+//! are multiples of it, and how these compare with the ways of variables that step by numbers.
 
 use crate::courses::{Course, Courses};
 use crate::gathering::Gathering;

@@ -62,8 +62,8 @@ IsTold tree (shows.Walk e) told = told ≡ errors.Show (shows.Walk e)
 IsTold tree shows.OverBudget told = told ≡ errors.Show shows.OverBudget
 IsTold tree shows.Memory told = told ≡ errors.Show shows.Memory
 
--- what an error tells once the kernel and the conditions are read; want of memory may be told as theirs; the check is the wide one, or it is
--- not
+-- what an error tells once the kernel and the conditions are read; want of memory may be told as theirs; the check is the wide one, or it
+-- is not
 abbrev pub StopsBy : (is_wide : Bool) → Kernel × Core → Conditions → (certificate : List ℕ) → CheckError → Type 0
 StopsBy is_wide typed c certificate (errors.Kernel e) = ⊥
 StopsBy is_wide typed c certificate (errors.Conditions e) = e ≡ launches.Memory

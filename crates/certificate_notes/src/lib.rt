@@ -1,8 +1,8 @@
 //! Section: Gate. Promises what a certificate says of a kernel's places and loops, as notes, or that the kernel lacks what it names; stands
 //! on `certificate`, `places` and `obligations`.
 //!
-//! The lines of a certificate about places and loops become notes: names become symbols of the place where they stand, and forms of the text
-//! forms of the walk. What names anything that the kernel lacks becomes none.
+//! The lines of a certificate about places and loops become notes: names become symbols of the place where they stand, and forms of the
+//! text forms of the walk. What names anything that the kernel lacks becomes none.
 #![tactic(auto)]
 
 mod chart;

@@ -313,8 +313,8 @@ fn refilled(
     }))
 }
 
-/// What an attempt does not show in the end: where fewer claims and pairs of ends are among it than in any attempt so far, pairs of accesses
-/// are looked at as well.
+/// What an attempt does not show in the end: where fewer claims and pairs of ends are among it than in any attempt so far, pairs of
+/// accesses are looked at as well.
 fn failed<R: Threads + Sync, W: Watcher>(
     rt: &R,
     alloc: Global,

@@ -175,8 +175,8 @@ fn table_of<R: Threads + Sync, W: Watcher>(
     table_named(rt, alloc, subject, &names, &course, candidates)
 }
 
-/// The table of what guesses for a kernel under conditions rest on, 512 at most: of each guess its obligations in a walk with all of them, of
-/// each obligation the guesses by which the search shows it, if it does.
+/// The table of what guesses for a kernel under conditions rest on, 512 at most: of each guess its obligations in a walk with all of them,
+/// of each obligation the guesses by which the search shows it, if it does.
 pub fn table<R: Threads + Sync>(
     rt: &R,
     alloc: Global,

@@ -19,8 +19,8 @@ struct Opening {
     facts: Vec<Form>,
 }
 
-/// An obligation is the claim that the ranking of the loop of this number is at most `UNLIMITED`, which stands where the loop opens, or, where
-/// the ranking doubles, at each true test.
+/// An obligation is the claim that the ranking of the loop of this number is at most `UNLIMITED`, which stands where the loop opens, or,
+/// where the ranking doubles, at each true test.
 fn is_opening(found: &Obligations<Elements>, part: Part, number: u32) -> bool {
     let Part::Claim(at) = part else {
         return false;

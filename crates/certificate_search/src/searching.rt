@@ -132,8 +132,8 @@ struct Stage<'a> {
     choices: u32,
 }
 
-/// The stages of a search: guesses of the ranks up to 2, 3 and 4, each with at most eight choices of rankings, and last the least menu alone,
-/// with the first one.
+/// The stages of a search: guesses of the ranks up to 2, 3 and 4, each with at most eight choices of rankings, and last the least menu
+/// alone, with the first one.
 fn stage_of(options: &[Options], rank: u32) -> Stage<'_> {
     Stage {
         options,

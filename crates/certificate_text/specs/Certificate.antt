@@ -88,8 +88,8 @@ pub record Entry : Type 0 where
   pub lemmas : List Lemma
   pub steps : List Step
 
--- in a wide certificate loops may double, names, places and entries have what stands behind the first nine, the first four and the first three,
--- and the walk may join ways
+-- in a wide certificate loops may double, names, places and entries have what stands behind the first nine, the first four and the first
+-- three, and the walk may join ways
 pub record Certificate : Type 0 where
   pub is_wide : Bool
   pub joins : Bool

@@ -124,7 +124,8 @@ bound_is_before left right = nat_lt left.loop right.loop
 abbrev pub entry_is_before : (left right : Entry) → Bool
 entry_is_before left right = nat_lt left.obligation right.obligation
 
--- what versions 1 and 2 have no words for is missing: the second item's symbols, products, multiples, loops that double, lemmas, ways that join
+-- what versions 1 and 2 have no words for is missing: the second item's symbols, products, multiples, loops that double, lemmas, ways that
+-- join
 abbrev pub is_narrow_name : Name → Bool
 is_narrow_name (Second name) = false
 is_narrow_name (Product first others) = false

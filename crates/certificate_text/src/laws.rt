@@ -141,8 +141,8 @@ pub fn texts_with_lemmas_are_read()
     ensures step_in_one { certificate_of (codes "certificate 1\nob 2 show\np 1 2\nend\n") ≡ Err (BadLine 3) }
 {}
 
-/// What texts of version 4 say of a certificate that joins: the line `join` stands behind the first line, and is one that faults count. Other
-/// versions have none.
+/// What texts of version 4 say of a certificate that joins: the line `join` stands behind the first line, and is one that faults count.
+/// Other versions have none.
 pub fn texts_that_join_are_read()
     ensures joined { certificate_of_four (codes "certificate 4\njoin\nplace b3\nsame x\nend\n") ≡ Ok (wide_certificate true (record { spot = record { anchor = Barrier 3; head = None }; same = codes "x" ∷ []; facts = []; congruences = []; multiples = [] } ∷ []) [] []) }
     ensures unused { certificate_of_four (codes "certificate 4\njoin\nform 1\nplace b3\nsame x\nend\n") ≡ Err (BadLine 3) }

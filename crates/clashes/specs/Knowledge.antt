@@ -54,7 +54,8 @@ HasLoads n history c (OneItem m) = Has history c m
 HasLoads n history c (OneGroup g e) = InGroup n history c g e
 HasLoads n history c Groups = InGroups n history c
 
--- of a history without a clash: what is known is of its accesses, and a later access that clashes with one of them clashes with what is known
+-- of a history without a clash: what is known is of its accesses, and a later access that clashes with one of them clashes with what is
+-- known
 pub record Knows (n : ℕ) (history : List Access) (c : Cell) (seen : Seen) : Type 0 where
   pub store : HasStore history c seen.store
   pub loads : HasLoads n history c seen.loads

@@ -36,8 +36,8 @@ impl Start {
         Ok(Start { prepared })
     }
 
-    /// Searches a list that begins with the facts in common, with products of facts where they have products of symbols. Of a list that does
-    /// not begin so, less may be found.
+    /// Searches a list that begins with the facts in common, with products of facts where they have products of symbols. Of a list that
+    /// does not begin so, less may be found.
     pub fn search(&self, alloc: Global, facts: &[Fact]) -> Result<Answer, AllocError>
         ensures { IfOk result (λ a. IsAnswer (forms facts.now) a) }
     {

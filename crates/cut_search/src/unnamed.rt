@@ -36,7 +36,8 @@ pub fn is_named(slots: &[u64], form: &Form) -> bool {
     true
 }
 
-/// The one variable of the slots for which a form without products, which is 0, is solved; none where it has two, or has one more than once.
+/// The one variable of the slots for which a form without products, which is 0, is solved; none where it has two, or has one more than
+/// once.
 fn solvable(slots: &[u64], form: &Form) -> Option<Symbol> {
     let mut found = None;
     for term in form.terms() {

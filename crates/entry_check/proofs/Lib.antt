@@ -6,3 +6,11 @@ pub mod Terms
 pub mod Flagging
 pub mod Supplying
 pub mod Alike
+pub mod Taking
+pub mod Stepping
+pub mod Ending
+pub mod Holding
+pub mod Assembling
+pub mod Concluding
+pub mod Lone
+pub mod Final

@@ -62,6 +62,6 @@ pub mapped : {T E : Type 0} (r : Result T E) (P Q : E → Type 0) → ((e : E) �
 mapped (Ok t) P Q f h = tt
 mapped (Err e) P Q f h = f e h
 
-pub gains : {T E : Type 0} (P Q : Type 0) (r : Result T E) → Q → IfOk r (λ _. P) → IfOk r (λ _. P × Q)
-gains P Q (Ok t) q p = (p, q)
-gains P Q (Err e) q p = tt
+pub ok_mapped : {T E : Type 0} (r : Result T E) (P Q : T → Type 0) → ((t : T) → P t → Q t) → IfOk r P → IfOk r Q
+ok_mapped (Ok t) P Q f h = f t h
+ok_mapped (Err e) P Q f h = tt

@@ -121,8 +121,8 @@ same_form f g = int_eq f.constant g.constant && same_terms f.terms g.terms
 abbrev pub names_one : (quotient : ℕ → Fact) → (number : ℕ) → Obligation → Bool
 names_one q n o = not (is_second_claim o.goal) || same_form (q n) (q (n - 1))
 
--- the entry of this number fits an obligation, and refutes its facts; where the obligation is the second claim of a congruence, it names the
--- quotient that the first one's entry names
+-- the entry of this number fits an obligation, and refutes its facts; where the obligation is the second claim of a congruence, it names
+-- the quotient that the first one's entry names
 abbrev pub is_refuted : Said → List Entry → (number : ℕ) → Obligation → Bool
 is_refuted s es n o = names_one s.quotient n o && found_refutes s.stated (entry_of es n) o
 

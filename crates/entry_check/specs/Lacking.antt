@@ -54,8 +54,8 @@ HasUnfit s es fits before os = (n : ℕ) × (o : Obligation) × IsNumbered befor
 abbrev pub IsStopped : Said → List Entry → (fit : Bool) → (own : ℕ) → Obligation → (number : ℕ) → Type 0
 IsStopped s es fit own o n = (n ≡ own) × IsLacking s es fit n o
 
--- an error that comes of what is to be shown: `stops` is what its number says, `many` what a statement with too many paths says, `walk` what
--- an error of a walk says
+-- an error that comes of what is to be shown: `stops` is what its number says, `many` what a statement with too many paths says, `walk`
+-- what an error of a walk says
 abbrev pub TellsBy : (stops : ℕ → Type 0) → (many : Option ℕ → Type 0) → (walk : WalkError → Type 0) → ShowError → Type 0
 TellsBy stops many walk (errors.NotShown n) = stops n
 TellsBy stops many walk (errors.ManyPaths s) = many s

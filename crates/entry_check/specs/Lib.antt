@@ -3,3 +3,7 @@ pub mod View
 pub mod Lacking
 pub mod Numbers
 pub mod Supplied
+pub mod Hand
+pub mod Tallies
+pub mod Pairs
+pub mod Held

@@ -1,19 +1,21 @@
 //! The quotients that entries of congruences name.
 
-ghost use Rattle.std.specs.Prelude.{◌≡◌, ◌≤◌, ◌<◌, ◌-◌, pos, length};
+ghost use Rattle.std.specs.Prelude.{◌≡◌, ◌<◌, ◌-◌, pos};
 ghost use Rattle.facts.specs.Symbols.{constant};
 ghost use Rattle.linear.specs.Forms.{form as form_seen};
 ghost use Rattle.linear.specs.Terms.{terms as terms_seen};
 ghost use Rattle.obligations.specs.View.{quotient_of as quotient_specs};
-ghost use Rattle.two_thread.specs.Listed.{listed, nth_obligation};
 ghost use Rattle.entry_check.specs.Entries as entries;
+ghost use Rattle.entry_check.specs.Hand.{IsHeld, obligation_at};
 
+use crate::asked::Asked;
+use crate::hand::Owed;
 use arrival_claims::quotient_of;
 use domain::Domain;
 use linear::{Form, Term};
-use obligations::{Notes, Quotient};
+use obligations::Quotient;
 use std::alloc::Global;
-use two_thread::Obligations;
+use two_thread::Met;
 
 /// Two lists of terms are the same, in order.
 fn same_terms(left: &[Term], right: &[Term]) -> bool
@@ -62,15 +64,11 @@ fn name_one(alloc: Global, quotients: &[Quotient], number: usize) -> bool
 }
 
 /// The entries of both claims of a congruence name one quotient; other obligations name none.
-pub fn names_one<D: Domain>(
-    alloc: Global,
-    found: &Obligations<D>,
-    notes: &Notes,
-    number: usize,
-) -> bool
+pub fn names_one<D: Domain>(asked: &Asked<'_, D>, met: &Met<D>, owed: Owed, number: usize) -> bool
+    requires held { IsHeld met.now owed }
     requires first { 0 < number }
-    requires last { number ≤ length (listed D.Domain found.now) }
-    ensures { result ≡ entries.names_one (quotient_specs notes.now.quotients.items) number (nth_obligation (listed D.Domain found.now) number) }
+    ensures { result ≡ entries.names_one (quotient_specs asked.now.said.now.notes.now.quotients.items) number (obligation_at D.Domain asked.now.premises met.now owed) }
 {
-    !found.is_second_claim(number) || name_one(alloc, notes.quotients.as_slice(), number)
+    let quotients = asked.said.notes.quotients.as_slice();
+    !asked.premises.is_second_claim(met, owed) || name_one(asked.alloc, quotients, number)
 }

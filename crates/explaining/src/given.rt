@@ -33,8 +33,8 @@ pub enum OneValue {
     },
 }
 
-/// What the conditions say of the numbers that a buffer holds: that they have a least one, and that it is not negative, and that they have a
-/// greatest one.
+/// What the conditions say of the numbers that a buffer holds: that they have a least one, and that it is not negative, and that they have
+/// a greatest one.
 #[derive(Clone, Copy)]
 struct Ends {
     has_least: bool,

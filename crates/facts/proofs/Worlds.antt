@@ -17,7 +17,8 @@ use Rattle.facts.specs.Symbols.{Side, First, Second, Symbol, ArgumentOf, Length,
 use Rattle.facts.specs.Launching.{are_sizes}
 use Rattle.facts.proofs.Members.{Lawful, by_number, by_number-multiplicative, numbered}
 
--- a kernel that is walked under conditions, by the wide walk or not, which joins ways or does not, at a launch that meets them; its arrays are of these spaces
+-- a kernel that is walked under conditions, by the wide walk or not, which joins ways or does not, at a launch that meets them; its arrays
+-- are of these spaces
 pub record Walked (E : Type 0) : Type 1 where
   pub domain : Ghosts E
   pub lawful : Lawful domain

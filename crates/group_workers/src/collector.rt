@@ -1,6 +1,6 @@
 //! The collector: the logs, written in the order of their groups.
 
-ghost use Rattle.std.specs.Prelude.{◌≡◌, ◌<◌, ◌≤◌, ◌+◌, IfOk, IfSome, OnOk};
+ghost use Rattle.std.specs.Prelude.{◌≡◌, ◌<◌, ◌≤◌, ◌+◌, IfOk, OnOk};
 ghost use Rattle.write_log.specs.Written.{words_of};
 ghost use Rattle.group_workers.specs.Writing.{HasLog, HasLogs};
 ghost use Rattle.group_workers.specs.Tasks.{IsTask, groups};
@@ -12,14 +12,15 @@ use std::alloc::{AllocError, Global};
 use std::collections::BTreeMap;
 use write_log::apply;
 
-/// Buffers with the logs of the first groups, in their order, and the logs that came before those of groups below them. So logs are kept
-/// only as long as groups are out of order. How many that may be is not bounded: whoever waited for a group that nobody has would wait
-/// forever, and a group may be left to the end, where memory was refused to its worker or its thread did not start.
+/// Buffers with the logs of the first groups, in their order, and the logs that came before those of groups below them, by the first group
+/// of each stretch. So logs are kept only as long as stretches are out of order. How many that may be is not bounded: whoever waited for a
+/// group that nobody has would wait forever, and a group may be left to the end, where memory was refused to its worker or its thread did
+/// not start.
 #[derive(Drop)]
 pub struct Collected<J: Logged> {
     pub next: u64,
     pub buffers: Buffers,
-    waiting: BTreeMap<u64, GroupLog<J>>,
+    waiting: BTreeMap<u64, Vec<GroupLog<J>>>,
     ghost first: { HasLogs J.logs next J.before (words_of buffers) },
     ghost few: { next ≤ J.count },
 }
@@ -45,57 +46,45 @@ impl<J: Logged> Collected<J> {
         self.next += 1;
     }
 
-    // The log of the next group, if it waits.
-    fn due(&mut self) -> Option<GroupLog<J>>
-        ensures log { IfSome result (λ log. log.group ≡ self.old.next) }
-        ensures next { self.new.next ≡ self.old.next }
+    // Writes the logs of a stretch, each if it is the next group's.
+    fn write_each(&mut self, logs: &[GroupLog<J>])
+        ensures { self.old.next ≤ self.new.next }
     {
-        match self.waiting.remove(&self.next) {
-            Some(log) if log.group == self.next => Some(log),
-            _ => None,
-        }
-    }
-
-    // Writes the log of the next group, if it waits, and answers whether it did.
-    fn write_due(&mut self) -> bool {
-        let Some(log) = self.due() else {
-            return false;
-        };
-        self.write(&log);
-        true
-    }
-
-    /// Takes the log of a group. It is written as soon as those of all groups below are, and then those that waited for it are, too.
-    pub fn take(&mut self, log: GroupLog<J>) -> Result<(), AllocError> {
-        if log.group != self.next {
-            self.waiting.insert(log.group, log)?;
-            return Ok(());
-        }
-        self.write(&log);
-        for _ in 0..u64::MAX {
-            if !self.write_due() {
-                break;
+        for log in logs {
+            if log.group == self.next {
+                self.write(log);
             }
         }
-        Ok(())
     }
 
-    // The log of the next group: the one that waits, or else what a run of the group gives.
-    fn next_log(
+    // Writes the logs of the stretch that begins with the next group, if they wait, and gives them.
+    fn write_due(&mut self) -> Option<Vec<GroupLog<J>>>
+        ensures { self.old.next ≤ self.new.next }
+    {
+        let Some(logs) = self.waiting.remove(&self.next) else {
+            return None;
+        };
+        self.write_each(logs.as_slice());
+        Some(logs)
+    }
+
+    /// Takes the logs of a stretch that begins with a group. They are written as soon as those of all groups below are, and then those that
+    /// waited for them are, too. Gives the logs that were written, so that whoever calls lets them go.
+    pub fn take(
         &mut self,
         alloc: Global,
-        task: Task,
-        room: &mut Room,
-    ) -> Result<GroupLog<J>, AllocError>
-        requires task { IsTask J.logs J.count task }
-        requires group { self.old.next < groups task }
-        ensures log { IfOk result (λ log. log.group ≡ self.old.next) }
-        ensures next { self.new.next ≡ self.old.next }
-    {
-        if let Some(log) = self.due() {
-            return Ok(log);
+        group: u64,
+        logs: Vec<GroupLog<J>>,
+    ) -> Result<Vec<Vec<GroupLog<J>>>, AllocError> {
+        self.waiting.insert(group, logs)?;
+        let mut written = Vec::new(alloc);
+        for _ in 0..u64::MAX {
+            let Some(logs) = self.write_due() else {
+                break;
+            };
+            written.push(logs)?;
         }
-        GroupLog::of(alloc, task, self.next, room)
+        Ok(written)
     }
 
     /// Writes the logs of all groups that are left. A group of which no log came is run here.
@@ -106,8 +95,11 @@ impl<J: Logged> Collected<J> {
         let count = task.groups();
         let mut room = Room::new(alloc);
         while self.next < count {
-            let log = self.next_log(alloc, task, &mut room)?;
-            self.write(&log);
+            let _written = self.write_due();
+            if self.next < count {
+                let log = GroupLog::of(alloc, task, self.next, &mut room)?;
+                self.write(&log);
+            }
         }
         Ok(())
     }

@@ -6,7 +6,7 @@ ghost use Rattle.crossbeam_deque.specs.Steals.{MatchSteal};
 ghost use Rattle.group_workers.specs.Dealing.{IsOfShare, Took};
 
 use crate::Hand;
-use crossbeam_deque::protocol::{Outcome, Protocol};
+use crossbeam_deque::protocol::{Lesson, Outcome, Protocol};
 use crossbeam_deque::{Pass, Steal, Stealer, Worker};
 use std::alloc::{AllocError, Global};
 use std::marker::{Brand, PhantomData};
@@ -60,6 +60,17 @@ impl<D: Shares> Outcome<u64, Hand> for Takes<D> {
     ghost then = { λ v xs w. Took D.workers v (slice_index xs 0) w };
 }
 
+/// A count of what a deque has, of which nothing is learnt.
+pub struct Counts<D: Shares> {
+    of: PhantomData<D>,
+}
+
+impl<D: Shares> Lesson<u64, Hand> for Counts<D> {
+    ghost use Rattle.std.specs.Prelude.{⊤};
+
+    ghost fact = { λ _ _. ⊤ };
+}
+
 /// The side of a deque from which thieves take stretches, in any thread.
 pub type Source<D> = Stealer<u64, Global, Hand, Dealt<D>>;
 
@@ -101,6 +112,13 @@ impl<D: Shares> Deque<D> {
         ensures { IfOk result (λ s. stealer_deque s ≡ worker_deque self.now.worker) }
     {
         self.worker.stealer()
+    }
+
+    /// Whether no stretch was left at one moment.
+    pub fn is_empty(&mut self) -> bool
+        ensures { worker_deque self.new.worker ≡ worker_deque self.old.worker }
+    {
+        self.worker.len_as::<Counts<D>>() == 0
     }
 
     /// The first stretch that is left. The owner had not taken it before.

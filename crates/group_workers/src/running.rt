@@ -25,34 +25,45 @@ use std::thread::{Threads, join};
 use words::Gate;
 use work_item::identity::group_size;
 
-/// The workers from 1 on, one a deque. The lowest runs on the calling thread. A worker whose thread cannot be started is run by the calling
-/// thread in its turn (`join` does so).
+/// Whether no deque has a stretch left.
+fn are_empty<D: Shares>(deques: &mut [Deque<D>]) -> bool {
+    for deque in deques.iter_mut() {
+        if !deque.is_empty() {
+            return false;
+        }
+    }
+    true
+}
+
+/// The workers from one on, a deque for each, that worker's last. It runs on this thread, and the others on one that is started before,
+/// unless no deque of theirs has a stretch left. Where that thread cannot be started, this one runs them in its turn (`join` does so).
 #[cycle(workers)]
 fn run_workers<J: Logged + Send + Sync, D: Shares + Send + Sync, R: Threads + Wait + Sync, G: Gate>(
     shared: &Shared<'_, J, D, R, G>,
     mut deques: Vec<Deque<D>>,
+    worker: u32,
 )
     requires { IsTask J.logs J.count shared.now.task }
 {
     let Some(deque) = deques.pop() else {
         return;
     };
-    let worker = u32::try_from(deques.len()).unwrap_or(0).wrapping_add(1);
-    if deques.is_empty() {
+    if are_empty(deques.as_mut_slice()) {
         return shared.work(deque, worker);
     }
+    let next = worker.wrapping_add(1);
     join(
         shared.rt,
         move || -> ()
             requires { IsSync R.row × IsSync G.row × IsSync J.row × IsSend J.row × IsSync D.row × IsSend D.row × IsTask J.logs J.count shared.now.task }
-        { shared.work(deque, worker) },
+        { run_workers(shared, deques, next) },
         move || -> ()
             requires { IsSync R.row × IsSync G.row × IsSync J.row × IsSend J.row × IsSync D.row × IsSend D.row × IsTask J.logs J.count shared.now.task }
-        { run_workers(shared, deques) },
+        { shared.work(deque, worker) },
     );
 }
 
-/// The deques of all workers, each with its share of the stretches, and what thieves take from.
+/// The deques of all workers, worker 1's last, each with its share of the stretches, and what thieves take from.
 fn deal<D: Shares>(
     alloc: Global,
     workers: u32,
@@ -62,7 +73,8 @@ fn deal<D: Shares>(
 {
     let mut deques = Vec::new(alloc);
     let mut sources = Vec::new(alloc);
-    for share in 0..workers {
+    for left in 0..workers {
+        let share = workers - 1 - left;
         let deque = Deque::dealt(alloc, share as u64, workers as u64, count)?;
         sources.push(deque.source()?)?;
         deques.push(deque)?;
@@ -143,7 +155,7 @@ fn run_as<J: Logged + Send + Sync, D: Shares + Send + Sync, R: Threads + Wait + 
         gate,
         together,
     };
-    run_workers(&shared, deques);
+    run_workers(&shared, deques, 1);
     let mut all = collected.into_inner();
     let finished = all.finish(alloc, task);
     *buffers = all.buffers;
@@ -168,10 +180,11 @@ fn run_by<R: Threads + Wait + Sync, G: Gate>(
     run_as::<Brand, Brand, R, G>(rt, alloc, task, workers, gate, buffers)
 }
 
-/// Runs all groups of a proper kernel's lane code at a launch that fits it, by so many workers, or by fewer where they would have little to
-/// do, and writes their logs to the buffers in the order of the groups, each as soon as those before it are written. The calling thread is
-/// worker 1. `gate` is told what each worker does, and changes nothing that is written. A worker stops where memory is refused; there is
-/// want of memory where it is refused to the calling thread. Then buffers may have the logs of the first groups.
+/// Runs all groups of a proper kernel's lane code at a launch that fits it, by so many workers, or by fewer where there would be little to
+/// do for them, or nothing any more, and writes their logs to the buffers in the order of the groups, each as soon as those before it are
+/// written. The calling thread is worker 1. `gate` is told what each worker does, and changes nothing that is written. A worker stops where
+/// memory is refused; there is want of memory where it is refused to the calling thread. Then buffers may have the logs of the first
+/// groups.
 pub fn run_groups<R: Threads + Wait + Sync, G: Gate>(
     rt: &R,
     alloc: Global,

@@ -25,12 +25,19 @@ pub struct Shared<'w, J: Logged, D: Shares, R, G> {
 }
 
 impl<J: Logged, D: Shares, R: Wait, G: Gate> Shared<'_, J, D, R, G> {
-    // Hands over the logs of groups.
-    fn hand_over(&self, logs: Vec<GroupLog<J>>) -> Result<(), AllocError> {
+    // Hands over the logs of a stretch that begins with a group; gives the logs that were written.
+    fn written(
+        &self,
+        group: u64,
+        logs: Vec<GroupLog<J>>,
+    ) -> Result<Vec<Vec<GroupLog<J>>>, AllocError> {
         let mut collected = self.collected.lock(self.rt);
-        for log in logs {
-            collected.take(log)?;
-        }
+        collected.take(self.alloc, group, logs)
+    }
+
+    // Hands over the logs of a stretch that begins with a group. Those that were written are let go once the lock is.
+    fn hand_over(&self, group: u64, logs: Vec<GroupLog<J>>) -> Result<(), AllocError> {
+        let _written = self.written(group, logs)?;
         Ok(())
     }
 
@@ -47,7 +54,7 @@ impl<J: Logged, D: Shares, R: Wait, G: Gate> Shared<'_, J, D, R, G> {
             self.gate.at(worker, Moment::Claimed(group));
             logs.push(GroupLog::of(self.alloc, self.task, group, room)?)?;
         }
-        self.hand_over(logs)?;
+        self.hand_over(first, logs)?;
         for group in first..end {
             self.gate.at(worker, Moment::Done(group));
         }

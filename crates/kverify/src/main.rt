@@ -1,7 +1,7 @@
 //! Section: Program. Promises no more than `program`, over this machine's files; stands on `program`.
 //!
-//! The program: `check`, `prove`, `explain`, `run`, `print` and `migrate`, as `docs/FORMATS.md` has them. Status 0 accepted or done, 1 refused, 2 a
-//! command line that is none, 3 a file or an output that fails, 4 out of memory.
+//! The program: `check`, `prove`, `explain`, `run`, `print` and `migrate`, as `docs/FORMATS.md` has them. Status 0 accepted or done, 1
+//! refused, 2 a command line that is none, 3 a file or an output that fails, 4 out of memory.
 #![tactic(auto)]
 
 mod disk;

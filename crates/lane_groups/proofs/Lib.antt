@@ -16,6 +16,7 @@ pub mod Filling
 pub mod Storing
 pub mod Last_on
 pub mod Lying
+pub mod Rereading
 pub mod Based
 pub mod Standings
 pub mod Spilled

@@ -9,13 +9,14 @@ ghost use Rattle.work_item.specs.Asks.{cell as cell_seen, owner as owner_seen};
 ghost use Rattle.lane_groups.specs.Stores.{store as store_seen};
 ghost use Rattle.lane_groups.specs.Strips.{one_of};
 ghost use Rattle.lane_groups.specs.Earlier.{kept, is_in_rows, in_rows, row_at, stored_in};
+ghost use Rattle.write_log.specs.Elements.{read_words};
 ghost use Rattle.lane_groups.specs.Runs.{laid};
 
 use crate::overlay::Overlay;
 use crate::own::Store;
 use core_code::tree::LocalArray;
 use std::alloc::{AllocError, Global};
-use words::Word;
+use words::{Kind, Word};
 use work_item::ask::{Cell, Owner};
 
 /// The elements that were stored, each with the word that it got last: those of the group's own local arrays in rows as long as the
@@ -161,12 +162,18 @@ impl Earlier {
         self.others.note(at, word)
     }
 
-    /// Elements of a buffer get words, one after another from an index on; the last index has 32 bits.
-    pub fn note_run(&mut self, buffer: u32, first: u32, words: &[Word]) -> Result<(), AllocError>
-        requires { first + length words.now ≤ 4294967296 }
-        ensures { OnOk result ((c : memories.Cell) → kept self.new c ≡ laid buffer first words.now (length words.now) c (kept self.old c)) }
+    /// Elements of a buffer get words of one kind, by their bits, one after another from an index on; the last index has 32 bits.
+    pub fn note_run(
+        &mut self,
+        buffer: u32,
+        first: u32,
+        kind: Kind,
+        bits: &[u32],
+    ) -> Result<(), AllocError>
+        requires { first + length bits.now ≤ 4294967296 }
+        ensures { OnOk result ((c : memories.Cell) → kept self.new c ≡ laid buffer first (read_words kind bits.now) (length bits.now) c (kept self.old c)) }
     {
-        self.others.note_run(buffer, first, words)
+        self.others.note_run(buffer, first, kind, bits)
     }
 
     /// An element gets a word, where there is a store.

@@ -9,12 +9,13 @@ ghost use Rattle.words.specs.View.{value_of};
 ghost use Rattle.launch.specs.View.{launch as launch_seen};
 ghost use Rattle.work_item.specs.Asks.{cell as cell_seen};
 ghost use Rattle.lane_groups.specs.Overlays.{kept, local_at};
+ghost use Rattle.write_log.specs.Elements.{read_words};
 ghost use Rattle.lane_groups.specs.Runs.{laid};
 
 use launch::launches::Launch;
 use std::alloc::{AllocError, Global};
 use std::collections::BTreeMap;
-use words::Word;
+use words::{Kind, Word};
 use work_item::ask::{Cell, Owner};
 use write_log::WriteLog;
 
@@ -83,12 +84,18 @@ impl Overlay {
         }
     }
 
-    /// Elements of a buffer get words, one after another from an index on; the last index has 32 bits.
-    pub fn note_run(&mut self, buffer: u32, first: u32, words: &[Word]) -> Result<(), AllocError>
-        requires { first + length words.now ≤ 4294967296 }
-        ensures { OnOk result ((c : meaning.Cell) → kept self.new c ≡ laid buffer first words.now (length words.now) c (kept self.old c)) }
+    /// Elements of a buffer get words of one kind, by their bits, one after another from an index on; the last index has 32 bits.
+    pub fn note_run(
+        &mut self,
+        buffer: u32,
+        first: u32,
+        kind: Kind,
+        bits: &[u32],
+    ) -> Result<(), AllocError>
+        requires { first + length bits.now ≤ 4294967296 }
+        ensures { OnOk result ((c : meaning.Cell) → kept self.new c ≡ laid buffer first (read_words kind bits.now) (length bits.now) c (kept self.old c)) }
     {
-        self.buffers.note_run(buffer, first, words)
+        self.buffers.note_run(buffer, first, kind, bits)
     }
 }
 

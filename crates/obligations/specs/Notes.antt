@@ -27,8 +27,9 @@ pub record Ranking : Type 0 where
   pub bound : Bound
 
 -- of a barrier the slots that two items of a group have alike there; of a place, by the numbers of its barrier and of its loop, facts and
--- congruences, and, in the wide walk, multiples of forms; of a loop its ranking; the slots whose ranges are known at a barrier or loop; of a claim, by its number, the quotient
--- that its entry names, and whether it has an entry; and whether the walk is the wide one, and joins ways
+-- congruences, and, in the wide walk, multiples of forms; of a loop its ranking; the slots whose ranges are known at a barrier or loop; of
+-- a claim, by its number, the quotient that its entry names, and whether it has an entry; and whether the walk is the wide one, and joins
+-- ways
 pub record Notes : Type 0 where
   pub same : (barrier : ℕ) → List ℕ
   pub facts : (anchor head : Option ℕ) → List Fact

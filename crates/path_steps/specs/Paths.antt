@@ -26,8 +26,8 @@ pub record Claimed : Type 0 where
   pub facts : List Fact
 
 -- what is found along a path: facts, claims, accesses, ends, and how many claims stand before the place; the choices
--- that were taken, and those that are left. A claim, an access or an end is noted where no choice is left: before that it stands on another path.
--- All forms were of `i64`, and no claim was the 65,537th or a later one
+-- that were taken, and those that are left. A claim, an access or an end is noted where no choice is left: before that it stands on another
+-- path. All forms were of `i64`, and no claim was the 65,537th or a later one
 pub record Found (E : Type 0) : Type 0 where
   pub facts : List Fact
   pub claims : List Claimed

@@ -450,8 +450,8 @@ fn split_unequal<D: Domain>(
     }
 }
 
-/// The ways of a comparison, in their order. The wide walk leaves out ways of `==` and `!=` that the elements refute, and others where it is
-/// asked to. Where ways are joined, one on which the operands of `==` or `!=` differ stands in the place of two.
+/// The ways of a comparison, in their order. The wide walk leaves out ways of `==` and `!=` that the elements refute, and others where it
+/// is asked to. Where ways are joined, one on which the operands of `==` or `!=` differ stands in the place of two.
 pub fn split<D: Domain>(
     setting: &Setting<D>,
     path: &mut Path<D>,

@@ -140,8 +140,8 @@ abbrev pub IsSafeText : (is_wide : Bool) → (kernel : Source) (conditions writt
 IsSafeText is_wide kernel conditions written =
     (k : Kernel) × (c : Conditions) × AreSafeTexts is_wide kernel conditions k c × (((l : Launch) × Fits k.core l × Meets c l × (written ≡ accepted_line)) ⊎ (written ≡ accepted_line ++ no_launch_line))
 
--- and what was found, a certificate, was written to the file behind `--out`, where there is one; `proof` says of it that it is one, of a wide
--- search or of one that is not
+-- and what was found, a certificate, was written to the file behind `--out`, where there is one; `proof` says of it that it is one, of a
+-- wide search or of one that is not
 abbrev pub IsFound : (proof : (is_wide : Bool) (kernel : Source) (conditions certificate written : List ℕ) → Type 0) (is_wide : Bool) (out : Option (List ℕ)) (kernel : Source) (conditions written : List ℕ) → Option Write → Type 0
 IsFound proof is_wide out kernel conditions written saved =
     IsSafeText is_wide kernel conditions written × ((certificate : List ℕ) × proof is_wide kernel conditions certificate written × (saved ≡ saving out certificate))

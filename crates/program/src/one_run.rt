@@ -385,8 +385,8 @@ fn told<O: Write, E: Write>(verdict: Verdict, out: &mut O, err: &mut E) -> u8
     }
 }
 
-/// One run of the program, as by `tool`. Where it looks for a certificate, whoever watches is told how far it is, and that it is over before
-/// anything is told of it.
+/// One run of the program, as by `tool`. Where it looks for a certificate, whoever watches is told how far it is, and that it is over
+/// before anything is told of it.
 pub fn tool_watched<R: Threads + Wait + Sync, F: Files, O: Write, E: Write, W: Watcher>(
     rt: &R,
     alloc: Global,

@@ -27,8 +27,8 @@ pub record IsWitness (k : Kernel) (c : Conditions) (f : Finding) (l : Launch) : 
 abbrev pub IsTrue : Kernel → Conditions → Finding → Type 0
 IsTrue k c f = IfSome f.schedule (λ events. (l : Launch) × IsWitness k c f l)
 
--- of the kernel and the conditions that the bytes say, by the grammar and case by case; the conditions are of version 2 only where the search is
--- the wide one
+-- of the kernel and the conditions that the bytes say, by the grammar and case by case; the conditions are of version 2 only where the
+-- search is the wide one
 abbrev pub IsTrueOf : (is_wide : Bool) → (kernel : Source) (conditions : List ℕ) → Finding → Type 0
 IsTrueOf is_wide kernel conditions f =
     IfSome f.schedule (λ events. (k : Kernel) × (c : Conditions) × IsTextOf kernel k × IsConditionsText is_wide k.tree.parameters conditions c × ((l : Launch) × IsWitness k c f l))

@@ -401,8 +401,8 @@ pub fn find_narrowly<R: Threads + Sync>(
     find_watched(rt, alloc, narrow(kernel), conditions, effort, &Unwatched)
 }
 
-/// What `find_narrowly` finds; or, where that is refused for want of what is shown, for its size or by the budget, a certificate of the wide
-/// walk, with its text, which is of version 4. Where both fail, the answer of `find_narrowly`.
+/// What `find_narrowly` finds; or, where that is refused for want of what is shown, for its size or by the budget, a certificate of the
+/// wide walk, with its text, which is of version 4. Where both fail, the answer of `find_narrowly`.
 pub fn find_wide<R: Threads + Sync>(
     rt: &R,
     alloc: Global,

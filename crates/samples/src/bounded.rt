@@ -9,8 +9,8 @@ ghost use Rattle.semantics.specs.Headline.{Headline};
 ghost use Rattle.samples.specs.Terms.{at};
 ghost use Rattle.samples.specs.Bounded.{at_most_three, gathers, spoils, spares};
 
-/// An index that is loaded lies in a table of four elements where a line bounds it, so the headline holds; without the line a solo run may be
-/// answered by 9, and stops.
+/// An index that is loaded lies in a table of four elements where a line bounds it, so the headline holds; without the line a solo run may
+/// be answered by 9, and stops.
 pub fn a_bounded_index_is_inside()
     ensures within { IsPairSafeWithin at_most_three gathers 3 }
     ensures headline { Headline gathers 3 }

@@ -78,7 +78,8 @@ abbrev pub global_flag : Statement → ℕ
 global_flag (Barrier n local global) = cond global 1 0
 global_flag s = 0
 
--- what tells two lists left apart, since statement numbers are unique in a kernel: of each entry the statement's number, the turns and the fence flags
+-- what tells two lists left apart, since statement numbers are unique in a kernel: of each entry the statement's number, the turns and the
+-- fence flags
 abbrev pub trail : List Entry → List ℕ
 trail [] = []
 trail (e ∷ rest) = number e.statement ∷ e.turns ∷ local_flag e.statement ∷ global_flag e.statement ∷ trail rest

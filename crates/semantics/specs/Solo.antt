@@ -1,6 +1,6 @@
 -- A solo run: one work-item alone, each load answered by any number of the element's kind, each barrier passed at once
--- (the adversarial reads of GPUVerify). It is a list of answers, one for each move (only a load heeds its own), the newest first; so without its newest
--- moves it is a solo run too.
+-- (the adversarial reads of GPUVerify). It is a list of answers, one for each move (only a load heeds its own), the newest first; so
+-- without its newest moves it is a solo run too.
 use Rattle.std.specs.Prelude.{ℕ, zero, suc, ◌+◌, ◌++◌, ℤ, pos, List, [], ◌∷◌, map, Bool, true, false, ◌⊎◌, ◌≡◌, Option, Some, None}
 use Rattle.semantics.specs.Core.{Site}
 use Rattle.semantics.specs.Word.{as_kind, word}

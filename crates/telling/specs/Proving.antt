@@ -36,8 +36,8 @@ abbrev pub proved_lines : Option Launch → List ℕ
 proved_lines (Some l) = accepted_line
 proved_lines None = accepted_line ++ no_launch_line
 
--- the headline holds at each launch that meets the conditions, and the check accepts this certificate; the launch at the least values is one
--- of the kernel and meets them, where there is one
+-- the headline holds at each launch that meets the conditions, and the check accepts this certificate; the launch at the least values is
+-- one of the kernel and meets them, where there is one
 pub record IsProved (is_wide : Bool) (kernel : Source) (conditions certificate written : List ℕ) (k : Kernel) (c : Conditions) : Type 0 where
   pub safe : AreSafeTexts is_wide kernel conditions k (conditions_seen c)
   pub proof : IsProof is_wide k (conditions_seen c) certificate
@@ -59,9 +59,9 @@ found errors.Memory = []
 abbrev pub findings_text : List Finding → List ℕ
 findings_text fs = flat_map finding_text fs
 
--- the line has the number and the place of an error, and behind it stands a line for each of its findings; a refusal of the two texts is true
--- of them, 70 is told of such a number of workers, and what findings confirm is true of the kernel and the conditions that the bytes say;
--- nothing else is said of the kernel
+-- the line has the number and the place of an error, and behind it stands a line for each of its findings; a refusal of the two texts is
+-- true of them, 70 is told of such a number of workers, and what findings confirm is true of the kernel and the conditions that the bytes
+-- say; nothing else is said of the kernel
 pub record IsShortfall (is_wide : Bool) (workers : ℕ) (kernel : Source) (conditions text : List ℕ) (e : VerifyError) : Type 0 where
   pub lines : text ≡ refusal_line (error_number e) (place_seen (error_place e)) ++ findings_text (map finding_seen (found e))
   pub tells : TellsOf is_wide e workers kernel conditions

@@ -2,7 +2,8 @@
 //! stands on `cert_check`, `executor` and `verify`.
 //!
 //! What the program says of texts: it checks them, runs an accepted kernel, prints a kernel's canonical text, looks for a certificate, or
-//! writes one in version 2, and tells the answer or the refusal with its findings. What it says besides, where a refusal is explained, stands behind what is told.
+//! writes one in version 2, and tells the answer or the refusal with its findings. What it says besides, where a refusal is explained,
+//! stands behind what is told.
 #![tactic(auto)]
 
 ghost use Rattle.std.specs.Prelude.{◌≡◌};

@@ -223,8 +223,8 @@ fn visit_all(
     Ok(())
 }
 
-/// The options of each loop of the kernel, in the order of their numbers, that its tests and its steps tell; for a wide walk, in which loops
-/// may double and forms have products, or a narrow one. `strides` has steps of slots that are known beside those of the text.
+/// The options of each loop of the kernel, in the order of their numbers, that its tests and its steps tell; for a wide walk, in which
+/// loops may double and forms have products, or a narrow one. `strides` has steps of slots that are known beside those of the text.
 pub fn guess_rankings(
     alloc: Global,
     core: &Core,

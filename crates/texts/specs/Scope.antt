@@ -6,8 +6,8 @@ use Rattle.semantics.specs.Core.{Site, Array, Global, Local}
 use Rattle.semantics.specs.Launch.{LocalArray}
 use Rattle.texts.specs.TypeFaults.{NameTwice, Checked, when}
 
--- the devices that a kernel is read for: those of 32 address bits, where `size_t` is `uint`; or any, where it is a kind of its own, which has
--- 32 bits or more (OpenCL 1.2, 6.1.1)
+-- the devices that a kernel is read for: those of 32 address bits, where `size_t` is `uint`; or any, where it is a kind of its own, which
+-- has 32 bits or more (OpenCL 1.2, 6.1.1)
 pub data Devices : Type 0 where
   Narrow : Devices
   Any : Devices
@@ -63,8 +63,8 @@ is_compilers [] = false
 is_compilers (a ∷ []) = false
 is_compilers (a ∷ b ∷ rest) = nat_eq a 95 && (nat_eq b 95 || (nat_le 65 b && nat_le b 90))
 
--- names that a compiler gives to OpenCL's built-in functions by macros, as `_cl_abs` to `abs` (ours): a kernel that declares both would have
--- one variable for two
+-- names that a compiler gives to OpenCL's built-in functions by macros, as `_cl_abs` to `abs` (ours): a kernel that declares both would
+-- have one variable for two
 abbrev pub is_renamed : List ℕ → Bool
 is_renamed name = bytes_eq (take 4 name) (codes "_cl_")
 

@@ -41,8 +41,8 @@ brought Size Int site t = core.Convert Int site t
 brought Size Uint site t = core.Convert Uint site t
 brought Size Size site t = t
 
--- the site is the target's name, the cast's parenthesis, or the operator's; that of an arm of `?:` is told only where the other arm is a size,
--- since to `uint` nothing fails
+-- the site is the target's name, the cast's parenthesis, or the operator's; that of an arm of `?:` is told only where the other arm is a
+-- size, since to `uint` nothing fails
 abbrev pub bring : Kind → Site → TypedTerm → Term
 bring to site t = brought t.kind to site t.term
 
@@ -68,8 +68,8 @@ abbrev pub shift_count : Kind → Expression → Option ℕ
 shift_count left (Number site kind n) = cond (is_unsigned left && nat_le n 31) (Some n) None
 shift_count left e = None
 
--- a `uint` is shifted bit by bit; of a size a shift to the left is written as a product with a power of 2, to the right as a quotient by it,
--- which is what they are (C99 6.5.7p4, 6.5.7p5)
+-- a `uint` is shifted bit by bit; of a size a shift to the left is written as a product with a power of 2, to the right as a quotient by
+-- it, which is what they are (C99 6.5.7p4, 6.5.7p5)
 abbrev pub shifted : (ℕ → UnaryOperator) → Operator → Site → Kind → Term → ℕ → Term
 shifted shift op site Int t n = core.Unary (shift n) Uint site t
 shifted shift op site Uint t n = core.Unary (shift n) Uint site t

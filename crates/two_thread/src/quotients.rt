@@ -37,8 +37,8 @@ impl<D: Domain> Obligations<D> {
     ghost use Rattle.two_thread.specs.Listed.{listed, nth_obligation};
     ghost use Rattle.two_thread.specs.Quotients.{is_second_claim};
 
-    /// An obligation is the second claim of a congruence or a multiple, whose first one has the number before; an entry names the quotient for
-    /// both.
+    /// An obligation is the second claim of a congruence or a multiple, whose first one has the number before; an entry names the quotient
+    /// for both.
     pub fn is_second_claim(&self, number: usize) -> bool
         requires first { 0 < number }
         requires last { number ≤ length (listed D.Domain self.now) }

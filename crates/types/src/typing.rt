@@ -469,8 +469,8 @@ fn call_term(
     pick_of_two(alloc, scope, pick, at, arguments)
 }
 
-/// The kind and the term of an expression, where it is well typed among the visible names, for these devices; else its first broken rule, from left to
-/// right.
+/// The kind and the term of an expression, where it is well typed among the visible names, for these devices; else its first broken rule,
+/// from left to right.
 #[cycle(typing)]
 #[tactic(auto, using(syntax::proofs::Rows::seen_call), unfolding(texts::specs::Typing::type_of))]
 pub fn type_of(alloc: Global, scope: &Scope, e: &Expr) -> Result<TypedTerm, TypeError>

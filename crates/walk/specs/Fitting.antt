@@ -1,5 +1,5 @@
--- Whether the own forms of what there is to show are of i64, by its numbers: of a claim all its forms are among those of its place's tree; of
--- a pair of ends they are what its goal says, and what denies it; of a pair of accesses both differences of their indexes.
+-- Whether the own forms of what there is to show are of i64, by its numbers: of a claim all its forms are among those of its place's tree;
+-- of a pair of ends they are what its goal says, and what denies it; of a pair of accesses both differences of their indexes.
 use Rattle.std.specs.Prelude.{List, ◌++◌, map, Bool, true}
 use Rattle.semantics.specs.Launch.{Kernel}
 use Rattle.semantics.specs.Conditions.{Conditions}

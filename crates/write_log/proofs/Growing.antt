@@ -1,15 +1,16 @@
 -- Stretches that grow at their end.
-use Rattle.std.proofs.Common.{◌≡◌, ◌<◌, ◌≤◌, ◌+◌, ◌-◌, ℕ, zero, suc, List, [], ◌∷◌, ◌++◌, Bool, true, false, cond, Result, Ok, Err, OnOk, is_err, refl, sym, ap, ap₂, ◌∙◌, subst, arith, nat_lt, length, get_or, length-append, append_assoc}
+use Rattle.std.proofs.Common.{◌≡◌, ◌<◌, ◌≤◌, ◌+◌, ◌-◌, ℕ, pos, zero, suc, List, [], ◌∷◌, ◌++◌, Bool, true, false, cond, Result, Ok, Err, OnOk, is_err, refl, sym, ap, ap₂, ◌∙◌, subst, arith, nat_lt, length, get_or, length-append, append_assoc}
 use Rattle.std.proofs.Math.ListN as lists
 use Rattle.std.proofs.Math.Seq.{get_or-append_seam}
 use Rattle.std.proofs.lemmas.Bool.Decides.{nat_tests}
-use Rattle.std.proofs.lemmas.List.{append-nil}
+use Rattle.std.proofs.lemmas.List.{append-nil, length-map, get_or-append-add, get_or-map}
 use Rattle.words.specs.declared.word.Kind.{Kind}
 use Rattle.words.specs.declared.word.Word.{Word}
+use Rattle.words.specs.declared.word.Word.TheVariants.{Int}
 use Rattle.std.specs.List.Sorted.{IsStrictlySortedBy}
 use Rattle.std.specs.Map.{keys_of}
 use Rattle.write_log.proofs.RisingRuns.{run_rises}
-use Rattle.write_log.specs.Elements.{Entry, AreApart, GoesOn, HasWords, IsLaid, border, by_element, entries_in, entry_at, entry_of, first_entries, nowhere, read_word, run, stretch_at, word_at}
+use Rattle.write_log.specs.Elements.{Entry, AreApart, GoesOn, HasWords, IsLaid, border, by_element, entries_in, entry_at, entry_of, first_entries, nowhere, read_word, read_words, run, stretch_at, word_at}
 use Rattle.write_log.specs.declared.stretch.Stretch.{Stretch}
 use Rattle.write_log.proofs.Stretches.{border-is, border-past, last-is, last-snoc}
 
@@ -182,6 +183,16 @@ one_word bits b kind w is = record {
         let here : length bits + 0 ≡ length bits = omega arith in
         ap (read_word kind) (ap (λ n. get_or (bits ++ b ∷ []) n 0) here ∙ get_or-append_seam bits b [] 0) ∙ is
     filled (suc k) l = absurd (omega (arith, l))
+
+-- bits more, of one kind
+pub more_words : (bits more : List ℕ) (kind : Kind) → HasWords bits (bits ++ more) kind (read_words kind more)
+more_words bits more kind = record {
+  count = length-append bits more ∙ ap (λ n. length bits + n) (sym (length-map more (read_word kind)));
+  kept = λ place l. lists.get_or-append bits more 0 place l;
+  filled = λ k l.
+      ap (read_word kind) (get_or-append-add bits more k 0)
+      ∙ sym (get_or-map (read_word kind) more k 0 (Int (pos 0)) (subst (λ n. k < n) (length-map more (read_word kind)) l));
+}
 
 pub one_run : (es : List Entry) (at : ℕ × ℕ) (w : Word) → es ++ run at.0 at.1 (w ∷ []) 1 ≡ es ++ (at, w) ∷ []
 one_run es at w =

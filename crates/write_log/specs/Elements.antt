@@ -47,6 +47,9 @@ read_word kinds.Int bits = Int (cast_signed w32 bits)
 read_word kinds.Uint bits = Uint bits
 read_word kinds.Size bits = Size bits
 
+abbrev pub read_words : Kind → List ℕ → List Word
+read_words kind = map (read_word kind)
+
 -- the entry of a stretch whose bits stand at a place
 abbrev pub entry_of : Stretch → (place bits : ℕ) → Entry
 entry_of s place bits = ((s.buffer, s.first + (place - s.start)), read_word s.kind bits)

@@ -6,7 +6,7 @@ use Rattle.launch.specs.declared.launches.Buffers.{Buffers}
 use Rattle.write_log.specs.declared.log.WriteLog.{WriteLog}
 use Rattle.write_log.specs.declared.stretch.Stretch.{Stretch}
 use Rattle.write_log.specs.Elements.{entries_in, read_word}
-pub use Rattle.write_log.specs.Elements.{Entry, by_element, found, noted}
+pub use Rattle.write_log.specs.Elements.{Entry, by_element, found, noted, read_words}
 
 -- the entries of a log: those of its list as long as they rise, and then those of its map
 abbrev pub entries : WriteLog → List Entry

@@ -7,14 +7,14 @@ ghost use Rattle.std.specs.Map.{keys_of};
 ghost use Rattle.semantics.specs.Rounds.{logged};
 ghost use Rattle.words.specs.View.{value_of};
 ghost use Rattle.write_log.specs.Elements.{border, entries_in, first_entries};
-ghost use Rattle.write_log.specs.Written.{written, entries, found, by_element, noted, put_all, put_bits, put_word, words_of, element};
+ghost use Rattle.write_log.specs.Written.{written, entries, found, by_element, noted, put_all, put_bits, put_word, read_words, words_of, element};
 
 use crate::rising::RisingList;
 use crate::stretch::{Stretch, read_word};
 use launch::launches::Buffers;
 use std::alloc::{AllocError, Global};
 use std::collections::BTreeMap;
-use words::Word;
+use words::{Kind, Word};
 
 /// The elements of buffers that a work-group wrote, by buffer and then by index, each with the word that it wrote last.
 #[derive(Drop)]
@@ -77,27 +77,40 @@ impl WriteLog {
         Ok(())
     }
 
-    // Notes words one by one.
-    fn note_each(&mut self, buffer: u32, first: u32, words: &[Word]) -> Result<(), AllocError>
-        requires { first + length words.now ≤ 4294967296 }
-        ensures { OnOk result ((b i : ℕ) → written self.new b i ≡ noted buffer first words.now (length words.now) b i (written self.old b i)) }
+    // Notes elements one by one.
+    fn note_each(
+        &mut self,
+        buffer: u32,
+        first: u32,
+        kind: Kind,
+        bits: &[u32],
+    ) -> Result<(), AllocError>
+        requires { first + length bits.now ≤ 4294967296 }
+        ensures { OnOk result ((b i : ℕ) → written self.new b i ≡ noted buffer first (read_words kind bits.now) (length bits.now) b i (written self.old b i)) }
     {
-        for place in 0..words.len() {
-            self.note(buffer, first + place as u32, words[place])?;
+        for place in 0..bits.len() {
+            self.note(buffer, first + place as u32, read_word(kind, bits[place]))?;
         }
         Ok(())
     }
 
-    /// Notes words at elements that stand side by side, from an index on; the last index has 32 bits.
-    pub fn note_run(&mut self, buffer: u32, first: u32, words: &[Word]) -> Result<(), AllocError>
-        requires { first + length words.now ≤ 4294967296 }
-        ensures { OnOk result ((b i : ℕ) → written self.new b i ≡ noted buffer first words.now (length words.now) b i (written self.old b i)) }
+    /// Notes elements that stand side by side, from an index on, by the bits of their words, which are of one kind; the last index has 32
+    /// bits.
+    pub fn note_run(
+        &mut self,
+        buffer: u32,
+        first: u32,
+        kind: Kind,
+        bits: &[u32],
+    ) -> Result<(), AllocError>
+        requires { first + length bits.now ≤ 4294967296 }
+        ensures { OnOk result ((b i : ℕ) → written self.new b i ≡ noted buffer first (read_words kind bits.now) (length bits.now) b i (written self.old b i)) }
     {
         let at = (buffer, first);
         if self.rises && self.list.ends_below(at) {
-            return self.list.push_run(at, words);
+            return self.list.push_run(at, kind, bits);
         }
-        self.note_each(buffer, first, words)
+        self.note_each(buffer, first, kind, bits)
     }
 
     /// The word that the log has of an element.

@@ -1,11 +1,11 @@
 //! Entries whose elements rise, as a list: to add one at the end costs no search.
 
-ghost use Rattle.std.specs.Prelude.{◌≡◌, ◌≤◌, ◌<◌, ◌+◌, ◌-◌, ◌∷◌, ◌++◌, [], ℕ, true, false, OnErr, OnOk, IfOk, IsTrue, length, slice_index_or};
+ghost use Rattle.std.specs.Prelude.{◌≡◌, ◌≤◌, ◌<◌, ◌+◌, ◌-◌, ◌∷◌, ◌++◌, [], ℕ, true, false, OnErr, OnOk, IfOk, IsTrue, length};
 ghost use Rattle.std.specs.BTreeMap.{is_at, IsFromIterResult};
 ghost use Rattle.std.specs.List.Sorted.{IsStrictlySortedBy};
 ghost use Rattle.std.specs.Map.{keys_of, lookup};
 ghost use Rattle.std.specs.Ordering.{is_lt};
-ghost use Rattle.write_log.specs.Elements.{AreApart, GoesOn, HasWords, IsLaid, IsLaid-prop, border, by_element, entries_in, entry_at, first_entries, head_of, read_word, run, word_at};
+ghost use Rattle.write_log.specs.Elements.{AreApart, GoesOn, IsLaid, IsLaid-prop, border, by_element, entries_in, entry_at, first_entries, head_of, read_words, run};
 
 use crate::stretch::{Stretch, parts_of, read_word};
 use std::alloc::{AllocError, Global};
@@ -59,37 +59,6 @@ fn go_on(
         kind,
     })?;
     Ok(())
-}
-
-/// Fills the places from one on with the bits of words, and answers whether all words are of the kind.
-fn fill(bits: &mut [u32], from: usize, kind: Kind, words: &[Word]) -> bool
-    requires { from + length words.now ≡ length bits.old }
-    ensures length { length bits.new ≡ length bits.old }
-    ensures kept { (place : ℕ) → place < from → slice_index_or bits.new place 0 ≡ slice_index_or bits.old place 0 }
-    ensures filled { IsTrue result → (k : ℕ) → k < length words.now → read_word kind (slice_index_or bits.new (from + k) 0) ≡ word_at words.now k }
-{
-    let mut alike = true;
-    for place in 0..words.len() {
-        let (its_kind, its_bits) = parts_of(words[place]);
-        bits[from + place] = its_bits;
-        alike &= its_kind == kind;
-    }
-    alike
-}
-
-/// Adds the bits of words, if all are of the kind, and answers whether they are.
-fn add_bits(bits: &mut Vec<u32>, kind: Kind, words: &[Word]) -> Result<bool, AllocError>
-    ensures alike { IfOk result (λ alike. alike ≡ true → HasWords bits.old.items bits.new.items kind words.now) }
-    ensures mixed { IfOk result (λ alike. alike ≡ false → bits.new.items ≡ bits.old.items) }
-    ensures err { OnErr result (bits.new.items ≡ bits.old.items) }
-{
-    let places = bits.len();
-    bits.resize(places + words.len(), 0)?;
-    if fill(bits.as_mut_slice(), places, kind, words) {
-        return Ok(true);
-    }
-    bits.truncate(places);
-    Ok(false)
 }
 
 impl RisingList {
@@ -150,32 +119,17 @@ impl RisingList {
         Ok(())
     }
 
-    // Adds words one by one.
-    fn push_each(&mut self, at: (u32, u32), words: &[Word]) -> Result<(), AllocError>
-        requires fits { at.1 + length words.now ≤ 4294967296 }
+    /// Adds elements that stand side by side at the end, by the bits of their words, which are of one kind; the last index has 32 bits.
+    pub fn push_run(&mut self, at: (u32, u32), kind: Kind, bits: &[u32]) -> Result<(), AllocError>
+        requires fits { at.1 + length bits.now ≤ 4294967296 }
         requires above { IsStrictlySortedBy by_element (keys_of (entries_in self.old.stretches.items self.old.bits.items) ++ at ∷ []) }
-        ensures { OnOk result (entries_in self.new.stretches.items self.new.bits.items ≡ entries_in self.old.stretches.items self.old.bits.items ++ run at.0 at.1 words.now (length words.now)) }
+        ensures { OnOk result (entries_in self.new.stretches.items self.new.bits.items ≡ entries_in self.old.stretches.items self.old.bits.items ++ run at.0 at.1 (read_words kind bits.now) (length bits.now)) }
     {
-        for place in 0..words.len() {
-            self.push((at.0, at.1 + place as u32), words[place])?;
-        }
-        Ok(())
-    }
-
-    /// Adds the words of elements that stand side by side at the end; the last index has 32 bits.
-    pub fn push_run(&mut self, at: (u32, u32), words: &[Word]) -> Result<(), AllocError>
-        requires fits { at.1 + length words.now ≤ 4294967296 }
-        requires above { IsStrictlySortedBy by_element (keys_of (entries_in self.old.stretches.items self.old.bits.items) ++ at ∷ []) }
-        ensures { OnOk result (entries_in self.new.stretches.items self.new.bits.items ≡ entries_in self.old.stretches.items self.old.bits.items ++ run at.0 at.1 words.now (length words.now)) }
-    {
-        if words.is_empty() {
+        if bits.is_empty() {
             return Ok(());
         }
-        let (kind, _) = parts_of(words[0]);
         let places = self.bits.len();
-        if !add_bits(&mut self.bits, kind, words)? {
-            return self.push_each(at, words);
-        }
+        self.bits.extend_from_slice(bits)?;
         if go_on(&mut self.stretches, places, at, kind).is_err() {
             self.bits.truncate(places);
             return Err(AllocError);

@@ -4,14 +4,14 @@ use Rattle.linear.specs.Products.{IsImpossibleWithProducts}
 use Rattle.linear.specs.Forms.{forms}
 use Rattle.certificate.specs.View.{entry}
 use Rattle.two_thread.specs.Goals.{maybe_forms}
-use Rattle.two_thread.specs.Listed.{listed, nth_obligation}
 use Rattle.entry_check.specs.Entries.{facts_for}
+use Rattle.entry_check.specs.Hand.{obligation_at}
 use Rattle.entry_check.proofs.Unshown.{shown_by}
 use Rattle.entry_check.proofs.refuting.is_refuted_by.Goals as goal
 
 pub returns-clause-shown : goal.returns-clause-shown
 returns-clause-shown g c =
-    let o = nth_obligation (listed g.D.Domain c.args.found.now) c.args.number in
+    let o = obligation_at g.D.Domain c.args.asked.now.premises c.args.met.now c.args.owed in
     let e = entry c.args.entry.now in
     let xs = c.in-Some.facts.items in
     let b = c.in_ok-is_refuted.field-0 in

@@ -1,0 +1,21 @@
+use Rattle.std.proofs.Common.{◌≡◌, None}
+use Rattle.obligations.specs.Fitting.{crossing_fits}
+use Rattle.two_thread.specs.View.{met_access}
+use Rattle.walk.specs.Cursors.{Stands, left_count, left_accesses, stopped}
+use Rattle.entry_check.specs.Hand.{crossing_owed}
+use Rattle.entry_check.specs.Pairs.{access_with}
+use Rattle.entry_check.specs.Tallies.{IsSound, Takes}
+use Rattle.entry_check.specs.View.{said}
+use Rattle.entry_check.proofs.accesses.take_behind.Given as goal
+
+abbrev pub invariant-loop-path : goal.invariant-loop-path
+invariant-loop-path g l = record {
+  stands : Stands g.D.Domain l.terrain l.next;
+  starts : stopped l.next ≡ None;
+  held : l.met.paths.items ≡ l.fn.met.paths.items;
+  sound : IsSound l.tally;
+  takes : Takes (said l.asked.said.now) (crossing_owed g.D.Domain l.asked.premises) crossing_fits (access_with l.terrain l.sought (met_access l.fn.met l.i) (left_accesses g.D.Domain l.terrain l.fn.next)) (access_with l.terrain l.sought (met_access l.fn.met l.i) (left_accesses g.D.Domain l.terrain l.next)) l.fn.tally l.tally;
+}
+
+abbrev pub decreases-loop-path : goal.decreases-loop-path
+decreases-loop-path g l = left_count g.D.Domain l.terrain l.next

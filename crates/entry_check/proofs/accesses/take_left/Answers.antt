@@ -1,0 +1,67 @@
+use Rattle.std.proofs.Common.{rules, arith, ◌≡◌, ◌++◌, [], append-nil, ap, sym, subst, ◌∙◌}
+use Rattle.std.specs.Prelude.{None}
+use Rattle.obligations.specs.Fitting.{crossing_fits}
+use Rattle.entry_check.specs.Hand.{crossing_owed}
+use Rattle.entry_check.specs.Pairs.{crossings_sought}
+use Rattle.facts.proofs.Unmade.{passed}
+use Rattle.two_thread.specs.Paths.{accesses_seen}
+use Rattle.two_thread.specs.View.{met_accesses}
+use Rattle.walk.specs.Cursors.{left_accesses}
+use Rattle.walk.proofs.AtHand.{gave, gave_none}
+use Rattle.entry_check.specs.Tallies.{Fails, Takes}
+use Rattle.entry_check.specs.View.{said}
+use Rattle.entry_check.proofs.Taking.{fails_then, takes_end, takes_then}
+use Rattle.entry_check.proofs.accesses.take_left.Goals as goal
+
+pub hold_from-requires-clause-accesses : goal.hold_from-requires-clause-accesses
+hold_from-requires-clause-accesses g c = (gave g.D.Domain c.args.terrain.now c.loop-path.next c.next.new.self c.in_ok-path.field-0 c.in-Some.path c.in-Some.is (c.in_ok-path.ensures.next c.loop-path.invariant.starts)).0.own_accesses
+
+pub hold_from-requires-clause-ends : goal.hold_from-requires-clause-ends
+hold_from-requires-clause-ends g c = (gave g.D.Domain c.args.terrain.now c.loop-path.next c.next.new.self c.in_ok-path.field-0 c.in-Some.path c.in-Some.is (c.in_ok-path.ensures.next c.loop-path.invariant.starts)).0.own_ends
+
+pub loop-path-smaller : goal.loop-path-smaller
+loop-path-smaller g c = let v = gave g.D.Domain c.args.terrain.now c.loop-path.next c.next.new.self c.in_ok-path.field-0 c.in-Some.path c.in-Some.is (c.in_ok-path.ensures.next c.loop-path.invariant.starts) in omega (arith, v.0.count, c.in_ok-met.ensures.holds.count)
+
+pub loop-path-preserved : goal.loop-path-preserved
+loop-path-preserved g c =
+    let t = c.args.terrain.now in
+    let v = gave g.D.Domain c.args.terrain.now c.loop-path.next c.next.new.self c.in_ok-path.field-0 c.in-Some.path c.in-Some.is (c.in_ok-path.ensures.next c.loop-path.invariant.starts) in
+    let h = c.in_ok-met.ensures.holds in
+    let path = c.in-Some.path in
+    let all = (crossings_sought c.args.terrain.now c.args.sought (left_accesses g.D.Domain t c.args.next.now)) in
+    let xs = (crossings_sought c.args.terrain.now c.args.sought (left_accesses g.D.Domain t c.loop-path.next)) in
+    let ys = (crossings_sought c.args.terrain.now c.args.sought (left_accesses g.D.Domain t c.hold_from.new.next)) in
+    let ws = (crossings_sought c.args.terrain.now c.args.sought (met_accesses c.in_ok-met.met ++ left_accesses g.D.Domain t c.hold_from.new.next)) in
+    let a = c.args.tally.now in
+    let b = c.loop-path.tally in
+    let e : xs ≡ ws = ap (λ l. (crossings_sought c.args.terrain.now c.args.sought (l))) (v.0.accesses ∙ ap (λ l. l ++ left_accesses g.D.Domain t c.next.new.self) (sym (append-nil (accesses_seen path))) ∙ h.accesses) in
+    record {
+      stands = c.in_ok-met.ensures.stands;
+      starts = c.in_ok-met.ensures.starts;
+      sound = c.in_ok-take_held.ensures.sound;
+      takes = takes_then (said c.args.asked.now.said.now) (crossing_owed g.D.Domain c.args.asked.now.premises) crossing_fits all xs ys a b c.take_held.new.tally c.loop-path.invariant.takes (subst (λ l. Takes (said c.args.asked.now.said.now) (crossing_owed g.D.Domain c.args.asked.now.premises) crossing_fits l ys b c.take_held.new.tally) (sym e) c.in_ok-take_held.ensures.takes);
+    }
+
+pub returns-in_err-take_held-clause-fails : goal.returns-in_err-take_held-clause-fails
+returns-in_err-take_held-clause-fails g c =
+    let t = c.args.terrain.now in
+    let v = gave g.D.Domain c.args.terrain.now c.loop-path.next c.next.new.self c.in_ok-path.field-0 c.in-Some.path c.in-Some.is (c.in_ok-path.ensures.next c.loop-path.invariant.starts) in
+    let h = c.in_ok-met.ensures.holds in
+    let path = c.in-Some.path in
+    let all = (crossings_sought c.args.terrain.now c.args.sought (left_accesses g.D.Domain t c.args.next.now)) in
+    let xs = (crossings_sought c.args.terrain.now c.args.sought (left_accesses g.D.Domain t c.loop-path.next)) in
+    let ys = (crossings_sought c.args.terrain.now c.args.sought (left_accesses g.D.Domain t c.hold_from.new.next)) in
+    let ws = (crossings_sought c.args.terrain.now c.args.sought (met_accesses c.in_ok-met.met ++ left_accesses g.D.Domain t c.hold_from.new.next)) in
+    let a = c.args.tally.now in
+    let b = c.loop-path.tally in
+    let e : xs ≡ ws = ap (λ l. (crossings_sought c.args.terrain.now c.args.sought (l))) (v.0.accesses ∙ ap (λ l. l ++ left_accesses g.D.Domain t c.next.new.self) (sym (append-nil (accesses_seen path))) ∙ h.accesses) in
+    let z = c.in_err-take_held.field-0.0 in
+    passed c.from_residual-in_err-take_held.result z (Fails g.D.Domain t (said c.args.asked.now.said.now) (crossing_owed g.D.Domain c.args.asked.now.premises) crossing_fits all a) c.from_residual-in_err-take_held.ensures.1
+    (fails_then (said c.args.asked.now.said.now) (crossing_owed g.D.Domain c.args.asked.now.premises) crossing_fits g.D.Domain t all xs a b z c.loop-path.invariant.takes (subst (λ l. Fails g.D.Domain t (said c.args.asked.now.said.now) (crossing_owed g.D.Domain c.args.asked.now.premises) crossing_fits l b z) (sym e) c.in_err-take_held.ensures.fails))
+
+pub returns-clause-takes : goal.returns-clause-takes
+returns-clause-takes g c =
+    let t = c.args.terrain.now in
+    let none : c.in_ok-path.field-0 ≡ None = search rules in
+    let over : left_accesses g.D.Domain t c.loop-path.next ≡ [] = (gave_none g.D.Domain t c.loop-path.next c.next.new.self c.in_ok-path.field-0 none (c.in_ok-path.ensures.next c.loop-path.invariant.starts)).0.accesses in
+    takes_end (said c.args.asked.now.said.now) (crossing_owed g.D.Domain c.args.asked.now.premises) crossing_fits (crossings_sought c.args.terrain.now c.args.sought (left_accesses g.D.Domain t c.args.next.now)) (crossings_sought c.args.terrain.now c.args.sought (left_accesses g.D.Domain t c.loop-path.next)) c.args.tally.now c.loop-path.tally (ap (λ l. (crossings_sought c.args.terrain.now c.args.sought (l))) over) c.loop-path.invariant.takes

@@ -11,7 +11,7 @@ ghost use Rattle.facts.specs.Launching.{are_sizes};
 ghost use Rattle.arrivals.specs.Places as meant;
 ghost use Rattle.places.specs.Answers.{IsRefused};
 ghost use Rattle.places.specs.View.{place as place_seen};
-ghost use Rattle.texts.specs.Scope.{Narrow};
+ghost use Rattle.texts.specs.Scope.{Bits32};
 ghost use Rattle.reading.specs.Kernels.{read, text_for};
 ghost use Rattle.reading.specs.Sources.{source};
 ghost use Rattle.reading.specs.Answers.{kernel_seen};
@@ -205,13 +205,13 @@ pub fn check(
     conditions: &[u8],
     certificate: &[u8],
 ) -> Result<Accepted, CheckError>
-    ensures kernel { IfOk result (λ a. read (text_for Narrow kernel.now) ≡ Ok (kernel_seen (typed_of a))) }
+    ensures kernel { IfOk result (λ a. read (text_for Bits32 kernel.now) ≡ Ok (kernel_seen (typed_of a))) }
     ensures conditions { IfOk result (λ a. conditions_of false (tree_seen (typed_of a).0).parameters conditions.now ≡ Ok (lined (kept a))) }
     ensures passed { IfOk result (λ a. IsPassed (typed_of a) (conditions_seen (kept a)) certificate.now) }
-    ensures refused { Tells result (text_for Narrow kernel.now) conditions.now certificate.now }
-    ensures plain { OnPlain result (text_for Narrow kernel.now) conditions.now certificate.now }
-    ensures two { (two : List ℕ) → AreAlike certificate.now two → HoldsOf result (text_for Narrow kernel.now) conditions.now two }
-    ensures one { (one : List ℕ) → AreAlike one certificate.now → HoldsOf result (text_for Narrow kernel.now) conditions.now one }
+    ensures refused { Tells result (text_for Bits32 kernel.now) conditions.now certificate.now }
+    ensures plain { OnPlain result (text_for Bits32 kernel.now) conditions.now certificate.now }
+    ensures two { (two : List ℕ) → AreAlike certificate.now two → HoldsOf result (text_for Bits32 kernel.now) conditions.now two }
+    ensures one { (one : List ℕ) → AreAlike one certificate.now → HoldsOf result (text_for Bits32 kernel.now) conditions.now one }
     ensures pair { IfOk result (λ a. IsAccepted (core_seen (typed_of a).1) (conditions_seen (kept a))) }
     ensures headline { IfOk result (λ a. HasHeadline (core_seen (typed_of a).1) (conditions_seen (kept a))) }
 {
@@ -228,14 +228,14 @@ pub fn check_wide(
     conditions: &[u8],
     certificate: &[u8],
 ) -> Result<Accepted, CheckError>
-    ensures kernel { IfOk result (λ a. read (text_for Narrow kernel.now) ≡ Ok (kernel_seen (typed_of a))) }
+    ensures kernel { IfOk result (λ a. read (text_for Bits32 kernel.now) ≡ Ok (kernel_seen (typed_of a))) }
     ensures conditions { IfOk result (λ a. conditions_of true (tree_seen (typed_of a).0).parameters conditions.now ≡ Ok (lined (kept a))) }
     ensures passed { IfOk result (λ a. IsPassedBy true (typed_of a) (conditions_seen (kept a)) certificate.now) }
-    ensures refused { TellsBy true result (text_for Narrow kernel.now) conditions.now certificate.now }
-    ensures plain { OnPlainBy true result (text_for Narrow kernel.now) conditions.now certificate.now }
-    ensures two { (two : List ℕ) → AreAlike certificate.now two → HoldsOfBy true result (text_for Narrow kernel.now) conditions.now two }
-    ensures one { (one : List ℕ) → AreAlike one certificate.now → HoldsOfBy true result (text_for Narrow kernel.now) conditions.now one }
-    ensures alike { IsOfOneOrTwo certificate.now → AreNotOfTwo conditions.now → HoldsOf result (text_for Narrow kernel.now) conditions.now certificate.now }
+    ensures refused { TellsBy true result (text_for Bits32 kernel.now) conditions.now certificate.now }
+    ensures plain { OnPlainBy true result (text_for Bits32 kernel.now) conditions.now certificate.now }
+    ensures two { (two : List ℕ) → AreAlike certificate.now two → HoldsOfBy true result (text_for Bits32 kernel.now) conditions.now two }
+    ensures one { (one : List ℕ) → AreAlike one certificate.now → HoldsOfBy true result (text_for Bits32 kernel.now) conditions.now one }
+    ensures alike { IsOfOneOrTwo certificate.now → AreNotOfTwo conditions.now → HoldsOf result (text_for Bits32 kernel.now) conditions.now certificate.now }
     ensures pair { IfOk result (λ a. IsAcceptedWithin (core_seen (typed_of a).1) (conditions_seen (kept a))) }
     ensures headline { IfOk result (λ a. HasHeadline (core_seen (typed_of a).1) (conditions_seen (kept a))) }
 {

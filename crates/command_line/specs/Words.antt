@@ -5,7 +5,7 @@ use Rattle.std.specs.Option.{option_map}
 use Rattle.std.specs.Fmt.{decimal}
 use Rattle.std.specs.String.{string_bytes}
 use Rattle.std.specs.declared.alloc.Global.{Global}
-use Rattle.texts.specs.Scope.{Devices, Narrow, Any}
+use Rattle.texts.specs.Scope.{Devices, Bits32, Any}
 use Rattle.types.specs.Names.{devices as devices_seen}
 use Rattle.command_line.specs.declared.Names.{Names}
 use Rattle.command_line.specs.declared.Search.{Search}
@@ -62,8 +62,8 @@ devices_as false (w ∷ ws) = devices_as (bytes_eq w (codes "--devices")) ws
 
 -- `32` or `any`, and no other word; `32` where there is no word
 abbrev pub IsDevicesOf : Option (List ℕ) → Devices → Type 0
-IsDevicesOf None d = d ≡ Narrow
-IsDevicesOf (Some w) Narrow = w ≡ codes "32"
+IsDevicesOf None d = d ≡ Bits32
+IsDevicesOf (Some w) Bits32 = w ≡ codes "32"
 IsDevicesOf (Some w) Any = w ≡ codes "any"
 
 -- the devices that the kernel is read for

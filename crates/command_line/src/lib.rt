@@ -247,9 +247,9 @@ fn devices_of(word: Option<&str>) -> Option<Devices>
 {
     match word {
         Some(text) if text == "any" => Some(Devices::Any),
-        Some(text) if text == "32" => Some(Devices::Narrow),
+        Some(text) if text == "32" => Some(Devices::Bits32),
         Some(_) => None,
-        None => Some(Devices::Narrow),
+        None => Some(Devices::Bits32),
     }
 }
 

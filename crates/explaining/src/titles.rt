@@ -12,7 +12,7 @@ pub fn confirmed(kind: FindingKind, devices: Devices) -> &'static str {
         FindingKind::Divergence => "Barrier divergence",
         FindingKind::Fault(Fault::DivisionByZero) => "Division by zero",
         FindingKind::Fault(Fault::Overflow) => match devices {
-            Devices::Narrow => "Signed overflow",
+            Devices::Bits32 => "Signed overflow",
             Devices::Any => "Overflow, signed or of a size",
         },
         FindingKind::Fault(Fault::OutOfBounds) => "Read or write out of bounds",
@@ -28,7 +28,7 @@ pub fn possible(kind: FindingKind, devices: Devices) -> &'static str {
         FindingKind::Divergence => "barrier divergence",
         FindingKind::Fault(Fault::DivisionByZero) => "division by zero",
         FindingKind::Fault(Fault::Overflow) => match devices {
-            Devices::Narrow => "signed overflow",
+            Devices::Bits32 => "signed overflow",
             Devices::Any => "overflow, signed or of a size",
         },
         FindingKind::Fault(Fault::OutOfBounds) => "read or write out of bounds",
@@ -48,7 +48,7 @@ pub fn meant(kind: FindingKind, devices: Devices) -> &'static str {
         }
         FindingKind::Fault(Fault::DivisionByZero) => "the divisor is 0.",
         FindingKind::Fault(Fault::Overflow) => match devices {
-            Devices::Narrow => "the result does not fit an int.",
+            Devices::Bits32 => "the result does not fit an int.",
             Devices::Any => {
                 "the result does not fit an int; or it is an id or a size below 0, or of 2^32 and more, which devices \
                  with 32 and with 64 address bits have otherwise. A cast, as (uint)get_global_id(0), computes with \

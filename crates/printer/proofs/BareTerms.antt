@@ -8,7 +8,7 @@ use Rattle.texts.specs.Bare.{nowhere, bare_expression, bare_expressions}
 use Rattle.texts.specs.Surface.{PrefixSign, Minus, LogicalNot, BitNot, InfixSign, Arithmetic, LeftShift, RightShift, Comparison, LogicalAnd, LogicalOr, Expression, Number, Name, Element, Call, Prefix, Cast, Infix, Conditional, Expressions, nothing, also}
 use Rattle.texts.specs.TypeFaults.{TypeFault, UnknownName, WrongType, LeftOutWord, Checked, refused, then, when, found}
 use Rattle.texts.specs.Scope.{Devices, size_kind, Meaning, VariableAt, ArrayAt, Binding, meaning_of}
-use Rattle.texts.specs.Typing.{TypedTerm, typed, common, brought, bring, variable_term, array_of, prefix_term, shift_count, shifted, shift_term, widened, operand, arithmetic_term, comparison_term, infix_term, conditional_term, function_named, is_left_out, id_term, same_kind, pick_term, are_two, call_other, call_term, type_of, types_of}
+use Rattle.texts.specs.Typing.{TypedTerm, typed, common, brought, bring, variable_term, array_of, prefix_term, shift_count, shifted, shift_term, widened, operand, arithmetic_term, comparison_term, infix_term, conditional_term, function_named, is_left_out, has_dimension, id_term, same_kind, pick_term, are_two, call_other, call_term, type_of, types_of}
 use Rattle.printer.specs.BareCore.{bare_term, bare_checked}
 
 abbrev pub same : {A : Type 0} → A → A
@@ -113,7 +113,7 @@ bare-conditional site test a b =
 -- calls
 bare-id : (ids : Kind) (site : Site) (function : Function) (es : Expressions) → id_term ids nowhere function (bare_expressions es) ≡ bare_checked bare_typed (id_term ids site function es)
 bare-id ids site function nothing = refl
-bare-id ids site function (also (Number at kind n) nothing) = refl
+bare-id ids site function (also (Number at kind n) nothing) = bare-when bare_typed (has_dimension ids n) WrongType at (typed ids (core.Id ids function n))
 bare-id ids site function (also (Number at kind n) (also e es)) = refl
 bare-id ids site function (also (Name at x) es) = refl
 bare-id ids site function (also (Element at x index) es) = refl

@@ -3,7 +3,7 @@ use Rattle.std.proofs.Common.{◌≡◌, ℕ, List, [], ◌∷◌, ◌++◌, map
 use Rattle.std.specs.Prelude.{◌⊎◌, Option, Some, None, Result, Ok, Err, IfSome, IfOk, Vec, String}
 use Rattle.std.specs.declared.alloc.Global.{Global}
 use Rattle.std.specs.String.{string_bytes}
-use Rattle.texts.specs.Scope.{Devices, Narrow}
+use Rattle.texts.specs.Scope.{Devices, Bits32}
 use Rattle.reading.specs.Kernels.{Source, text_for}
 use Rattle.reading.specs.Answers as kernels
 use Rattle.launch_text.specs.Answers as launches
@@ -69,7 +69,7 @@ text_of (Explain k c wide d) t saved text h = begun (IsUnproved wide 1 (text_for
 text_of (ExplainCheck k c p wide d) t saved text h =
     let kernel = text_for d t.kernel in
     begun (IsRefusedText wide kernel t.conditions t.certificate) (λ line refusal. alone line (check_line wide kernel t.conditions t.certificate line refusal)) text h
-text_of (Print k) t saved text h = alone text (print_line (text_for Narrow t.kernel) text h)
+text_of (Print k) t saved text h = alone text (print_line (text_for Bits32 t.kernel) text h)
 text_of (Migrate o n) t saved text h = alone text (migrate_line t.certificate text h.0)
 
 -- what a verdict tells fulfils the request, or refuses it

@@ -3,7 +3,7 @@ use Rattle.std.specs.Prelude.{◌≡◌, ◌≢◌, ◌+◌, ◌++◌, ◌⊎◌
 use Rattle.std.specs.Io.KnownBytes.{Appends, Keeps}
 use Rattle.semantics.specs.Launch.{Launch, Fits}
 use Rattle.semantics.specs.Conditions.{Conditions, Meets}
-use Rattle.texts.specs.Scope.{Devices, Narrow}
+use Rattle.texts.specs.Scope.{Devices, Bits32}
 use Rattle.reading.specs.Kernels.{Kernel, Source, text_for}
 use Rattle.telling.specs.Telling.{AreSafeTexts, IsAcceptedText, IsResultText, IsPrintedText, accepted_line}
 use Rattle.telling.specs.Proving.{no_launch_line}
@@ -157,13 +157,13 @@ IsMoved name old written saved = (new : List ℕ) × IsMigrated old new written 
 -- what fulfils a request: `accepted`, the buffers of a launch, a canonical text, or `migrated`; where an answer is explained, it begins the
 -- text
 abbrev pub Fulfils : (proof : (is_wide : Bool) (kernel : Source) (conditions certificate written : List ℕ) → Type 0) → Request → Texts → Option Write → (written : List ℕ) → Type 0
-Fulfils proof CheckOwn t saved written = IsAcceptedText false (text_for Narrow first_kernel) first_conditions written
+Fulfils proof CheckOwn t saved written = IsAcceptedText false (text_for Bits32 first_kernel) first_conditions written
 Fulfils proof (Check k c p wide d) t saved written = IsAcceptedText wide (text_for d t.kernel) t.conditions written
 Fulfils proof (Run k c p l workers wide d) t saved written = IsResultText wide (text_for d t.kernel) t.conditions t.launch written
 Fulfils proof (Prove k c workers out wide d) t saved written = IsFound proof wide out (text_for d t.kernel) t.conditions written saved
 Fulfils proof (Explain k c wide d) t saved written = Begins (IsSought proof wide (text_for d t.kernel) t.conditions) written
 Fulfils proof (ExplainCheck k c p wide d) t saved written = Begins (IsAcceptedText wide (text_for d t.kernel) t.conditions) written
-Fulfils proof (Print k) t saved written = IsPrintedText (text_for Narrow t.kernel) written
+Fulfils proof (Print k) t saved written = IsPrintedText (text_for Bits32 t.kernel) written
 Fulfils proof (Migrate o n) t saved written = IsMoved n t.certificate written saved
 
 abbrev pub Success : (given : List Read → Option Write → Type 0) (proof : (is_wide : Bool) (kernel : Source) (conditions certificate written : List ℕ) → Type 0) (ws : List (List ℕ)) (written : List ℕ) → Type 0

@@ -1,7 +1,7 @@
 //! The texts that the program checks where it is given no word: a fill of a buffer, one item an element.
 
 ghost use Rattle.std.specs.Prelude.{◌≡◌};
-ghost use Rattle.texts.specs.Scope.{Narrow};
+ghost use Rattle.texts.specs.Scope.{Bits32};
 ghost use Rattle.reading.specs.Kernels.{text_for};
 ghost use Rattle.reading.specs.Sources.{source};
 ghost use Rattle.program.specs.First.{first_kernel, first_conditions, first_certificate};
@@ -24,7 +24,7 @@ const CERTIFICATE: &[u8] = b"certificate 1\n\
 
 /// The texts of the kernel, the conditions and the certificate that the program checks where it is given no word.
 pub fn first_texts() -> Texts<'static>
-    ensures kernel { source result.kernel ≡ text_for Narrow first_kernel }
+    ensures kernel { source result.kernel ≡ text_for Bits32 first_kernel }
     ensures conditions { result.conditions.now ≡ first_conditions }
     ensures certificate { result.certificate.now ≡ first_certificate }
 {

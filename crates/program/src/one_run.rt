@@ -2,7 +2,7 @@
 
 ghost use Rattle.std.specs.Prelude.{◌≡◌, ◌≢◌, ℕ, List, [], ◌∷◌, Bool, false, IfOk, OnOk, codes};
 ghost use Rattle.std.specs.Option.{option_map};
-ghost use Rattle.texts.specs.Scope.{Narrow};
+ghost use Rattle.texts.specs.Scope.{Bits32};
 ghost use Rattle.types.specs.Names.{devices as devices_seen};
 ghost use Rattle.reading.specs.Kernels as kernels;
 ghost use Rattle.reading.specs.Kernels.{text_for};
@@ -100,7 +100,7 @@ fn texts_of<'a, F: Files>(files: &mut F, names: Names<'a>) -> Result<Found, Stop
 
 /// The check of the texts that stand in the program.
 fn first_verdict(alloc: Global) -> Verdict
-    ensures { Checks false result (text_for Narrow first_kernel) first_conditions first_certificate }
+    ensures { Checks false result (text_for Bits32 first_kernel) first_conditions first_certificate }
 {
     check_texts(alloc, first_texts(), false)
 }

@@ -14,7 +14,7 @@ ghost use Rattle.texts.specs.ConditionsReading.{Lined};
 ghost use Rattle.certificate_text.specs.NumberedText.{text_of_two};
 ghost use Rattle.certificate.specs.Certificates.{certificate as certificate_seen};
 ghost use Rattle.cert_check.specs.Refusing.{AreRead};
-ghost use Rattle.texts.specs.Scope.{Narrow};
+ghost use Rattle.texts.specs.Scope.{Bits32};
 ghost use Rattle.reading.specs.Kernels as kernels;
 ghost use Rattle.reading.specs.Kernels.{text_for};
 ghost use Rattle.reading.specs.Sources.{source};
@@ -371,7 +371,7 @@ pub fn find<R: Threads + Sync>(
 ) -> Result<Found, VerifyError>
     ensures written { IfOk result (λ f. f.text.items ≡ text_of_two (certificate_seen f.certificate)) }
     ensures workers { IfOk result (λ _. IsCount workers) }
-    ensures told { IfErr result (λ e. TellsOf false e workers (text_for Narrow kernel.now) conditions.now) }
+    ensures told { IfErr result (λ e. TellsOf false e workers (text_for Bits32 kernel.now) conditions.now) }
 {
     let effort = Effort {
         workers,
@@ -391,7 +391,7 @@ pub fn find_narrowly<R: Threads + Sync>(
 ) -> Result<Found, VerifyError>
     ensures written { IfOk result (λ f. f.text.items ≡ text_found (certificate_seen f.certificate)) }
     ensures workers { IfOk result (λ _. IsCount workers) }
-    ensures told { IfErr result (λ e. TellsOf true e workers (text_for Narrow kernel.now) conditions.now) }
+    ensures told { IfErr result (λ e. TellsOf true e workers (text_for Bits32 kernel.now) conditions.now) }
 {
     let effort = Effort {
         workers,
@@ -412,7 +412,7 @@ pub fn find_wide<R: Threads + Sync>(
 ) -> Result<Found, VerifyError>
     ensures written { IfOk result (λ f. f.text.items ≡ text_found (certificate_seen f.certificate)) }
     ensures workers { IfOk result (λ _. IsCount workers) }
-    ensures told { IfErr result (λ e. TellsOf true e workers (text_for Narrow kernel.now) conditions.now) }
+    ensures told { IfErr result (λ e. TellsOf true e workers (text_for Bits32 kernel.now) conditions.now) }
 {
     let effort = Effort {
         workers,

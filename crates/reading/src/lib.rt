@@ -4,7 +4,7 @@
 #![tactic(auto)]
 
 ghost use Rattle.std.specs.Prelude.{◌≡◌};
-ghost use Rattle.texts.specs.Scope.{Narrow};
+ghost use Rattle.texts.specs.Scope.{Bits32};
 ghost use Rattle.reading.specs.Kernels.{read, text_for};
 ghost use Rattle.reading.specs.Answers.{Gives};
 ghost use Rattle.reading.specs.Sources.{source};
@@ -67,10 +67,10 @@ pub struct Source<'a> {
 
 /// A text that is read for the devices with 32 address bits, where ids are `uint`.
 pub fn narrow(bytes: &[u8]) -> Source<'_>
-    ensures { source result ≡ text_for Narrow bytes.now }
+    ensures { source result ≡ text_for Bits32 bytes.now }
 {
     Source {
-        devices: Devices::Narrow,
+        devices: Devices::Bits32,
         bytes,
     }
 }
@@ -96,7 +96,7 @@ pub fn read_source(alloc: Global, text: Source<'_>) -> Result<Typed, KernelError
 
 /// The kernel of a text that is read for the devices with 32 address bits.
 pub fn read_kernel(alloc: Global, bytes: &[u8]) -> Result<Typed, KernelError>
-    ensures { Gives result (read (text_for Narrow bytes.now)) }
+    ensures { Gives result (read (text_for Bits32 bytes.now)) }
 {
     read_source(alloc, narrow(bytes))
 }

@@ -8,7 +8,7 @@ use Rattle.plain_kernels.specs.Kernels.{Alone, Times, Plus, TimesPlus, Number, B
 use Rattle.texts.specs.Signs.{signs}
 use Rattle.texts.specs.Reserved.{reserved_words}
 use Rattle.texts.specs.Limits.{within_limits}
-use Rattle.texts.specs.Scope.{Narrow, reserved_names, called_names, is_taken}
+use Rattle.texts.specs.Scope.{Bits32, reserved_names, called_names, is_taken}
 use Rattle.texts.specs.Typing.{type_of, types_of, function_named, left_out_names, is_left_out}
 use Rattle.texts.specs.Elaboration.{elaborate_assignment, elaborate_declaration, elaborate_statement, elaborate_all, elaborate_inside, elaborate}
 use Rattle.parser.specs.Expressions.{chain, ranked, more_arguments, arguments, inside, operand_reader, expression_reader}
@@ -19,7 +19,7 @@ use Rattle.parser.specs.Statements.{assigned_reader, index_reader, assignment_re
 use Rattle.reading.specs.Kernels.{read, text_for}
 use Rattle.samples.specs.Stores.{stores, kernel_of}
 
-pub stores_read : read (text_for Narrow stores) ≡ Ok (kernel_of (read (text_for Narrow stores)))
+pub stores_read : read (text_for Bits32 stores) ≡ Ok (kernel_of (read (text_for Bits32 stores)))
 unfolding read signs reserved_words within_limits reserved_names called_names is_taken type_of types_of function_named left_out_names is_left_out elaborate_assignment elaborate_declaration elaborate_statement elaborate_all elaborate_inside elaborate chain ranked more_arguments arguments inside operand_reader expression_reader ended buffer_reader value_reader parameter_reader more_parameters parameters_reader sizes_reader attribute_reader kernel_reader parsed assigned_reader index_reader assignment_reader declaration_reader first_reader tested parts_reader head_reader items named array_reader statement_reader body_reader block_reader item_reader
 stores_read = refl
 
@@ -28,7 +28,7 @@ near : (f z : ℕ) → f ≤ 2 → z ≤ 3 → last_index 4 (pos 1024) f z ≤�
 near f z a b = omega (arith, ints, a, b)
 
 abbrev pub found : Kernel
-found = (kernel_of (read (text_for Narrow stores))).core
+found = (kernel_of (read (text_for Bits32 stores))).core
 
 pub are_plain : ArePlain found.arguments found.sizes.x (pos 1024) found.body
 unfolding read signs reserved_words within_limits reserved_names called_names is_taken type_of types_of function_named left_out_names is_left_out elaborate_assignment elaborate_declaration elaborate_statement elaborate_all elaborate_inside elaborate chain ranked more_arguments arguments inside operand_reader expression_reader ended buffer_reader value_reader parameter_reader more_parameters parameters_reader sizes_reader attribute_reader kernel_reader parsed assigned_reader index_reader assignment_reader declaration_reader first_reader tested parts_reader head_reader items named array_reader statement_reader body_reader block_reader item_reader

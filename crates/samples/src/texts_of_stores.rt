@@ -2,7 +2,7 @@
 
 ghost use Rattle.std.specs.Prelude.{◌≡◌, pos, Ok, []};
 ghost use Rattle.semantics.specs.Conditions.{Conditions};
-ghost use Rattle.texts.specs.Scope.{Narrow};
+ghost use Rattle.texts.specs.Scope.{Bits32};
 ghost use Rattle.reading.specs.Kernels.{read, text_for};
 ghost use Rattle.reading.specs.Texts.{IsTextOf};
 ghost use Rattle.plain_kernels.specs.Kernels.{IsPlain};
@@ -14,8 +14,8 @@ use reading::laws::bytes_are_the_text_of_what_is_read;
 /// a buffer holds: a store to the element of the
 /// global id, one with a factor, one with a number more, one with both, and an `int` number.
 pub fn stores_are_plain()
-    ensures text { IsTextOf (text_for Narrow stores) (kernel_of (read (text_for Narrow stores))) }
-    ensures plain { (c : Conditions) → c.groups.x.high ≡ pos 1024 → c.contents ≡ [] → IsPlain (kernel_of (read (text_for Narrow stores))).core c }
+    ensures text { IsTextOf (text_for Bits32 stores) (kernel_of (read (text_for Bits32 stores))) }
+    ensures plain { (c : Conditions) → c.groups.x.high ≡ pos 1024 → c.contents ≡ [] → IsPlain (kernel_of (read (text_for Bits32 stores))).core c }
 {
     bytes_are_the_text_of_what_is_read();
 }

@@ -6,7 +6,7 @@ ghost use Rattle.semantics.specs.Word as word;
 ghost use Rattle.semantics.specs.Core as core;
 ghost use Rattle.texts.specs.Surface.{Arithmetic, Comparison, LeftShift, RightShift, Conditional};
 ghost use Rattle.texts.specs.TypeFaults.{UnknownName, NameTwice, WrongType, WriteToConst, LoadInCompoundIndex, ArrayInBlock, refused};
-ghost use Rattle.texts.specs.Scope.{Narrow, Any};
+ghost use Rattle.texts.specs.Scope.{Bits32, Any};
 ghost use Rattle.texts.specs.Typing.{typed, type_of};
 ghost use Rattle.texts.specs.Elaboration.{elaborate};
 ghost use Rattle.samples.specs.Terms.{at, buffer};
@@ -15,24 +15,24 @@ ghost use Rattle.samples.specs.Surface.{mixed, siblings, own_initialiser, shadow
 /// `b[n] += a[m] * n` is `b[n] = b[n] + a[m] * n`: operators bring operands to `uint`, the store converts to `int`. Sibling blocks
 /// declare one name twice, each a slot of its own.
 pub fn kernels_are_elaborated()
-    ensures mixed { body_of (elaborate Narrow mixed) ≡ core.one (core.Store 1 (buffer 1) (at 1) (core.Variable 0) (core.Convert Int (at 1) (core.Binary Add Uint (at 3) (core.Load (buffer 1) (at 1) (core.Variable 0)) (core.Binary Multiply Uint (at 5) (core.Load (buffer 0) (at 4) (core.Variable 1)) (core.Variable 0))))) core.none }
-    ensures siblings { variables_of (elaborate Narrow siblings) ≡ Uint ∷ Int ∷ [] }
-    ensures hidden { arguments_of (elaborate Narrow hidden) ≡ Uint ∷ [] }
+    ensures mixed { body_of (elaborate Bits32 mixed) ≡ core.one (core.Store 1 (buffer 1) (at 1) (core.Variable 0) (core.Convert Int (at 1) (core.Binary Add Uint (at 3) (core.Load (buffer 1) (at 1) (core.Variable 0)) (core.Binary Multiply Uint (at 5) (core.Load (buffer 0) (at 4) (core.Variable 1)) (core.Variable 0))))) core.none }
+    ensures siblings { variables_of (elaborate Bits32 siblings) ≡ Uint ∷ Int ∷ [] }
+    ensures hidden { arguments_of (elaborate Bits32 hidden) ≡ Uint ∷ [] }
 {}
 
 /// A name in its own initialiser, a visible name declared again, a store to `const`, a load in the index of a compound assignment, and a
 /// local array in a block are no kernels. Nor is one with the name of a function that it may call, or that a compiler may call, or with a
 /// name that is the compiler's.
 pub fn others_are_refused()
-    ensures own_initialiser { elaborate Narrow own_initialiser ≡ refused UnknownName (at 4) }
-    ensures shadowed { elaborate Narrow shadowed ≡ refused NameTwice (at 2) }
-    ensures constant { elaborate Narrow constant ≡ refused WriteToConst (at 1) }
-    ensures loaded_index { elaborate Narrow loaded_index ≡ refused LoadInCompoundIndex (at 4) }
-    ensures inner_array { elaborate Narrow inner_array ≡ refused ArrayInBlock (at 6) }
-    ensures barrier { elaborate Narrow (named (codes "barrier")) ≡ refused NameTwice (at 7) }
-    ensures called { elaborate Narrow (named (codes "memset")) ≡ refused NameTwice (at 7) }
-    ensures compilers { elaborate Narrow (named (codes "_k")) ≡ refused NameTwice (at 7) }
-    ensures renamed { elaborate Narrow renamed ≡ refused NameTwice (at 2) }
+    ensures own_initialiser { elaborate Bits32 own_initialiser ≡ refused UnknownName (at 4) }
+    ensures shadowed { elaborate Bits32 shadowed ≡ refused NameTwice (at 2) }
+    ensures constant { elaborate Bits32 constant ≡ refused WriteToConst (at 1) }
+    ensures loaded_index { elaborate Bits32 loaded_index ≡ refused LoadInCompoundIndex (at 4) }
+    ensures inner_array { elaborate Bits32 inner_array ≡ refused ArrayInBlock (at 6) }
+    ensures barrier { elaborate Bits32 (named (codes "barrier")) ≡ refused NameTwice (at 7) }
+    ensures called { elaborate Bits32 (named (codes "memset")) ≡ refused NameTwice (at 7) }
+    ensures compilers { elaborate Bits32 (named (codes "_k")) ≡ refused NameTwice (at 7) }
+    ensures renamed { elaborate Bits32 renamed ≡ refused NameTwice (at 2) }
 {}
 
 /// Read for any devices, an id is a size. An operator converts an `int` beside it to a size, and takes a `uint` as it is; a shift of it
@@ -53,7 +53,7 @@ pub fn ids_are_sizes()
 /// Read for the devices with 32 address bits, an id is a `uint`: an operator takes an `int` beside it as it is, and `min` takes it beside a
 /// `uint`.
 pub fn narrow_ids_are_uints()
-    ensures added { type_of Narrow variables (id_beside (Arithmetic Add) (name (codes "i"))) ≡ Ok (typed Uint (core.Binary Add Uint (at 5) (core.Id Uint core.GlobalId 0) (core.Variable 0))) }
-    ensures shifted { type_of Narrow variables (id_beside LeftShift (number 3)) ≡ Ok (typed Uint (core.Unary (word.ShiftLeft 3) Uint (at 5) (core.Id Uint core.GlobalId 0))) }
-    ensures least { type_of Narrow variables least ≡ Ok (typed Uint (core.Minimum (core.Id Uint core.GlobalId 0) (core.Variable 1))) }
+    ensures added { type_of Bits32 variables (id_beside (Arithmetic Add) (name (codes "i"))) ≡ Ok (typed Uint (core.Binary Add Uint (at 5) (core.Id Uint core.GlobalId 0) (core.Variable 0))) }
+    ensures shifted { type_of Bits32 variables (id_beside LeftShift (number 3)) ≡ Ok (typed Uint (core.Unary (word.ShiftLeft 3) Uint (at 5) (core.Id Uint core.GlobalId 0))) }
+    ensures least { type_of Bits32 variables least ≡ Ok (typed Uint (core.Minimum (core.Id Uint core.GlobalId 0) (core.Variable 1))) }
 {}

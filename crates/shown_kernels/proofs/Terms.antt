@@ -8,8 +8,8 @@ use Rattle.semantics.specs.Core as core
 use Rattle.semantics.specs.Core.{Site, Array, Function, Term}
 use Rattle.texts.specs.Surface.{PrefixSign, Minus, LogicalNot, BitNot, InfixSign, Arithmetic, LeftShift, RightShift, Comparison, LogicalAnd, LogicalOr, Expression, Number, Name, Element, Call, Prefix, Cast, Infix, Conditional, Expressions, nothing, also}
 use Rattle.texts.specs.TypeFaults.{Checked, UnknownName, WrongType, LeftOutWord, refused, then, found}
-use Rattle.texts.specs.Scope.{Devices, Narrow, Any, size_kind, Meaning, VariableAt, ArrayAt, Binding, meaning_of}
-use Rattle.texts.specs.Typing.{TypedTerm, typed, is_unsigned, common, brought, bring, variable_term, array_of, prefix_term, shift_count, shifted, shift_term, widened, operand, infix_term, conditional_term, function_named, is_left_out, id_term, same_kind, pick_term, are_two, call_other, call_term, type_of, types_of}
+use Rattle.texts.specs.Scope.{Devices, Bits32, Any, size_kind, Meaning, VariableAt, ArrayAt, Binding, meaning_of}
+use Rattle.texts.specs.Typing.{TypedTerm, typed, is_unsigned, common, brought, bring, variable_term, array_of, prefix_term, shift_count, shifted, shift_term, widened, operand, infix_term, conditional_term, function_named, is_left_out, has_dimension, id_term, same_kind, pick_term, are_two, call_other, call_term, type_of, types_of}
 use Rattle.texts.specs.Numbers.{is_literal}
 use Rattle.texts.specs.Spelling.{SpellsExpression, SpellsExpressions}
 use Rattle.work_item.specs.Proper.{is_id_kind, is_proper_unary, is_proper_term}
@@ -117,12 +117,12 @@ conditional-proper site t a b h k m =
 
 -- sizes are of no `int`
 size-proper : (d : Devices) → is_id_kind (size_kind d) ≡ true
-size-proper Narrow = refl
+size-proper Bits32 = refl
 size-proper Any = refl
 
 id-proper : (d : Devices) (site : Site) (function : Function) (arguments : Expressions) → Holds IsProper (id_term (size_kind d) site function arguments)
 id-proper d site function nothing = tt
-id-proper d site function (also (Number at kind n) nothing) = size-proper d
+id-proper d site function (also (Number at kind n) nothing) = when-holds IsProper (has_dimension (size_kind d) n) WrongType at (typed (size_kind d) (core.Id (size_kind d) function n)) (size-proper d)
 id-proper d site function (also (Number at kind n) (also e es)) = tt
 id-proper d site function (also (Name at x) es) = tt
 id-proper d site function (also (Element at x index) es) = tt

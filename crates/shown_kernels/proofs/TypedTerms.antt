@@ -7,7 +7,7 @@ use Rattle.semantics.specs.Core.{Site, Array, Function, Term}
 use Rattle.texts.specs.Surface.{PrefixSign, Minus, LogicalNot, BitNot, InfixSign, Arithmetic, LeftShift, RightShift, Comparison, LogicalAnd, LogicalOr, Expression, Number, Name, Element, Call, Prefix, Cast, Infix, Conditional, Expressions, nothing, also}
 use Rattle.texts.specs.TypeFaults.{Checked, UnknownName, WrongType, LeftOutWord, refused, then, found}
 use Rattle.texts.specs.Scope.{Devices, size_kind, Meaning, VariableAt, ArrayAt, Binding, meaning_of}
-use Rattle.texts.specs.Typing.{TypedTerm, typed, common, brought, bring, variable_term, array_of, prefix_term, shift_count, shifted, shift_term, widened, operand, infix_term, conditional_term, function_named, is_left_out, id_term, same_kind, pick_term, are_two, call_other, call_term, type_of, types_of}
+use Rattle.texts.specs.Typing.{TypedTerm, typed, common, brought, bring, variable_term, array_of, prefix_term, shift_count, shifted, shift_term, widened, operand, infix_term, conditional_term, function_named, is_left_out, has_dimension, id_term, same_kind, pick_term, are_two, call_other, call_term, type_of, types_of}
 use Rattle.shown_kernels.specs.Declared.{Declared, HasArray, TermWithin}
 use Rattle.shown_kernels.proofs.Holding.{Holds, then-holds, when-holds}
 use Rattle.shown_kernels.proofs.Scoping.{IsThere, AreThere, found-there}
@@ -81,7 +81,7 @@ conditional-in d site t a b h k m = (h, bring-in d (common a.kind b.kind) site a
 
 id-in : (d : Declared) (ids : Kind) (site : Site) (function : Function) (arguments : Expressions) → Holds (IsIn d) (id_term ids site function arguments)
 id-in d ids site function nothing = tt
-id-in d ids site function (also (Number at kind n) nothing) = tt
+id-in d ids site function (also (Number at kind n) nothing) = when-holds (IsIn d) (has_dimension ids n) WrongType at (typed ids (core.Id ids function n)) tt
 id-in d ids site function (also (Number at kind n) (also e es)) = tt
 id-in d ids site function (also (Name at x) es) = tt
 id-in d ids site function (also (Element at x index) es) = tt

@@ -122,8 +122,8 @@ fn as_told(told: Vec<u8>) -> Verdict
 /// The kernel is read for the devices with 32 address bits, and computes with sizes. Want of memory is taken as no.
 fn is_narrow(alloc: Global, kernel: Source<'_>) -> bool {
     match (kernel.devices, computes_with_sizes(alloc, kernel.bytes)) {
-        (Devices::Narrow, Ok(computes)) => computes,
-        (Devices::Narrow, Err(_)) | (Devices::Any, _) => false,
+        (Devices::Bits32, Ok(computes)) => computes,
+        (Devices::Bits32, Err(_)) | (Devices::Any, _) => false,
     }
 }
 

@@ -11,7 +11,7 @@ ghost use Rattle.launch_text.specs.Answers as launches;
 ghost use Rattle.cert_check.specs.Numbers as checks;
 ghost use Rattle.cert_check.specs.Numbers.{at_line};
 ghost use Rattle.executor.specs.Numbers as runs;
-ghost use Rattle.texts.specs.Scope.{Narrow};
+ghost use Rattle.texts.specs.Scope.{Bits32};
 ghost use Rattle.reading.specs.Kernels.{text_for};
 ghost use Rattle.reading.specs.Sources.{source};
 ghost use Rattle.telling.specs.Verdicts.{Checks, Runs, Prints, IsRefusal};
@@ -163,7 +163,7 @@ pub fn run_texts<R: Threads + Wait + Sync>(
 
 /// The canonical text of a kernel, or why the bytes are no kernel's text.
 pub fn print_text(alloc: Global, kernel: &[u8]) -> Verdict
-    ensures { Prints result (text_for Narrow kernel.now) }
+    ensures { Prints result (text_for Bits32 kernel.now) }
 {
     bytes_are_the_text_of_what_is_read();
     let typed = match read_kernel(alloc, kernel) {

@@ -9,12 +9,12 @@ use Rattle.texts.specs.TypeFaults.{NameTwice, Checked, when}
 -- the devices that a kernel is read for: those of 32 address bits, where `size_t` is `uint`; or any, where it is a kind of its own, which
 -- has 32 bits or more (OpenCL 1.2, 6.1.1)
 pub data Devices : Type 0 where
-  Narrow : Devices
+  Bits32 : Devices
   Any : Devices
 
 -- the kind of `size_t`, which ids and sizes have (6.12.1)
 abbrev pub size_kind : Devices → Kind
-size_kind Narrow = Uint
+size_kind Bits32 = Uint
 size_kind Any = Size
 
 -- a private variable or value parameter, or a buffer parameter or local array

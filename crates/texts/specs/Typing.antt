@@ -130,9 +130,16 @@ left_out_names =
 unfoldable pub is_left_out : List ℕ → Bool
 is_left_out name = (starts_with nat_eq name (codes "atomic_") || starts_with nat_eq name (codes "atom_")) || is_one_of left_out_names name
 
+-- there are three dimensions. Above them OpenCL gives 0 for an id and 1 for a size (6.12.1), but devices give 0 for a size, too: so a
+-- number above 2 is refused where a kernel is read for any devices (ours)
+abbrev pub has_dimension : (ids : Kind) → ℕ → Bool
+has_dimension Int n = true
+has_dimension Uint n = true
+has_dimension Size n = nat_le n 2
+
 -- their argument is one number in the text (ours), and they give a size
 abbrev pub id_term : (ids : Kind) → Site → Function → Expressions → Checked TypedTerm
-id_term ids site function (also (Number at kind n) nothing) = Ok (typed ids (core.Id ids function n))
+id_term ids site function (also (Number at kind n) nothing) = when (has_dimension ids n) WrongType at (typed ids (core.Id ids function n))
 id_term ids site function arguments = refused WrongType site
 
 abbrev pub same_kind : Kind → Kind → Bool

@@ -14,7 +14,7 @@ use Rattle.types.specs.declared.devices.Devices.{Devices}
 use Rattle.types.specs.declared.devices.Devices.TheVariants as variants
 
 abbrev pub devices : Devices → scope.Devices
-devices variants.Narrow = scope.Narrow
+devices variants.Bits32 = scope.Bits32
 devices variants.Any = scope.Any
 
 abbrev pub meaning_seen : Meaning → scope.Meaning

@@ -10,7 +10,7 @@ use words::Kind;
 /// Those with 32 address bits, where `size_t` is `uint`; or any, where it is a kind of its own, with 32 bits or more (OpenCL 1.2, 6.1.1).
 #[derive(Clone, Copy)]
 pub enum Devices {
-    Narrow,
+    Bits32,
     Any,
 }
 
@@ -25,7 +25,7 @@ impl Devices {
         ensures { kind result ≡ scope.size_kind (devices_seen self) }
     {
         match self {
-            Devices::Narrow => Kind::Uint,
+            Devices::Bits32 => Kind::Uint,
             Devices::Any => Kind::Size,
         }
     }

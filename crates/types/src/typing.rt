@@ -322,6 +322,13 @@ fn conditional_term(
     })
 }
 
+// Whether the work-item functions may be asked for a dimension of that number, where ids have this kind.
+fn has_dimension(size: Kind, dimension: u32) -> bool
+    ensures { result ≡ typing.has_dimension (kind size) dimension }
+{
+    size != Kind::Size || dimension <= 2
+}
+
 #[tactic(auto, using(crate::proofs::Arguments::arguments))]
 fn id_term(
     size: Kind,
@@ -338,13 +345,17 @@ fn id_term(
         });
     }
     match &arguments[0] {
-        Expr::Number { value, .. } => Ok(TypedTerm {
+        Expr::Number { value, .. } if has_dimension(size, *value) => Ok(TypedTerm {
             kind: size,
             term: Term::Id {
                 kind: size,
                 function,
                 dimension: *value,
             },
+        }),
+        Expr::Number { site, .. } => Err(TypeError::At {
+            fault: TypeFault::WrongType,
+            site: *site,
         }),
         _ => Err(TypeError::At {
             fault: TypeFault::WrongType,

@@ -4,7 +4,7 @@ ghost use Rattle.std.specs.Prelude.{◌≡◌, ℕ, List, Bool, true, false, IfO
 ghost use Rattle.certificate.specs.Certificates.{certificate as certificate_seen};
 ghost use Rattle.cert_check.specs.Refusing.{RefusesBy};
 ghost use Rattle.proof_search.specs.Searching.{AreSearched, IsCount, TellsOf, text_by, text_found};
-ghost use Rattle.texts.specs.Scope.{Narrow};
+ghost use Rattle.texts.specs.Scope.{Bits32};
 ghost use Rattle.reading.specs.Kernels as kernels;
 ghost use Rattle.reading.specs.Kernels.{text_for};
 ghost use Rattle.reading.specs.Sources.{source};
@@ -141,9 +141,9 @@ pub fn verify<R: Threads + Wait + Sync>(
     conditions: &[u8],
     workers: u32,
 ) -> Result<Verified, VerifyError>
-    ensures verified { IfOk result (λ v. IsVerified (text_for Narrow kernel.now) conditions.now (certificate_seen v.certificate) v.accepted) }
+    ensures verified { IfOk result (λ v. IsVerified (text_for Bits32 kernel.now) conditions.now (certificate_seen v.certificate) v.accepted) }
     ensures workers { IfOk result (λ _. IsCount workers) }
-    ensures told { IfErr result (λ e. TellsOf false e workers (text_for Narrow kernel.now) conditions.now) }
+    ensures told { IfErr result (λ e. TellsOf false e workers (text_for Bits32 kernel.now) conditions.now) }
 {
     let effort = Effort {
         workers,
@@ -162,9 +162,9 @@ pub fn verify_wide<R: Threads + Wait + Sync>(
     conditions: &[u8],
     workers: u32,
 ) -> Result<Verified, VerifyError>
-    ensures verified { IfOk result (λ v. IsVerifiedBy true (text_for Narrow kernel.now) conditions.now (text_found (certificate_seen v.certificate)) v.accepted) }
+    ensures verified { IfOk result (λ v. IsVerifiedBy true (text_for Bits32 kernel.now) conditions.now (text_found (certificate_seen v.certificate)) v.accepted) }
     ensures workers { IfOk result (λ _. IsCount workers) }
-    ensures told { IfErr result (λ e. TellsOf true e workers (text_for Narrow kernel.now) conditions.now) }
+    ensures told { IfErr result (λ e. TellsOf true e workers (text_for Bits32 kernel.now) conditions.now) }
 {
     let effort = Effort {
         workers,

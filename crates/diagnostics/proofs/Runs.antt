@@ -39,5 +39,6 @@ none_more w u events e a h sound same p answer =
 
 pub confirms : (s : Setup) (k : Kernel) (w : meaning.World) (x : Sighting) (events : List Event) → run s (map event events) (opening_world s) ≡ Some w → IsSighting s k w x → IsConfirmed s k (finding_of x events)
 confirms s k w (variants.Fault f v) events h seen = (w, h, seen)
+confirms s k w (variants.Size v) events h seen = (w, h, seen)
 confirms s k w (variants.Race v u) events h seen = (w, h, seen)
 confirms s k w (variants.Divergence v u) events h seen = (w, h, seen)

@@ -14,6 +14,7 @@ use Rattle.findings.specs.declared.sighting.Sighting.TheVariants as variants
 -- the finding that says it, with this schedule
 abbrev pub finding_of : Sighting → List Event → findings.Finding
 finding_of (variants.Fault f v) events = record { kind = findings.Faults (fault f); sites = spot v.spot ∷ []; items = work_item v.item ∷ []; schedule = Some (map event events) }
+finding_of (variants.Size v) events = record { kind = findings.Sizes; sites = spot v.spot ∷ []; items = work_item v.item ∷ []; schedule = Some (map event events) }
 finding_of (variants.Race v u) events = record { kind = findings.Race; sites = spots_of v u; items = items_of v u; schedule = Some (map event events) }
 finding_of (variants.Divergence v u) events = record { kind = findings.Divergence; sites = spots_of v u; items = items_of v u; schedule = Some (map event events) }
 

@@ -108,6 +108,7 @@ fn confirmed(alloc: Global, seen: Sighting, events: Vec<Event>) -> Result<Findin
                 grade,
             )
         }
+        Sighting::Size(at) => { assemble(alloc, FindingKind::Size, &[at.spot], &[at.item], grade) }
         Sighting::Race(first, second) => {
             let sites = [first.spot, second.spot];
             assemble(

@@ -28,7 +28,6 @@ use machine::world::Event;
 use reading::Source;
 use shown_kernels::kernel::read_proper_kernel;
 use std::alloc::{AllocError, Global};
-use types::devices::Devices;
 use types::typed::Typed;
 
 /// The number of the refusal where there are too many paths from one place.
@@ -54,19 +53,18 @@ pub struct Refused<'a> {
 /// The number and the title of a finding.
 fn push_title(
     alloc: Global,
-    devices: Devices,
     number: usize,
     finding: &Finding,
     out: &mut String,
 ) -> Result<(), AllocError> {
-    let meant = meant(finding.kind, devices);
+    let meant = meant(finding.kind);
     let text = match finding.grade {
         Grade::Possible => {
-            let name = possible(finding.kind, devices);
+            let name = possible(finding.kind);
             format!(in alloc; "{number}. Possible {name}: {meant}")?
         }
         Grade::Confirmed(_) => {
-            let name = confirmed(finding.kind, devices);
+            let name = confirmed(finding.kind);
             format!(in alloc; "{number}. {name}, confirmed by a replay: {meant}")?
         }
     };
@@ -173,7 +171,7 @@ fn push_finding(
     out: &mut String,
 ) -> Result<(), AllocError> {
     out.push_str("\n")?;
-    push_title(alloc, subject.source.devices, number, finding, out)?;
+    push_title(alloc, number, finding, out)?;
     push_spots(alloc, subject.source.bytes, finding, out)?;
     match &finding.grade {
         Grade::Confirmed(events) => push_shown(alloc, subject, finding, events.as_slice(), out),

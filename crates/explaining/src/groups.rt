@@ -9,7 +9,6 @@ use core_code::tree::Site;
 use findings::{Finding, FindingKind};
 use reading::Source;
 use std::alloc::{AllocError, Global};
-use types::devices::Devices;
 
 /// How many positions of a cause are told.
 const MOST: usize = 12;
@@ -67,17 +66,12 @@ fn is_told(members: &[&Finding], number: usize, kind: FindingKind) -> bool {
 }
 
 /// Writes what is possible, each kind once.
-fn push_kinds(
-    alloc: Global,
-    devices: Devices,
-    members: &[&Finding],
-    out: &mut String,
-) -> Result<(), AllocError> {
+fn push_kinds(alloc: Global, members: &[&Finding], out: &mut String) -> Result<(), AllocError> {
     for (number, finding) in members.iter().enumerate() {
         let kind = finding.kind;
         if !is_told(members, number, kind) {
-            let name = confirmed(kind, devices);
-            let meant = meant(kind, devices);
+            let name = confirmed(kind);
+            let meant = meant(kind);
             let text = format!(in alloc; "{name}: {meant}")?;
             push_paragraph(out, "   ", &text)?;
         }
@@ -117,7 +111,7 @@ pub fn push_group(
     let title = format!(in alloc; "{number}. Of one cause, {count} possible findings:")?;
     out.push_str("\n")?;
     push_paragraph(out, "", &title)?;
-    push_kinds(alloc, source.devices, members, out)?;
+    push_kinds(alloc, members, out)?;
     let positions = positions_of(alloc, members)?;
     push_positions(alloc, source.bytes, positions.as_slice(), out)?;
     let left = positions.len().saturating_sub(MOST);

@@ -95,6 +95,14 @@ fn is_of_indexes(kind: FindingKind) -> bool {
     )
 }
 
+/// A result does not fit its kind.
+fn is_of_results(kind: FindingKind) -> bool {
+    matches!(
+        kind,
+        FindingKind::Size | FindingKind::Fault(Fault::Overflow)
+    )
+}
+
 /// Items come to different places, or come too often.
 fn is_of_tests(kind: FindingKind) -> bool {
     matches!(kind, FindingKind::Divergence | FindingKind::Bound)
@@ -114,7 +122,7 @@ impl<'a> Slice<'a> {
                 put(&mut self.left, index)
             }
             Term::Unary { site, of, .. } | Term::Convert { site, of, .. }
-                if finding.kind == FindingKind::Fault(Fault::Overflow) && is_of(finding, *site) => {
+                if is_of_results(finding.kind) && is_of(finding, *site) => {
                 put(&mut self.left, of)
             }
             Term::Binary {

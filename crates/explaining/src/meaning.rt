@@ -52,7 +52,9 @@ const MEANINGS: &[(u8, &str)] = &[
     ),
     (
         22,
-        "An operand or a value has a wrong type: index a buffer to use its elements, and shift a uint.",
+        "An operand or a value has a wrong type: index a buffer to use its elements, and shift a uint. Read for any devices, \
+         an id is of another type than a number, so cast it in min and max, as in min((uint)get_global_id(0), n); and the \
+         functions of ids and sizes take a dimension of 0 to 2.",
     ),
     (
         23,
@@ -120,9 +122,9 @@ const MEANINGS: &[(u8, &str)] = &[
     ),
     (
         53,
-        "There are over 256 paths from one place, or over 65,536 obligations: use fewer tests in a row, or put a \
-         barrier between. What prove looks at has more lines than a certificate needs: one with fewer lines, written by \
-         hand, may be checked (docs/CERTIFICATES.md).",
+        "There are over 256 paths from one place, or over 65,536 obligations, which come of claims, and of pairs of \
+         accesses. What prove looks at has more lines than a certificate needs: one with fewer lines, written by hand, may \
+         be checked (docs/CERTIFICATES.md).",
     ),
     (
         54,

@@ -22,8 +22,14 @@ const TOLD: u64 = 1_000_000;
 
 /// What to do about too many paths.
 const ADVICE: &str =
-    "A barrier or a loop between two tests parts them. A test by < or > has two ways where one by ==, != or a number itself has three: \
-     write if (x > 0u) for if (x), and if (x < 1u) for if (x == 0u).";
+    "A barrier or a loop between two tests parts them: so does one that never turns, while (0 > 1) { }, at the cost of a step. A test by < \
+     or > has two ways where one by ==, != or a number itself has three: write if (x > 0u) for if (x), and if (x < 1u) for if (x == 0u).";
+
+/// What to do where there are few paths, and so too many obligations.
+const FEW_PATHS: &str =
+    "There are few paths by the text, so it is the obligations that are too many: each two accesses of one array, on any two paths from \
+     places where two items may be at once, are a pair, if one of them stores. Use fewer accesses between two barriers: a load that is \
+     kept in a variable, say, or a loop in place of rows of stores.";
 
 /// The point of a site.
 fn point_at<'p, 'a>(typed: &Typed, points: &'p [Point<'a>], place: Site) -> Option<&'p Point<'a>> {
@@ -197,8 +203,7 @@ fn push_count(
     push_total(alloc, count.total, wide, out)
 }
 
-/// Writes which tests multiply the paths from a place, and what to do. Where few paths come from the beginning nothing is said: the
-/// obligations may be too many.
+/// Writes which tests multiply the paths from a place, and what to do; where there are few paths, that the obligations are too many.
 pub fn push_paths(
     alloc: Global,
     kernel: &[u8],
@@ -217,8 +222,9 @@ pub fn push_paths(
     if narrow.total > ALLOWED {
         return push_count(alloc, kernel, point, &narrow, Some(wide.total), out);
     }
-    match point {
-        Some(_) => push_count(alloc, kernel, point, &wide, None, out),
-        None => Ok(()),
+    if point.is_some() && !wide.forks.is_empty() {
+        return push_count(alloc, kernel, point, &wide, None, out);
     }
+    out.push_str("\n")?;
+    push_paragraph(out, "", FEW_PATHS)
 }

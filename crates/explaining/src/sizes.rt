@@ -4,6 +4,7 @@ ghost use Rattle.std.specs.Prelude.{◌≡◌, ◌++◌, ℕ, List, OnOk};
 ghost use Rattle.std.specs.String.{string_bytes};
 
 use crate::hints::order_of;
+use crate::kinds::kind_of;
 use crate::paragraph::push_paragraph;
 use crate::parts::{statements_of, terms_of};
 use crate::source::push_site;
@@ -15,8 +16,8 @@ use words::Kind;
 
 /// What a kernel does on devices with other address bits.
 const COMPUTED: &str =
-    "The kernel computes with an id or a size that is not cast. This answer is for devices with 32 address bits, where that is \
-    done modulo 2^32; a device with 64 computes with 64 bits.";
+    "The kernel computes with an id or a size that is not cast, or has a signed number beside one. This answer is for devices \
+    with 32 address bits, where that is done modulo 2^32; a device with 64 computes with 64 bits.";
 
 /// What it means that a kernel is accepted for any devices, too.
 const SAME: &str =
@@ -26,9 +27,19 @@ const SAME: &str =
 const CAST: &str =
     "Where 32 bits are meant, cast the id: (uint)get_global_id(0) is the same on every device.";
 
-/// The place of an operator that computes with a size.
-fn size_at(term: &Term) -> Option<Site> {
+/// Whether a term may have a negative value: an `int`, but for a number of the text.
+fn may_be_negative(core: &Core, term: &Term) -> bool {
+    !matches!(term, Term::Literal { .. }) && kind_of(core, term) == Kind::Int
+}
+
+/// The place of an operator that computes with a size, or where a signed number stands beside one and becomes a size.
+fn size_at(core: &Core, term: &Term) -> Option<Site> {
     match term {
+        Term::Convert {
+            kind: Kind::Size,
+            site,
+            of,
+        } if may_be_negative(core, of) => Some(*site),
         Term::Unary {
             kind: Kind::Size,
             site,
@@ -51,14 +62,14 @@ fn first_of(one: Option<Site>, other: Site) -> Site {
     }
 }
 
-/// The first operator of a kernel, in the order of the source, that computes with a size.
-fn first_operator(alloc: Global, core: &Core) -> Result<Option<Site>, AllocError> {
+/// The first place of a kernel, in the order of the source, where it computes with a size or a signed number becomes one.
+fn first_use(alloc: Global, core: &Core) -> Result<Option<Site>, AllocError> {
     let mut first = None;
     let statements = statements_of(alloc, core.body.as_slice())?;
     for statement in &statements {
         let terms = terms_of(alloc, statement)?;
         for term in &terms {
-            if let Some(site) = size_at(term) {
+            if let Some(site) = size_at(core, term) {
                 first = Some(first_of(first, site));
             }
         }
@@ -81,12 +92,13 @@ fn first_place(alloc: Global, kernel: &[u8]) -> Result<Option<Site>, AllocError>
         bytes: kernel,
     };
     match read_source(alloc, source) {
-        Ok(typed) => first_operator(alloc, typed.core()),
+        Ok(typed) => first_use(alloc, typed.core()),
         Err(error) => Ok(fault_of(&error)),
     }
 }
 
-/// Whether a kernel computes with ids or sizes that are not cast: by an operator, and not only by an index, a comparison or a conversion.
+/// Whether a kernel computes with ids or sizes that are not cast: by an operator, or with a signed number beside one; and not only by an
+/// index, or a comparison or a conversion of numbers that are not negative.
 pub fn computes_with_sizes(alloc: Global, kernel: &[u8]) -> Result<bool, AllocError> {
     let place = first_place(alloc, kernel)?;
     Ok(place.is_some())

@@ -2,19 +2,16 @@
 
 use findings::{FindingKind, Spot, WorkItem};
 use std::alloc::{AllocError, Global};
-use types::devices::Devices;
 use words::Fault;
 
-/// The title of a confirmed finding of a kind, in plain words: for any devices a size overflows, too.
-pub fn confirmed(kind: FindingKind, devices: Devices) -> &'static str {
+/// The title of a confirmed finding of a kind, in plain words.
+pub fn confirmed(kind: FindingKind) -> &'static str {
     match kind {
         FindingKind::Race => "Data race",
         FindingKind::Divergence => "Barrier divergence",
         FindingKind::Fault(Fault::DivisionByZero) => "Division by zero",
-        FindingKind::Fault(Fault::Overflow) => match devices {
-            Devices::Bits32 => "Signed overflow",
-            Devices::Any => "Overflow, signed or of a size",
-        },
+        FindingKind::Fault(Fault::Overflow) => "Signed overflow",
+        FindingKind::Size => "Size outside 0 to 4294967295",
         FindingKind::Fault(Fault::OutOfBounds) => "Read or write out of bounds",
         FindingKind::Bound => "Loop that nothing bounds",
         FindingKind::Values => "Store of a value that its buffer may not hold",
@@ -22,15 +19,13 @@ pub fn confirmed(kind: FindingKind, devices: Devices) -> &'static str {
 }
 
 /// The title of a finding of a kind that is only possible, behind "possible", in plain words.
-pub fn possible(kind: FindingKind, devices: Devices) -> &'static str {
+pub fn possible(kind: FindingKind) -> &'static str {
     match kind {
         FindingKind::Race => "data race",
         FindingKind::Divergence => "barrier divergence",
         FindingKind::Fault(Fault::DivisionByZero) => "division by zero",
-        FindingKind::Fault(Fault::Overflow) => match devices {
-            Devices::Bits32 => "signed overflow",
-            Devices::Any => "overflow, signed or of a size",
-        },
+        FindingKind::Fault(Fault::Overflow) => "signed overflow",
+        FindingKind::Size => "size outside 0 to 4294967295",
         FindingKind::Fault(Fault::OutOfBounds) => "read or write out of bounds",
         FindingKind::Bound => "loop that nothing bounds",
         FindingKind::Values => "store of a value that its buffer may not hold",
@@ -38,7 +33,7 @@ pub fn possible(kind: FindingKind, devices: Devices) -> &'static str {
 }
 
 /// The meaning of a finding's kind, as a clause with a full stop.
-pub fn meant(kind: FindingKind, devices: Devices) -> &'static str {
+pub fn meant(kind: FindingKind) -> &'static str {
     match kind {
         FindingKind::Race => {
             "two work-items touch one element, one of them stores, and no barrier orders them."
@@ -47,14 +42,11 @@ pub fn meant(kind: FindingKind, devices: Devices) -> &'static str {
             "a work-item waits at a barrier to which another of its group does not come."
         }
         FindingKind::Fault(Fault::DivisionByZero) => "the divisor is 0.",
-        FindingKind::Fault(Fault::Overflow) => match devices {
-            Devices::Bits32 => "the result does not fit an int.",
-            Devices::Any => {
-                "the result does not fit an int; or it is an id or a size below 0, or of 2^32 and more, which devices \
-                 with 32 and with 64 address bits have otherwise. A cast, as (uint)get_global_id(0), computes with \
-                 32 bits on all."
-            }
-        },
+        FindingKind::Fault(Fault::Overflow) => "the result does not fit an int.",
+        FindingKind::Size => {
+            "an id or a size, or a number beside one, is below 0, or 2^32 and more. C defines it, but devices with 32 and \
+             with 64 address bits differ there. A cast, as (uint)get_global_id(0), computes with 32 bits on all."
+        }
         FindingKind::Fault(Fault::OutOfBounds) => "the index is not below the array's length.",
         FindingKind::Bound => "no number of turns is shown to be enough.",
         FindingKind::Values => "a values line of the conditions does not allow it.",
@@ -70,6 +62,7 @@ pub fn action(kind: FindingKind, spot: Spot) -> &'static str {
         (Spot::End, _) => "end of the kernel, reached",
         (Spot::At(_), FindingKind::Fault(Fault::DivisionByZero)) => "division",
         (Spot::At(_), FindingKind::Fault(Fault::Overflow)) => "overflow",
+        (Spot::At(_), FindingKind::Size) => "size",
         (Spot::At(_), FindingKind::Fault(Fault::OutOfBounds)) => "access",
         (Spot::At(_), FindingKind::Values) => "store",
         (Spot::At(_), _) => "loop",

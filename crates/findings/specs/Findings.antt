@@ -9,6 +9,7 @@ pub data FindingKind : Type 0 where
   Race : FindingKind
   Divergence : FindingKind
   Faults : (fault : Fault) → FindingKind
+  Sizes : FindingKind
   Bound : FindingKind
   Values : FindingKind
 

@@ -1,9 +1,9 @@
 -- What a world of the definitions shows that is wrong: a fault, a data race or barrier divergence, of which work-items and at which sites
 -- of the source.
-use Rattle.std.specs.Prelude.{◌≡◌, ◌<◌, ◌++◌, ◌∷◌, [], ℕ, List, cond, Option, Some, None}
+use Rattle.std.specs.Prelude.{◌≡◌, ◌<◌, ◌++◌, ◌∷◌, [], ℕ, List, Bool, true, false, cond, Option, Some, None}
 use Rattle.semantics.specs.Core as core
 use Rattle.semantics.specs.Core.{number}
-use Rattle.semantics.specs.Word.{Fault}
+use Rattle.semantics.specs.Word.{Fault, Overflow}
 use Rattle.semantics.specs.Setup.{Setup, group_id, local_id, item_count}
 use Rattle.semantics.specs.Item.{Entry, Item, Stopped}
 use Rattle.semantics.specs.Solo.{Access}
@@ -11,7 +11,8 @@ use Rattle.semantics.specs.Safety.{Clash, Divergent}
 use Rattle.semantics.specs.World.{World, waits}
 use Rattle.texts.specs.Surface.{Kernel}
 use Rattle.syntax.specs.Sites.{site_at}
-use Rattle.findings.specs.Findings.{FindingKind, Race, Divergence, Faults, Bound, Values, Spot, Store, Load, Barrier, End, At, WorkItem}
+use Rattle.findings.specs.Sizes.{is_of_size}
+use Rattle.findings.specs.Findings.{FindingKind, Race, Divergence, Faults, Sizes, Bound, Values, Spot, Store, Load, Barrier, End, At, WorkItem}
 
 -- the item of a number, with its ids (OpenCL 1.2, 3.2 and 6.12.1)
 abbrev pub item_of : Setup → ℕ → WorkItem
@@ -33,12 +34,13 @@ front_number (e ∷ rest) = Some (number e.statement)
 abbrev pub standing_spot : Kernel → Item → Spot
 standing_spot k it = cond (waits it.status) (Barrier (site_at k (front_number it.left))) End
 
--- an item was stopped by the fault, and the site is that of the fault
-pub record HasFault (s : Setup) (w : World) (f : Fault) (sites : List Spot) (items : List WorkItem) : Type 0 where
+-- an item was stopped by the fault, of a size or not, and the site is that of the fault
+pub record HasFault (s : Setup) (w : World) (f : Fault) (of_size : Bool) (sites : List Spot) (items : List WorkItem) : Type 0 where
   pub item : ℕ
   pub site : core.Site
   pub among : item < item_count s
   pub stopped : (w.items item).status ≡ Stopped f site
+  pub told : is_of_size s.kernel.body f site ≡ of_size
   pub at : sites ≡ At site ∷ []
   pub who : items ≡ item_of s item ∷ []
 
@@ -68,6 +70,7 @@ pub record HasDivergence (s : Setup) (k : Kernel) (w : World) (sites : List Spot
 abbrev pub Shows : Setup → Kernel → World → FindingKind → List Spot → List WorkItem → Type 0
 Shows s k w Race sites items = HasRace s w sites items
 Shows s k w Divergence sites items = HasDivergence s k w sites items
-Shows s k w (Faults f) sites items = HasFault s w f sites items
+Shows s k w (Faults f) sites items = HasFault s w f false sites items
+Shows s k w Sizes sites items = HasFault s w Overflow true sites items
 Shows s k w Bound sites items = ⊥
 Shows s k w Values sites items = ⊥

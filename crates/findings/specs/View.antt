@@ -19,6 +19,7 @@ abbrev pub kind : FindingKind → findings.FindingKind
 kind kinds.Race = findings.Race
 kind kinds.Divergence = findings.Divergence
 kind (kinds.Fault f) = findings.Faults (fault f)
+kind kinds.Size = findings.Sizes
 kind kinds.Bound = findings.Bound
 kind kinds.Values = findings.Values
 

@@ -25,5 +25,6 @@ items_of v u = work_item v.item ∷ work_item u.item ∷ []
 
 abbrev pub IsSighting : Setup → Kernel → worlds.World → Sighting → Type 0
 IsSighting s k w (variants.Fault f v) = Shows s k w (findings.Faults (fault f)) (spot v.spot ∷ []) (work_item v.item ∷ [])
+IsSighting s k w (variants.Size v) = Shows s k w findings.Sizes (spot v.spot ∷ []) (work_item v.item ∷ [])
 IsSighting s k w (variants.Race v u) = Shows s k w findings.Race (spots_of v u) (items_of v u)
 IsSighting s k w (variants.Divergence v u) = Shows s k w findings.Divergence (spots_of v u) (items_of v u)

@@ -6,7 +6,7 @@ use Rattle.semantics.specs.Core.{Site}
 use Rattle.semantics.specs.Word.{Fault, DivisionByZero, Overflow, OutOfBounds}
 use Rattle.semantics.specs.Launch.{Three}
 use Rattle.semantics.specs.World.{Event}
-use Rattle.findings.specs.Findings.{FindingKind, Race, Divergence, Faults, Bound, Values, Spot, Store, Load, Barrier, End, At, WorkItem, Finding}
+use Rattle.findings.specs.Findings.{FindingKind, Race, Divergence, Faults, Sizes, Bound, Values, Spot, Store, Load, Barrier, End, At, WorkItem, Finding}
 
 abbrev pub fault_text : Fault → List ℕ
 fault_text DivisionByZero = codes "fault F1"
@@ -17,6 +17,7 @@ abbrev pub kind_text : FindingKind → List ℕ
 kind_text Race = codes "race"
 kind_text Divergence = codes "divergence"
 kind_text (Faults f) = fault_text f
+kind_text Sizes = codes "fault F4"
 kind_text Bound = codes "bound"
 kind_text Values = codes "values"
 

@@ -17,6 +17,9 @@ pub enum FindingKind {
     /// An item waits at a barrier where another of its group does not.
     Divergence,
     Fault(Fault),
+    /// A size outside 0 to 4294967295, where a kernel is read for any devices. C defines it, and devices of 32 and of 64 address bits
+    /// differ there.
+    Size,
     /// A loop whose turns may be too many.
     Bound,
     /// A stored number that what is said of its buffer may not allow.

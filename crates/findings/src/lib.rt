@@ -8,6 +8,7 @@
 mod alike;
 mod finding;
 mod sighting;
+mod sizes;
 mod visit;
 mod wording;
 

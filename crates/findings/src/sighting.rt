@@ -8,6 +8,7 @@ ghost use Rattle.findings.specs.Visits as visits;
 ghost use Rattle.findings.specs.Visits.{IsSighting};
 
 use crate::finding::Spot;
+use crate::sizes::is_of_size;
 use crate::visit::{Visit, accessing, item_at, standing, visit_of};
 use machine::world::World;
 use types::typed::Typed;
@@ -20,6 +21,8 @@ use work_item::trail::same_left;
 #[derive(Clone, Copy)]
 pub enum Sighting {
     Fault(Fault, Visit),
+    /// A size outside 0 to 4294967295.
+    Size(Visit),
     /// The earlier access first.
     Race(Visit, Visit),
     /// The item that waits where the other does not first.
@@ -100,7 +103,11 @@ pub fn look(typed: &Typed, world: &World, number: u64) -> Option<Sighting>
     match item_at(world, number as usize).status {
         Status::Stopped { fault, site } => {
             let stopped = visit_of(world, number, Spot::At(site))?;
-            Some(Sighting::Fault(fault, stopped))
+            if is_of_size(world.core.body.as_slice(), fault, site) {
+                Some(Sighting::Size(stopped))
+            } else {
+                Some(Sighting::Fault(fault, stopped))
+            }
         }
         _ => race_or_divergence(typed, world, number),
     }

@@ -32,6 +32,7 @@ fn push_kind(out: &mut String, kind: FindingKind) -> Result<(), AllocError>
         FindingKind::Race => out.push_str("race"),
         FindingKind::Divergence => out.push_str("divergence"),
         FindingKind::Fault(fault) => push_fault(out, fault),
+        FindingKind::Size => out.push_str("fault F4"),
         FindingKind::Bound => out.push_str("bound"),
         FindingKind::Values => out.push_str("values"),
     }

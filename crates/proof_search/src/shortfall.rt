@@ -31,9 +31,10 @@ const MOST: usize = 16;
 /// value of `uint` was not wrapped round, that a dividend is not negative, and that a guess holds.
 fn kind_of(sort: Sort) -> Option<diagnostics::FindingKind> {
     match sort {
-        Sort::OfRange(Kind::Int | Kind::Size) | Sort::OfQuotient => {
+        Sort::OfRange(Kind::Int) | Sort::OfQuotient => {
             Some(diagnostics::FindingKind::Fault(Fault::Overflow))
         }
+        Sort::OfRange(Kind::Size) => Some(diagnostics::FindingKind::Size),
         Sort::OfIndex => Some(diagnostics::FindingKind::Fault(Fault::OutOfBounds)),
         Sort::OfDivisor => Some(diagnostics::FindingKind::Fault(Fault::DivisionByZero)),
         Sort::OfRanking => Some(diagnostics::FindingKind::Bound),

@@ -15,11 +15,13 @@ use cert_check::check_as;
 use cert_check::error::{CheckError, Pointer};
 use core_code::tree::Site;
 use explaining::{Refused, computes_with_sizes, explain, explain_sizes};
+use launch::conditions::Conditions;
+use launch::probe::probe;
 use launch_text::laws::what_is_read_of_conditions_is_their_text;
 use proof_search::{Found, find_watched};
 use reading::Source;
 use reading::laws::bytes_are_the_text_of_what_is_read;
-use std::alloc::Global;
+use std::alloc::{AllocError, Global};
 use std::sync::Wait;
 use std::thread::Threads;
 use types::devices::Devices;
@@ -95,6 +97,17 @@ fn found_narrowly<R: Threads + Sync, W: Watcher>(
     }
 }
 
+/// An acceptance, with a text behind what is told of it.
+fn followed(told: Vec<u8>, text: &str) -> Verdict
+    ensures { GoesFurther told.items result }
+{
+    let mut told = told;
+    match told.extend_from_slice(text.as_bytes()) {
+        Ok(()) => Verdict::Done(told),
+        Err(_) => Verdict::OutOfMemory,
+    }
+}
+
 /// Writes where an accepted kernel computes with sizes behind what is told of it, with what is said of it for any devices: the number of
 /// its refusal, or that it is accepted.
 fn going_further(alloc: Global, kernel: &[u8], refusal: Option<u8>, told: Vec<u8>) -> Verdict
@@ -102,12 +115,7 @@ fn going_further(alloc: Global, kernel: &[u8], refusal: Option<u8>, told: Vec<u8
 {
     let mut text = String::new(alloc);
     match explain_sizes(alloc, kernel, refusal, &mut text) {
-        Ok(()) => {}
-        Err(_) => return Verdict::OutOfMemory,
-    }
-    let mut told = told;
-    match told.extend_from_slice(text.as_bytes()) {
-        Ok(()) => Verdict::Done(told),
+        Ok(()) => followed(told, &text),
         Err(_) => Verdict::OutOfMemory,
     }
 }
@@ -224,14 +232,14 @@ fn unaccepted(alloc: Global, texts: Texts, error: &CheckError) -> Verdict
     }
 }
 
-/// What is told of an accepted kernel: where it computes with ids or sizes, and what the check says with this certificate for any devices.
-fn checked(alloc: Global, texts: Texts, is_wide: bool, told: Vec<u8>) -> Verdict
-    ensures { GoesFurther told.items result }
-{
-    if !is_narrow(alloc, texts.kernel) {
-        return as_told(told);
-    }
-    let refusal = match check_as(
+/// The launch at the least values does not meet the conditions. Want of memory is taken as no.
+fn lacks_launch(alloc: Global, conditions: &Conditions) -> bool {
+    matches!(probe(alloc, conditions), Ok(None))
+}
+
+/// The number by which the check refuses a kernel with this certificate for any devices; none where it is accepted.
+fn checked_refusal(alloc: Global, texts: Texts, is_wide: bool) -> Option<u8> {
+    match check_as(
         alloc,
         for_any(texts.kernel),
         texts.conditions,
@@ -240,11 +248,41 @@ fn checked(alloc: Global, texts: Texts, is_wide: bool, told: Vec<u8>) -> Verdict
     ) {
         Ok(_) => None,
         Err(error) => Some(error.number()),
-    };
-    going_further(alloc, texts.kernel.bytes, refusal, told)
+    }
 }
 
-/// Whether a kernel is accepted, by the wide check or by the one that is not: `accepted`, or why not and what that means.
+/// Writes what is told of an accepted kernel behind that: that no launch was found which meets the conditions, where that is so; and where
+/// it computes with ids or sizes, with what the check says with this certificate for any devices.
+fn push_checked(
+    alloc: Global,
+    texts: Texts,
+    is_wide: bool,
+    lacks_launch: bool,
+    out: &mut String,
+) -> Result<(), AllocError> {
+    if lacks_launch {
+        out.push_str("no launch found at least values\n")?;
+    }
+    if is_narrow(alloc, texts.kernel) {
+        let refusal = checked_refusal(alloc, texts, is_wide);
+        explain_sizes(alloc, texts.kernel.bytes, refusal, out)?;
+    }
+    Ok(())
+}
+
+/// What is told of an accepted kernel.
+fn checked(alloc: Global, texts: Texts, is_wide: bool, lacks_launch: bool, told: Vec<u8>) -> Verdict
+    ensures { GoesFurther told.items result }
+{
+    let mut text = String::new(alloc);
+    match push_checked(alloc, texts, is_wide, lacks_launch, &mut text) {
+        Ok(()) => followed(told, &text),
+        Err(_) => Verdict::OutOfMemory,
+    }
+}
+
+/// Whether a kernel is accepted, by the wide check or by the one that is not: `accepted`, with what `prove` says besides where no launch
+/// meets the conditions, or why not and what that means.
 pub fn explain_check(alloc: Global, texts: Texts, is_wide: bool) -> Verdict
     ensures { ExplainsCheck is_wide result (source texts.entry.kernel) texts.entry.conditions.now texts.entry.certificate.now }
 {
@@ -258,9 +296,10 @@ pub fn explain_check(alloc: Global, texts: Texts, is_wide: bool) -> Verdict
         Ok(accepted) => {
             bytes_are_the_text_of_what_is_read();
             what_is_read_of_conditions_is_their_text();
+            let lacks_launch = lacks_launch(alloc, accepted.conditions());
             drop(accepted);
             match Vec::from_slice(alloc, b"accepted\n") {
-                Ok(text) => checked(alloc, texts, is_wide, text),
+                Ok(text) => checked(alloc, texts, is_wide, lacks_launch, text),
                 Err(_) => Verdict::OutOfMemory,
             }
         }

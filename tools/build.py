@@ -5,7 +5,10 @@ usage: tools/build.py PROGRAM, at the top of the repository; `../kverify build` 
 
 Each crate is proved from nothing, by the parts of `rt` that `rt ci` is made of, without tests and edits. A library stays in the folder
 out/rlib/proved of its crate, beside a sum of all that it was proved from, and what no change reaches is not proved again. So a run that was
-broken off is taken up by the next one. `rt run` in the program's folder makes the same program, one crate after another.
+broken off is taken up by the next one. What `rt ci` proved on this machine, and keeps beside the kit by sums of all that it read, is taken
+from there. `rt run` in the program's folder makes the same program, one crate after another.
+
+At the end a record names the program and what it was proved from (records.py), if nothing was changed meanwhile.
 """
 import functools
 import hashlib
@@ -17,7 +20,11 @@ import sys
 import tempfile
 import threading
 import time
+import types
 
+# (no file is to appear beside this one)
+sys.dont_write_bytecode = True
+import records
 from rt_parts import parts_of_rt
 
 rt = parts_of_rt()
@@ -39,9 +46,9 @@ def end(text, status=1):
     os._exit(status)
 
 
-def put(made, program, begun):
-    """Puts a program in place, whole, as old as what it was made from: ../kverify compares its time with those of the sources."""
-    os.utime(made, (begun, begun))
+def put(made, program):
+    """Puts a program in place, whole."""
+    os.chmod(made, 0o755)
     os.replace(made, program)
 
 
@@ -97,27 +104,37 @@ class Progress:
 class Crate(rt.Crate):
     """A crate, and where what was proved and built of it is kept."""
 
-    begun = 0
-
     def __init__(self, *given, **named):
         super().__init__(*given, **named)
+        # (`rt ci`, which takes away what else is in out/, gives out/rlib back)
         self.kept = f"{self.folder}/out/rlib/proved"
-        self.rlib = f"{self.kept}/{self.name}.rlib"
+        self.rlib = f"{self.kept}/out/rlib/{self.name}.rlib"
         self.made = f"{self.folder}/out/{self.name}" if self.is_program else self.rlib
+        self.parts = [f"{self.folder}/{it}" for it in rt.rtlib.PARTS]
 
     def sum(self):
         """A sum of what the crate is proved from: the kit, its line of crates.txt, its files, and the sums of its libraries."""
         parts = [rt.rtlib.sum_of(f"{rt.KIT}/WHAT"), self.said, [it.first_sum for it in self.deps]]
-        parts += [(os.path.relpath(it, self.folder), rt.rtlib.sum_of(it)) for it in rt.rtlib.files_of(self.folder)]
+        parts += sorted((os.path.relpath(name, self.folder), total) for name, total in records.sums_of(self.parts).items())
         return hashlib.sha256(repr(parts).encode()).hexdigest()
 
     first_sum = functools.cached_property(sum)
 
     def stamp(self):
-        return f"{self.first_sum} {rt.rtlib.sum_of(self.made)}"
+        """What is kept is told by what it was made from and by itself; a library has sums of its files in its file `format`."""
+        return f"{self.first_sum} {rt.rtlib.sum_of(self.made if self.is_program else f'{self.rlib}/format')}"
 
     def is_kept(self):
         return os.path.exists(self.made) and rt.rtlib.text_of(f"{self.kept}/sum") == self.stamp()
+
+    def keep(self):
+        """Keeps what was made, if the crate is what it was when this process began."""
+        if self.sum() == self.first_sum:
+            records.write_whole(f"{self.kept}/sum", self.stamp())
+
+    def make_room(self):
+        shutil.rmtree(self.kept, ignore_errors=True)
+        os.makedirs(f"{self.kept}/out/rlib")
 
     def prove_and_build(self, jobs):
         """Returns 0 where all is well."""
@@ -129,7 +146,7 @@ class Crate(rt.Crate):
         words += ["--toolchain", f"{rt.KIT}/toolchain", "--backend", "llvm", "-o", f"{made}.o"]
         status = self.call(rt.rtlib.RATTLE, "build", *words) or self.link(f"{made}.o", f"{made}.new")
         if not status:
-            put(f"{self.folder}/{made}.new", self.made, self.begun)
+            put(f"{self.folder}/{made}.new", self.made)
         return status
 
     def work(self, progress, jobs):
@@ -147,17 +164,44 @@ class Crate(rt.Crate):
 
     def prove_anew(self, jobs):
         """Returns nothing where all is well, else what the prover says."""
-        shutil.rmtree(self.kept, ignore_errors=True)
-        os.makedirs(self.kept)
+        self.make_room()
+        seen = records.look_at(self.parts)
         with tempfile.TemporaryFile("w+", errors="replace") as self.out:
             if self.prove_and_build(jobs):
                 self.out.seek(0)
                 return [it for it in self.out.read().splitlines() if not PLAIN.match(it)]
-        # where a file was changed meanwhile, the next call proves the crate again
-        if self.sum() == self.first_sum:
-            with open(f"{self.kept}/sum", "w", encoding="utf-8") as file:
-                file.write(self.stamp())
+        # where a file was changed meanwhile, and be it changed back, the next call proves the crate again
+        if records.look_at(self.parts) == seen:
+            self.keep()
         return None
+
+
+class Earlier:
+    """What `rt ci` proved on this machine and keeps beside the kit, under sums of all that it read."""
+
+    def __init__(self, crates):
+        self.store = rt.Kept(crates) if hasattr(rt, "Kept") else None
+
+    def seen_by_store(self, crate):
+        """The crate for the functions of the store, which look for what was made in out/ of a crate's folder."""
+        return types.SimpleNamespace(name=crate.name, folder=crate.kept, is_program=crate.is_program, is_static=crate.is_static)
+
+    def note(self, crate):
+        """Notes the library of a crate: what stands on it is kept under sums of what is below."""
+        if self.store:
+            self.store.is_built(self.seen_by_store(crate))
+
+    def gives(self, crate):
+        """Takes what was made of just this crate over just these libraries, and returns whether it could."""
+        if not self.store:
+            return False
+        crate.make_room()
+        if not self.store.give(self.seen_by_store(crate), False, self.store.key(crate)):
+            return False
+        if crate.is_program:
+            put(f"{crate.kept}/out/{crate.name}", crate.made)
+        crate.keep()
+        return crate.is_kept()
 
 
 def stale_of(crates):
@@ -166,6 +210,19 @@ def stale_of(crates):
     for it in crates:
         stale += [it] * (not it.is_kept() or any(below in stale for below in it.below()))
     return stale
+
+
+def left_of(stale, crates):
+    """Those that are still to be proved once what an earlier `rt ci` proved is taken."""
+    earlier, left = Earlier(crates), []
+    for it in crates:
+        if it in stale and (any(below in left for below in it.below()) or not earlier.gives(it)):
+            left.append(it)
+        else:
+            earlier.note(it)
+    if len(left) < len(stale):
+        say(f"of {len(stale)} crates that are to be proved {len(stale) - len(left)} were by an earlier rt ci on this machine")
+    return left
 
 
 def prove(stale, of_all):
@@ -181,19 +238,35 @@ def prove(stale, of_all):
     say(f"all is proved ({minutes(progress.gone())})")
 
 
+def places_of(crates):
+    """The program, and what it is proved from."""
+    parts = [part for it in crates for part in it.parts]
+    return [os.path.relpath(it) for it in [crates[-1].made, "crates.txt", "HANDLES", *parts]]
+
+
+def note(crates, sums):
+    """Writes the record of the program, where all that it was proved from is as it was when this process began."""
+    places, program = places_of(crates), crates[-1]
+    is_well = all(it.sum() == it.first_sum and it.is_kept() for it in crates)
+    if not (is_well and records.write(f"{program.kept}/record", places, {places[0]: records.sum_of(program.made), **sums})):
+        end("a source was changed meanwhile, so the program is not told to be proved; the next run proves what has changed")
+
+
 def main(program):
-    begun, root = time.time(), os.getcwd()
+    root = os.getcwd()
     # what this process starts ends with it, however it ends
     rt.rtlib.guarded()
     signal.signal(signal.SIGINT, lambda *_: end("broken off; what was proved stays, and the next run goes on from there", 130))
-    rt.rtlib.Crate, Crate.allowed, Crate.begun = Crate, rt.handles_of(root), begun
+    rt.rtlib.Crate, rt.Crate.allowed = Crate, rt.handles_of(root)
     crates = rt.rtlib.crates_below(f"{root}/crates/{program}")
     held = rt.rtlib.lock(crates)
+    sums = records.sums_of(places_of(crates)[1:])
     stale = stale_of(crates)
     if stale:
+        stale = left_of(stale, crates)
+    if stale:
         prove(stale, len(crates))
-    # (a source that was changed and changed back makes the program no older)
-    os.utime(crates[-1].made, (begun, begun))
+    note(crates, sums)
     del held
 
 

@@ -1,5 +1,5 @@
 #!/usr/bin/env python3
-"""Runs all cases of crates/cases/data and all tests of crates/basics_tests, by programs that are compiled from the sources without any proof.
+"""Runs all cases of crates/cases/data and all tests of crates/basics_tests, by programs that are compiled without any proof.
 
 usage: tools/test.py, at the top of the repository; `../kverify test` calls it.
 

@@ -13,7 +13,7 @@ abbrev pub is_size_at : (at : Site) → Kind → Site → Bool
 is_size_at at k s = is_size k && (nat_eq s.line at.line && nat_eq s.column at.column)
 
 -- a term has an operator or a conversion at the site that gives a size
-pub gives_size : (at : Site) → Term → Bool
+abbrev pub gives_size : (at : Site) → Term → Bool
 gives_size at (Literal k n) = false
 gives_size at (Variable x) = false
 gives_size at (Id k f d) = false
@@ -29,7 +29,7 @@ gives_size at (Select t a b) = gives_size at t || (gives_size at a || gives_size
 gives_size at (Minimum a b) = gives_size at a || gives_size at b
 gives_size at (Maximum a b) = gives_size at a || gives_size at b
 
-mutual
+abbrev mutual
   pub has_size : (at : Site) → Statement → Bool
   has_size at (Set n x e) = gives_size at e
   has_size at (Store n a s i e) = gives_size at i || gives_size at e

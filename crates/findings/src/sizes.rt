@@ -22,16 +22,7 @@ fn is_size_at(at: Site, kind: Kind, site: Site) -> bool
     kind == Kind::Size && site.line == at.line && site.column == at.column
 }
 
-/// Whether one of two terms has an operator or a conversion at the site that gives a size.
-#[cycle(terms)]
-fn one_gives_size(at: Site, first: &Term, second: &Term) -> bool
-    ensures { result ≡ (sizes.gives_size (site_seen at) (term_seen first.now) || sizes.gives_size (site_seen at) (term_seen second.now)) }
-{
-    either(gives_size(at, first), gives_size(at, second))
-}
-
 /// Whether a term has an operator or a conversion at the site that gives a size.
-#[cycle(terms)]
 fn gives_size(at: Site, term: &Term) -> bool
     ensures { result ≡ sizes.gives_size (site_seen at) (term_seen term.now) }
 {
@@ -50,7 +41,7 @@ fn gives_size(at: Site, term: &Term) -> bool
         } => {
             either(
                 is_size_at(at, *kind, *site),
-                one_gives_size(at, left, right),
+                either(gives_size(at, left), gives_size(at, right)),
             )
         }
         Term::Convert { kind, site, of } => {
@@ -61,21 +52,16 @@ fn gives_size(at: Site, term: &Term) -> bool
             test,
             taken,
             skipped,
-        } => either(gives_size(at, test), one_gives_size(at, taken, skipped)),
-        Term::Compare { left, right, .. } => one_gives_size(at, left, right),
-        Term::And { left, right } => one_gives_size(at, left, right),
-        Term::Or { left, right } => one_gives_size(at, left, right),
-        Term::Minimum { left, right } => one_gives_size(at, left, right),
-        Term::Maximum { left, right } => one_gives_size(at, left, right),
+        } => either(
+            gives_size(at, test),
+            either(gives_size(at, taken), gives_size(at, skipped)),
+        ),
+        Term::Compare { left, right, .. } => either(gives_size(at, left), gives_size(at, right)),
+        Term::And { left, right } => either(gives_size(at, left), gives_size(at, right)),
+        Term::Or { left, right } => either(gives_size(at, left), gives_size(at, right)),
+        Term::Minimum { left, right } => either(gives_size(at, left), gives_size(at, right)),
+        Term::Maximum { left, right } => either(gives_size(at, left), gives_size(at, right)),
     }
-}
-
-/// Whether one of two lists of statements gives a size at the site.
-#[cycle(statements)]
-fn one_has_size(at: Site, first: &[Statement], second: &[Statement]) -> bool
-    ensures { result ≡ (sizes.have_size (site_seen at) (statements_seen first.now) || sizes.have_size (site_seen at) (statements_seen second.now)) }
-{
-    either(have_size(at, first), have_size(at, second))
 }
 
 /// Whether a statement gives a size at the site.
@@ -94,7 +80,10 @@ fn has_size(at: Site, statement: &Statement) -> bool
             skipped,
             ..
         } => {
-            let inside = one_has_size(at, taken.as_slice(), skipped.as_slice());
+            let inside = either(
+                have_size(at, taken.as_slice()),
+                have_size(at, skipped.as_slice()),
+            );
             either(gives_size(at, test), inside)
         }
         Statement::Loop {
@@ -103,7 +92,10 @@ fn has_size(at: Site, statement: &Statement) -> bool
             update,
             ..
         } => {
-            let inside = one_has_size(at, body.as_slice(), update.as_slice());
+            let inside = either(
+                have_size(at, body.as_slice()),
+                have_size(at, update.as_slice()),
+            );
             either(gives_size(at, test), inside)
         }
         Statement::Barrier { .. }

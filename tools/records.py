@@ -80,27 +80,36 @@ def remove(record):
             os.remove(path)
 
 
-def write(record, places, sums):
-    """Writes a record where the files at these places have these sums, and nobody changes them meanwhile; returns whether it did."""
+def look_at_same(places, sums):
+    """A look at these places, where the files there have these sums and nobody changes them meanwhile; else nothing."""
     look, changed = look_at(places)
     time.sleep(min(max(0, changed + STEP - time.time()), 1))
-    if sums_of(places) != sums or look_at(places)[0] != look:
-        return False
-    write_whole(record, "\n".join([look, " ".join(places), *(f"{total} {name}" for name, total in sorted(sums.items())), ""]))
-    return True
+    is_same = sums_of(places) == sums and look_at(places)[0] == look
+    return look if is_same else ""
+
+
+def write(record, places, sums):
+    """Writes a record where the files at these places have these sums, and nobody changes them meanwhile; returns whether it did."""
+    look = look_at_same(places, sums)
+    if look:
+        write_whole(record, "\n".join([look, " ".join(places), *(f"{total} {name}" for name, total in sorted(sums.items())), ""]))
+    return bool(look)
 
 
 def is_of_record(record):
-    """Whether the files that a record names are there as they were, and no others, by what they hold."""
+    """Whether the files that a record names are there as they were, and no others, by what they hold; what was looked at is noted."""
     _, places, sums = read(record)
     if not sums:
         return False
     look = look_at(places)[0]
-    if write(record, places, sums):
-        return True
-    if look_at(places)[0] == look:
-        write_whole(f"{record}.stale", f"{look}\n")
-    return False
+    is_same = bool(look_at_same(places, sums))
+    # (who may not write here reads the files again at the next call)
+    with contextlib.suppress(OSError):
+        if is_same:
+            write(record, places, sums)
+        elif look_at(places)[0] == look:
+            write_whole(f"{record}.stale", f"{look}\n")
+    return is_same
 
 
 if __name__ == "__main__":

@@ -287,6 +287,10 @@ pub fn settle<R: Threads + Sync, W: Watcher>(
     let mut left = candidates;
     let mut lost = Vec::new(alloc);
     for turn in 0..600u32 {
+        // (where so much work is done, no guess is tried any more)
+        if memory.is_spent() {
+            left = Vec::new(alloc);
+        }
         let step = Step {
             number: turn + 1,
             is_sure: lost.is_empty(),

@@ -4,10 +4,11 @@ use super::congruences::{moduli_of, several};
 use super::cuts::{Cuts, cut};
 use super::dive::dive;
 use super::sums::enter_sums;
-use super::whole::point_of;
+use super::whole::{is_whole, point_of};
 use super::writing::{derive, derive_given};
 use crate::stop::Stop;
 use crate::tableau::{PIVOTS, Part, Tableau};
+use cut_proof::Derivation;
 use linear::Fact;
 use std::alloc::{AllocError, Global};
 
@@ -95,6 +96,20 @@ fn decide_by_modulus(alloc: Global, facts: &[Fact]) -> Result<Answer, Stop> {
         }
     }
     Err(Stop::GivenUp)
+}
+
+/// How often variables change places, and how often cuts are made, where a list is decided soon or not at all.
+const SOON_PIVOTS: u32 = 200;
+
+const SOON_ROUNDS: u32 = 9;
+
+/// Decides a list with few steps.
+pub fn decide_soon(alloc: Global, facts: &[Fact]) -> Result<Answer, Stop> {
+    let mut tableau = Tableau::new(alloc).copy(alloc, SOON_PIVOTS)?;
+    match enter_all(alloc, &mut tableau, facts, 0)? {
+        Some(number) => Ok(Answer::Proof(derive_given(alloc, number)?)),
+        None => conclude(alloc, facts, tableau, SOON_ROUNDS),
+    }
 }
 
 /// Decides a list that was given up, in other ways.
@@ -206,6 +221,37 @@ pub fn conclude(
         }
     }
     Err(Stop::GivenUp)
+}
+
+/// Solves the tableau, and makes cuts where its point is not whole.
+fn next_round(alloc: Global, tableau: &mut Tableau, facts: &[Fact]) -> Result<Cuts, Stop> {
+    match tableau.solve(alloc)? {
+        Some(parts) => Ok(Cuts::Refuting(parts)),
+        None if is_whole(tableau.solved.as_slice()) => Ok(Cuts::Exhausted),
+        None => cut(alloc, tableau, facts),
+    }
+}
+
+/// A derivation that refutes the tableau's facts, with so many rounds of cuts at most; none where a whole point meets them all, or nothing
+/// is left to cut. No point is sought.
+pub fn refuted(
+    alloc: Global,
+    facts: &[Fact],
+    start: Tableau,
+    rounds: u32,
+) -> Result<Option<Derivation>, Stop> {
+    let mut tableau = start;
+    for _ in 0..rounds {
+        match next_round(alloc, &mut tableau, facts)? {
+            Cuts::Made => {}
+            Cuts::Exhausted => return Ok(None),
+            Cuts::Refuting(parts) => {
+                let origins = tableau.origins.as_slice();
+                return Ok(Some(derive(alloc, origins, parts.as_slice())?));
+            }
+        }
+    }
+    Ok(None)
 }
 
 fn last_dive(alloc: Global, tableau: &Tableau) -> Result<Answer, Stop> {

@@ -1,6 +1,10 @@
 //! What may be lemmas: what a symbol multiplies in an equality, or in a sum of two facts.
 
-use crate::hashes::{first_place, hash_of, hash_of_opposite, hashes_of};
+use crate::digits::add_digits;
+use crate::following::add_following;
+use crate::hashes::{hash_of_opposite, hashes_of};
+use crate::menu::{Listed, Menu};
+use crate::multiplying::Multiplied;
 use crate::replacing::{replaced_all, replacements_of};
 use facts::{Family, Side};
 use guesses::{
@@ -26,35 +30,6 @@ const SUMS: usize = 120;
 struct Share {
     symbol: Symbol,
     form: Form,
-}
-
-/// Forms that may be lemmas, each once, and none that is known.
-#[derive(Drop)]
-struct Menu {
-    found: Vec<Form>,
-    hashes: Vec<u64>,
-}
-
-impl Menu {
-    /// Adds a form that is not known.
-    fn add(&mut self, form: Form) -> Result<(), AllocError> {
-        let hash = hash_of(&form);
-        if form.terms().is_empty() || self.hashes.as_slice().contains(&hash) {
-            return Ok(());
-        }
-        self.hashes.push(hash)?;
-        self.found.push(form)?;
-        Ok(())
-    }
-
-    /// Adds a form and its opposite.
-    fn add_both(&mut self, alloc: Global, form: &Form) -> Result<(), AllocError> {
-        self.add(copied(alloc, form)?)?;
-        match try_multiple(alloc, form, -1)? {
-            Some(opposite) => self.add(opposite),
-            None => Ok(()),
-        }
-    }
 }
 
 /// Adds so many times what a symbol multiplies in a term; nothing where the term has not the symbol.
@@ -148,36 +123,9 @@ fn with_products(alloc: Global, facts: &[Form]) -> Result<Vec<Form>, AllocError>
     Ok(found)
 }
 
-/// Forms with their hashes.
-#[derive(Drop)]
-struct Listed {
-    forms: Vec<Form>,
-    hashes: Vec<u64>,
-}
-
-impl Listed {
-    fn has(&self, hash: u64) -> bool {
-        first_place(self.hashes.as_slice(), hash).is_some()
-    }
-
-    /// Adds a form with terms, unless it is there.
-    fn add(&mut self, form: Form) -> Result<(), AllocError> {
-        let hash = hash_of(&form);
-        if form.terms().is_empty() || self.has(hash) {
-            return Ok(());
-        }
-        self.hashes.push(hash)?;
-        self.forms.push(form)?;
-        Ok(())
-    }
-}
-
 /// The forms with products that are 0, of each and its opposite the first.
 fn equalities_of(alloc: Global, facts: &[Form]) -> Result<Listed, AllocError> {
-    let mut found = Listed {
-        forms: Vec::new(alloc),
-        hashes: Vec::new(alloc),
-    };
+    let mut found = Listed::new(alloc);
     let hashes = hashes_of(alloc, facts)?;
     for fact in facts {
         let opposite = hash_of_opposite(fact);
@@ -243,11 +191,10 @@ fn all_equalities(alloc: Global, facts: &[Form]) -> Result<Vec<Form>, AllocError
 }
 
 /// Adds that a factor is not above 0.
-fn add_no_more(alloc: Global, menu: &mut Menu, factor: u64) -> Result<(), AllocError> {
-    let one = one_of(alloc, plain(factor))?;
-    match try_multiple(alloc, &one, -1)? {
-        Some(opposite) => menu.add(opposite),
-        None => Ok(()),
+fn add_no_more(alloc: Global, menu: &mut Menu, factor: u64) {
+    match one_of(alloc, plain(factor)) {
+        Ok(one) => menu.add_made(try_multiple(alloc, &one, -1)),
+        Err(_) => menu.note_lack(),
     }
 }
 
@@ -264,21 +211,22 @@ fn copy_of(factor: u64) -> Option<u64> {
     }
 }
 
+/// The difference of two factors.
+fn difference_of(alloc: Global, one: u64, other: u64) -> Result<Option<Form>, AllocError> {
+    let first = one_of(alloc, plain(one))?;
+    let second = one_of(alloc, plain(other))?;
+    try_difference(alloc, &first, &second)
+}
+
 /// Adds that a new symbol, as a quotient, is the same of both items, where both are factors of products.
-fn add_copies(alloc: Global, menu: &mut Menu, factors: &[u64]) -> Result<(), AllocError> {
+fn add_copies(alloc: Global, menu: &mut Menu, factors: &[u64]) {
     for factor in factors {
-        let Some(copy) = copy_of(*factor) else {
-            continue;
-        };
-        if factors.contains(&copy) {
-            let first = one_of(alloc, plain(*factor))?;
-            let second = one_of(alloc, plain(copy))?;
-            if let Some(difference) = try_difference(alloc, &first, &second)? {
-                menu.add_both(alloc, &difference)?;
+        if let Some(copy) = copy_of(*factor) {
+            if factors.contains(&copy) {
+                menu.add_both_made(alloc, difference_of(alloc, *factor, copy));
             }
         }
     }
-    Ok(())
 }
 
 /// The factors of the products of facts.
@@ -295,30 +243,28 @@ fn factors_in_all(alloc: Global, facts: &[Form]) -> Result<Vec<u64>, AllocError>
 }
 
 /// Adds of a fact that a product of two symbols is not above 0 that neither symbol is.
-fn add_factors(alloc: Global, menu: &mut Menu, fact: &Form) -> Result<(), AllocError> {
+fn add_factors(alloc: Global, menu: &mut Menu, fact: &Form) {
     let Some(term) = fact.terms().first() else {
-        return Ok(());
+        return;
     };
     if fact.terms().len() != 1 || fact.constant_part() != 0 || term.coefficient != -1 {
-        return Ok(());
+        return;
     }
     let factors = Factors::of(term.symbol);
-    if factors.third != 0 || factors.first == factors.second {
-        return Ok(());
+    if factors.third == 0 && factors.first != factors.second {
+        add_no_more(alloc, menu, factors.first);
+        add_no_more(alloc, menu, factors.second);
     }
-    add_no_more(alloc, menu, factors.first)?;
-    add_no_more(alloc, menu, factors.second)
 }
 
 /// Adds what a symbol multiplies in a form, both ways, and what symbols multiply in that.
-fn add_parts(alloc: Global, menu: &mut Menu, form: Form) -> Result<(), AllocError> {
-    let form = whole(alloc, form)?;
+fn add_parts(alloc: Global, menu: &mut Menu, form: &Form) -> Result<(), AllocError> {
     if form.terms().len() < 2 && form.constant_part() == 0 {
         return Ok(());
     }
-    menu.add_both(alloc, &form)?;
-    for share in shares_of(alloc, &form)? {
-        menu.add_both(alloc, &share.form)?;
+    menu.add_both(alloc, form);
+    for share in shares_of(alloc, form)?.as_slice() {
+        menu.add_both(alloc, &share.form);
     }
     Ok(())
 }
@@ -326,7 +272,8 @@ fn add_parts(alloc: Global, menu: &mut Menu, form: Form) -> Result<(), AllocErro
 /// Adds what symbols multiply in an equality.
 fn add_equality(alloc: Global, menu: &mut Menu, form: &Form) -> Result<(), AllocError> {
     for share in shares_of(alloc, form)? {
-        add_parts(alloc, menu, share.form)?;
+        let form = whole(alloc, share.form)?;
+        add_parts(alloc, menu, &form)?;
     }
     Ok(())
 }
@@ -390,47 +337,54 @@ fn count_without(form: &Form, symbol: Symbol) -> usize {
 }
 
 /// Adds what a symbol multiplies in a fact, where it has few terms besides.
-fn add_share_of_fact(
-    alloc: Global,
-    menu: &mut Menu,
-    fact: &Form,
-    share: Share,
-) -> Result<(), AllocError> {
+fn add_share_of_fact(alloc: Global, menu: &mut Menu, fact: &Form, share: Share) {
     if share.form.terms().len() < 2 {
-        return Ok(());
+        return;
     }
     let rest = count_without(fact, share.symbol);
     if rest == 0 && fact.constant_part() < 0 {
-        return match plus(alloc, &share.form, -1)? {
-            Some(form) => menu.add(form),
-            None => Ok(()),
-        };
+        menu.add_made(plus(alloc, &share.form, -1));
+    } else if rest <= 3 {
+        menu.add(share.form);
     }
-    if rest <= 3 {
-        return menu.add(share.form);
-    }
-    Ok(())
 }
 
 /// Adds what symbols multiply in a fact.
 fn add_fact(alloc: Global, menu: &mut Menu, fact: &Form) -> Result<(), AllocError> {
     for share in shares_of(alloc, fact)? {
-        add_share_of_fact(alloc, menu, fact, share)?;
+        add_share_of_fact(alloc, menu, fact, share);
     }
     Ok(())
 }
 
 /// What may be lemmas of facts, the likeliest first, so many at most or somewhat more.
-pub fn lemmas_for(alloc: Global, facts: &[Form], most: usize) -> Result<Vec<Form>, AllocError> {
-    let mut menu = Menu {
-        found: Vec::new(alloc),
-        hashes: hashes_of(alloc, facts)?,
-    };
+pub fn lemmas_for(
+    alloc: Global,
+    facts: &[Form],
+    multiplied: Multiplied<'_>,
+    most: usize,
+) -> Result<Vec<Form>, AllocError> {
+    let mut menu = Menu::beside(alloc, facts)?;
     let products = with_products(alloc, facts)?;
     let factors = factors_in_all(alloc, products.as_slice())?;
-    add_copies(alloc, &mut menu, factors.as_slice())?;
+    let mut hashes = hashes_of(alloc, facts)?;
+    hashes.sort_unstable();
+    let hashes = hashes.as_slice();
+    if products.is_empty() {
+        add_digits(alloc, &mut menu, facts, hashes);
+        return menu.forms();
+    }
+    add_following(
+        alloc,
+        &mut menu,
+        &multiplied,
+        factors.as_slice(),
+        facts,
+        hashes,
+    );
+    add_copies(alloc, &mut menu, factors.as_slice());
     for fact in products.as_slice() {
-        add_factors(alloc, &mut menu, fact)?;
+        add_factors(alloc, &mut menu, fact);
     }
     let equalities = all_equalities(alloc, facts)?;
     for form in equalities.iter().rev() {
@@ -442,7 +396,10 @@ pub fn lemmas_for(alloc: Global, facts: &[Form], most: usize) -> Result<Vec<Form
         let all = facts_and_sums(alloc, products)?;
         add_facts(alloc, &mut menu, all.as_slice(), most)?;
     }
-    Ok(menu.found)
+    if menu.found.len() < most {
+        add_digits(alloc, &mut menu, facts, hashes);
+    }
+    menu.forms()
 }
 
 /// Adds what symbols multiply in facts, while there are too few.

@@ -8,13 +8,14 @@ use crate::answer::{Answer, Point};
 use crate::divisions::{quotient_reduced, quotients_by};
 use crate::equalities::Equalities;
 use crate::found::Found;
-use crate::hashes::{first_place, hash_of_list, hashes_of};
+use crate::hashes::{first_place, hash_of, hash_of_list, hashes_of};
 use crate::monomials::have_products;
 use crate::point::meets;
+use crate::real_points::met_by;
 use crate::searching::{search_naming, search_plainly};
 use cut_proof::{Derivation, refutes};
 use guesses::copied;
-use linear::Form;
+use linear::{Form, Symbol};
 use std::alloc::{AllocError, Global};
 use std::mem::replace;
 
@@ -24,14 +25,15 @@ const LIMIT: usize = 4096;
 /// How many points with the number of a question are tried, the newest first.
 const POINTS: usize = 24;
 
-/// How much work is done before no more is begun: so many facts are asked about, and a search counts as many times the facts of its list.
-const WORK: u64 = 60_000_000;
+/// How much work is done before no more is begun: so many facts are asked about, a search counts as many times the facts of its list, and
+/// what products take is counted too.
+const WORK: u64 = 18_000_000;
 
 /// How many times the facts of its list a search counts.
 const SEARCH: u64 = 20;
 
-/// A point, and the number of the fact that was denied; of a list with products, where products of facts may still refute another list,
-/// that of all of it.
+/// A point, and the number of the fact that was denied; of a list with products where these are none at the point, so that products of
+/// facts may refute another list, that of all of it.
 #[derive(Drop)]
 struct Seen {
     key: u64,
@@ -47,13 +49,24 @@ struct Numbers {
 }
 
 impl Numbers {
-    fn of_facts(alloc: Global, facts: &[Form]) -> Result<Numbers, AllocError> {
-        let each = hashes_of(alloc, facts)?;
-        Ok(Numbers {
+    /// The numbers of a list whose facts have these.
+    fn of(each: Vec<u64>) -> Numbers {
+        Numbers {
             key: each.as_slice().last().copied().unwrap_or(0),
             whole: hash_of_list(each.as_slice()),
             each,
-        })
+        }
+    }
+
+    fn of_facts(alloc: Global, facts: &[Form]) -> Result<Numbers, AllocError> {
+        Ok(Numbers::of(hashes_of(alloc, facts)?))
+    }
+
+    /// The numbers of facts of these, and of another one behind them.
+    fn with_last(first: &Vec<u64>, last: &Form) -> Result<Numbers, AllocError> {
+        let mut each = first.clone()?;
+        each.push(hash_of(last))?;
+        Ok(Numbers::of(each))
     }
 }
 
@@ -173,7 +186,7 @@ impl Memory {
         if self.undecided.as_slice().contains(&numbers.whole) {
             return Ok(Some(Answer::Undecided));
         }
-        self.recall_point(facts, self.point_key(facts, numbers))
+        self.recall_point(alloc, facts, numbers)
     }
 
     fn recall_proof(
@@ -195,7 +208,34 @@ impl Memory {
         Ok(None)
     }
 
-    fn recall_point(&self, facts: &[Form], key: u64) -> Result<Option<Answer>, AllocError>
+    /// Products of these facts are products.
+    fn is_of_products(&self, facts: &[Form]) -> bool {
+        self.multiplies && have_products(facts)
+    }
+
+    /// The point as one that may answer for these facts: with the values of their products, but where it is remembered of this whole list.
+    fn point_for(
+        &self,
+        alloc: Global,
+        facts: &[Form],
+        seen: &Seen,
+        numbers: &Numbers,
+    ) -> Result<Option<Point>, AllocError> {
+        if seen.key == numbers.whole || (seen.key == numbers.key && !self.is_of_products(facts)) {
+            Ok(Some(seen.point.clone()?))
+        } else if seen.key == numbers.key {
+            met_by(alloc, facts, seen.point.as_slice())
+        } else {
+            Ok(None)
+        }
+    }
+
+    fn recall_point(
+        &self,
+        alloc: Global,
+        facts: &[Form],
+        numbers: &Numbers,
+    ) -> Result<Option<Answer>, AllocError>
         ensures { IfOk result (λ r. IfSome r (λ a. IsAnswer (forms facts.now) a)) }
     {
         let mut tried: usize = 0;
@@ -203,11 +243,13 @@ impl Memory {
             if tried >= POINTS {
                 return Ok(None);
             }
-            if seen.key == key {
+            if seen.key == numbers.key || seen.key == numbers.whole {
                 tried += 1;
-                let answer = checked_point(facts, seen.point.clone()?);
-                if answer.is_some() {
-                    return Ok(answer);
+                if let Some(point) = self.point_for(alloc, facts, seen, numbers)? {
+                    let answer = checked_point(facts, point);
+                    if answer.is_some() {
+                        return Ok(answer);
+                    }
                 }
             }
         }
@@ -221,25 +263,37 @@ impl Memory {
             .work
             .saturating_add((facts.len() as u64).saturating_mul(SEARCH));
         let distinct = distinct_of(alloc, facts, numbers.each.as_slice())?;
-        match self.search(alloc, distinct.facts.as_slice())? {
+        let mut work = 0;
+        let answer = self.search(alloc, distinct.facts.as_slice(), &mut work)?;
+        self.work = self.work.saturating_add(work);
+        match answer {
             Answer::Proof(derivation) => self.keep_proof(alloc, numbers.key, &distinct, derivation),
-            Answer::Model(point) => self.keep_point(self.point_key(facts, numbers), point),
+            Answer::Model(point) => {
+                let key = self.point_key(alloc, facts, numbers, point.as_slice())?;
+                self.keep_point(key, point)
+            }
             Answer::Undecided => self.keep_undecided(numbers.whole),
         }
     }
 
-    /// The number by which a point is found again.
-    fn point_key(&self, facts: &[Form], numbers: &Numbers) -> u64 {
-        if self.multiplies && have_products(facts) {
-            numbers.whole
+    /// The number by which a point is found again: that of the last fact, where products are products at it.
+    fn point_key(
+        &self,
+        alloc: Global,
+        facts: &[Form],
+        numbers: &Numbers,
+        point: &[(Symbol, i64)],
+    ) -> Result<u64, AllocError> {
+        if self.is_of_products(facts) && met_by(alloc, facts, point)?.is_none() {
+            Ok(numbers.whole)
         } else {
-            numbers.key
+            Ok(numbers.key)
         }
     }
 
-    fn search(&self, alloc: Global, facts: &[Form]) -> Result<Answer, AllocError> {
+    fn search(&self, alloc: Global, facts: &[Form], work: &mut u64) -> Result<Answer, AllocError> {
         if self.multiplies {
-            search_naming(alloc, facts, self.unnamed.as_slice())
+            search_naming(alloc, facts, self.unnamed.as_slice(), work)
         } else {
             search_plainly(alloc, facts)
         }
@@ -290,6 +344,7 @@ pub struct Questions<'a> {
     own: Memory,
     held: u64,
     facts: Vec<Form>,
+    each: Vec<u64>,
     equalities: Option<Equalities>,
 }
 
@@ -302,6 +357,7 @@ impl<'a> Questions<'a> {
             own: Memory::naming(alloc, known.multiplies, unnamed),
             held: 0,
             facts: Vec::new(alloc),
+            each: Vec::new(alloc),
             equalities: None,
         })
     }
@@ -315,16 +371,28 @@ impl<'a> Questions<'a> {
     pub fn ask(&mut self, alloc: Global, facts: &[Form]) -> Result<Answer, AllocError>
         ensures { IfOk result (λ a. IsAnswer (forms facts.now) a) }
     {
-        self.own.count(facts.len());
         let numbers = Numbers::of_facts(alloc, facts)?;
-        if let Some(answer) = self.known.recall(alloc, facts, &numbers)? {
+        self.answer(alloc, facts, &numbers)
+    }
+
+    /// The answer to facts of these numbers.
+    fn answer(
+        &mut self,
+        alloc: Global,
+        facts: &[Form],
+        numbers: &Numbers,
+    ) -> Result<Answer, AllocError>
+        ensures { IfOk result (λ a. IsAnswer (forms facts.now) a) }
+    {
+        self.own.count(facts.len());
+        if let Some(answer) = self.known.recall(alloc, facts, numbers)? {
             return Ok(answer);
         }
-        if let Some(answer) = self.own.recall(alloc, facts, &numbers)? {
+        if let Some(answer) = self.own.recall(alloc, facts, numbers)? {
             return Ok(answer);
         }
-        self.own.seek(alloc, facts, &numbers)?;
-        self.own.recall_found(alloc, facts, &numbers)
+        self.own.seek(alloc, facts, numbers)?;
+        self.own.recall_found(alloc, facts, numbers)
     }
 
     /// Has these facts at hand.
@@ -334,6 +402,7 @@ impl<'a> Questions<'a> {
         if self.held == whole && self.facts.len() == facts.len() {
             return Ok(());
         }
+        self.each = each;
         self.facts.clear();
         for fact in facts {
             self.facts.push(copied(alloc, fact)?)?;
@@ -360,9 +429,10 @@ impl<'a> Questions<'a> {
         denial: Form,
     ) -> Result<Answer, AllocError> {
         self.hold(alloc, facts)?;
+        let numbers = Numbers::with_last(&self.each, &denial)?;
         let mut list = replace(&mut self.facts, Vec::new(alloc));
         list.push(denial)?;
-        let answer = self.ask(alloc, list.as_slice())?;
+        let answer = self.answer(alloc, list.as_slice(), &numbers)?;
         drop(list.pop());
         self.facts = list;
         Ok(answer)

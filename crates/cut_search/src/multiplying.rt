@@ -5,7 +5,22 @@ use linear::{Form, Symbol};
 use std::alloc::{AllocError, Global};
 
 /// Facts with such a constant, mostly ends of a type's range, are not multiplied: what comes of them leaves `i64` soon.
-const LARGE: u64 = 1 << 31;
+pub const LARGE: u64 = 1 << 31;
+
+/// At first facts with such a constant, mostly ends of the ranges of arguments and counts, are not multiplied either: few derivations want
+/// them, and their coefficients, multiplied with one another, soon leave `i64` too.
+pub const MIDDLE: u64 = 1 << 11;
+
+/// Facts are left out at first that may be multiplied later.
+pub fn leave_some(facts: &[Form]) -> bool {
+    for fact in facts {
+        let constant = fact.constant_part().unsigned_abs();
+        if constant >= MIDDLE && constant < LARGE {
+            return true;
+        }
+    }
+    false
+}
 
 /// The fact of a number, or the product of the facts of two numbers, where the second one is not 0. Lemmas count on behind the facts.
 #[derive(Clone, Copy)]
@@ -68,14 +83,61 @@ fn keep_partners(partners: &mut Vec<Symbol>, pairs: &[Couple], symbol: Symbol) {
     });
 }
 
+/// A symbol makes a product at hand with each symbol of a fact.
+fn goes_with_each(pairs: &[Couple], symbol: Symbol, fact: &Form) -> bool {
+    for term in fact.terms() {
+        let couple = Couple {
+            one: term.symbol,
+            other: symbol,
+        };
+        if pairs.binary_search(&couple).is_err() {
+            return false;
+        }
+    }
+    true
+}
+
+/// Which symbols make products at hand with which, and from which constant on a fact is not multiplied.
+#[derive(Clone, Copy)]
+pub struct Multiplied<'a> {
+    pub partings: &'a [Couple],
+    pub large: u64,
+}
+
+impl<'a> Multiplied<'a> {
+    /// A fact may be multiplied: its constant is not large, and a symbol makes products at hand with each of its symbols.
+    pub fn may(&self, fact: &Form) -> bool {
+        let Some(first) = fact.terms().first() else {
+            return false;
+        };
+        if fact.constant_part().unsigned_abs() >= self.large {
+            return false;
+        }
+        for couple in self
+            .partings
+            .iter()
+            .skip(first_of(self.partings, first.symbol))
+        {
+            if couple.one != first.symbol {
+                return false;
+            }
+            if goes_with_each(self.partings, couple.other, fact) {
+                return true;
+            }
+        }
+        false
+    }
+}
+
 /// A fact as a factor; none where one of its symbols has no partner in common with the others.
 pub fn factor_of(
     alloc: Global,
     pairs: &[Couple],
     number: u32,
     fact: &Form,
+    large: u64,
 ) -> Result<Option<Factor>, AllocError> {
-    if fact.constant_part().unsigned_abs() >= LARGE {
+    if fact.constant_part().unsigned_abs() >= large {
         return Ok(None);
     }
     let Some(first) = fact.terms().first() else {
@@ -109,17 +171,20 @@ fn is_implied(facts: &[Form], place: usize, fact: &Form) -> bool {
     false
 }
 
-/// The facts that may be factors.
+/// The facts that may be factors, and the lemmas behind the first `given` ones, whose constants may be large.
 pub fn factors_of(
     alloc: Global,
     pairs: &[Couple],
     facts: &[Form],
+    given: usize,
+    large: u64,
 ) -> Result<Vec<Factor>, AllocError> {
     let mut factors = Vec::new(alloc);
     let mut number = 0u32;
     for (place, fact) in facts.iter().enumerate() {
         number = number.saturating_add(1);
-        if let Some(factor) = factor_of(alloc, pairs, number, fact)? {
+        let large = if place < given { large } else { LARGE };
+        if let Some(factor) = factor_of(alloc, pairs, number, fact, large)? {
             if !is_implied(facts, place, fact) {
                 factors.push(factor)?;
             }

@@ -3,7 +3,8 @@
 use crate::hashes::hash_of;
 use crate::monomials::{Couple, closed, equal_couples, partings, products_of, widened};
 use crate::multiplying::{
-    Factor, Source, copy_factors, factor_of, factors_of, pairs_of, pairs_with_last,
+    Factor, LARGE, Multiplied, Source, copy_factors, factor_of, factors_of, pairs_of,
+    pairs_with_last,
 };
 use crate::unnamed::{add_couples, is_named, named, values_of};
 use guesses::copied;
@@ -29,6 +30,9 @@ pub struct Pool {
     factors: Vec<Factor>,
     /// The slots of variables that lemmas cannot name.
     unnamed: Vec<u64>,
+    /// How many of what is known are facts; those with so large a constant are not multiplied.
+    given: usize,
+    large: u64,
 }
 
 /// Copies of forms.
@@ -47,8 +51,13 @@ fn next_number(count: usize) -> u32 {
 
 impl Pool {
     /// A pool of facts and of products of two of them.
-    pub fn of_facts(alloc: Global, facts: &[Form], unnamed: &[u64]) -> Result<Pool, AllocError> {
-        let mut pool = Pool::bare(alloc, facts, unnamed)?;
+    pub fn of_facts(
+        alloc: Global,
+        facts: &[Form],
+        unnamed: &[u64],
+        large: u64,
+    ) -> Result<Pool, AllocError> {
+        let mut pool = Pool::bare(alloc, facts, unnamed, large)?;
         let products = pool.at_hand(alloc)?;
         pool.take_products(alloc, products)?;
         Ok(pool)
@@ -60,8 +69,9 @@ impl Pool {
         alloc: Global,
         facts: &[Form],
         unnamed: &[u64],
+        large: u64,
     ) -> Result<Option<Pool>, AllocError> {
-        let mut pool = Pool::bare(alloc, facts, unnamed)?;
+        let mut pool = Pool::bare(alloc, facts, unnamed, large)?;
         let products = pool.at_hand(alloc)?;
         let count = products.len();
         let products = widened(alloc, products, facts)?;
@@ -88,11 +98,18 @@ impl Pool {
             factors: copy_factors(alloc, self.factors.as_slice())?,
             partings: self.partings.clone()?,
             unnamed: self.unnamed.clone()?,
+            given: self.given,
+            large: self.large,
         })
     }
 
     /// A pool of facts alone.
-    fn bare(alloc: Global, facts: &[Form], unnamed: &[u64]) -> Result<Pool, AllocError> {
+    fn bare(
+        alloc: Global,
+        facts: &[Form],
+        unnamed: &[u64],
+        large: u64,
+    ) -> Result<Pool, AllocError> {
         let mut pool = Pool {
             known: Vec::new(alloc),
             forms: Vec::new(alloc),
@@ -102,6 +119,8 @@ impl Pool {
             factors: Vec::new(alloc),
             partings: Vec::new(alloc),
             unnamed: Vec::from_slice(alloc, unnamed)?,
+            given: facts.len(),
+            large,
         };
         for fact in facts {
             pool.put_known(alloc, fact)?;
@@ -136,7 +155,7 @@ impl Pool {
         Ok(())
     }
 
-    /// Takes in one more fact or lemma, and products of it and of what it allows.
+    /// Takes in one more lemma, and products of it and of what it allows.
     pub fn add(&mut self, alloc: Global, form: &Form) -> Result<(), AllocError> {
         self.put_known(alloc, form)?;
         let products = self.at_hand(alloc)?;
@@ -144,7 +163,7 @@ impl Pool {
             return self.take_products(alloc, products);
         }
         let number = next_number(self.known.len()).saturating_sub(1);
-        if let Some(factor) = factor_of(alloc, self.partings.as_slice(), number, form)? {
+        if let Some(factor) = factor_of(alloc, self.partings.as_slice(), number, form, LARGE)? {
             self.factors.push(factor)?;
             let pairs = pairs_with_last(alloc, self.factors.as_slice())?;
             self.multiply(alloc, pairs.as_slice())?;
@@ -156,7 +175,13 @@ impl Pool {
     fn take_products(&mut self, alloc: Global, products: Vec<Symbol>) -> Result<(), AllocError> {
         self.partings = partings(alloc, products.as_slice())?;
         self.products = products;
-        self.factors = factors_of(alloc, self.partings.as_slice(), self.known.as_slice())?;
+        self.factors = factors_of(
+            alloc,
+            self.partings.as_slice(),
+            self.known.as_slice(),
+            self.given,
+            self.large,
+        )?;
         let pairs = pairs_of(alloc, self.factors.as_slice())?;
         self.multiply(alloc, pairs.as_slice())
     }
@@ -179,6 +204,14 @@ impl Pool {
         match first.product(alloc, second)? {
             Some(form) if !self.has(&form) => self.put(form, pair),
             _ => Ok(()),
+        }
+    }
+
+    /// Which facts may be multiplied.
+    pub fn multiplied(&self) -> Multiplied<'_> {
+        Multiplied {
+            partings: self.partings.as_slice(),
+            large: self.large,
         }
     }
 

@@ -1,12 +1,14 @@
 //! The search with products of facts, and lemmas.
 
 use crate::answer::Answer;
-use crate::deciding::{ROUNDS, conclude, enter_all};
+use crate::deciding::{ROUNDS, enter_all, refuted};
 use crate::hashes::{first_place, hash_of};
 use crate::lemmas::lemmas_for;
 use crate::monomials::have_products;
+use crate::multiplying::{LARGE, MIDDLE, leave_some};
 use crate::pool::Pool;
 use crate::proving::{finished, over_known};
+use crate::real_points::real_point;
 use crate::stop::Stop;
 use crate::tableau::{PIVOTS, Tableau};
 use crate::writing::{derive, derive_given, plain};
@@ -16,10 +18,10 @@ use linear::{Fact, Form};
 use std::alloc::{AllocError, Global};
 
 /// How often lemmas are tried anew with those that are shown.
-const TURNS: u32 = 3;
+const TURNS: u32 = 5;
 
 /// How many lemmas are tried each time, at most.
-const LEMMAS: usize = 24;
+const LEMMAS: usize = 44;
 
 /// How often the tableau of a lemma is solved, and how often its variables change places.
 const LEMMA_ROUNDS: u32 = 10;
@@ -29,6 +31,14 @@ const LEMMA_PIVOTS: u32 = 600;
 /// How often variables change places in the last try.
 const LAST_PIVOTS: u32 = 500;
 
+/// As how much work each form of a tableau counts that is solved.
+const WORK: u64 = 25;
+
+/// As how much work a tableau of so many forms counts.
+fn work_of(forms: usize) -> u64 {
+    (forms as u64).saturating_mul(WORK)
+}
+
 /// Facts with products and the lemmas shown so far, and a tableau of the first `entered` forms of the pool, solved.
 #[derive(Drop)]
 struct Quest {
@@ -37,19 +47,17 @@ struct Quest {
     tableau: Tableau,
     lemmas: Vec<Lemma>,
     tried: Vec<u64>,
+    work: u64,
 }
 
 /// What is found by a step: lines that refute, over the numbers of the pool's forms.
 type Lines = Option<Vec<Line>>;
 
-/// The lines of an answer that is a derivation.
-fn lines_of(answer: Answer) -> Lines {
-    match answer {
-        Answer::Proof(derivation) => {
-            let Derivation { lines, .. } = derivation;
-            Some(lines)
-        }
-        Answer::Model(_) | Answer::Undecided => None,
+/// The lines of a derivation.
+fn lines_of(derivation: Option<Derivation>) -> Lines {
+    match derivation {
+        Some(derivation) => Some(derivation.lines),
+        None => None,
     }
 }
 
@@ -97,8 +105,8 @@ impl Quest {
     /// Lines that refute the facts with the lemmas, by cuts.
     fn conclude(&self, alloc: Global) -> Result<Lines, Stop> {
         let tableau = self.tableau.copy(alloc, PIVOTS)?;
-        let answer = conclude(alloc, self.pool.forms.as_slice(), tableau, ROUNDS)?;
-        Ok(lines_of(answer))
+        let found = refuted(alloc, self.pool.forms.as_slice(), tableau, ROUNDS)?;
+        Ok(lines_of(found))
     }
 
     /// Lines that refute the denial of a form, which the pool has with its products as the last ones.
@@ -109,8 +117,8 @@ impl Quest {
         if found.is_some() {
             return Ok(found);
         }
-        let answer = conclude(alloc, forms, tableau, LEMMA_ROUNDS)?;
-        Ok(lines_of(answer))
+        let found = refuted(alloc, forms, tableau, LEMMA_ROUNDS)?;
+        Ok(lines_of(found))
     }
 
     /// Lines that show a form, over the facts and lemmas and the form's denial.
@@ -129,9 +137,16 @@ impl Quest {
         let from = self.pool.forms.len();
         self.pool.add(alloc, &form)?;
         self.lemmas.push(Lemma { form, lines })?;
-        let tableau = self.tableau.copy(alloc, PIVOTS)?;
-        self.tableau = tableau;
-        enter(alloc, &mut self.tableau, self.pool.forms.as_slice(), from)
+        let mut tableau = self.tableau.copy(alloc, PIVOTS)?;
+        match enter(alloc, &mut tableau, self.pool.forms.as_slice(), from) {
+            Ok(found) => {
+                self.tableau = tableau;
+                Ok(found)
+            }
+            // (where it cannot be solved with the lemma, it stays without it)
+            Err(Stop::GivenUp) => Ok(None),
+            Err(Stop::Memory) => Err(Stop::Memory),
+        }
     }
 
     /// Tries a form as a lemma, unless it was tried since the last one was shown.
@@ -141,6 +156,7 @@ impl Quest {
             return Ok(Tried::Failed);
         }
         self.tried.push(hash)?;
+        self.work = self.work.saturating_add(work_of(self.pool.forms.len()));
         let Some(lines) = self.lemma_lines(alloc, &form)? else {
             return Ok(Tried::Failed);
         };
@@ -155,7 +171,12 @@ impl Quest {
     /// Tries what may be lemmas, each once.
     fn turn(&mut self, alloc: Global) -> Result<Tried, Stop> {
         let mut turn = Tried::Failed;
-        let menu = lemmas_for(alloc, self.pool.known.as_slice(), LEMMAS)?;
+        let menu = lemmas_for(
+            alloc,
+            self.pool.known.as_slice(),
+            self.pool.multiplied(),
+            LEMMAS,
+        )?;
         for form in menu.into_iter().take(LEMMAS) {
             let Some(form) = self.pool.said(alloc, form)? else {
                 continue;
@@ -210,26 +231,76 @@ fn written(alloc: Global, pool: &Pool, lines: Lines) -> Result<Lines, Stop> {
     }
 }
 
-/// A derivation by products of two facts, and by lemmas.
-fn by_lemmas(alloc: Global, facts: &[Fact], unnamed: &[u64]) -> Result<Option<Derivation>, Stop> {
-    let mut quest = Quest {
-        count: facts.len(),
-        pool: Pool::of_facts(alloc, facts, unnamed)?,
-        tableau: Tableau::new(alloc),
-        lemmas: Vec::new(alloc),
-        tried: Vec::new(alloc),
-    };
-    let begun = enter(alloc, &mut quest.tableau, quest.pool.forms.as_slice(), 0)?;
-    let mut found = written(alloc, &quest.pool, begun)?;
-    if found.is_none() {
-        found = quest.concluded(alloc)?;
+impl Quest {
+    /// A quest that begins with a pool, before anything is taken in.
+    fn begin(alloc: Global, count: usize, pool: Pool) -> Quest {
+        let work = work_of(pool.forms.len());
+        Quest {
+            count,
+            pool,
+            tableau: Tableau::new(alloc),
+            lemmas: Vec::new(alloc),
+            tried: Vec::new(alloc),
+            work,
+        }
     }
-    if found.is_none() {
-        found = quest.seek(alloc)?;
+
+    /// Lines that refute the facts, with lemmas that are sought where it takes them.
+    fn lines(&mut self, alloc: Global) -> Result<Lines, Stop> {
+        let begun = enter(alloc, &mut self.tableau, self.pool.forms.as_slice(), 0)?;
+        let found = written(alloc, &self.pool, begun)?;
+        if found.is_some() {
+            return Ok(found);
+        }
+        let found = self.concluded(alloc)?;
+        if found.is_some() {
+            return Ok(found);
+        }
+        self.seek(alloc)
     }
-    match found {
+}
+
+/// A derivation by products of two facts, and by lemmas. The work is counted.
+fn by_lemmas(
+    alloc: Global,
+    facts: &[Fact],
+    unnamed: &[u64],
+    large: u64,
+    work: &mut u64,
+) -> Result<Option<Derivation>, Stop> {
+    let pool = Pool::of_facts(alloc, facts, unnamed, large)?;
+    let mut quest = Quest::begin(alloc, facts.len(), pool);
+    let found = quest.lines(alloc);
+    *work = work.saturating_add(quest.work);
+    match found? {
         Some(lines) => Ok(Some(quest.derivation(alloc, lines)?)),
         None => Ok(None),
+    }
+}
+
+/// A derivation of a list without products that was given up, by lemmas on the parts of sums. The work is counted.
+fn by_digits(
+    alloc: Global,
+    facts: &[Fact],
+    unnamed: &[u64],
+    work: &mut u64,
+) -> Result<Option<Derivation>, Stop> {
+    let pool = Pool::of_facts(alloc, facts, unnamed, LARGE)?;
+    let mut quest = Quest::begin(alloc, facts.len(), pool);
+    enter_all_of(alloc, &mut quest)?;
+    let found = quest.seek(alloc);
+    *work = work.saturating_add(quest.work);
+    match found? {
+        Some(lines) => Ok(Some(quest.derivation(alloc, lines)?)),
+        None => Ok(None),
+    }
+}
+
+/// Takes in the facts of a quest that are not refuted by sums alone, and solves the tableau.
+fn enter_all_of(alloc: Global, quest: &mut Quest) -> Result<(), Stop> {
+    match enter(alloc, &mut quest.tableau, quest.pool.forms.as_slice(), 0)? {
+        Some(_) => Err(Stop::GivenUp),
+        None => Ok(()),
     }
 }
 
@@ -240,15 +311,22 @@ fn last_lines(alloc: Global, pool: &Pool) -> Result<Lines, Stop> {
     if found.is_some() {
         return Ok(found);
     }
-    let answer = conclude(alloc, pool.forms.as_slice(), tableau, ROUNDS)?;
-    Ok(lines_of(answer))
+    let found = refuted(alloc, pool.forms.as_slice(), tableau, ROUNDS)?;
+    Ok(lines_of(found))
 }
 
-/// A derivation by products with one symbol more.
-fn by_wider(alloc: Global, facts: &[Fact], unnamed: &[u64]) -> Result<Option<Derivation>, Stop> {
-    let Some(pool) = Pool::wide(alloc, facts, unnamed)? else {
+/// A derivation by products with one symbol more. The work is counted.
+fn by_wider(
+    alloc: Global,
+    facts: &[Fact],
+    unnamed: &[u64],
+    large: u64,
+    work: &mut u64,
+) -> Result<Option<Derivation>, Stop> {
+    let Some(pool) = Pool::wide(alloc, facts, unnamed, large)? else {
         return Ok(None);
     };
+    *work = work.saturating_add(work_of(pool.forms.len()));
     let lines = found_or_not(last_lines(alloc, &pool))?;
     match written(alloc, &pool, lines)? {
         Some(lines) => Ok(Some(plain(alloc, lines))),
@@ -256,46 +334,89 @@ fn by_wider(alloc: Global, facts: &[Fact], unnamed: &[u64]) -> Result<Option<Der
     }
 }
 
-/// A derivation in one of the ways in turn.
-fn by_any(
-    alloc: Global,
-    facts: &[Fact],
-    unnamed: &[u64],
+/// What was given up was not found.
+fn known_or_not(
+    outcome: Result<Option<Derivation>, Stop>,
 ) -> Result<Option<Derivation>, AllocError> {
-    let first = match by_lemmas(alloc, facts, unnamed) {
-        Ok(found) => found,
-        Err(Stop::GivenUp) => None,
-        Err(Stop::Memory) => return Err(AllocError),
-    };
-    if first.is_some() {
-        return Ok(first);
-    }
-    match by_wider(alloc, facts, unnamed) {
+    match outcome {
         Ok(found) => Ok(found),
         Err(Stop::GivenUp) => Ok(None),
         Err(Stop::Memory) => Err(AllocError),
     }
 }
 
-/// What is found where products are products: a derivation by products and lemmas in the place of what was found without. What was found
-/// stays where it is a derivation, where no fact has a product, and where nothing is found. Lemmas name no variable of the slots.
-pub fn with_products(
+/// A derivation by products of facts with no larger constants, in one of the ways in turn. The work is counted.
+fn by_some(
+    alloc: Global,
+    facts: &[Fact],
+    unnamed: &[u64],
+    large: u64,
+    work: &mut u64,
+) -> Result<Option<Derivation>, AllocError> {
+    let first = known_or_not(by_lemmas(alloc, facts, unnamed, large, work))?;
+    if first.is_some() {
+        return Ok(first);
+    }
+    known_or_not(by_wider(alloc, facts, unnamed, large, work))
+}
+
+/// A derivation by products, at first without those of the ends of large ranges. The work is counted.
+fn by_any(
+    alloc: Global,
+    facts: &[Fact],
+    unnamed: &[u64],
+    work: &mut u64,
+) -> Result<Option<Derivation>, AllocError> {
+    if leave_some(facts) {
+        let first = by_some(alloc, facts, unnamed, MIDDLE, work)?;
+        if first.is_some() {
+            return Ok(first);
+        }
+    }
+    by_some(alloc, facts, unnamed, LARGE, work)
+}
+
+/// The derivation, or the outcome where there is none.
+fn found_or(found: Option<Derivation>, outcome: Result<Answer, Stop>) -> Result<Answer, Stop> {
+    match found {
+        Some(derivation) => Ok(Answer::Proof(derivation)),
+        None => outcome,
+    }
+}
+
+/// What is found for facts of which some have products.
+fn of_products(
     alloc: Global,
     facts: &[Fact],
     unnamed: &[u64],
     outcome: Result<Answer, Stop>,
+    work: &mut u64,
+) -> Result<Answer, Stop> {
+    if let Some(point) = real_point(alloc, facts, &outcome)? {
+        return Ok(Answer::Model(point));
+    }
+    let found = by_any(alloc, facts, unnamed, work)?;
+    found_or(found, outcome)
+}
+
+/// What is found with lemmas, and where products are products, in the place of what was found without: a derivation, or a point at which
+/// products are products. What was found stays where it is a derivation, where it is a point and no fact has a product, and where nothing
+/// is found. Lemmas name no variable of the slots. The work is counted.
+pub fn with_lemmas(
+    alloc: Global,
+    facts: &[Fact],
+    unnamed: &[u64],
+    outcome: Result<Answer, Stop>,
+    work: &mut u64,
 ) -> Result<Answer, Stop> {
     match outcome {
         Ok(Answer::Proof(derivation)) => Ok(Answer::Proof(derivation)),
         Err(Stop::Memory) => Err(Stop::Memory),
+        outcome if have_products(facts) => of_products(alloc, facts, unnamed, outcome, work),
+        Ok(Answer::Model(point)) => Ok(Answer::Model(point)),
         outcome => {
-            if !have_products(facts) {
-                return outcome;
-            }
-            match by_any(alloc, facts, unnamed)? {
-                Some(derivation) => Ok(Answer::Proof(derivation)),
-                None => outcome,
-            }
+            let found = known_or_not(by_digits(alloc, facts, unnamed, work))?;
+            found_or(found, outcome)
         }
     }
 }

@@ -10,7 +10,7 @@ ghost use Rattle.cut_search.specs.Answers.{IsAnswer};
 use super::point::meets;
 use crate::answer::{Answer, Point};
 use crate::deciding::{Prepared, decide_otherwise};
-use crate::quest::with_products;
+use crate::quest::with_lemmas;
 use crate::stop::Stop;
 use cut_proof::{Derivation, refutes};
 use linear::Fact;
@@ -41,20 +41,23 @@ impl Start {
     pub fn search(&self, alloc: Global, facts: &[Fact]) -> Result<Answer, AllocError>
         ensures { IfOk result (λ a. IsAnswer (forms facts.now) a) }
     {
-        self.search_naming(alloc, facts, &[])
+        let mut work = 0;
+        self.search_naming(alloc, facts, &[], &mut work)
     }
 
-    /// Searches as `search` does, with lemmas that name no variable of the slots.
+    /// Searches as `search` does, with lemmas that name no variable of the slots. What products take is added to the work.
     fn search_naming(
         &self,
         alloc: Global,
         facts: &[Fact],
         unnamed: &[u64],
+        work: &mut u64,
     ) -> Result<Answer, AllocError>
         ensures { IfOk result (λ a. IsAnswer (forms facts.now) a) }
     {
         let outcome = self.decide(alloc, facts);
-        settled(alloc, facts, with_products(alloc, facts, unnamed, outcome))
+        let outcome = with_lemmas(alloc, facts, unnamed, outcome, work);
+        settled(alloc, facts, outcome)
     }
 
     /// Searches as `search` does, without products of facts.
@@ -94,11 +97,16 @@ pub fn search(alloc: Global, facts: &[Fact]) -> Result<Answer, AllocError>
     Start::new(alloc).search(alloc, facts)
 }
 
-/// Searches as `search` does, for a derivation whose lemmas name no variable of the slots.
-pub fn search_naming(alloc: Global, facts: &[Fact], unnamed: &[u64]) -> Result<Answer, AllocError>
+/// Searches as `search` does, for a derivation whose lemmas name no variable of the slots. What products take is added to the work.
+pub fn search_naming(
+    alloc: Global,
+    facts: &[Fact],
+    unnamed: &[u64],
+    work: &mut u64,
+) -> Result<Answer, AllocError>
     ensures { IfOk result (λ a. IsAnswer (forms facts.now) a) }
 {
-    Start::new(alloc).search_naming(alloc, facts, unnamed)
+    Start::new(alloc).search_naming(alloc, facts, unnamed, work)
 }
 
 /// Searches for a derivation without products, or whole numbers.

@@ -77,7 +77,11 @@ impl Said {
             self.rows.get(second as usize),
         ) {
             (Some(one), Some(other)) if cancels(one, other) => {
-                rounded_sum(alloc, one, other, &mut self.scratch)
+                // (a sum that leaves `i64` is not taken in)
+                match rounded_sum(alloc, one, other, &mut self.scratch) {
+                    Err(Stop::GivenUp) => Ok(None),
+                    outcome => outcome,
+                }
             }
             _ => Ok(None),
         }

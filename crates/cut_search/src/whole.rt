@@ -18,6 +18,16 @@ pub fn point_of(alloc: Global, solved: &[Row]) -> Result<Option<Point>, Stop> {
     Ok(Some(point))
 }
 
+/// The point of a tableau is whole.
+pub fn is_whole(solved: &[Row]) -> bool {
+    for row in solved {
+        if whole_value(row).is_none() {
+            return false;
+        }
+    }
+    true
+}
+
 /// The value of a row's variable, where it is whole.
 fn whole_value(row: &Row) -> Option<i64> {
     match row.constant.checked_rem(row.denominator) {

@@ -211,13 +211,14 @@ fn found_by_walk<R: Threads + Sync, W: Watcher>(
     }
 }
 
-/// The certificate that the wide walk finds, with its text, where it keeps within the budget.
+/// The certificate that the wide walk finds, with its text, where it keeps within the budget, or need not.
 fn found_widely<R: Threads + Sync, W: Watcher>(
     rt: &R,
     alloc: Global,
     subject: Subject<'_>,
     workers: u32,
     watcher: &W,
+    may_be_over: bool,
 ) -> Option<Found>
     ensures { IfSome result (λ f. f.text.items ≡ text_found (certificate_seen f.certificate)) }
 {
@@ -231,7 +232,7 @@ fn found_widely<R: Threads + Sync, W: Watcher>(
     let Ok(certificate) = search(rt, alloc, wide, workers, watcher) else {
         return None;
     };
-    if is_over(alloc, &wide, &certificate) {
+    if !may_be_over && is_over(alloc, &wide, &certificate) {
         return None;
     }
     match with_any_text(alloc, certificate) {
@@ -249,7 +250,7 @@ fn is_open(alloc: Global, subject: &Subject<'_>, narrow: &Result<Found, VerifyEr
 }
 
 /// The certificate that the narrow walk finds, with its text; or, where that is not enough, the one that the wide walk finds. Where both
-/// fail, what the narrow walk comes to.
+/// fail, what the narrow walk comes to. Where the narrow walk finds none, the other one's may pass the budget, which alone is short then.
 fn found_by_either<R: Threads + Sync, W: Watcher>(
     rt: &R,
     alloc: Global,
@@ -266,7 +267,7 @@ fn found_by_either<R: Threads + Sync, W: Watcher>(
     if !is_open(alloc, &subject, &narrow) {
         return narrow;
     }
-    match found_widely(rt, alloc, subject, workers, watcher) {
+    match found_widely(rt, alloc, subject, workers, watcher, narrow.is_err()) {
         Some(found) => Ok(found),
         None => narrow,
     }

@@ -27,16 +27,14 @@ AT_ONCE = 3
 
 
 def bases_of(folders):
-    """Of each kernel its file and its conditions, as lines; `values` lines want the second version."""
+    """Of each kernel its file and its conditions, as lines of the second version."""
     bases = []
     for folder in folders:
         for file in sorted(glob.glob(f"{folder}/*.cl")):
             told = next(it for it in (f"{file[:-3]}.cond", f"{file[:-3]}.conditions") if os.path.exists(it))
             with open(told, encoding="ascii") as conditions:
                 lines = conditions.read().splitlines()
-            if any(it.startswith("values ") for it in lines):
-                lines[0] = "conditions 2"
-            bases.append((file, lines))
+            bases.append((file, ["conditions 2", *lines[1:]]))
     return bases
 
 

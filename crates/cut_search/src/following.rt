@@ -50,7 +50,7 @@ fn has_factor(form: &Form, factors: &[u64]) -> bool {
 }
 
 /// How many terms of a form are opposites of another one's.
-fn count_opposite(form: &Form, other: &Form) -> usize {
+pub fn count_opposite(form: &Form, other: &Form) -> usize {
     let mut count = 0usize;
     for term in form.terms() {
         if other.coefficient(term.symbol) == term.coefficient.saturating_neg() {

@@ -1,7 +1,7 @@
 //! What may be lemmas: what a symbol multiplies in an equality, or in a sum of two facts.
 
 use crate::digits::add_digits;
-use crate::following::add_following;
+use crate::following::{add_following, count_opposite};
 use crate::hashes::{hash_of_opposite, hashes_of};
 use crate::menu::{Listed, Menu};
 use crate::multiplying::Multiplied;
@@ -324,6 +324,35 @@ fn facts_and_sums(alloc: Global, facts: Vec<Form>) -> Result<Vec<Form>, AllocErr
     Ok(all)
 }
 
+/// The sums of a fact with products and one without that cancel some of it.
+fn mixed_sums(alloc: Global, facts: &[Form]) -> Result<Vec<Form>, AllocError> {
+    let mut sums = Vec::new(alloc);
+    for one in facts {
+        if has_product(one) {
+            add_mixed(alloc, &mut sums, one, facts)?;
+        }
+    }
+    Ok(sums)
+}
+
+/// Adds the sums of a fact with others of two terms and more, without products, that cancel some of it.
+fn add_mixed(
+    alloc: Global,
+    sums: &mut Vec<Form>,
+    one: &Form,
+    others: &[Form],
+) -> Result<(), AllocError> {
+    for other in others {
+        let is_mixed = other.terms().len() >= 2 && !has_product(other);
+        if is_mixed && sums.len() < SUMS && count_opposite(one, other) > 0 {
+            if let Some(sum) = try_sum(alloc, one, other)? {
+                sums.push(sum)?;
+            }
+        }
+    }
+    Ok(())
+}
+
 /// How many terms of a form have not a symbol among their factors.
 fn count_without(form: &Form, symbol: Symbol) -> usize {
     let factor = symbol.number.saturating_add(1);
@@ -338,13 +367,13 @@ fn count_without(form: &Form, symbol: Symbol) -> usize {
 
 /// Adds what a symbol multiplies in a fact, where it has few terms besides.
 fn add_share_of_fact(alloc: Global, menu: &mut Menu, fact: &Form, share: Share) {
-    if share.form.terms().len() < 2 {
-        return;
-    }
     let rest = count_without(fact, share.symbol);
+    let is_long = share.form.terms().len() >= 2;
     if rest == 0 && fact.constant_part() < 0 {
-        menu.add_made(plus(alloc, &share.form, -1));
-    } else if rest <= 3 {
+        if is_long || share.form.constant_part() != 0 {
+            menu.add_made(plus(alloc, &share.form, -1));
+        }
+    } else if rest <= 3 && is_long {
         menu.add(share.form);
     }
 }
@@ -394,6 +423,10 @@ pub fn lemmas_for(
     }
     if menu.found.len() < most {
         let all = facts_and_sums(alloc, products)?;
+        add_facts(alloc, &mut menu, all.as_slice(), most)?;
+    }
+    if menu.found.len() < most {
+        let all = mixed_sums(alloc, facts)?;
         add_facts(alloc, &mut menu, all.as_slice(), most)?;
     }
     if menu.found.len() < most {

@@ -1,5 +1,6 @@
 //! Which facts are multiplied: those whose product has no symbol but those at hand.
 
+use crate::hashes::{hash_of_opposite, hashes_of};
 use crate::monomials::Couple;
 use linear::{Form, Symbol};
 use std::alloc::{AllocError, Global};
@@ -171,7 +172,17 @@ fn is_implied(facts: &[Form], place: usize, fact: &Form) -> bool {
     false
 }
 
-/// The facts that may be factors, and the lemmas behind the first `given` ones, whose constants may be large.
+/// From which constant on a fact is not multiplied that is half of an equality, as of an argument that has one value, or is not.
+fn limit_of(fact: &Form, hashes: &[u64], large: u64) -> u64 {
+    let is_small = fact.constant_part().unsigned_abs() < large;
+    if !is_small && hashes.binary_search(&hash_of_opposite(fact)).is_ok() {
+        LARGE
+    } else {
+        large
+    }
+}
+
+/// The facts that may be factors, and the lemmas behind the first `given` ones, whose constants may be large, as those of equalities may.
 pub fn factors_of(
     alloc: Global,
     pairs: &[Couple],
@@ -179,12 +190,15 @@ pub fn factors_of(
     given: usize,
     large: u64,
 ) -> Result<Vec<Factor>, AllocError> {
+    let mut hashes = hashes_of(alloc, facts)?;
+    hashes.sort_unstable();
     let mut factors = Vec::new(alloc);
     let mut number = 0u32;
     for (place, fact) in facts.iter().enumerate() {
         number = number.saturating_add(1);
         let large = if place < given { large } else { LARGE };
-        if let Some(factor) = factor_of(alloc, pairs, number, fact, large)? {
+        let limit = limit_of(fact, hashes.as_slice(), large);
+        if let Some(factor) = factor_of(alloc, pairs, number, fact, limit)? {
             if !is_implied(facts, place, fact) {
                 factors.push(factor)?;
             }

@@ -1,6 +1,7 @@
 //! What is taken into a tableau: facts, and products of two of them.
 
 use crate::hashes::hash_of;
+use crate::lemmas::lemmas_for;
 use crate::monomials::{Couple, closed, equal_couples, partings, products_of, widened};
 use crate::multiplying::{
     Factor, LARGE, Multiplied, Source, copy_factors, factor_of, factors_of, pairs_of,
@@ -207,12 +208,13 @@ impl Pool {
         }
     }
 
-    /// Which facts may be multiplied.
-    pub fn multiplied(&self) -> Multiplied<'_> {
-        Multiplied {
+    /// What may be lemmas of what is known, the likeliest first, so many at most or somewhat more.
+    pub fn menu(&self, alloc: Global, most: usize) -> Result<Vec<Form>, AllocError> {
+        let multiplied = Multiplied {
             partings: self.partings.as_slice(),
             large: self.large,
-        }
+        };
+        lemmas_for(alloc, self.known.as_slice(), multiplied, most)
     }
 
     fn has(&self, form: &Form) -> bool {

@@ -3,7 +3,6 @@
 use crate::answer::Answer;
 use crate::deciding::{ROUNDS, enter_all, refuted};
 use crate::hashes::{first_place, hash_of};
-use crate::lemmas::lemmas_for;
 use crate::monomials::have_products;
 use crate::multiplying::{LARGE, MIDDLE, leave_some};
 use crate::pool::Pool;
@@ -171,12 +170,7 @@ impl Quest {
     /// Tries what may be lemmas, each once.
     fn turn(&mut self, alloc: Global) -> Result<Tried, Stop> {
         let mut turn = Tried::Failed;
-        let menu = lemmas_for(
-            alloc,
-            self.pool.known.as_slice(),
-            self.pool.multiplied(),
-            LEMMAS,
-        )?;
+        let menu = self.pool.menu(alloc, LEMMAS)?;
         for form in menu.into_iter().take(LEMMAS) {
             let Some(form) = self.pool.said(alloc, form)? else {
                 continue;

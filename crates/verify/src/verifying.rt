@@ -22,6 +22,9 @@ use std::thread::Threads;
 /// The number of want of memory.
 const MEMORY: u8 = 90;
 
+/// The number of a budget that is too small.
+const OVER: u8 = 56;
+
 /// A kernel that is accepted, and the certificate with which it is.
 #[derive(Drop)]
 pub struct Verified {
@@ -101,7 +104,7 @@ fn verify_narrowly<R: Threads + Wait + Sync, W: Watcher>(
 }
 
 /// A kernel that is proved as by `verify`, or as by `verify_wide`, with so much effort. Where the check does not take what the wide walk
-/// found, the answer is what the narrow walk comes to. Whoever watches is told how far the search is.
+/// found, the answer is what the narrow walk comes to, but where the budget alone is short. Whoever watches is told how far the search is.
 pub fn verify_watched<R: Threads + Wait + Sync, W: Watcher>(
     rt: &R,
     alloc: Global,
@@ -122,7 +125,7 @@ pub fn verify_watched<R: Threads + Wait + Sync, W: Watcher>(
     match verify_with(alloc, kernel, conditions, found, effort.is_wide) {
         Ok(verified) => Ok(verified),
         Err(error) => {
-            if is_widely_found && error.number() != MEMORY {
+            if is_widely_found && error.number() != MEMORY && error.number() != OVER {
                 verify_narrowly(rt, alloc, kernel, conditions, effort, watcher)
             } else {
                 Err(unproved(alloc, error))

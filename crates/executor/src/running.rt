@@ -71,7 +71,7 @@ fn run_groups<R: Threads + Wait + Sync, G: Gate>(
 
 /// Runs an accepted kernel at a launch that fits it: the result by rounds, whatever the number of workers, and so what each
 /// interleaving of all work-items that is over ends with, however many bits sizes have. Each worker has a thread of its own, but worker 1,
-/// which is the calling thread; where there is little to do fewer are started, and a worker whose thread cannot be started is run by the
+/// which is the calling thread; where there are fewer groups as many are started, and a worker whose thread cannot be started is run by the
 /// one before it in its turn, with the same answers. `gate` is told which groups a worker has claimed and has run, and that it ends, and
 /// changes no answer. Each word that is answered has the kind of its buffer's parameter, whatever kind the launch's word has.
 pub fn run<R: Threads + Wait + Sync, G: Gate>(

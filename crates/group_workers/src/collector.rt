@@ -1,39 +1,58 @@
 //! The collector: the logs, written in the order of their groups.
 
-ghost use Rattle.std.specs.Prelude.{◌≡◌, ◌<◌, ◌≤◌, ◌+◌, IfOk, OnOk};
+ghost use Rattle.std.specs.Prelude.{◌≡◌, ◌<◌, ◌≤◌, ◌+◌, OnOk, IsTrue, IsFalse};
 ghost use Rattle.write_log.specs.Written.{words_of};
 ghost use Rattle.group_workers.specs.Writing.{HasLog, HasLogs};
 ghost use Rattle.group_workers.specs.Tasks.{IsTask, groups};
 
-use crate::task::{GroupLog, Logged, Task};
+use crate::task::{GroupLog, Handed, Logged, Logs, Task};
+use crate::window::Window;
 use lane_groups::Room;
 use launch::launches::Buffers;
 use std::alloc::{AllocError, Global};
-use std::collections::BTreeMap;
+use std::marker::PhantomData;
 use write_log::apply;
 
-/// Buffers with the logs of the first groups, in their order, and the logs that came before those of groups below them, by the first group
-/// of each stretch. So logs are kept only as long as stretches are out of order. How many that may be is not bounded: whoever waited for a
-/// group that nobody has would wait forever, and a group may be left to the end, where memory was refused to its worker or its thread did
-/// not start.
+/// Buffers with the logs of the first groups, in their order.
 #[derive(Drop)]
 pub struct Collected<J: Logged> {
     pub next: u64,
     pub buffers: Buffers,
-    waiting: BTreeMap<u64, Vec<GroupLog<J>>>,
+    of: PhantomData<J>,
     ghost first: { HasLogs J.logs next J.before (words_of buffers) },
     ghost few: { next ≤ J.count },
 }
 
+/// Of each group of a window the index at which its log stands, by what the workers gave back; where none came, an index past all.
+fn indexes_of<J: Logged>(
+    alloc: Global,
+    window: Window,
+    logs: &Logs<J>,
+    handed: &[Handed],
+) -> Result<Vec<usize>, AllocError> {
+    let mut indexes = Vec::from_elem(alloc, usize::MAX, window.groups() as usize)?;
+    for one in handed {
+        for index in &one.indexes {
+            if let Some(log) = logs.get(*index) {
+                let place = log.group.saturating_sub(window.first);
+                if let Some(there) = indexes.get_mut(place as usize) {
+                    *there = *index;
+                }
+            }
+        }
+    }
+    Ok(indexes)
+}
+
 impl<J: Logged> Collected<J> {
     /// Buffers with no log as yet.
-    pub fn new(alloc: Global, buffers: Buffers) -> Collected<J>
+    pub fn new(buffers: Buffers) -> Collected<J>
         requires { words_of buffers ≡ J.before }
     {
         Collected {
             next: 0,
             buffers,
-            waiting: BTreeMap::new(alloc),
+            of: PhantomData,
         }
     }
 
@@ -46,59 +65,52 @@ impl<J: Logged> Collected<J> {
         self.next += 1;
     }
 
-    // Writes the logs of a stretch, each if it is the next group's.
-    fn write_each(&mut self, logs: &[GroupLog<J>])
-        ensures { self.old.next ≤ self.new.next }
+    // Runs the next group, and writes its log.
+    fn run_next(&mut self, alloc: Global, task: Task, room: &mut Room) -> Result<(), AllocError>
+        requires task { IsTask J.logs J.count task }
+        requires more { self.old.next < groups task }
+        ensures { OnOk result (self.new.next ≡ self.old.next + 1) }
     {
-        for log in logs {
-            if log.group == self.next {
-                self.write(log);
-            }
-        }
+        let log = GroupLog::of(alloc, task, self.next, room)?;
+        self.write(&log);
+        Ok(())
     }
 
-    // Writes the logs of the stretch that begins with the next group, if they wait, and gives them.
-    fn write_due(&mut self) -> Option<Vec<GroupLog<J>>>
-        ensures { self.old.next ≤ self.new.next }
+    // Writes the log of the next group that stands at an index, if it does.
+    fn write_next(&mut self, logs: &Logs<J>, index: usize) -> bool
+        ensures wrote { IsTrue result → self.new.next ≡ self.old.next + 1 }
+        ensures none { IsFalse result → self.new.next ≡ self.old.next }
     {
-        let Some(logs) = self.waiting.remove(&self.next) else {
-            return None;
+        let Some(log) = logs.get(index) else {
+            return false;
         };
-        self.write_each(logs.as_slice());
-        Some(logs)
+        if log.group != self.next {
+            return false;
+        }
+        self.write(log);
+        true
     }
 
-    /// Takes the logs of a stretch that begins with a group. They are written as soon as those of all groups below are, and then those that
-    /// waited for them are, too. Gives the logs that were written, so that whoever calls lets them go.
+    /// Writes the logs of a window in the order of its groups, which are the next ones. A group of which no log came is run here.
     pub fn take(
         &mut self,
         alloc: Global,
-        group: u64,
-        logs: Vec<GroupLog<J>>,
-    ) -> Result<Vec<Vec<GroupLog<J>>>, AllocError> {
-        self.waiting.insert(group, logs)?;
-        let mut written = Vec::new(alloc);
-        for _ in 0..u64::MAX {
-            let Some(logs) = self.write_due() else {
-                break;
-            };
-            written.push(logs)?;
-        }
-        Ok(written)
-    }
-
-    /// Writes the logs of all groups that are left. A group of which no log came is run here.
-    pub fn finish(&mut self, alloc: Global, task: Task) -> Result<(), AllocError>
-        requires { IsTask J.logs J.count task }
-        ensures { OnOk result (self.new.next ≡ groups task.entry) }
+        task: Task,
+        window: Window,
+        logs: &Logs<J>,
+        handed: &[Handed],
+    ) -> Result<(), AllocError>
+        requires task { IsTask J.logs J.count task }
+        requires window { window.end ≤ groups task }
+        ensures { OnOk result (window.end ≤ self.new.next) }
     {
-        let count = task.groups();
+        let indexes = indexes_of(alloc, window, logs, handed)?;
         let mut room = Room::new(alloc);
-        while self.next < count {
-            let _written = self.write_due();
-            if self.next < count {
-                let log = GroupLog::of(alloc, task, self.next, &mut room)?;
-                self.write(&log);
+        while self.next < window.end {
+            let place = self.next.saturating_sub(window.first);
+            let index = indexes.get(place as usize).copied().unwrap_or(usize::MAX);
+            if !self.write_next(logs, index) {
+                self.run_next(alloc, task, &mut room)?;
             }
         }
         Ok(())

@@ -1,6 +1,6 @@
-//! The workers, each in a thread of its own.
+//! The windows of a run, and their workers, each in a thread of its own.
 
-ghost use Rattle.std.specs.Prelude.{◌≡◌, ◌≤◌, true, OnOk};
+ghost use Rattle.std.specs.Prelude.{◌≡◌, ◌<◌, ◌≤◌, true, length, OnOk};
 ghost use Rattle.std.specs.Thread.{IsSync, IsSend};
 ghost use Rattle.semantics.specs.Launch.{Fits};
 ghost use Rattle.lanes.specs.Lowering.{lowered};
@@ -14,93 +14,72 @@ ghost use Rattle.group_workers.specs.Tasks.{IsTask, groups, logs_of};
 
 use crate::collector::Collected;
 use crate::deque::{Deque, Shares, Source};
-use crate::task::{Logged, Task};
-use crate::worker::Shared;
+use crate::task::{GroupLog, Handed, Logged, Logs, Receives, Task};
+use crate::window::{Window, groups_of_a_window};
+use crate::worker::{Seat, Shared};
 use launch::launches::Buffers;
 use std::alloc::{AllocError, Global};
-use std::marker::Brand;
+use std::marker::{Brand, PhantomData};
 use std::mem::replace;
-use std::sync::{Mutex, Wait};
+use std::sync::Wait;
 use std::thread::{Threads, join};
-use words::Gate;
-use work_item::identity::group_size;
+use words::{Gate, Moment};
 
-/// Whether no deque has a stretch left.
-fn are_empty<D: Shares>(deques: &mut [Deque<D>]) -> bool {
-    for deque in deques.iter_mut() {
-        if !deque.is_empty() {
-            return false;
-        }
-    }
-    true
+/// What workers gave back, and what one more did. There is room for it.
+fn with(mut all: Vec<Handed>, one: Handed) -> Vec<Handed> {
+    let _room = all.push(one);
+    all
 }
 
-/// The workers from one on, a deque for each, that worker's last. It runs on this thread, and the others on one that is started before,
-/// unless no deque of theirs has a stretch left. Where that thread cannot be started, this one runs them in its turn (`join` does so).
+/// The workers from one on, the last seat's. It runs on this thread, and the others on one that is started before. Where that thread cannot
+/// be started, this one runs them in its turn (`join` does so). What they give back is put behind what stands in a list.
 #[cycle(workers)]
-fn run_workers<J: Logged + Send + Sync, D: Shares + Send + Sync, R: Threads + Wait + Sync, G: Gate>(
-    shared: &Shared<'_, J, D, R, G>,
-    mut deques: Vec<Deque<D>>,
-    worker: u32,
-)
+fn run_workers<
+    J: Logged + Send + Sync,
+    D: Shares + Send + Sync,
+    R: Threads + Wait + Sync,
+    G: Gate,
+    L: Receives<GroupLog<J>, R>,
+>(shared: &Shared<'_, J, D, R, G, L>, mut seats: Vec<Seat<D>>, all: Vec<Handed>) -> Vec<Handed>
     requires { IsTask J.logs J.count shared.now.task }
 {
-    let Some(deque) = deques.pop() else {
-        return;
+    let Some(seat) = seats.pop() else {
+        return all;
     };
-    if are_empty(deques.as_mut_slice()) {
-        return shared.work(deque, worker);
+    if seats.is_empty() {
+        return with(all, shared.work(seat));
     }
-    let next = worker.wrapping_add(1);
-    join(
+    let (others, own) = join(
         shared.rt,
-        move || -> ()
-            requires { IsSync R.row × IsSync G.row × IsSync J.row × IsSend J.row × IsSync D.row × IsSend D.row × IsTask J.logs J.count shared.now.task }
-        { run_workers(shared, deques, next) },
-        move || -> ()
-            requires { IsSync R.row × IsSync G.row × IsSync J.row × IsSend J.row × IsSync D.row × IsSend D.row × IsTask J.logs J.count shared.now.task }
-        { shared.work(deque, worker) },
+        move || -> Vec<Handed>
+            requires { IsSync R.row × IsSync G.row × IsSync L.row × IsSync J.row × IsSend J.row × IsSync D.row × IsSend D.row × IsTask J.logs J.count shared.now.task }
+        { run_workers(shared, seats, all) },
+        move || -> Handed
+            requires { IsSync R.row × IsSync G.row × IsSync L.row × IsSync J.row × IsSend J.row × IsSync D.row × IsSend D.row × IsTask J.logs J.count shared.now.task }
+        { shared.work(seat) },
     );
+    with(others, own)
 }
 
-/// The deques of all workers, worker 1's last, each with its share of the stretches, and what thieves take from.
+/// The seats of workers, each with its share of the stretches, the last worker's first; and what thieves take from.
 fn deal<D: Shares>(
     alloc: Global,
-    workers: u32,
-    count: u64,
-) -> Result<(Vec<Deque<D>>, Vec<Source<D>>), AllocError>
-    requires { (workers ≡ D.workers) × (1 ≤ workers) }
+    on: &[u32],
+    stretches: u64,
+) -> Result<(Vec<Seat<D>>, Vec<Source<D>>), AllocError>
+    requires { (length on.now ≡ D.workers) × (1 ≤ length on.now) }
 {
-    let mut deques = Vec::new(alloc);
+    let workers = on.len();
+    let mut seats = Vec::new(alloc);
     let mut sources = Vec::new(alloc);
-    for left in 0..workers {
-        let share = workers - 1 - left;
-        let deque = Deque::dealt(alloc, share as u64, workers as u64, count)?;
+    for place in 0..workers {
+        let share = workers - 1 - place;
+        let deque = Deque::dealt(alloc, share as u64, workers as u64, stretches)?;
         sources.push(deque.source()?)?;
-        deques.push(deque)?;
+        let worker = on[place];
+        seats.push(Seat { worker, deque })?;
     }
-    Ok((deques, sources))
-}
-
-/// The steps of items that take about as long as a worker takes to start.
-const STEPS_OF_A_START: u64 = 200_000;
-
-/// How many of so many workers have enough to do, at most: fewer where the budget of all items together is small.
-fn busy_workers(task: &Task, workers: u32) -> u32
-    requires task { is_proper (kernel_seen task.now.core.now) ≡ true }
-    requires fits { Fits (kernel_seen task.now.core.now) (launch_seen task.now.launch.now) }
-    requires workers { 1 ≤ workers }
-    ensures { (1 ≤ result) × (result ≤ workers) }
-{
-    let items = task.groups().saturating_mul(group_size(task.core));
-    let starts = items.saturating_mul(task.budget) / STEPS_OF_A_START;
-    if starts >= workers as u64 {
-        return workers;
-    }
-    if starts == 0 {
-        return 1;
-    }
-    starts as u32
+    Ok((seats, sources))
 }
 
 /// How many stretches of groups a worker takes at least, where there are as many groups.
@@ -110,10 +89,10 @@ const STRETCHES_OF_A_WORKER: u64 = 16;
 const MOST_TOGETHER: u64 = 32;
 
 /// How many groups, one after another, so many workers take together, of so many groups.
-fn together(groups: u64, workers: u32) -> u64
+fn together(groups: u64, workers: u64) -> u64
     ensures { 1 ≤ result }
 {
-    let stretches = workers as u64 * STRETCHES_OF_A_WORKER;
+    let stretches = workers.saturating_mul(STRETCHES_OF_A_WORKER);
     let most = groups.checked_div(stretches).unwrap_or(1);
     most.min(MOST_TOGETHER).max(1)
 }
@@ -126,7 +105,120 @@ fn stretches_of(groups: u64, together: u64) -> u64
     whole.saturating_add(1)
 }
 
-fn run_as<J: Logged + Send + Sync, D: Shares + Send + Sync, R: Threads + Wait + Sync, G: Gate>(
+/// Runs the groups of a window by the workers that are on, the last one first, each of which hands over logs; what they give back.
+fn run_window<J: Logged + Send + Sync, D: Shares + Send + Sync, R: Threads + Wait + Sync, G: Gate>(
+    rt: &R,
+    alloc: Global,
+    task: Task,
+    gate: &G,
+    window: Window,
+    logs: &Logs<J>,
+    on: &[u32],
+) -> Result<Vec<Handed>, AllocError>
+    requires task { IsTask J.logs J.count task }
+    requires workers { (length on.now ≡ D.workers) × (1 ≤ length on.now) }
+{
+    let together = together(window.groups(), on.len() as u64);
+    let stretches = stretches_of(window.groups(), together);
+    let (seats, sources) = deal::<D>(alloc, on, stretches)?;
+    let all = Vec::with_capacity(alloc, on.len())?;
+    let shared = Shared {
+        of: PhantomData::<J>,
+        rt,
+        alloc,
+        task,
+        window,
+        is_last: window.end == task.groups(),
+        sources: sources.as_slice(),
+        logs,
+        gate,
+        together,
+    };
+    Ok(run_workers(&shared, seats, all))
+}
+
+/// The numbers of so many workers, the last one first.
+fn numbers(alloc: Global, workers: u32) -> Result<Vec<u32>, AllocError> {
+    let mut on = Vec::new(alloc);
+    for before in 0..workers {
+        on.push(workers - before)?;
+    }
+    Ok(on)
+}
+
+/// Leaves those workers that go on behind a window: behind the last one none, and else those to which no memory was refused.
+fn leave(on: &mut Vec<u32>, handed: &[Handed], is_last: bool) {
+    on.clear();
+    if is_last {
+        return;
+    }
+    for one in handed {
+        if !one.is_refused {
+            let _room = on.push(one.worker);
+        }
+    }
+}
+
+/// Runs the groups of a window by the workers that are on, and writes their logs. Where none is, they are run here.
+fn run_next<J: Logged + Send + Sync, R: Threads + Wait + Sync, G: Gate>(
+    rt: &R,
+    alloc: Global,
+    task: Task,
+    gate: &G,
+    window: Window,
+    on: &mut Vec<u32>,
+    all: &mut Collected<J>,
+) -> Result<(), AllocError>
+    requires task { IsTask J.logs J.count task }
+    requires window { window.end ≤ groups task }
+    ensures { OnOk result (window.end ≤ all.new.next) }
+{
+    let logs = Logs::<J>::new(alloc)?;
+    let handed = if on.is_empty() {
+        Vec::new(alloc)
+    } else {
+        run_window::<J, Brand, R, G>(rt, alloc, task, gate, window, &logs, on.as_slice())?
+    };
+    leave(on, handed.as_slice(), window.end == task.groups());
+    all.take(alloc, task, window, &logs, handed.as_slice())
+}
+
+/// Runs the groups that are left, so many at most in each window.
+fn run_all<J: Logged + Send + Sync, R: Threads + Wait + Sync, G: Gate>(
+    rt: &R,
+    alloc: Global,
+    task: Task,
+    gate: &G,
+    size: u64,
+    on: &mut Vec<u32>,
+    all: &mut Collected<J>,
+) -> Result<(), AllocError>
+    requires { IsTask J.logs J.count task }
+    ensures { OnOk result (all.new.next ≡ groups task.entry) }
+{
+    let count = task.groups();
+    while all.next < count {
+        let window = Window::next(all.next, count, size);
+        run_next::<J, R, G>(rt, alloc, task, gate, window, on, all)?;
+    }
+    Ok(())
+}
+
+/// How many of so many workers have a group to run, and one at least.
+fn started(groups: u64, workers: u32) -> u32
+    requires { 1 ≤ workers }
+    ensures { (1 ≤ result) × (result ≤ workers) }
+{
+    if groups >= workers as u64 {
+        return workers;
+    }
+    if groups == 0 {
+        return 1;
+    }
+    groups as u32
+}
+
+fn run_as<J: Logged + Send + Sync, R: Threads + Wait + Sync, G: Gate>(
     rt: &R,
     alloc: Global,
     task: Task,
@@ -135,56 +227,30 @@ fn run_as<J: Logged + Send + Sync, D: Shares + Send + Sync, R: Threads + Wait + 
     buffers: &mut Buffers,
 ) -> Result<(), AllocError>
     requires task { IsTask J.logs J.count task }
-    requires workers { (workers ≡ D.workers) × (1 ≤ workers) }
+    requires workers { 1 ≤ workers }
     requires before { J.before ≡ words_of buffers.old }
     ensures { OnOk result (HasLogs (logs_of task.entry) (groups task.entry) (words_of buffers.old) (words_of buffers.new)) }
 {
-    let together = together(task.groups(), workers);
-    let stretches = stretches_of(task.groups(), together);
-    let (deques, sources) = deal::<D>(alloc, workers, stretches)?;
+    let workers = started(task.groups(), workers);
+    let mut on = numbers(alloc, workers)?;
+    let size = groups_of_a_window(task.groups(), buffers, workers);
     let none = Buffers {
         words: Vec::new(alloc),
     };
-    let collected = Mutex::new(Collected::<J>::new(alloc, replace(buffers, none)));
-    let shared = Shared {
-        rt,
-        alloc,
-        task,
-        sources: sources.as_slice(),
-        collected: &collected,
-        gate,
-        together,
-    };
-    run_workers(&shared, deques, 1);
-    let mut all = collected.into_inner();
-    let finished = all.finish(alloc, task);
+    let mut all = Collected::<J>::new(replace(buffers, none));
+    let done = run_all::<J, R, G>(rt, alloc, task, gate, size, &mut on, &mut all);
+    // Those that have not ended with the last window.
+    for worker in &on {
+        gate.at(*worker, Moment::Ended);
+    }
     *buffers = all.buffers;
-    finished
+    done
 }
 
-/// Runs all groups of a proper kernel's lane code at a launch that fits it, by so many workers.
-fn run_by<R: Threads + Wait + Sync, G: Gate>(
-    rt: &R,
-    alloc: Global,
-    task: Task,
-    workers: u32,
-    gate: &G,
-    buffers: &mut Buffers,
-) -> Result<(), AllocError>
-    requires proper { is_proper (kernel_seen task.core.now) ≡ true }
-    requires fits { Fits (kernel_seen task.core.now) (launch_seen task.launch.now) }
-    requires code { block_seen task.code.now ≡ lowered (kernel_seen task.core.now) }
-    requires workers { (1 ≤ workers) × (workers ≤ 64) }
-    ensures { OnOk result (HasLogs (logs_of task.entry) (groups task.entry) (words_of buffers.old) (words_of buffers.new)) }
-{
-    run_as::<Brand, Brand, R, G>(rt, alloc, task, workers, gate, buffers)
-}
-
-/// Runs all groups of a proper kernel's lane code at a launch that fits it, by so many workers, or by fewer where there would be little to
-/// do for them, or nothing any more, and writes their logs to the buffers in the order of the groups, each as soon as those before it are
-/// written. The calling thread is worker 1. `gate` is told what each worker does, and changes nothing that is written. A worker stops where
-/// memory is refused; there is want of memory where it is refused to the calling thread. Then buffers may have the logs of the first
-/// groups.
+/// Runs all groups of a proper kernel's lane code at a launch that fits it, by so many workers, or by as many as there are groups, and
+/// writes their logs to the buffers in the order of the groups, window by window. The calling thread is worker 1. `gate` is told what each
+/// worker does, and changes nothing that is written. A worker stops where memory is refused; there is want of memory where it is refused to
+/// the calling thread when it deals groups out or writes logs. Then buffers may have the logs of the first groups.
 pub fn run_groups<R: Threads + Wait + Sync, G: Gate>(
     rt: &R,
     alloc: Global,
@@ -199,6 +265,5 @@ pub fn run_groups<R: Threads + Wait + Sync, G: Gate>(
     requires workers { (1 ≤ workers) × (workers ≤ 64) }
     ensures { OnOk result (HasLogs (logs_of task.entry) (groups task.entry) (words_of buffers.old) (words_of buffers.new)) }
 {
-    let busy = busy_workers(&task, workers);
-    run_by(rt, alloc, task, busy, gate, buffers)
+    run_as::<Brand, R, G>(rt, alloc, task, workers, gate, buffers)
 }

@@ -10,6 +10,7 @@ use lane_groups::{Group, Room, run_group_in};
 use launch::launches::Launch;
 use std::alloc::{AllocError, Global};
 use std::marker::{Brand, PhantomData};
+use std::sync::Wait;
 use work_item::identity::product_of;
 use write_log::WriteLog;
 
@@ -35,6 +36,49 @@ impl Task<'_> {
         ensures { result ≡ groups self.now }
     {
         product_of(self.launch.groups)
+    }
+}
+
+/// What a worker gives back when it ends: at which indexes of the list the logs stand that it pushed, and whether memory was refused to it.
+#[derive(Drop)]
+pub struct Handed {
+    pub worker: u32,
+    pub indexes: Vec<usize>,
+    pub is_refused: bool,
+}
+
+/// Where workers put logs. It stands for a list in what runs them, which so need not see that a list of logs may be shared.
+pub trait Receives<T, R: Wait>: Sync {
+    /// Puts a log, and answers at which index.
+    fn put(&self, rt: &R, log: T) -> Result<usize, AllocError>;
+}
+
+/// The logs of a window, in a list that threads share without a lock.
+#[derive(Drop)]
+pub struct Logs<J: Logged> {
+    list: boxcar::Vec<GroupLog<J>>,
+}
+
+impl<J: Logged> Logs<J> {
+    /// No logs.
+    pub fn new(alloc: Global) -> Result<Logs<J>, AllocError> {
+        Ok(Logs {
+            list: boxcar::Vec::new(alloc)?,
+        })
+    }
+
+    /// The log at an index.
+    pub fn get(&self, index: usize) -> Option<&GroupLog<J>> {
+        self.list.get(index)
+    }
+}
+
+impl<J: Logged + Send + Sync, R: Wait> Receives<GroupLog<J>, R> for Logs<J> {
+    fn put(&self, rt: &R, log: GroupLog<J>) -> Result<usize, AllocError> {
+        match self.list.push(rt, log) {
+            Ok(index) => Ok(index),
+            Err(_) => Err(AllocError),
+        }
     }
 }
 

@@ -1,4 +1,4 @@
-// Two workers, each of which waits at its first group for the other.
+// Two workers, each of which waits at its first group, or at its first candidate, for the other.
 
 ghost use Rattle.std.specs.Prelude.{◌≡◌, ◌≤◌, true};
 ghost use Rattle.semantics.specs.Launch.{Fits};
@@ -43,9 +43,9 @@ impl Numbers {
     }
 }
 
-/// Holds workers 1 and 2 at their first group until both have one, and notes what is told.
+/// Holds workers 1 and 2 at their first group or candidate until both have one, and notes what is told.
 #[derive(Drop)]
-struct Meeting {
+pub struct Meeting {
     first: AtomicBool,
     second: AtomicBool,
     missed: AtomicBool,
@@ -55,7 +55,7 @@ struct Meeting {
 }
 
 impl Meeting {
-    fn new() -> Meeting {
+    pub fn new() -> Meeting {
         Meeting {
             first: AtomicBool::new(false),
             second: AtomicBool::new(false),
@@ -84,7 +84,7 @@ impl Meeting {
         }
     }
 
-    fn has_met(&self) -> bool {
+    pub fn has_met(&self) -> bool {
         !self.missed.load(Ordering::SeqCst)
     }
 }
@@ -96,6 +96,7 @@ impl Gate for Meeting {
                 self.claimed.note(group);
                 self.meet(worker);
             }
+            Moment::Examine(_) => self.meet(worker),
             Moment::Done(group) => self.done.note(group),
             Moment::Ended => {
                 let _before = self.ended.fetch_add(1, Ordering::SeqCst);
@@ -124,7 +125,8 @@ fn push_words(out: &mut String, buffers: &Buffers) -> Result<(), AllocError> {
     Ok(())
 }
 
-fn push_told(out: &mut String, gate: &Meeting) -> Result<(), AllocError> {
+/// Writes whether both met, how often each of 64 groups was told, and how many workers ended.
+pub fn push_told(out: &mut String, gate: &Meeting) -> Result<(), AllocError> {
     let ended = gate.ended.load(Ordering::SeqCst);
     writeln!(
         out,

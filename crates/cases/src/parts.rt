@@ -58,12 +58,16 @@ pub enum Part {
     Meeting,
     /// `log KERNEL CONDITIONS LAUNCH`: what the first group of a launch writes.
     Log,
+    /// `met KERNEL CONDITIONS CERTIFICATE LAUNCH`: a run by two workers, each of which waits at its first group for the other.
+    Met,
     /// `stalled KERNEL CONDITIONS CERTIFICATE LAUNCH`: what 200 runs leave whose first worker is held at one of its moments.
     Stalled,
     /// `watched KERNEL CONDITIONS CERTIFICATE LAUNCH`: what a run leaves, how many groups its worker told, and what the launch has then.
     Watched,
     /// `guesses KERNEL CONDITIONS`: how many guesses the least menu has, and how many of them 1, 3 and 64 workers leave.
     Guesses,
+    /// `held KERNEL CONDITIONS`: what two workers do that settle these guesses, where they wait for each other or the first one is held.
+    Held,
     /// `same FILE FILE`: nothing, where two files have the same bytes.
     Same,
 }
@@ -83,9 +87,11 @@ pub fn part_of(word: &str) -> Option<Part> {
         "replay" => Some(Part::Replay),
         "meeting" => Some(Part::Meeting),
         "log" => Some(Part::Log),
+        "met" => Some(Part::Met),
         "stalled" => Some(Part::Stalled),
         "watched" => Some(Part::Watched),
         "guesses" => Some(Part::Guesses),
+        "held" => Some(Part::Held),
         "same" => Some(Part::Same),
         _ => None,
     }
@@ -267,8 +273,9 @@ pub fn push_part<R: Threads + Wait + Sync>(
         Part::Tokens | Part::Tree | Part::Spots => push_lexed(alloc, out, asked),
         Part::Certificate => push_certificate(alloc, out, asked.first),
         Part::Log => push_first_log(rt, alloc, out, asked.first, asked.second, asked.third),
-        Part::Stalled | Part::Watched => push_steered(rt, alloc, out, asked),
-        Part::Guesses => push_guesses(rt, alloc, out, asked.first, asked.second),
+        Part::Met | Part::Stalled | Part::Watched => push_steered(rt, alloc, out, asked),
+        Part::Guesses => push_guesses(rt, alloc, out, asked.first, asked.second, false),
+        Part::Held => push_guesses(rt, alloc, out, asked.first, asked.second, true),
         Part::Same => push_compared(out, asked.first, asked.second),
         _ => push_with_kernel(rt, alloc, out, asked),
     }

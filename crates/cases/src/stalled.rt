@@ -1,4 +1,4 @@
-// Runs of an accepted kernel with workers that are held, or watched.
+// Runs of an accepted kernel with workers that meet, or that are held or watched.
 
 ghost use Rattle.std.specs.Prelude.{◌≡◌};
 ghost use Rattle.semantics.specs.Launch.{Fits};
@@ -6,6 +6,7 @@ ghost use Rattle.core_code.specs.View.{kernel as core_seen};
 ghost use Rattle.launch.specs.View.{launch as launch_seen};
 ghost use Rattle.cert_check.specs.View.{typed_of};
 
+use crate::meeting::{Meeting, push_told};
 use crate::parts::{Asked, Part};
 use cert_check::{Accepted, check_wide};
 use executor::{RunError, run};
@@ -19,14 +20,14 @@ use words::{Gate, Moment, Open};
 
 /// Holds worker 1 at one of its moments until worker 2 has ended, or for 1,000,000 turns.
 #[derive(Drop)]
-struct Holding {
+pub struct Holding {
     at: u32,
     told: AtomicU32,
     ended: AtomicBool,
 }
 
 impl Holding {
-    fn new(at: u32) -> Holding {
+    pub fn new(at: u32) -> Holding {
         Holding {
             at,
             told: AtomicU32::new(0),
@@ -152,6 +153,22 @@ fn push_watched<R: Threads + Wait + Sync>(
     push_buffers(alloc, out, accepted, &launch.buffers)
 }
 
+/// Runs a launch by two workers, each of which waits at its first group for the other; says what they told, and what is left.
+fn push_met<R: Threads + Wait + Sync>(
+    rt: &R,
+    alloc: Global,
+    out: &mut String,
+    accepted: &Accepted,
+    launch: &Launch,
+) -> Result<(), AllocError>
+    requires { Fits (core_seen (typed_of accepted.now).1) (launch_seen launch.now) }
+{
+    let gate = Meeting::new();
+    let found = run(rt, alloc, accepted, launch, 2, &gate);
+    push_told(out, &gate)?;
+    push_run(alloc, out, accepted, found)
+}
+
 fn push_of_accepted<R: Threads + Wait + Sync>(
     rt: &R,
     alloc: Global,
@@ -162,13 +179,14 @@ fn push_of_accepted<R: Threads + Wait + Sync>(
     match read_launch(alloc, accepted.typed(), asked.fourth) {
         Ok(launch) => match asked.part {
             Part::Stalled => push_stalled(rt, alloc, out, accepted, &launch),
+            Part::Met => push_met(rt, alloc, out, accepted, &launch),
             _ => push_watched(rt, alloc, out, accepted, &launch),
         },
         Err(error) => writeln!(out, "refused {error}"),
     }
 }
 
-/// Runs a launch of a kernel that a certificate shows, with workers that are held or watched.
+/// Runs a launch of a kernel that a certificate shows, with workers that meet, or that are held or watched.
 pub fn push_steered<R: Threads + Wait + Sync>(
     rt: &R,
     alloc: Global,

@@ -27,17 +27,32 @@ impl Window {
     }
 }
 
-/// The bytes that the logs of a window take, about, where workers share it.
-const BYTES_OF_A_WINDOW: u64 = 32 << 20;
+/// The bytes that the logs of a window take, about, for each of some workers: it is worth the start of their threads.
+const BYTES_OF_A_WORKER: u64 = 2 << 20;
 
-/// The bytes of a log with nothing in it, about.
-const BYTES_OF_A_LOG: u64 = 256;
+/// The bytes that they take at most, about.
+const MOST_BYTES: u64 = 32 << 20;
+
+/// The bytes that they take, about, where one worker runs alone: few enough to be written while they are at hand.
+const BYTES_ALONE: u64 = 256 << 10;
+
+/// The bytes of a log with its lists, about, but for the words in it.
+const BYTES_OF_A_LOG: u64 = 1024;
 
 /// The bytes of an element's word.
 const BYTES_OF_A_WORD: u64 = 8;
 
 /// The groups of a worker in a window, at least.
 const GROUPS_OF_A_WORKER: u64 = 8;
+
+/// The bytes that the logs of a window take, about.
+fn bytes_of_a_window(workers: u32) -> u64 {
+    if workers < 2 {
+        return BYTES_ALONE;
+    }
+    let bytes = workers as u64 * BYTES_OF_A_WORKER;
+    bytes.min(MOST_BYTES)
+}
 
 /// How many words buffers have.
 fn words_in(buffers: &Buffers) -> u64 {
@@ -53,7 +68,10 @@ fn words_in(buffers: &Buffers) -> u64 {
 pub fn groups_of_a_window(groups: u64, buffers: &Buffers, workers: u32) -> u64 {
     let of_words = words_in(buffers).saturating_mul(BYTES_OF_A_WORD);
     let of_logs = groups.saturating_mul(BYTES_OF_A_LOG);
-    let windows = of_words.saturating_add(of_logs) / BYTES_OF_A_WINDOW + 1;
-    let share = groups / windows + 1;
-    share.max(workers as u64 * GROUPS_OF_A_WORKER)
+    let bytes = of_words.saturating_add(of_logs);
+    let windows = bytes.checked_div(bytes_of_a_window(workers)).unwrap_or(0);
+    let share = groups / windows.max(1);
+    share
+        .saturating_add(1)
+        .max(workers as u64 * GROUPS_OF_A_WORKER)
 }
